@@ -1,0 +1,120 @@
+// Named entries, and the list of their changes.
+ghost use Rattle.std.specs.Prelude.{◌≡◌, [], ◌∷◌, IfOk, OnOk, OnErr};
+ghost use Rattle.std.specs.Bool.{OnTrue};
+ghost use Rattle.fjall_base.specs.Disk.{Took, Append, Sync, Loosen, Cut, Put, SyncFolder, HasFolder, put, Reads, IsFile, IsLong};
+ghost use Rattle.fjall_base.specs.Memory.{entry_of, IsKind, state_of};
+ghost use Rattle.fjall_base.specs.Crash.{IsHoused};
+
+use crate::node::{
+    Change, FileChange, Kind, Named, Node, alter_at, has_folder, kind_at, push_reserved, put_at,
+    read_at, settle_names,
+};
+use crate::{Error, Result};
+use std::alloc::{AllocError, Global};
+use std::io::ErrorKind;
+
+#[derive(Drop)]
+pub struct Files {
+    pub alloc: Global,
+    pub names: Vec<Named>,
+    pub log: Vec<Change>,
+    // the folder of each name that is there stands too
+    pub ghost housed: { IsHoused (state_of names.items) },
+}
+
+impl Files {
+    ghost use Rattle.fjall_base.specs.Files.{meaning_of};
+
+    pub fn read(
+        &self,
+        alloc: Global,
+        name: &str,
+    ) -> std::result::Result<Option<Vec<u8>>, AllocError>
+        ensures { IfOk result (Reads (state_of self.now.names.items name.now).now) }
+    {
+        read_at(alloc, self.names.as_slice(), name)
+    }
+
+    pub fn kind(&self, name: &str) -> Kind
+        ensures { IsKind result (state_of self.now.names.items name.now).now }
+    {
+        kind_at(self.names.as_slice(), name)
+    }
+
+    /// Whether a name's folder is there.
+    pub fn has_folder(&self, name: &str) -> bool
+        ensures { OnTrue result (HasFolder (state_of self.now.names.items) name.now) }
+    {
+        has_folder(self.names.as_slice(), name)
+    }
+
+    pub fn append(&mut self, name: &str, bytes: &[u8]) -> Result<()>
+        ensures ok { OnOk result (Took (meaning_of self.old 0) (meaning_of self.new 0) (Append name.now bytes.now ∷ [])) }
+        ensures file { OnOk result (IsFile (state_of self.old.names.items name.now).now) }
+        ensures err { OnErr result (Took (meaning_of self.old 0) (meaning_of self.new 0) []) }
+    {
+        let text = String::from_str(self.alloc, name)?;
+        let added = Vec::from_slice(self.alloc, bytes)?;
+        self.log.reserve(1)?;
+        if !alter_at(&mut self.names, name, FileChange::Append(bytes))? {
+            return Err(Error::Io(ErrorKind::NotFound));
+        }
+        push_reserved(&mut self.log, Change::Append(text, added));
+        Ok(())
+    }
+
+    pub fn sync(&mut self, name: &str) -> Result<()>
+        ensures ok { OnOk result (Took (meaning_of self.old 0) (meaning_of self.new 0) (Sync name.now ∷ [])) }
+        ensures file { OnOk result (IsFile (state_of self.old.names.items name.now).now) }
+        ensures err { OnErr result (Took (meaning_of self.old 0) (meaning_of self.new 0) []) }
+    {
+        let text = String::from_str(self.alloc, name)?;
+        self.log.reserve(1)?;
+        if !alter_at(&mut self.names, name, FileChange::Sync)? {
+            return Err(Error::Io(ErrorKind::NotFound));
+        }
+        push_reserved(&mut self.log, Change::Sync(text));
+        Ok(())
+    }
+
+    pub fn cut(&mut self, name: &str, len: usize) -> Result<()>
+        ensures ok { OnOk result (Took (meaning_of self.old 0) (meaning_of self.new 0) (Loosen name.now len ∷ Cut name.now len ∷ [])) }
+        ensures long { OnOk result (IsLong len (state_of self.old.names.items name.now).now) }
+        ensures err { OnErr result (Took (meaning_of self.old 0) (meaning_of self.new 0) []) }
+    {
+        let text = String::from_str(self.alloc, name)?;
+        let again = String::from_str(self.alloc, name)?;
+        self.log.reserve(2)?;
+        if !alter_at(&mut self.names, name, FileChange::Cut(len))? {
+            return Err(Error::Io(ErrorKind::NotFound));
+        }
+        push_reserved(&mut self.log, Change::Loosen(text, len));
+        push_reserved(&mut self.log, Change::Cut(again, len));
+        Ok(())
+    }
+
+    /// Puts an entry at a name, `logged` being one that stands for the same.
+    pub fn put(&mut self, name: &str, node: Node, logged: Node) -> Result<()>
+        requires same { entry_of logged ≡ entry_of node }
+        requires housed { IsHoused (put (state_of self.old.names.items) name.now (entry_of node)) }
+        ensures ok { OnOk result (Took (meaning_of self.old 0) (meaning_of self.new 0) (Put name.now (entry_of node) ∷ [])) }
+        ensures err { OnErr result (Took (meaning_of self.old 0) (meaning_of self.new 0) []) }
+    {
+        let text = String::from_str(self.alloc, name)?;
+        self.log.reserve(1)?;
+        put_at(self.alloc, &mut self.names, name, node)?;
+        push_reserved(&mut self.log, Change::Put(text, logged));
+        Ok(())
+    }
+
+    pub fn sync_folder(&mut self, folder: &str) -> Result<()>
+        ensures ok { OnOk result (Took (meaning_of self.old 0) (meaning_of self.new 0) (SyncFolder folder.now ∷ [])) }
+        ensures err { OnErr result (Took (meaning_of self.old 0) (meaning_of self.new 0) []) }
+    {
+        let text = String::from_str(self.alloc, folder)?;
+        self.log.reserve(1)?;
+        settle_names(&mut self.names, folder);
+        push_reserved(&mut self.log, Change::SyncFolder(text));
+        Ok(())
+    }
+}

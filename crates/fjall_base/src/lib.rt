@@ -1,0 +1,22 @@
+//! What every layer speaks of: refusals, byte slices, disks and what a crash may leave of them, and, for contracts, stores and commands.
+#![tactic(auto)]
+
+mod closed;
+mod disk;
+mod error;
+mod files;
+mod laws;
+mod memory;
+mod node;
+mod slice;
+
+pub use closed::ClosedDisk;
+pub use disk::{DirEntry, Disk};
+pub use error::{
+    CompressionType, Error, FormatVersion, JournalRecoveryError, Refused, Result, StorageError,
+};
+pub use files::Files;
+pub use laws::{append_is_covered, cut_is_covered};
+pub use memory::{Failing, MemoryDisk};
+pub use node::{Change, FileChange, Kind, Named, Node};
+pub use slice::{KvPair, Slice, UserKey, UserValue};
