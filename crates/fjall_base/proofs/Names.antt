@@ -1,13 +1,17 @@
 -- How a list of named entries stands for a state.
-use Rattle.std.proofs.Common.{◌≡◌, ◌⊎◌, inl, inr, ℕ, zero, suc, ◌+◌, ◌<◌, ◌≤◌, Bool, true, false, List, [], ◌∷◌, ◌++◌, Some, None, set, get_or, length, refl, sym, ◌∙◌, ap, subst, arith, if◌then◌else◌, string_bytes, position, map}
+use Rattle.std.proofs.Common.{◌≡◌, ◌≢◌, ◌↔◌, ◌⊎◌, IsTrue, inl, inr, ℕ, zero, suc, ◌+◌, ◌<◌, ◌≤◌, Bool, true, false, List, [], ◌∷◌, ◌++◌, Some, None, set, get_or, length, refl, sym, ◌∙◌, ap, subst, arith, if◌then◌else◌, string_bytes, position, map}
 use Rattle.std.specs.List.{position_or_len}
 use Rattle.std.proofs.lemmas.Bool.Decides.{nat_tests}
 use Rattle.std.proofs.lemmas.List.Quantifiers.{position-Some}
 use Rattle.std.specs.Str.{bytes_eq}
 use Rattle.std.proofs.lemmas.Slice.Eq.{bytes_eq-Decides}
-use Rattle.fjall_base.specs.Disk.{Name, Entry, Missing, Place, put, alter}
+use Rattle.fjall_base.specs.Disk.{Name, Entry, Missing, File, Folder, Place, State, IsThere, standing, put, alter}
 use Rattle.fjall_base.specs.declared.node.Named.{Named}
-use Rattle.fjall_base.specs.Memory.{entry_of, place_of, state_of}
+use Rattle.fjall_base.specs.declared.node.FileChange.{FileChange}
+use Rattle.fjall_base.specs.declared.node.FileChange.TheVariants.{Append, Sync, Cut}
+use Rattle.fjall_base.specs.Memory.{entry_of, place_of, state_of, Fits, IsKind}
+use Rattle.fjall_base.specs.declared.node.Kind.{Kind}
+use Rattle.fjall_base.specs.declared.node.Kind.TheVariants as kinds
 
 -- a name is that of the entry
 abbrev pub is_named : Name → Named → Bool
@@ -179,3 +183,18 @@ present (x ∷ xs) q there = elim (bool_cases (bytes_eq q (string_bytes x.name))
       let rest_there : (state_of xs q).now ≡ Missing → ⊥ = λ none. there (rw not_x none) in
       let rest = present xs q rest_there in (suc rest.0, rest.1, omega (arith, rest.2), rest.3)
 ]
+
+-- no folder that is not the root is there where something else stands
+pub not_there : (state : State) (folder : Name) → folder ≢ [] → ((state folder).now ≡ Folder → ⊥) → IsTrue false ↔ IsThere (standing state) folder
+not_there state folder inner none = (λ bad. cc, λ there. elim there [ inl root ↦ absurd (inner root) | inr stands ↦ absurd (none stands) ])
+
+-- no change fits where nothing stands
+pub never_fits : (change : FileChange) → IsTrue false ↔ Fits change Missing
+never_fits (Append bytes) = (λ bad. cc, λ fits. absurd fits)
+never_fits Sync = (λ bad. cc, λ fits. absurd fits)
+never_fits (Cut len) = (λ bad. cc, λ fits. absurd fits)
+
+pub no_folder : (kind : Kind) (entry : Entry) → IsKind kind entry → (kind ≡ kinds.Folder → ⊥) → entry ≡ Folder → ⊥
+no_folder kinds.Missing entry is not folder = let both : Missing ≡ Folder = sym is ∙ folder in cc
+no_folder kinds.File entry is not folder = let both : File is.0 is.1 ≡ Folder = sym is.2 ∙ folder in cc
+no_folder kinds.Folder entry is not folder = not refl

@@ -1,5 +1,5 @@
 -- What a disk holds, how calls change it, and what a crash may leave of it.
-use Rattle.std.specs.Prelude.{◌≡◌, ◌≢◌, ◌⊎◌, ◌≤◌, ◌<◌, ◌^◌, ◌+◌, ◌-◌, ◌==◌, nat_le, ℕ, Bool, true, false, List, [], ◌∷◌, ◌++◌, take, drop, if◌then◌else◌, Result, IfErr, Option, Vec, IsNone, IsSomeAnd, MatchBool, length, string_bytes, All, Any}
+use Rattle.std.specs.Prelude.{◌≡◌, ◌≢◌, ◌⊎◌, ◌≤◌, ◌+◌, ◌==◌, nat_le, ℕ, Bool, true, false, List, [], ◌∷◌, ◌++◌, take, drop, if◌then◌else◌, Result, IfErr, Option, Vec, IsNone, IsSomeAnd, MatchBool, length, string_bytes, All, AllPairs, Any}
 use Rattle.std.specs.declared.alloc.Global.{Global}
 use Rattle.std.specs.Str.{bytes_eq}
 use Rattle.std.specs.List.{list_any}
@@ -60,6 +60,7 @@ abbrev pub SomeSurvivesBy : Crash → List Entry → Entry → Type 0
 SomeSurvivesBy crash [] left = ⊥
 SomeSurvivesBy crash (entry ∷ entries) left = crash entry left ⊎ SomeSurvivesBy crash entries left
 
+-- the same by the usual view
 abbrev pub SomeSurvives : List Entry → Entry → Type 0
 SomeSurvives = SomeSurvivesBy Survives
 
@@ -72,6 +73,7 @@ pub record IsImageBy (crash : Crash) (state : State) (image : Image) : Type 0 wh
   pub kept : (name : Name) → IsThere image (folder_of name) → SomeSurvivesBy crash ((state name).now ∷ (state name).older) (image name)
   pub lost : (name : Name) → (IsThere image (folder_of name) → ⊥) → image name ≡ Missing
 
+-- the same by the usual view
 abbrev pub IsImage : State → Image → Type 0
 IsImage = IsImageBy Survives
 
@@ -84,18 +86,22 @@ pub data Step : Type 0 where
   Cut : Name → ℕ → Step
   SyncFolder : Name → Step
 
+-- a file with these bytes at its end, none of them synced
 abbrev pub appended : List ℕ → Entry → Entry
 appended bytes (File synced unsynced) = File synced (unsynced ++ bytes)
 appended bytes entry = entry
 
+-- a file all of whose bytes are synced
 abbrev pub all_synced : Entry → Entry
 all_synced (File synced unsynced) = File (synced ++ unsynced) []
 all_synced entry = entry
 
+-- a file none of whose bytes from that length on are synced
 abbrev pub loosened : ℕ → Entry → Entry
 loosened len (File synced unsynced) = File (take len synced) (drop len synced ++ unsynced)
 loosened len entry = entry
 
+-- a file of no more than that length, all of it synced
 abbrev pub cut_to : ℕ → Entry → Entry
 cut_to len (File synced unsynced) = File (take len (synced ++ unsynced)) []
 cut_to len entry = entry
@@ -136,6 +142,7 @@ abbrev pub LeavesBy : Crash → State → List Step → Image → Type 0
 LeavesBy crash state [] image = IsImageBy crash state image
 LeavesBy crash state (step ∷ steps) image = IsImageBy crash state image ⊎ LeavesBy crash (change step state) steps image
 
+-- the same by the usual view
 abbrev pub Leaves : State → List Step → Image → Type 0
 Leaves = LeavesBy Survives
 
@@ -171,6 +178,7 @@ pub record LeavesOnlyBy (crash : Crash) (old new : Meaning) (P : Image → Type 
   pub took : Took old new added
   pub each : (image : Image) → LeavesBy crash (state_in old) added image → P image
 
+-- the same by the usual view
 abbrev pub LeavesOnly : Meaning → Meaning → (Image → Type 0) → Type 0
 LeavesOnly = LeavesOnlyBy Survives
 
@@ -223,13 +231,15 @@ Tells Missing is_folder = ⊥
 Tells (File synced unsynced) is_folder = is_folder ≡ false
 Tells Folder is_folder = is_folder ≡ true
 
+-- an entry of the folder's list: it is in the folder, and told by its kind
 abbrev pub IsListed : State → Name → DirEntry → Type 0
 IsListed state folder entry = (folder_of (string_bytes entry.name) ≡ folder) × Tells (state (string_bytes entry.name)).now entry.is_folder
 
--- the list of a folder: each of its entries is there, and each name in the folder is listed
+-- the list of a folder: each of its entries is there, each name in the folder is listed, and none twice
 pub record Lists (state : State) (folder : Name) (listed : List DirEntry) : Type 0 where
   pub each : All (IsListed state folder) listed
   pub whole : (name : Name) → folder_of name ≡ folder → (state name).now ≢ Missing → Any (λ entry. string_bytes entry.name ≡ name) listed
+  pub once : AllPairs (λ first later. string_bytes first.name ≢ string_bytes later.name) listed
 
 -- a file stands there
 abbrev pub IsFile : Entry → Type 0

@@ -11,11 +11,13 @@ use Rattle.fjall_base.specs.declared.node.Kind as kind
 use Rattle.fjall_base.specs.declared.node.FileChange.{FileChange}
 use Rattle.fjall_base.specs.declared.node.FileChange as of_file
 
+-- what stands at a name
 abbrev pub entry_of : Node → Entry
 entry_of node.TheVariants.Missing = Missing
 entry_of (node.TheVariants.File synced unsynced) = File synced.items unsynced.items
 entry_of node.TheVariants.Folder = Folder
 
+-- what stands there now, and what stood there since the folder was synced
 abbrev pub place_of : Named → Place
 place_of named = record { now = entry_of named.now; older = map entry_of named.older.items }
 
@@ -27,6 +29,7 @@ named_place named = (string_bytes named.name, place_of named)
 abbrev pub state_of : List Named → State
 state_of names = placed (map named_place names)
 
+-- the step that a change is
 abbrev pub step_of : Change → Step
 step_of (logged.TheVariants.Put name entry) = Put (string_bytes name) (entry_of entry)
 step_of (logged.TheVariants.Append name bytes) = Append (string_bytes name) bytes.items
@@ -47,6 +50,7 @@ Fits (of_file.TheVariants.Append bytes) = IsFile
 Fits of_file.TheVariants.Sync = IsFile
 Fits (of_file.TheVariants.Cut len) = IsLong len
 
+-- the entry is of that kind
 abbrev pub IsKind : Kind → Entry → Type 0
 IsKind kind.TheVariants.Missing entry = entry ≡ Missing
 IsKind kind.TheVariants.File entry = (synced : List ℕ) × (unsynced : List ℕ) × (entry ≡ File synced unsynced)

@@ -5,6 +5,7 @@ use Rattle.std.specs.Cmp.Lexicographic.{slice_cmp}
 use Rattle.std.specs.declared.cmp.Ordering.{Ordering}
 use Rattle.std.specs.FinMap.{FinMap, get, insert, remove}
 
+-- a key, a value or a name
 abbrev pub Bytes : Type 0
 Bytes = List ℕ
 

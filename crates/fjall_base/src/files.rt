@@ -1,18 +1,21 @@
-// Named entries, and the list of their changes.
-ghost use Rattle.std.specs.Prelude.{◌≡◌, [], ◌∷◌, IfOk, OnOk, OnErr};
-ghost use Rattle.std.specs.Bool.{OnTrue};
-ghost use Rattle.fjall_base.specs.Disk.{Took, Append, Sync, Loosen, Cut, Put, SyncFolder, HasFolder, put, Reads, IsFile, IsLong};
+//! Named entries, and the list of their changes.
+
+ghost use Rattle.std.specs.Prelude.{◌≡◌, ◌≢◌, ◌↔◌, ◌⊎◌, [], ◌∷◌, IfOk, IfErr, IsOkUnless, OnOk, OnErr, IsTrue};
+ghost use Rattle.fjall_base.specs.Disk.{Took, Append, Sync, Loosen, Cut, Put, SyncFolder, HasFolder, IsThere, standing, put, Reads, IsFile, IsLong};
 ghost use Rattle.fjall_base.specs.Memory.{entry_of, IsKind, state_of};
 ghost use Rattle.fjall_base.specs.Crash.{IsHoused};
 
 use crate::node::{
-    Change, FileChange, Kind, Named, Node, alter_at, has_folder, kind_at, push_reserved, put_at,
-    read_at, settle_names,
+    Change, FileChange, Kind, Named, Node, alter_at, folder_name, is_there, kind_at, push_reserved,
+    put_at, read_at, settle_names,
 };
 use crate::{Error, Result};
 use std::alloc::{AllocError, Global};
 use std::io::ErrorKind;
 
+/// Named entries that tell each change that they took.
+///
+/// A change that fails, for want of memory or since no such file is there, has done nothing.
 #[derive(Drop)]
 pub struct Files {
     pub alloc: Global,
@@ -25,6 +28,7 @@ pub struct Files {
 impl Files {
     ghost use Rattle.fjall_base.specs.Files.{meaning_of};
 
+    /// All the bytes of a file; `None` where there is none.
     pub fn read(
         &self,
         alloc: Global,
@@ -35,23 +39,33 @@ impl Files {
         read_at(alloc, self.names.as_slice(), name)
     }
 
+    /// Which kind of entry stands at a name.
     pub fn kind(&self, name: &str) -> Kind
         ensures { IsKind result (state_of self.now.names.items name.now).now }
     {
         kind_at(self.names.as_slice(), name)
     }
 
-    /// Whether a name's folder is there.
-    pub fn has_folder(&self, name: &str) -> bool
-        ensures { OnTrue result (HasFolder (state_of self.now.names.items) name.now) }
+    /// Whether a file or a folder may be made at a name: it isn't empty, and its folder is there.
+    pub fn has_room(&self, name: &str) -> bool
+        ensures { IsTrue result ↔ ((name.now ≢ []) × HasFolder (state_of self.now.names.items) name.now) }
     {
-        has_folder(self.names.as_slice(), name)
+        !name.is_empty() && is_there(self.names.as_slice(), folder_name(name))
     }
 
+    /// Whether there is such a folder; the root always is.
+    pub fn is_there(&self, folder: &str) -> bool
+        ensures { IsTrue result ↔ IsThere (standing (state_of self.now.names.items)) folder.now }
+    {
+        is_there(self.names.as_slice(), folder.as_bytes())
+    }
+
+    /// Adds bytes at the end of a file.
     pub fn append(&mut self, name: &str, bytes: &[u8]) -> Result<()>
         ensures ok { OnOk result (Took (meaning_of self.old 0) (meaning_of self.new 0) (Append name.now bytes.now ∷ [])) }
         ensures file { OnOk result (IsFile (state_of self.old.names.items name.now).now) }
         ensures err { OnErr result (Took (meaning_of self.old 0) (meaning_of self.new 0) []) }
+        ensures cause { IfErr result (λ e. (e ≡ Error.OutOfMemory) ⊎ ((e ≡ Error.Io ErrorKind.NotFound) × ¬ IsFile (state_of self.old.names.items name.now).now)) }
     {
         let text = String::from_str(self.alloc, name)?;
         let added = Vec::from_slice(self.alloc, bytes)?;
@@ -63,10 +77,12 @@ impl Files {
         Ok(())
     }
 
+    /// Syncs a file.
     pub fn sync(&mut self, name: &str) -> Result<()>
         ensures ok { OnOk result (Took (meaning_of self.old 0) (meaning_of self.new 0) (Sync name.now ∷ [])) }
         ensures file { OnOk result (IsFile (state_of self.old.names.items name.now).now) }
         ensures err { OnErr result (Took (meaning_of self.old 0) (meaning_of self.new 0) []) }
+        ensures cause { IfErr result (λ e. (e ≡ Error.OutOfMemory) ⊎ ((e ≡ Error.Io ErrorKind.NotFound) × ¬ IsFile (state_of self.old.names.items name.now).now)) }
     {
         let text = String::from_str(self.alloc, name)?;
         self.log.reserve(1)?;
@@ -77,10 +93,12 @@ impl Files {
         Ok(())
     }
 
+    /// Cuts a file to a length and syncs it.
     pub fn cut(&mut self, name: &str, len: usize) -> Result<()>
         ensures ok { OnOk result (Took (meaning_of self.old 0) (meaning_of self.new 0) (Loosen name.now len ∷ Cut name.now len ∷ [])) }
         ensures long { OnOk result (IsLong len (state_of self.old.names.items name.now).now) }
         ensures err { OnErr result (Took (meaning_of self.old 0) (meaning_of self.new 0) []) }
+        ensures cause { IfErr result (λ e. (e ≡ Error.OutOfMemory) ⊎ ((e ≡ Error.Io ErrorKind.NotFound) × ¬ IsLong len (state_of self.old.names.items name.now).now)) }
     {
         let text = String::from_str(self.alloc, name)?;
         let again = String::from_str(self.alloc, name)?;
@@ -99,6 +117,7 @@ impl Files {
         requires housed { IsHoused (put (state_of self.old.names.items) name.now (entry_of node)) }
         ensures ok { OnOk result (Took (meaning_of self.old 0) (meaning_of self.new 0) (Put name.now (entry_of node) ∷ [])) }
         ensures err { OnErr result (Took (meaning_of self.old 0) (meaning_of self.new 0) []) }
+        ensures cause { IsOkUnless result Error.OutOfMemory }
     {
         let text = String::from_str(self.alloc, name)?;
         self.log.reserve(1)?;
@@ -107,9 +126,11 @@ impl Files {
         Ok(())
     }
 
+    /// Syncs the names in a folder.
     pub fn sync_folder(&mut self, folder: &str) -> Result<()>
         ensures ok { OnOk result (Took (meaning_of self.old 0) (meaning_of self.new 0) (SyncFolder folder.now ∷ [])) }
         ensures err { OnErr result (Took (meaning_of self.old 0) (meaning_of self.new 0) []) }
+        ensures cause { IsOkUnless result Error.OutOfMemory }
     {
         let text = String::from_str(self.alloc, folder)?;
         self.log.reserve(1)?;

@@ -1,4 +1,5 @@
-// Laws of crashes, each the contract of a function that does nothing.
+//! Laws of crashes, each the contract of a function that does nothing.
+
 ghost use Rattle.std.specs.Prelude.{◌≤◌, ℕ, List};
 ghost use Rattle.fjall_base.specs.Disk.{Name, State, Image, Survives, SurvivesWild, IsImageBy, IsWithin, Append, Loosen, Cut, change};
 

@@ -9,14 +9,14 @@ mod laws;
 mod memory;
 mod node;
 mod slice;
+#[cfg(test)]
+mod tests;
 
 pub use closed::ClosedDisk;
 pub use disk::{DirEntry, Disk};
 pub use error::{
     CompressionType, Error, FormatVersion, JournalRecoveryError, Refused, Result, StorageError,
 };
-pub use files::Files;
 pub use laws::{append_is_covered, cut_is_covered};
-pub use memory::{Failing, MemoryDisk};
-pub use node::{Change, FileChange, Kind, Named, Node};
+pub use memory::MemoryDisk;
 pub use slice::{KvPair, Slice, UserKey, UserValue};

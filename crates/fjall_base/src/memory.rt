@@ -1,5 +1,6 @@
-// A disk in memory. It keeps the list of its changes, and can be told to fail.
-ghost use Rattle.std.specs.Prelude.{◌≡◌, ◌≤◌, [], true, map, IfOk, IsOkUnless};
+//! A disk in memory, for tests of crashes and of faults.
+
+ghost use Rattle.std.specs.Prelude.{◌≡◌, ◌≤◌, ◌-◌, ◌↔◌, [], true, map, IfOk, IsOkUnless, IsTrue};
 ghost use Rattle.fjall_base.specs.Disk.{IsImage, disk_of, state_in};
 ghost use Rattle.fjall_base.specs.Errors.{Rose};
 ghost use Rattle.fjall_base.specs.Crash.{crashed};
@@ -11,17 +12,21 @@ use crate::{DirEntry, Disk, Error, Result};
 use std::alloc::Global;
 use std::io::ErrorKind;
 
-/// The count of faults, and the call that is to fail next, counted down; 0 for none.
+/// Counts the faults that came, and the device calls down to the one that is to fail.
+///
+/// `call` is how many device calls are left up to and with that one, reads too: at 1 the next one
+/// fails, at 0 none does. The count of faults stays at the greatest `u64` once it is there.
 #[derive(Drop)]
-pub struct Failing {
-    pub count: u64,
-    pub call: u64,
-    pub part: usize,
+struct Failing {
+    count: u64,
+    call: u64,
+    // how many bytes of an append that is to fail go out first
+    part: usize,
 }
 
 impl Failing {
-    /// Counts a fault.
-    pub fn fault(&mut self) -> Error
+    // Counts a fault.
+    fn fault(&mut self) -> Error
         ensures io { result ≡ Error.Io ErrorKind.Other }
         ensures rose { Rose self.old.count self.new.count }
         ensures later { self.old.count ≤ self.new.count }
@@ -30,8 +35,10 @@ impl Failing {
         Error::Io(ErrorKind::Other)
     }
 
-    /// Counts a call, and says whether it is the one that is to fail.
-    pub fn strikes(&mut self) -> bool
+    // Counts a device call, and says whether it is the one that is to fail.
+    fn strikes(&mut self) -> bool
+        ensures strikes { IsTrue result ↔ (self.old.call ≡ 1) }
+        ensures call { self.new.call ≡ self.old.call - 1 }
         ensures count { self.new.count ≡ self.old.count }
     {
         if self.call == 0 {
@@ -42,6 +49,10 @@ impl Failing {
     }
 }
 
+/// A disk that is a list of names in memory. It is honest: contracts know all that it holds, and which
+/// steps it took.
+///
+/// It can be told to fail at a call, and be crashed. Each lookup walks the whole list.
 #[derive(Drop)]
 pub struct MemoryDisk {
     files: Files,
@@ -51,7 +62,7 @@ pub struct MemoryDisk {
 impl MemoryDisk {
     ghost use Rattle.fjall_base.specs.MemoryDisk.{meaning_in};
 
-    /// An empty disk.
+    /// An empty disk, without a fault. It allocates nothing.
     pub fn new(alloc: Global) -> MemoryDisk
         ensures meaning { meaning_in result ≡ record { places = []; steps = []; faults = 0 } }
     {
@@ -69,22 +80,33 @@ impl MemoryDisk {
         }
     }
 
-    /// The call of that number from now on fails; where it is an append, part of its bytes go out first.
+    /// Makes the device call of that number fail, counted from 1 from now on, reads too; where it is an
+    /// append, `part` of its bytes go out first. The number 0 makes none fail.
+    ///
+    /// An earlier number that has not come up yet is forgotten. After the call that fails the next ones
+    /// are as before.
     pub fn fail_at(&mut self, call: u64, part: usize)
         ensures same { meaning_in self.new ≡ meaning_in self.old }
+        ensures call { self.new.failing.call ≡ call }
+        ensures part { self.new.failing.part ≡ part }
     {
         self.failing.call = call;
         self.failing.part = part;
     }
 
-    /// The disk after a crash: all names stay, and each file keeps at most so many of its unsynced bytes.
-    /// That is one of the images that a crash may leave.
+    /// The disk after a crash: each file keeps at most `keep` of its unsynced bytes, and all names stay.
+    /// What is left counts as synced.
+    ///
+    /// That is one of the images that a crash may leave. A call that was told to fail still does.
+    ///
+    /// It fails with `Error::OutOfMemory` alone.
     pub fn crash(self, keep: usize) -> Result<MemoryDisk>
         ensures image { IfOk result (λ _. IsImage (state_in (meaning_in self)) (crashed keep (state_in (meaning_in self)))) }
         ensures cause { IsOkUnless result Error.OutOfMemory }
         ensures left { IfOk result (λ disk. state_in (meaning_in disk) ≡ disk_of (crashed keep (state_in (meaning_in self)))) }
         ensures steps { IfOk result (λ disk. (meaning_in disk).steps ≡ []) }
         ensures faults { IfOk result (λ disk. (meaning_in disk).faults ≡ (meaning_in self).faults) }
+        ensures told { IfOk result (λ disk. disk.failing ≡ self.failing) }
     {
         let MemoryDisk { files, failing } = self;
         let Files {
@@ -117,8 +139,34 @@ impl Disk for MemoryDisk {
         Ok(self.files.read(alloc, name)?)
     }
 
+    fn read_at(
+        &mut self,
+        alloc: Global,
+        name: &str,
+        at: usize,
+        len: usize,
+    ) -> Result<Option<Vec<u8>>> {
+        if self.failing.strikes() {
+            return Err(self.failing.fault());
+        }
+        let Some(bytes) = self.files.read(alloc, name)? else {
+            return Ok(None);
+        };
+        if bytes.len() < at || bytes.len() - at < len {
+            return Ok(None);
+        }
+        Ok(Some(Vec::from_slice(alloc, &bytes.as_slice()[at..at + len])?))
+    }
+
+    fn list(&mut self, alloc: Global, folder: &str) -> Result<Vec<DirEntry>> {
+        if self.failing.strikes() {
+            return Err(self.failing.fault());
+        }
+        Ok(list_names(alloc, self.files.names.as_slice(), folder)?)
+    }
+
     fn create(&mut self, name: &str) -> Result<()> {
-        if self.failing.strikes() || !self.files.has_folder(name) {
+        if self.failing.strikes() || !self.files.has_room(name) {
             return Err(self.failing.fault());
         }
         match self.files.kind(name) {
@@ -180,55 +228,6 @@ impl Disk for MemoryDisk {
         }
     }
 
-    fn make_folder(&mut self, name: &str) -> Result<()> {
-        if self.failing.strikes() || !self.files.has_folder(name) {
-            return Err(self.failing.fault());
-        }
-        match self.files.kind(name) {
-            Kind::Folder => Ok(()),
-            Kind::File => Err(self.failing.fault()),
-            Kind::Missing => {
-                if self.files.put(name, Node::Folder, Node::Folder).is_err() {
-                    return Err(self.failing.fault());
-                }
-                Ok(())
-            }
-        }
-    }
-
-    fn sync_folder(&mut self, name: &str) -> Result<()> {
-        if self.failing.strikes() || self.files.sync_folder(name).is_err() {
-            return Err(self.failing.fault());
-        }
-        Ok(())
-    }
-
-    fn read_at(
-        &mut self,
-        alloc: Global,
-        name: &str,
-        at: usize,
-        len: usize,
-    ) -> Result<Option<Vec<u8>>> {
-        if self.failing.strikes() {
-            return Err(self.failing.fault());
-        }
-        let Some(bytes) = self.files.read(alloc, name)? else {
-            return Ok(None);
-        };
-        if bytes.len() < at || bytes.len() - at < len {
-            return Ok(None);
-        }
-        Ok(Some(Vec::from_slice(alloc, &bytes.as_slice()[at..at + len])?))
-    }
-
-    fn list(&mut self, alloc: Global, folder: &str) -> Result<Vec<DirEntry>> {
-        if self.failing.strikes() {
-            return Err(self.failing.fault());
-        }
-        Ok(list_names(alloc, self.files.names.as_slice(), folder)?)
-    }
-
     fn remove_folder(&mut self, name: &str) -> Result<()> {
         if self.failing.strikes() {
             return Err(self.failing.fault());
@@ -246,5 +245,31 @@ impl Disk for MemoryDisk {
                 Ok(())
             }
         }
+    }
+
+    fn make_folder(&mut self, name: &str) -> Result<()> {
+        if self.failing.strikes() || !self.files.has_room(name) {
+            return Err(self.failing.fault());
+        }
+        match self.files.kind(name) {
+            Kind::Folder => Ok(()),
+            Kind::File => Err(self.failing.fault()),
+            Kind::Missing => {
+                if self.files.put(name, Node::Folder, Node::Folder).is_err() {
+                    return Err(self.failing.fault());
+                }
+                Ok(())
+            }
+        }
+    }
+
+    fn sync_folder(&mut self, name: &str) -> Result<()> {
+        if self.failing.strikes() || !self.files.is_there(name) {
+            return Err(self.failing.fault());
+        }
+        if self.files.sync_folder(name).is_err() {
+            return Err(self.failing.fault());
+        }
+        Ok(())
     }
 }

@@ -1,9 +1,11 @@
-// What stands at a name of a disk in memory, and how it changes.
+//! What stands at a name of a disk in memory, and how it changes.
+
 ghost use Rattle.fjall_base.specs.declared.disk.DirEntry.{DirEntry};
-ghost use Rattle.std.specs.Prelude.{List, All, Any, ◌≢◌, ◌≡◌, ◌≤◌, ◌<◌, ◌+◌, ◌++◌, [], ◌∷◌, map, take, ◌⊎◌, IsTrue, OnOk, OnErr, IfOk, position, vec_len, vec_capacity, string_bytes};
+ghost use Rattle.std.specs.Prelude.{List, All, AllPairs, Any, ◌≢◌, ◌≡◌, ◌↔◌, ◌≤◌, ◌<◌, ◌+◌, ◌++◌, [], ◌∷◌, IsTrue, OnOk, OnErr, IfOk, position, vec_len, vec_capacity, string_bytes};
 ghost use Rattle.std.specs.Bool.{OnTrue, OnFalse};
+ghost use Rattle.std.specs.List.{list_any};
 ghost use Rattle.std.specs.Str.{bytes_eq};
-ghost use Rattle.fjall_base.specs.Disk.{File, Folder, HasFolder, Missing, IsEmpty, IsFile, IsListed, IsLong, Lists, Reads, disk_of, folder_of, put, alter, settle, settled, appended, all_synced, cut_to};
+ghost use Rattle.fjall_base.specs.Disk.{File, Folder, Missing, IsEmpty, IsFile, IsListed, IsLong, IsThere, Lists, Reads, standing, disk_of, folder_of, put, alter, settle, settled, appended, all_synced, cut_to};
 ghost use Rattle.fjall_base.specs.Memory.{entry_of, place_of, state_of, changed, Fits, IsKind};
 ghost use Rattle.fjall_base.specs.Crash.{keeping, crashed};
 
@@ -11,13 +13,15 @@ use crate::DirEntry;
 use std::alloc::{AllocError, Global};
 use std::mem;
 
+/// What stands at a name.
 #[derive(Drop)]
 pub enum Node {
     Missing,
-    File(Vec<u8>, Vec<u8>),
+    File { synced: Vec<u8>, unsynced: Vec<u8> },
     Folder,
 }
 
+/// A name with what stands there now, and what stood there since its folder was synced.
 #[derive(Drop)]
 pub struct Named {
     pub name: String,
@@ -25,6 +29,7 @@ pub struct Named {
     pub older: Vec<Node>,
 }
 
+/// One change that the disk took, with the name that it is of.
 #[derive(Drop)]
 pub enum Change {
     Put(String, Node),
@@ -35,7 +40,7 @@ pub enum Change {
     SyncFolder(String),
 }
 
-/// A change of one file.
+/// A change of what one file holds.
 #[derive(Clone, Copy)]
 pub enum FileChange<'a> {
     Append(&'a [u8]),
@@ -44,21 +49,25 @@ pub enum FileChange<'a> {
 }
 
 impl Node {
+    /// A file without a byte.
     pub fn file(alloc: Global) -> Node
         ensures { entry_of result ≡ File [] [] }
     {
-        Node::File(Vec::new(alloc), Vec::new(alloc))
+        Node::File {
+            synced: Vec::new(alloc),
+            unsynced: Vec::new(alloc),
+        }
     }
 
     /// Adds bytes to a file; false where there is none.
     pub fn append(&mut self, bytes: &[u8]) -> Result<bool, AllocError>
         ensures ok { IfOk result (λ done. OnTrue done (entry_of self.new ≡ appended bytes.now (entry_of self.old))) }
-        ensures file { IfOk result (λ done. OnTrue done (IsFile (entry_of self.old))) }
+        ensures file { IfOk result (λ done. IsTrue done ↔ IsFile (entry_of self.old)) }
         ensures no { IfOk result (λ done. OnFalse done (entry_of self.new ≡ entry_of self.old)) }
         ensures err { OnErr result (entry_of self.new ≡ entry_of self.old) }
     {
         match self {
-            Node::File(_, unsynced) => {
+            Node::File { unsynced, .. } => {
                 unsynced.extend_from_slice(bytes)?;
                 Ok(true)
             }
@@ -69,12 +78,12 @@ impl Node {
     /// Syncs a file; false where there is none.
     pub fn sync(&mut self) -> Result<bool, AllocError>
         ensures ok { IfOk result (λ done. OnTrue done (entry_of self.new ≡ all_synced (entry_of self.old))) }
-        ensures file { IfOk result (λ done. OnTrue done (IsFile (entry_of self.old))) }
+        ensures file { IfOk result (λ done. IsTrue done ↔ IsFile (entry_of self.old)) }
         ensures no { IfOk result (λ done. OnFalse done (entry_of self.new ≡ entry_of self.old)) }
         ensures err { OnErr result (entry_of self.new ≡ entry_of self.old) }
     {
         match self {
-            Node::File(synced, unsynced) => {
+            Node::File { synced, unsynced } => {
                 synced.extend_from_slice(unsynced.as_slice())?;
                 unsynced.clear();
                 Ok(true)
@@ -86,12 +95,12 @@ impl Node {
     /// Cuts a file to a length and syncs it; false where there is none or it is shorter.
     pub fn cut(&mut self, len: usize) -> Result<bool, AllocError>
         ensures ok { IfOk result (λ done. OnTrue done (entry_of self.new ≡ cut_to len (entry_of self.old))) }
-        ensures long { IfOk result (λ done. OnTrue done (IsLong len (entry_of self.old))) }
+        ensures long { IfOk result (λ done. IsTrue done ↔ IsLong len (entry_of self.old)) }
         ensures no { IfOk result (λ done. OnFalse done (entry_of self.new ≡ entry_of self.old)) }
         ensures err { OnErr result (entry_of self.new ≡ entry_of self.old) }
     {
         match self {
-            Node::File(synced, unsynced) => {
+            Node::File { synced, unsynced } => {
                 if len <= synced.len() {
                     synced.truncate(len);
                     unsynced.clear();
@@ -112,7 +121,7 @@ impl Node {
     /// Changes a file; false where there is none, or it is too short.
     pub fn alter(&mut self, change: FileChange) -> Result<bool, AllocError>
         ensures ok { IfOk result (λ done. OnTrue done (entry_of self.new ≡ changed change.entry (entry_of self.old))) }
-        ensures fits { IfOk result (λ done. OnTrue done (Fits change.entry (entry_of self.old))) }
+        ensures fits { IfOk result (λ done. IsTrue done ↔ Fits change.entry (entry_of self.old)) }
         ensures no { IfOk result (λ done. OnFalse done (entry_of self.new ≡ entry_of self.old)) }
         ensures err { OnErr result (entry_of self.new ≡ entry_of self.old) }
     {
@@ -127,7 +136,7 @@ impl Node {
     pub fn crash(&mut self, keep: usize) -> Result<(), AllocError>
         ensures { OnOk result (entry_of self.new ≡ keeping keep (entry_of self.old)) }
     {
-        if let Node::File(synced, unsynced) = self {
+        if let Node::File { synced, unsynced } = self {
             unsynced.truncate(keep);
             synced.extend_from_slice(unsynced.as_slice())?;
             unsynced.clear();
@@ -135,12 +144,13 @@ impl Node {
         Ok(())
     }
 
+    /// Which kind of entry it is.
     pub fn kind(&self) -> Kind
         ensures { IsKind result (entry_of self.now) }
     {
         match self {
             Node::Missing => Kind::Missing,
-            Node::File(_, _) => Kind::File,
+            Node::File { .. } => Kind::File,
             Node::Folder => Kind::Folder,
         }
     }
@@ -150,7 +160,7 @@ impl Node {
         ensures { IfOk result (Reads (entry_of self.now)) }
     {
         match self {
-            Node::File(synced, unsynced) => {
+            Node::File { synced, unsynced } => {
                 let mut bytes = Vec::from_slice(alloc, synced.as_slice())?;
                 bytes.extend_from_slice(unsynced.as_slice())?;
                 Ok(Some(bytes))
@@ -180,7 +190,7 @@ pub fn find(names: &[Named], name: &str) -> Option<usize>
 /// Changes the file of a name; false where there is none, or it is too short.
 pub fn alter_at(names: &mut Vec<Named>, name: &str, change: FileChange) -> Result<bool, AllocError>
     ensures ok { IfOk result (λ done. OnTrue done (state_of names.new.items ≡ alter (state_of names.old.items) name.now (changed change.entry))) }
-    ensures fits { IfOk result (λ done. OnTrue done (Fits change.entry (state_of names.old.items name.now).now)) }
+    ensures fits { IfOk result (λ done. IsTrue done ↔ Fits change.entry (state_of names.old.items name.now).now) }
     ensures no { IfOk result (λ done. OnFalse done (state_of names.new.items ≡ state_of names.old.items)) }
     ensures err { OnErr result (state_of names.new.items ≡ state_of names.old.items) }
 {
@@ -236,7 +246,7 @@ fn replace_now(named: &mut Named, node: Node) -> Result<(), AllocError>
     Ok(())
 }
 
-/// What kind of entry stands at a name.
+/// The kinds of entries.
 #[derive(Clone, Copy)]
 pub enum Kind {
     Missing,
@@ -244,6 +254,7 @@ pub enum Kind {
     Folder,
 }
 
+/// Which kind of entry stands at a name.
 pub fn kind_at(names: &[Named], name: &str) -> Kind
     ensures { IsKind result (state_of names.now name.now).now }
 {
@@ -303,24 +314,23 @@ fn settle_named(named: &mut Named, folder: &str)
     }
 }
 
-// The place of a name's folder in the list.
-fn find_folder(names: &[Named], name: &str) -> Option<usize>
-    ensures { result ≡ position (λ named. bytes_eq (folder_of name.now) (string_bytes named.name)) names.now }
+// The place of a folder in the list.
+fn find_folder(names: &[Named], folder: &[u8]) -> Option<usize>
+    ensures { result ≡ position (λ named. bytes_eq folder.now (string_bytes named.name)) names.now }
 {
-    let folder = folder_name(name);
     names
         .iter()
         .position(|named| folder == named.name.as_bytes())
 }
 
-/// Whether a name's folder is there.
-pub fn has_folder(names: &[Named], name: &str) -> bool
-    ensures { OnTrue result (HasFolder (state_of names.now) name.now) }
+/// Whether there is such a folder; the root always is.
+pub fn is_there(names: &[Named], folder: &[u8]) -> bool
+    ensures { IsTrue result ↔ IsThere (standing (state_of names.now)) folder.now }
 {
-    if folder_name(name).is_empty() {
+    if folder.is_empty() {
         return true;
     }
-    let Some(at) = find_folder(names, name) else {
+    let Some(at) = find_folder(names, folder) else {
         return false;
     };
     match names[at].now.kind() {
@@ -349,7 +359,8 @@ fn crash_named(named: &mut Named, keep: usize) -> Result<(), AllocError>
 
 // Whether something stands in the folder at that name.
 fn stands_in(names: &[Named], named: &Named, folder: &str) -> bool
-    ensures { OnFalse result (folder_of (string_bytes named.entry.now.name) ≡ folder.now → (state_of names.now (string_bytes named.entry.now.name)).now ≡ Missing) }
+    ensures yes { OnTrue result ((folder_of (string_bytes named.entry.now.name) ≡ folder.now) × ((state_of names.now (string_bytes named.entry.now.name)).now ≢ Missing)) }
+    ensures no { OnFalse result (folder_of (string_bytes named.entry.now.name) ≡ folder.now → (state_of names.now (string_bytes named.entry.now.name)).now ≡ Missing) }
 {
     if !is_in(named.name.as_str(), folder) {
         return false;
@@ -362,7 +373,8 @@ fn stands_in(names: &[Named], named: &Named, folder: &str) -> bool
 
 /// Whether something stands in the folder.
 pub fn holds_any(names: &[Named], folder: &str) -> bool
-    ensures { OnFalse result (IsEmpty (state_of names.now) folder.now) }
+    ensures some { OnTrue result (¬ IsEmpty (state_of names.now) folder.now) }
+    ensures none { OnFalse result (IsEmpty (state_of names.now) folder.now) }
 {
     for named in names {
         if stands_in(names, named, folder) {
@@ -383,7 +395,14 @@ pub fn list_names(alloc: Global, names: &[Named], folder: &str) -> Result<Vec<Di
     Ok(listed)
 }
 
-// Adds an entry's name, where it is in the folder.
+// Whether a name is listed already.
+fn is_listed(listed: &[DirEntry], name: &str) -> bool
+    ensures { result ≡ list_any (λ entry. bytes_eq (string_bytes entry.name) name.now) listed.now }
+{
+    listed.iter().any(|entry| entry.name.as_str() == name)
+}
+
+// Adds an entry's name, where something stands there, it is in the folder and isn't listed yet.
 fn list_name(
     alloc: Global,
     names: &[Named],
@@ -391,8 +410,10 @@ fn list_name(
     folder: &str,
     listed: &mut Vec<DirEntry>,
 ) -> Result<(), AllocError>
-    requires { All (IsListed (state_of names.now) folder.now) listed.old.items }
+    requires each { All (IsListed (state_of names.now) folder.now) listed.old.items }
+    requires once { AllPairs (λ first later. string_bytes first.name ≢ string_bytes later.name) listed.old.items }
     ensures each { OnOk result (All (IsListed (state_of names.now) folder.now) listed.new.items) }
+    ensures once { OnOk result (AllPairs (λ first later. string_bytes first.name ≢ string_bytes later.name) listed.new.items) }
     ensures more { OnOk result ((more : List DirEntry) × (listed.new.items ≡ listed.old.items ++ more)) }
     ensures it { OnOk result (folder_of (string_bytes named.entry.now.name) ≡ folder.now → (state_of names.now (string_bytes named.entry.now.name)).now ≢ Missing → Any (λ entry. string_bytes entry.name ≡ string_bytes named.entry.now.name) listed.new.items) }
 {
@@ -400,23 +421,15 @@ fn list_name(
     if !is_in(name, folder) {
         return Ok(());
     }
-    match kind_at(names, name) {
-        Kind::Missing => Ok(()),
-        Kind::File => {
-            let text = String::from_str(alloc, name)?;
-            listed.push(DirEntry {
-                name: text,
-                is_folder: false,
-            })?;
-            Ok(())
-        }
-        Kind::Folder => {
-            let text = String::from_str(alloc, name)?;
-            listed.push(DirEntry {
-                name: text,
-                is_folder: true,
-            })?;
-            Ok(())
-        }
+    if is_listed(listed.as_slice(), name) {
+        return Ok(());
     }
+    let is_folder = match kind_at(names, name) {
+        Kind::Missing => return Ok(()),
+        Kind::File => false,
+        Kind::Folder => true,
+    };
+    let name = String::from_str(alloc, name)?;
+    listed.push(DirEntry { name, is_folder })?;
+    Ok(())
 }

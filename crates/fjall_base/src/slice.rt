@@ -1,14 +1,16 @@
 //! Keys and values: bytes that are shared, not copied.
 
-ghost use Rattle.std.specs.Prelude.{◌≡◌, IfOk, []};
+ghost use Rattle.std.specs.Prelude.{◌≡◌, ◌<◌, ◌^◌, ◌↔◌, [], length, IfOk, IsTrue};
 
 use bytes::Bytes;
 use std::alloc::{AllocError, Global};
 use std::marker::Model;
 use std::ops::DerefSlice;
 
-/// Immutable bytes. Slices are equal, ordered (byte by byte, a beginning first) and hashed by their bytes alone.
-#[derive(Debug, PartialEq, Eq, PartialOrd, Ord, Hash, Drop)]
+/// Immutable bytes, shared by all of its clones: `clone` copies none of them.
+///
+/// Slices are equal, ordered (byte by byte, a beginning first) and hashed by their bytes alone.
+#[derive(Clone, Debug, PartialEq, Eq, PartialOrd, Ord, Hash, Drop)]
 pub struct Slice {
     bytes: Bytes,
 }
@@ -33,7 +35,7 @@ impl Model for Slice {
 }
 
 impl Slice {
-    /// A copy of these bytes.
+    /// A slice with a copy of these bytes. It allocates, and fails where memory is used up.
     pub fn new(alloc: Global, bytes: &[u8]) -> Result<Slice, AllocError>
         ensures { IfOk result (λ s. s ≡ bytes.now) }
     {
@@ -42,7 +44,7 @@ impl Slice {
         })
     }
 
-    /// The slice of no bytes.
+    /// The slice of no bytes. It allocates nothing.
     pub fn empty() -> Slice
         ensures { result ≡ [] }
     {
@@ -58,13 +60,19 @@ impl Slice {
         self.bytes.as_slice()
     }
 
-    /// Another owner of the same bytes.
-    pub fn clone(&self) -> Result<Slice, AllocError>
-        ensures { IfOk result (λ s. s ≡ self.now) }
+    /// How many bytes it has.
+    pub fn len(&self) -> usize
+        ensures value { result ≡ length self.now }
+        ensures bound { result < 2 ^ 63 }
     {
-        Ok(Slice {
-            bytes: self.bytes.clone()?,
-        })
+        self.bytes.len()
+    }
+
+    /// Whether it has no byte.
+    pub fn is_empty(&self) -> bool
+        ensures { IsTrue result ↔ (self.now ≡ []) }
+    {
+        self.bytes.is_empty()
     }
 }
 

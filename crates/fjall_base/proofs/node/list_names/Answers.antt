@@ -16,6 +16,7 @@ loop-named-preserved c =
     let lt : i < length names = omega arith in
     record {
       each = c.in_ok-list_name.ensures.each;
+      once = c.in_ok-list_name.ensures.once;
       whole = λ k d below. below_more
           (λ (k : ℕ). (d : Named) → folder_of (string_bytes (get_or names k d).name) ≡ c.args.folder.now → (state_of names (string_bytes (get_or names k d).name)).now ≢ Missing
           → Any (λ entry. string_bytes entry.name ≡ string_bytes (get_or names k d).name) c.list_name.new.listed.items)
@@ -33,6 +34,7 @@ returns c =
     let names = c.args.names.now in
     record {
       each = c.loop-named.invariant.each;
+      once = c.loop-named.invariant.once;
       whole = λ name folder there.
           let at = present names name there in
           subst (λ (n : Name). Any (λ entry. string_bytes entry.name ≡ n) c.loop-named.listed.items) at.3

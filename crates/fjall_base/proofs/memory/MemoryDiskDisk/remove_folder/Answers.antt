@@ -9,7 +9,7 @@ use Rattle.fjall_base.proofs.memory.MemoryDiskDisk.remove_folder.Goals as goal
 
 pub put-requires-clause-housed : goal.put-requires-clause-housed
 put-requires-clause-housed c =
-    let empty = OnFalse_at c.if-holds_any.false c.holds_any.ensures in
+    let empty = OnFalse_at c.if-holds_any.false c.holds_any.ensures.none in
     housed_removed _ c.args.name.now (λ folder. subst (λ (names : List Named). IsEmpty (state_of names) c.args.name.now) c.as_slice.ensures.value empty) c.args.self.now.files.housed
 
 pub returns-else-is_err-clause-ok : goal.returns-else-is_err-clause-ok

@@ -1,0 +1,9 @@
+pub mod Fields
+pub mod Entries
+pub mod Changes
+pub mod Batches
+pub mod Loops
+pub mod Cuts
+pub mod Writing
+pub mod Readings
+pub mod Wholes

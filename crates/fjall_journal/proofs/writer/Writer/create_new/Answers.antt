@@ -1,0 +1,9 @@
+use Rattle.fjall_journal.specs.Writer.{MakingTook}
+use Rattle.fjall_journal.proofs.Writing.{on_err, making_left}
+use Rattle.fjall_journal.proofs.writer.Writer.create_new.Goals as goal
+
+pub returns-in_err-sync-clause-part : goal.returns-in_err-sync-clause-part
+returns-in_err-sync-clause-part g c = λ h.
+    let old = g.D.Disk.meaning c.args.disk.now in
+    let new = g.D.Disk.meaning c.sync.new.self in
+    on_err c.from_residual-in_err-sync.result (MakingTook old new c.args.name.now) (making_left old (g.D.Disk.meaning c.create.new.self) new c.args.name.now (c.in_ok-create.ensures.ok h) (c.in_err-sync.ensures.err h))

@@ -1,0 +1,6 @@
+pub mod Spelling
+pub mod Reading
+pub mod Batches
+pub mod Steps
+pub mod Reader
+pub mod Writer

@@ -1,0 +1,65 @@
+-- The append side of a journal: what a writer holds, and what its calls make of it and of the disk.
+use Rattle.std.specs.Prelude.{◌≡◌, ◌≢◌, ◌⊎◌, ℕ, ◌+◌, ◌-◌, ◌^◌, min, List, [], ◌∷◌, ◌++◌, length, nat_le, if◌then◌else◌}
+use Rattle.fjall_base.specs.Disk.{Name, Meaning, File, Step, Append, Sync, Took, TookPart, making, state_in}
+use Rattle.fjall_base.specs.declared.error.Error.{Error}
+use Rattle.fjall_base.specs.declared.error.Error.TheVariants.{Io}
+use Rattle.fjall_journal.specs.declared.persist_mode.PersistMode.{PersistMode}
+use Rattle.fjall_journal.specs.declared.persist_mode.PersistMode.TheVariants.{Buffer, SyncData, SyncAll}
+
+-- a file's name, the bytes that are still to be appended to it, and its length
+pub record Journal : Type 0 where
+  pub name : List ℕ
+  pub buffer : List ℕ
+  pub len : ℕ
+
+-- a length, which stops at the greatest u64
+abbrev pub counted : ℕ → ℕ
+counted n = min n (2 ^ 64 - 1)
+
+-- the journal with this text in its buffer too
+abbrev pub filled : Journal → List ℕ → Journal
+filled j text = record j { buffer = j.buffer ++ text }
+
+-- the journal whose buffer is in the file
+abbrev pub written_out : Journal → Journal
+written_out j = record j { buffer = []; len = counted (j.len + length j.buffer) }
+
+-- one append of these bytes, none where there are no bytes
+abbrev pub appending : Name → List ℕ → List Step
+appending name [] = []
+appending name (b ∷ bytes) = Append name (b ∷ bytes) ∷ []
+
+-- the journal after a text was written: its buffer goes out once it has 8,192 bytes
+abbrev pub after_write : Journal → List ℕ → Journal
+after_write j text = if nat_le 8192 (length (j.buffer ++ text)) then written_out (filled j text) else filled j text
+
+-- what a write of this text does to the disk
+abbrev pub write_steps : Journal → List ℕ → List Step
+write_steps j text = if nat_le 8192 (length (j.buffer ++ text)) then Append j.name (j.buffer ++ text) ∷ [] else []
+
+-- a sync, where the mode asks for one
+abbrev pub syncing : Name → PersistMode → List Step
+syncing name Buffer = []
+syncing name SyncData = Sync name ∷ []
+syncing name SyncAll = Sync name ∷ []
+
+-- what a persist does to the disk
+abbrev pub persist_steps : Journal → PersistMode → List Step
+persist_steps j mode = appending j.name j.buffer ++ syncing j.name mode
+
+-- what a refused write took of the disk: some beginning of the bytes where the disk failed, else nothing
+abbrev pub WriteTook : Error → Meaning → Meaning → Name → List ℕ → Type 0
+WriteTook (Io kind) old new name bytes = TookPart old new name bytes
+WriteTook error old new name bytes = Took old new []
+
+-- A refused persist stopped at the append, and the journal is as it was, or at the sync behind a whole append.
+abbrev pub PersistTook : Journal → Journal → PersistMode → Meaning → Meaning → Type 0
+PersistTook j now mode old new = ((now ≡ j) × TookPart old new j.name j.buffer) ⊎ ((now ≡ written_out j) × (mode ≢ Buffer) × (Took old new (appending j.name j.buffer) ⊎ Took old new (persist_steps j mode)))
+
+-- what makes an empty file of this name, where none is there
+abbrev pub making_file : Meaning → Name → List Step
+making_file disk name = making name (File [] []) (state_in disk name).now
+
+-- what the making of a file that failed took: nothing, the making, or the sync too
+abbrev pub MakingTook : Meaning → Meaning → Name → Type 0
+MakingTook old new name = Took old new [] ⊎ (Took old new (making_file old name) ⊎ Took old new (making_file old name ++ Sync name ∷ []))

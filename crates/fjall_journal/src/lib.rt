@@ -1,0 +1,30 @@
+//! The journal: batches of changes as bytes, and back.
+#![tactic(auto)]
+
+mod batch;
+mod batch_reader;
+mod contents;
+mod decoding;
+mod encoding;
+mod entry;
+mod laws;
+mod parsing;
+mod persist_mode;
+mod recovery_mode;
+mod writer;
+
+pub use batch::{Batch, ReadBatchItem, Tail};
+pub use batch_reader::JournalBatchReader;
+pub use contents::{Contents, read_journal};
+pub use encoding::serialize_marker_item;
+pub use entry::{Entry, Tag, ValueType};
+pub use laws::{
+    cut_reads, one_reading, one_spelling, one_tail, texts_are_whole, whole_behind, whole_grows,
+};
+pub use parsing::checksum;
+pub use persist_mode::PersistMode;
+pub use recovery_mode::RecoveryMode;
+pub use writer::{JOURNAL_BUFFER_BYTES, Writer};
+
+#[cfg(test)]
+mod tests;

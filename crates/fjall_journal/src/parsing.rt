@@ -1,0 +1,168 @@
+//! One batch, read from the front of some bytes, and the check that ends it.
+
+ghost use Rattle.std.specs.Prelude.{◌≡◌, ◌++◌, ◌∷◌, [], length, ◌<◌, ◌≤◌, IfOk, IfErr, OnOk};
+ghost use Rattle.std.specs.Str.{bytes_eq};
+ghost use Rattle.fjall_journal.specs.Reading.{entry_at};
+ghost use Rattle.fjall_journal.specs.Batches.{check, items_of, clears_of, view};
+ghost use Rattle.fjall_journal.specs.Reader.{Leads, StopsHere};
+ghost use Rattle.fjall_journal.specs.Steps.{Reads, or_torn, opening_at, change_at, changes_at, closing_at, batch_at};
+
+use crate::batch::{Batch, ReadBatchItem, Stop, Tail};
+use crate::decoding::entry_of;
+use crate::entry::Entry;
+use fjall_base::{Error, JournalRecoveryError, Result};
+use sha2::{Digest, Sha256};
+use std::alloc::{AllocError, Global};
+
+/// The first eight bytes of SHA-256.
+#[tactic(auto, unfolding(crate::specs::Batches::check))]
+pub fn checksum(bytes: &[u8]) -> [u8; 8]
+    ensures { result ≡ check bytes.now }
+{
+    let mut first = [0u8; 8];
+    first.copy_from_slice(&Sha256::digest(bytes)[..8]);
+    first
+}
+
+fn is_same(found: &[u8; 8], sum: &[u8; 8]) -> bool
+    ensures { result ≡ bytes_eq found.now sum.now }
+{
+    found == sum
+}
+
+fn entry_or_torn(alloc: Global, bytes: &[u8]) -> std::result::Result<(Entry, &[u8]), Stop>
+    ensures gives { Reads (λ x. (x.0, x.1.now)) result (or_torn (entry_at bytes.now)) }
+    ensures shorter { IfOk result (λ x. length x.1.now < length bytes.now) }
+{
+    match entry_of(alloc, bytes) {
+        Ok(found) => Ok(found),
+        Err(Error::OutOfMemory) => Err(Stop::Memory),
+        Err(_) => Err(Stop::Tail(Tail::Torn)),
+    }
+}
+
+#[tactic(auto, unfolding(crate::specs::Steps::opening_at))]
+fn opening_of(alloc: Global, bytes: &[u8]) -> std::result::Result<((u32, u64), &[u8]), Stop>
+    ensures gives { Reads (λ x. (x.0, x.1.now)) result (opening_at bytes.now) }
+    ensures shorter { IfOk result (λ x. length x.1.now < length bytes.now) }
+{
+    let (entry, rest) = entry_or_torn(alloc, bytes)?;
+    match entry {
+        Entry::Start { item_count, seqno } => Ok(((item_count, seqno), rest)),
+        Entry::Item { .. } => Err(Stop::Tail(Tail::Torn)),
+        Entry::End(_) => Err(Stop::Tail(Tail::Torn)),
+        Entry::Clear { .. } => Err(Stop::Tail(Tail::Torn)),
+    }
+}
+
+#[tactic(auto, unfolding(crate::specs::Steps::change_at))]
+fn change_of(alloc: Global, bytes: &[u8]) -> std::result::Result<(Entry, &[u8]), Stop>
+    ensures gives { Reads (λ x. (x.0, x.1.now)) result (change_at bytes.now) }
+    ensures shorter { IfOk result (λ x. length x.1.now < length bytes.now) }
+{
+    let (entry, rest) = entry_or_torn(alloc, bytes)?;
+    match entry {
+        Entry::Start { .. } => Err(Stop::Tail(Tail::Torn)),
+        Entry::End(_) => Err(Stop::Tail(Tail::Damaged(JournalRecoveryError::InsufficientLength))),
+        change => Ok((change, rest)),
+    }
+}
+
+#[tactic(auto, unfolding(crate::specs::Steps::closing_at))]
+fn closing_of<'a>(
+    alloc: Global,
+    sum: &[u8; 8],
+    bytes: &'a [u8],
+) -> std::result::Result<&'a [u8], Stop>
+    ensures gives { Reads (λ x. x.now) result (closing_at sum.now bytes.now) }
+    ensures shorter { IfOk result (λ x. length x.now < length bytes.now) }
+{
+    let (entry, rest) = entry_or_torn(alloc, bytes)?;
+    match entry {
+        Entry::Start { .. } => Err(Stop::Tail(Tail::Torn)),
+        Entry::End(found) => {
+            if !is_same(&found, sum) {
+                return Err(Stop::Tail(Tail::Damaged(JournalRecoveryError::ChecksumMismatch)));
+            }
+            Ok(rest)
+        }
+        Entry::Item { .. } => Err(Stop::Tail(Tail::Damaged(JournalRecoveryError::TooManyItems))),
+        Entry::Clear { .. } => Err(Stop::Tail(Tail::Damaged(JournalRecoveryError::TooManyItems))),
+    }
+}
+
+/// Puts an item or a clear to its kind.
+fn put_change(
+    items: &mut Vec<ReadBatchItem>,
+    clears: &mut Vec<u64>,
+    change: Entry,
+) -> std::result::Result<(), AllocError>
+    ensures items { OnOk result (items.new.items ≡ items.old.items ++ items_of (change ∷ [])) }
+    ensures clears { OnOk result (clears.new.items ≡ clears.old.items ++ clears_of (change ∷ [])) }
+{
+    match change {
+        Entry::Item {
+            keyspace_id,
+            key,
+            value,
+            value_type,
+            ..
+        } => items.push(ReadBatchItem {
+            keyspace_id,
+            key,
+            value,
+            value_type,
+        })?,
+        Entry::Clear { keyspace_id } => clears.push(keyspace_id)?,
+        _ => {}
+    }
+    Ok(())
+}
+
+/// That many changes, apart by their kind, and the bytes after them.
+fn changes_of(
+    alloc: Global,
+    count: u32,
+    bytes: &[u8],
+) -> std::result::Result<((Vec<ReadBatchItem>, Vec<u64>), &[u8]), Stop>
+    ensures gives { Reads (λ x. ((x.0.0.items, x.0.1.items), x.1.now)) result (changes_at count bytes.now) }
+    ensures shorter { IfOk result (λ x. length x.1.now ≤ length bytes.now) }
+{
+    let mut items = Vec::new(alloc);
+    let mut clears = Vec::new(alloc);
+    let mut rest = bytes;
+    for _ in 0..count {
+        let (change, after) = change_of(alloc, rest)?;
+        put_change(&mut items, &mut clears, change)?;
+        rest = after;
+    }
+    Ok(((items, clears), rest))
+}
+
+#[tactic(auto, unfolding(crate::specs::Steps::batch_at))]
+fn parse_batch(alloc: Global, bytes: &[u8]) -> std::result::Result<(Batch, &[u8]), Stop>
+    ensures gives { Reads (λ x. (view x.0, x.1.now)) result (batch_at bytes.now) }
+    ensures shorter { IfOk result (λ x. length x.1.now < length bytes.now) }
+{
+    if bytes.is_empty() {
+        return Err(Stop::Tail(Tail::Clean));
+    }
+    let ((item_count, seqno), rest) = opening_of(alloc, bytes)?;
+    let ((items, cleared_keyspaces), rest) = changes_of(alloc, item_count, rest)?;
+    let sum = checksum(&bytes[..bytes.len() - rest.len()]);
+    let rest = closing_of(alloc, &sum, rest)?;
+    let batch = Batch {
+        seqno,
+        items,
+        cleared_keyspaces,
+    };
+    Ok((batch, rest))
+}
+
+/// The batch at the front and the bytes after it, or the tail.
+pub(crate) fn batch_of(alloc: Global, bytes: &[u8]) -> std::result::Result<(Batch, &[u8]), Stop>
+    ensures batch { IfOk result (λ x. Leads bytes.now x.0 x.1.now) }
+    ensures tail { IfErr result (StopsHere bytes.now) }
+{
+    parse_batch(alloc, bytes)
+}
