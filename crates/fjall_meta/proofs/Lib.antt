@@ -1,0 +1,3 @@
+mod Entries
+pub mod Openings
+pub mod Sound
