@@ -1,0 +1,149 @@
+-- The engine as a machine: what each call may answer, and the state after it.
+use Rattle.std.specs.Prelude.{◌≡◌, ℕ, ◌+◌, Bool, true, false, nat_le, not, ◌==◌, ◌||◌, ◌^◌, if◌then◌else◌, List, [], ◌∷◌, length, Option, None, Some}
+use Rattle.std.specs.FinMap.{contains_key}
+use Rattle.fjall_base.specs.Pairs.{Bytes, lookup}
+use Rattle.fjall_base.specs.Store.{Store, Command, Write, map_at}
+use Rattle.fjall_base.specs.declared.error.Error.{Error}
+use Rattle.fjall_base.specs.declared.error.Error.TheVariants.{Io, Poisoned, KeyspaceDeleted, KeyEmpty, KeyTooLong, ValueTooLong, OutOfMemory, NumbersUsedUp, UnknownKeyspace}
+use Rattle.fjall_journal.specs.declared.persist_mode.PersistMode.{PersistMode}
+use Rattle.fjall_journal.specs.declared.entry.ValueType.TheVariants as kinds
+use Rattle.fjall_journal.specs.Batches.{batch_text, of_item}
+use Rattle.fjall_journal.specs.Writer.{counted}
+use Rattle.fjall_core.specs.declared.call.View.{View}
+use Rattle.fjall_core.specs.declared.call.View.TheVariants.{Present}
+use Rattle.fjall_core.specs.declared.call.Call.{Call}
+use Rattle.fjall_core.specs.declared.call.Call.TheVariants.{Insert, GetAt, Persist, Seqno, VisibleSeqno, JournalDiskSpace}
+use Rattle.fjall_core.specs.declared.call.Reply.{Reply}
+use Rattle.fjall_core.specs.declared.call.Reply.TheVariants.{Done, Value, Number, Refused}
+use Rattle.fjall_core.specs.Histories.{History, number, grown, latest}
+
+-- How many bytes the journal's file has, and how many wait in the buffer.
+pub record Parts : Type 0 where
+  pub journal : ℕ
+  pub buffer : ℕ
+
+-- The history, whether a fault of the disk has poisoned the engine, and the parts that its counts speak of.
+pub record State : Type 0 where
+  pub history : History
+  pub poisoned : Bool
+  pub parts : Parts
+
+-- just opened
+abbrev pub opened_state : Store → ℕ → Parts → State
+opened_state store base parts = record { history = record { opened = store; base = base; commands = [] }; poisoned = false; parts = parts }
+
+-- the store after all that was accepted
+abbrev pub present : State → Store
+present s = latest s.history
+
+-- the store that a view shows
+abbrev pub view_at : State → View → Store
+view_at s Present = present s
+
+-- all that waited is in the file, with some bytes more
+abbrev pub written_out : Parts → ℕ → Parts
+written_out parts more = record { journal = counted (parts.journal + (parts.buffer + more)); buffer = 0 }
+
+-- the write of one key
+abbrev pub write_of : ℕ → Bytes → Option Bytes → Command
+write_of id key value = Write (record { id = id; key = key; value = value } ∷ [])
+
+-- the length of the text of the batch that an insert writes
+abbrev pub insert_len : ℕ → Bytes → Bytes → ℕ → ℕ
+insert_len id key value number = length (batch_text (of_item id key value kinds.Value number))
+
+-- no keyspace ever had the id
+abbrev pub is_unknown : Store → ℕ → Bool
+is_unknown s id = id == 0 || nat_le s.next id
+
+-- the id has no name any more
+abbrev pub is_deleted : Store → ℕ → Bool
+is_deleted s id = not (contains_key s.names id)
+
+-- the first refusal whose cause holds
+abbrev pub first_due : List (Bool × Error) → Option Error
+first_due [] = None
+first_due (refusal ∷ refusals) = if refusal.0 then Some refusal.1 else first_due refusals
+
+-- The refusals of a write of one item, in their order: keys have 1 to 65,535 bytes, values at most 4,294,967,295, and
+-- numbers lie below 2^63.
+abbrev pub write_refusals : Store → ℕ → Bool → ℕ → Bytes → Bytes → List (Bool × Error)
+write_refusals store next poisoned id key value =
+    (length key == 0, KeyEmpty)
+    ∷ (nat_le (2 ^ 16) (length key), KeyTooLong)
+    ∷ (nat_le (2 ^ 32) (length value), ValueTooLong)
+    ∷ (is_unknown store id, UnknownKeyspace)
+    ∷ (is_deleted store id, KeyspaceDeleted)
+    ∷ (poisoned, Poisoned)
+    ∷ (nat_le (2 ^ 63) next, NumbersUsedUp)
+    ∷ []
+
+-- the same where keyspace 1 alone was ever made
+abbrev pub one_refusals : ℕ → Bool → ℕ → Bytes → Bytes → List (Bool × Error)
+one_refusals next poisoned id key value =
+    (length key == 0, KeyEmpty)
+    ∷ (nat_le (2 ^ 16) (length key), KeyTooLong)
+    ∷ (nat_le (2 ^ 32) (length value), ValueTooLong)
+    ∷ (not (id == 1), UnknownKeyspace)
+    ∷ (poisoned, Poisoned)
+    ∷ (nat_le (2 ^ 63) next, NumbersUsedUp)
+    ∷ []
+
+-- The refusal that is due for a call at this store, with this next number and this poison flag, before memory or the
+-- disk is asked for anything.
+abbrev pub due_in : Store → ℕ → Bool → Call → Option Error
+due_in store next poisoned (Insert id key value) = first_due (write_refusals store next poisoned id key value)
+due_in store next poisoned (GetAt view id key) = first_due ((is_unknown store id, UnknownKeyspace) ∷ [])
+due_in store next poisoned (Persist mode) = first_due ((poisoned, Poisoned) ∷ [])
+due_in store next poisoned Seqno = None
+due_in store next poisoned VisibleSeqno = None
+due_in store next poisoned JournalDiskSpace = None
+
+abbrev pub due : State → Call → Option Error
+due s call = due_in (present s) (number s.history) s.poisoned call
+
+-- a call that takes memory
+abbrev pub TakesMemory : Call → Type 0
+TakesMemory (Insert id key value) = Unit {0}
+TakesMemory (GetAt view id key) = Unit {0}
+TakesMemory call = ⊥
+
+-- What a fault of the disk leaves: after a call that changes the disk the engine is poisoned, and its parts are not
+-- known; after a read all is as before.
+abbrev pub AfterFault : Call → State → State → Type 0
+AfterFault (Insert id key value) old new = (new.history ≡ old.history) × (new.poisoned ≡ true)
+AfterFault (GetAt view id key) old new = new ≡ old
+AfterFault (Persist mode) old new = (new.history ≡ old.history) × (new.poisoned ≡ true)
+AfterFault call old new = ⊥
+
+-- where none is due, memory may run out, or the disk fail
+abbrev pub MayFail : Call → Error → State → State → Type 0
+MayFail call (Io kind) old new = AfterFault call old new
+MayFail call OutOfMemory old new = TakesMemory call × (new ≡ old)
+MayFail call error old new = ⊥
+
+-- a refusal is the one that is due, and changes nothing
+abbrev pub Refuses : Option Error → Call → Error → State → State → Type 0
+Refuses (Some first) call error old new = (error ≡ first) × (new ≡ old)
+Refuses None call error old new = MayFail call error old new
+
+-- From old, the engine may give this reply, and go on to new.
+abbrev pub Step : State → Call → Reply → State → Type 0
+Step old call (Refused error) new = Refuses (due old call) call error old new
+Step old (Insert id key value) Done new =
+    (due old (Insert id key value) ≡ None)
+    × (new ≡ record old { history = grown old.history (write_of id key (Some value)); parts = written_out old.parts (insert_len id key value (number old.history)) })
+Step old (GetAt view id key) (Value found) new =
+    (due old (GetAt view id key) ≡ None) × (found ≡ lookup (map_at (view_at old view).maps id) key) × (new ≡ old)
+Step old (Persist mode) Done new = (due old (Persist mode) ≡ None) × (new ≡ record old { parts = written_out old.parts 0 })
+Step old Seqno (Number n) new = (n ≡ number old.history) × (new ≡ old)
+Step old VisibleSeqno (Number n) new = (n ≡ number old.history) × (new ≡ old)
+Step old JournalDiskSpace (Number n) new = (n ≡ old.parts.journal) × (new ≡ old)
+-- no other reply is given
+Step old call reply new = ⊥
+
+-- these replies to these calls, one step after another
+abbrev pub Run : State → List Call → List Reply → State → Type 0
+Run s [] [] t = t ≡ s
+Run s (call ∷ calls) (reply ∷ replies) t = (mid : State) × Step s call reply mid × Run mid calls replies t
+Run s calls replies t = ⊥

@@ -1,0 +1,183 @@
+-- What a core stands for, and what its calls owe.
+use Rattle.std.specs.Prelude.{◌≡◌, ◌⊎◌, ℕ, ◌+◌, ◌≤◌, Bool, true, false, cond, List, [], ◌∷◌, ◌++◌, length, map, Option, Some, None, Result, Ok, Err}
+use Rattle.std.specs.Str.{bytes_eq}
+use Rattle.fjall_base.specs.Pairs.{Bytes}
+use Rattle.fjall_base.specs.Store.{Store, Command, fold, kept}
+use Rattle.fjall_base.specs.Disk.{Meaning, Took, TookPart}
+use Rattle.fjall_base.specs.Errors.{Rose}
+use Rattle.fjall_base.specs.declared.error.Error.{Error}
+use Rattle.fjall_base.specs.declared.error.Error.TheVariants.{Io, OutOfMemory, Poisoned}
+use Rattle.fjall_journal.specs.declared.entry.ValueType.TheVariants as kinds
+use Rattle.fjall_journal.specs.declared.persist_mode.PersistMode.{PersistMode}
+use Rattle.fjall_journal.specs.declared.persist_mode.PersistMode.TheVariants.{SyncAll}
+use Rattle.fjall_journal.specs.Batches.{batch_text, of_item}
+use Rattle.fjall_journal.specs.Writer.{Journal, filled, written_out, appending, persist_steps}
+use Rattle.fjall_core.specs.declared.call.Call.{Call}
+use Rattle.fjall_core.specs.declared.call.Call.TheVariants.{Insert, GetAt, Persist, Seqno, VisibleSeqno, JournalDiskSpace}
+use Rattle.fjall_core.specs.declared.call.Reply.{Reply}
+use Rattle.fjall_core.specs.declared.call.Reply.TheVariants.{Done, Value, Number, Refused}
+use Rattle.fjall_core.specs.declared.version.Version.{Version}
+use Rattle.fjall_core.specs.Histories.{number}
+use Rattle.fjall_core.specs.Machine.{Parts, State, Step, Run, TakesMemory, present, due_in, write_of}
+use Rattle.fjall_core.specs.Replays.{initial}
+use Rattle.fjall_core.specs.Holding.{Held}
+
+-- a version as the write that made it
+abbrev pub command_of : Version → Command
+command_of version = write_of 1 version.key version.value
+
+-- the store that the versions in memory make
+abbrev pub store_of : List Version → Store
+store_of versions = fold initial (map command_of versions)
+
+-- what the newest of these versions of a key, the last of them, says of its value, and else what was found before
+abbrev pub newest_after : Option Bytes → List Version → Bytes → Option Bytes
+newest_after found [] key = found
+newest_after found (version ∷ versions) key = newest_after (cond (bytes_eq key version.key) version.value found) versions key
+
+-- the value that the newest version of a key gave it
+abbrev pub newest : List Version → Bytes → Option Bytes
+newest versions key = newest_after None versions key
+
+-- how many bytes the journal has in its file and in its buffer
+abbrev pub parts_of : Journal → Parts
+parts_of j = record { journal = j.len; buffer = length j.buffer }
+
+-- The state is one that the core may be in: its present is what the versions in memory make, deleted keyspaces aside.
+pub record StandsFor (core : Held) (s : State) : Type 0 where
+  pub present : kept (present s) ≡ kept (store_of core.versions)
+  pub number : number s.history ≡ core.next
+  pub poisoned : s.poisoned ≡ core.poisoned
+  pub parts : s.parts ≡ parts_of core.journal
+
+-- the refusal that is due for a call of this core
+abbrev pub held_due : Held → Call → Option Error
+held_due core call = due_in (store_of core.versions) core.next core.poisoned call
+
+-- the text of the batch that an insert writes
+abbrev pub insert_text : Held → ℕ → Bytes → Bytes → List ℕ
+insert_text core id key value = batch_text (of_item id key value kinds.Value core.next)
+
+-- A fault of the disk has poisoned the core, and what is in memory is as before.
+pub record Poisons (old new : Held) : Type 0 where
+  pub poisoned : new.poisoned ≡ true
+  pub versions : new.versions ≡ old.versions
+  pub next : new.next ≡ old.next
+  pub faults : Rose old.disk.faults new.disk.faults
+
+-- One version more stands in memory, under the next number, and its batch's text is in the journal's file.
+pub record Grows (old : Held) (version : Version) (text : List ℕ) (new : Held) : Type 0 where
+  pub versions : new.versions ≡ old.versions ++ version ∷ []
+  pub next : new.next ≡ old.next + 1
+  pub poisoned : new.poisoned ≡ old.poisoned
+  pub journal : new.journal ≡ written_out (filled old.journal text)
+  pub faults : old.disk.faults ≤ new.disk.faults
+
+-- All that waited in the buffer is in the journal's file; memory is as before.
+pub record HandsOver (old new : Held) : Type 0 where
+  pub versions : new.versions ≡ old.versions
+  pub next : new.next ≡ old.next
+  pub poisoned : new.poisoned ≡ old.poisoned
+  pub journal : new.journal ≡ written_out old.journal
+  pub faults : old.disk.faults ≤ new.disk.faults
+
+-- it tells of a fault of the disk
+abbrev pub is_io : Error → Bool
+is_io (Io kind) = true
+is_io error = false
+
+-- what came of a write, but for the disk
+abbrev pub Writes : Held → Version → List ℕ → Result Unit Error → Held → Type 0
+Writes old version text (Ok _) new = Grows old version text new
+Writes old version text (Err (Io kind)) new = Poisons old new
+Writes old version text (Err OutOfMemory) new = new ≡ old
+Writes old version text (Err error) new = ⊥
+
+-- and on the disk
+abbrev pub WritesDisk : Held → List ℕ → Result Unit Error → Held → Type 0
+WritesDisk old text (Ok _) new = Took old.disk new.disk (appending old.journal.name (old.journal.buffer ++ text))
+WritesDisk old text (Err error) new = TookPart old.disk new.disk old.journal.name (old.journal.buffer ++ text)
+
+-- a fault is told by a change of the disk alone
+abbrev pub Faults : Call → Held → Held → Type 0
+Faults (Insert id key value) old new = Poisons old new
+Faults (Persist mode) old new = Poisons old new
+Faults call old new = ⊥
+
+-- where no refusal is due, a fault or want of memory may be told
+abbrev pub OwesFailure : Held → Call → Error → Held → Type 0
+OwesFailure old call (Io kind) new = Faults call old new
+OwesFailure old call OutOfMemory new = TakesMemory call × (new ≡ old)
+OwesFailure old call error new = ⊥
+
+-- a refusal is the one that is due, and changes nothing
+abbrev pub OwesRefusal : Option Error → Held → Call → Error → Held → Type 0
+OwesRefusal (Some first) old call error new = (error ≡ first) × (new ≡ old)
+OwesRefusal None old call error new = OwesFailure old call error new
+
+-- What a call owes whatever the disk is: each refusal for its cause, with what it leaves, and each answer from memory.
+abbrev pub Owes : Held → Call → Reply → Held → Type 0
+Owes old call (Refused error) new = OwesRefusal (held_due old call) old call error new
+Owes old (Insert id key value) Done new =
+    (held_due old (Insert id key value) ≡ None)
+    × Grows old (record { seqno = old.next; key = key; value = Some value }) (insert_text old id key value) new
+Owes old (GetAt view id key) (Value found) new =
+    (held_due old (GetAt view id key) ≡ None) × (found ≡ newest old.versions key) × (new ≡ old)
+Owes old (Persist mode) Done new = (held_due old (Persist mode) ≡ None) × HandsOver old new
+Owes old Seqno (Number n) new = (n ≡ old.next) × (new ≡ old)
+Owes old VisibleSeqno (Number n) new = (n ≡ old.next) × (new ≡ old)
+Owes old JournalDiskSpace (Number n) new = (n ≡ old.journal.len) × (new ≡ old)
+Owes old call reply new = ⊥
+
+-- calls one after another
+abbrev pub OwesAll : Held → List Call → List Reply → Held → Type 0
+OwesAll old [] [] new = new ≡ old
+OwesAll old (call ∷ calls) (reply ∷ replies) new = (mid : Held) × Owes old call reply mid × OwesAll mid calls replies new
+OwesAll old calls replies new = ⊥
+
+-- what the disk took of a call where it failed: some beginning of what was appended, or all of it and the sync
+abbrev pub DiskFailed : Held → Call → Held → Type 0
+DiskFailed old (Insert id key value) new = TookPart old.disk new.disk old.journal.name (old.journal.buffer ++ insert_text old id key value)
+DiskFailed old (Persist mode) new = TookPart old.disk new.disk old.journal.name old.journal.buffer ⊎ Took old.disk new.disk (persist_steps old.journal mode)
+DiskFailed old call new = ⊥
+
+-- What the disk took of a call: the batch's text behind what waited in the buffer, or the buffer and a sync where the
+-- mode asks for one, and else nothing.
+abbrev pub OnDisk : Held → Call → Reply → Held → Type 0
+OnDisk old (Insert id key value) Done new = Took old.disk new.disk (appending old.journal.name (old.journal.buffer ++ insert_text old id key value))
+OnDisk old (Persist mode) Done new = Took old.disk new.disk (persist_steps old.journal mode)
+OnDisk old call (Refused (Io kind)) new = DiskFailed old call new
+OnDisk old call reply new = new.disk ≡ old.disk
+
+-- One call over a disk that returns what it holds. Whichever state the core stood for, it steps to one that it stands
+-- for now, and the disk took what such a call writes.
+pub record Serves (old : Held) (call : Call) (reply : Reply) (new : Held) : Type 0 where
+  pub step : (s : State) → StandsFor old s → (t : State) × StandsFor new t × Step s call reply t
+  pub disk : OnDisk old call reply new
+
+-- the reply to a change or to a sync
+abbrev pub reply_of : Result Unit Error → Reply
+reply_of (Ok _) = Done
+reply_of (Err error) = Refused error
+
+-- the reply to a read
+abbrev pub value_reply : Result (Option Bytes) Error → Reply
+value_reply (Ok found) = Value found
+value_reply (Err error) = Refused error
+
+-- Calls one after another, as a run of the machine.
+abbrev pub Runs : Held → List Call → List Reply → Held → Type 0
+Runs old calls replies new = (s : State) → StandsFor old s → (t : State) × StandsFor new t × Run s calls replies t
+
+-- What closing owes whatever the disk is: the cause of each refusal; a poisoned core leaves the disk alone.
+abbrev pub OwesClosing : Held → Result Unit Error → Meaning → Type 0
+OwesClosing old (Ok _) disk = (old.poisoned ≡ false) × (old.disk.faults ≤ disk.faults)
+OwesClosing old (Err (Io kind)) disk = (old.poisoned ≡ false) × Rose old.disk.faults disk.faults
+OwesClosing old (Err Poisoned) disk = (old.poisoned ≡ true) × (disk ≡ old.disk)
+OwesClosing old (Err error) disk = ⊥
+
+-- and on the disk: the buffer is written out and the journal synced
+abbrev pub ClosesDisk : Held → Result Unit Error → Meaning → Type 0
+ClosesDisk old (Ok _) disk = Took old.disk disk (persist_steps old.journal SyncAll)
+ClosesDisk old (Err (Io kind)) disk = TookPart old.disk disk old.journal.name old.journal.buffer ⊎ Took old.disk disk (persist_steps old.journal SyncAll)
+ClosesDisk old (Err error) disk = disk ≡ old.disk

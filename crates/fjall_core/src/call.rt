@@ -1,0 +1,41 @@
+//! The calls of a core as values, and their replies.
+
+use fjall_base::{Error, UserKey, UserValue};
+use fjall_journal::PersistMode;
+
+/// What a read shows.
+#[derive(Clone, Copy, Debug, PartialEq, Eq)]
+pub enum View {
+    /// All that was accepted.
+    Present,
+}
+
+/// One call of a core, for [`run`](crate::Core::run).
+#[derive(Debug, Drop)]
+pub enum Call {
+    /// `insert`: keyspace id, key and value.
+    Insert(u64, UserKey, UserValue),
+    /// `get_at`: view, keyspace id and key.
+    GetAt(View, u64, UserKey),
+    /// `persist`.
+    Persist(PersistMode),
+    /// `seqno`.
+    Seqno,
+    /// `visible_seqno`.
+    VisibleSeqno,
+    /// `journal_disk_space`.
+    JournalDiskSpace,
+}
+
+/// The reply to one call.
+#[derive(Debug, Drop)]
+pub enum Reply {
+    /// It is done, and there is nothing to tell.
+    Done,
+    /// The value of a key, where it has one.
+    Value(Option<UserValue>),
+    /// A count.
+    Number(u64),
+    /// It was refused.
+    Refused(Error),
+}

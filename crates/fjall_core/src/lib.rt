@@ -1,0 +1,20 @@
+//! The engine's one machine: calls that change keyspaces, read them and sync their journal.
+#![tactic(auto)]
+
+mod call;
+mod config;
+mod engine;
+mod journaling;
+mod recovery;
+mod refusal;
+mod replay;
+mod version;
+
+pub use call::{Call, Reply, View};
+pub use config::Config;
+pub use engine::Core;
+pub use fjall_journal::PersistMode;
+pub use version::Version;
+
+#[cfg(test)]
+mod tests;

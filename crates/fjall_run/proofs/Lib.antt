@@ -1,0 +1,10 @@
+mod Numbers
+mod Bytes
+mod Spellings
+mod Cuts
+mod Fronts
+mod Passing
+mod Restarting
+mod Answered
+mod Serving
+mod Printing

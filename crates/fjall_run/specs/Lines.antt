@@ -1,0 +1,46 @@
+-- The lines of an input, the words of a line, and how a command is spelled.
+use Rattle.std.specs.Prelude.{◌≡◌, ℕ, ◌==◌, ◌<◌, ◌^◌, if◌then◌else◌, List, [], ◌∷◌, codes, decimal, Option, IfSome, Some}
+use Rattle.std.specs.List.{onto_first, join_with_byte}
+use Rattle.hex.specs.Hex.{encode_lower, IsBytes}
+use Rattle.fjall_run.specs.declared.command.Command.{Command}
+use Rattle.fjall_run.specs.declared.command.Command.TheVariants.{Insert, Get, Persist, Crash, Reopen}
+
+-- a line feed ends a line, and so does the end of the text
+abbrev pub lines_of : List ℕ → List (List ℕ)
+lines_of [] = []
+lines_of (b ∷ rest) = if b == 10 then [] ∷ lines_of rest else onto_first b (lines_of rest)
+
+-- bytes in lower-case hexadecimal, or a dash for none
+abbrev pub hex_word : List ℕ → List ℕ
+hex_word [] = codes "-"
+hex_word (b ∷ rest) = encode_lower (b ∷ rest)
+
+-- the words of a command
+abbrev pub words_of : Command → List (List ℕ)
+words_of (Insert id key value) = codes "insert" ∷ decimal id ∷ hex_word key ∷ hex_word value ∷ []
+words_of (Get id key) = codes "get" ∷ decimal id ∷ hex_word key ∷ []
+words_of Persist = codes "persist" ∷ []
+words_of (Crash keep) = codes "crash" ∷ decimal keep ∷ []
+words_of Reopen = codes "reopen" ∷ []
+
+-- a command is spelled by its words, parted by one space
+abbrev pub spelling : Command → List ℕ
+spelling command = join_with_byte 32 (words_of command)
+
+-- its numbers have 64 bits, its keys and values are bytes
+abbrev pub IsCommand : Command → Type 0
+IsCommand (Insert id key value) = (id < 2 ^ 64) × IsBytes key × IsBytes value
+IsCommand (Get id key) = (id < 2 ^ 64) × IsBytes key
+IsCommand Persist = Unit {0}
+IsCommand (Crash keep) = keep < 2 ^ 64
+IsCommand Reopen = Unit {0}
+
+-- the command that these words spell, or none where they spell none
+pub record Spells (words : List (List ℕ)) (found : Option Command) : Type 0 where
+  pub spelled : IfSome found (λ command. words ≡ words_of command)
+  pub all_found : (command : Command) → IsCommand command → words ≡ words_of command → found ≡ Some command
+
+-- the command that a line spells, or none where it spells none
+pub record Reads (line : List ℕ) (found : Option Command) : Type 0 where
+  pub spelled : IfSome found (λ command. line ≡ spelling command)
+  pub all_found : (command : Command) → IsCommand command → line ≡ spelling command → found ≡ Some command

@@ -1,0 +1,101 @@
+-- What a session prints: the answers to its commands, in turn.
+use Rattle.std.specs.Prelude.{◌≡◌, ℕ, Bool, true, false, List, [], ◌∷◌, ◌++◌, codes, Option, Some, None, All, ◌⊎◌}
+use Rattle.std.specs.List.{filter_map}
+use Rattle.fjall_base.specs.Disk.{Meaning}
+use Rattle.fjall_core.specs.Holding.{Held}
+use Rattle.fjall_core.specs.declared.call.Call.{Call}
+use Rattle.fjall_core.specs.declared.call.Call.TheVariants as calls
+use Rattle.fjall_core.specs.declared.call.View.TheVariants.{Present}
+use Rattle.fjall_journal.specs.declared.persist_mode.PersistMode.TheVariants.{SyncAll}
+use Rattle.fjall_core.specs.declared.call.Reply.{Reply}
+use Rattle.fjall_run.specs.declared.command.Command.{Command}
+use Rattle.fjall_run.specs.declared.command.Command.TheVariants.{Insert, Get, Persist, Crash, Reopen}
+use Rattle.fjall_run.specs.Answers.{reply_text, bad_line, text_of}
+use Rattle.fjall_run.specs.Machine.{RunsCalls, OpenedOn, Crashes, Reopens, IsClosed}
+
+-- the call that a line makes; none for one that is no command, a crash or a reopening
+abbrev pub call_of : Option Command → Option Call
+call_of (Some (Insert id key value)) = Some (calls.Insert id key value)
+call_of (Some (Get id key)) = Some (calls.GetAt Present id key)
+call_of (Some Persist) = Some (calls.Persist SyncAll)
+call_of found = None
+
+abbrev pub calls_of : List (Option Command) → List Call
+calls_of commands = filter_map call_of commands
+
+-- a crash or a reopening, which ends a list of calls
+abbrev pub is_stop : Option Command → Bool
+is_stop (Some (Crash keep)) = true
+is_stop (Some Reopen) = true
+is_stop found = false
+
+-- the answers to calls, by their replies; a line that is no command has an answer of its own
+abbrev pub answers_to : List (Option Command) → List Reply → List (List ℕ)
+answers_to [] replies = []
+answers_to (None ∷ rest) replies = bad_line ∷ answers_to rest replies
+answers_to (Some command ∷ rest) [] = []
+answers_to (Some command ∷ rest) (reply ∷ replies) = reply_text reply ∷ answers_to rest replies
+
+-- what a line may be answered: the reply to a call, ok for a crash or a reopening
+abbrev pub IsSaid : Option Command → List ℕ → Type 0
+IsSaid None answer = answer ≡ bad_line
+IsSaid (Some (Crash keep)) answer = answer ≡ codes "ok"
+IsSaid (Some Reopen) answer = answer ≡ codes "ok"
+IsSaid (Some command) answer = (reply : Reply) × (answer ≡ reply_text reply)
+
+-- The answer to a line. The one for bad lines is given only where the line is no command.
+pub record IsAnswer (found : Option Command) (answer : List ℕ) : Type 0 where
+  pub said : IsSaid found answer
+  pub bad : answer ≡ bad_line → found ≡ None
+
+-- nothing is left, or a crash or a reopening comes next
+abbrev pub IsAtStop : List (Option Command) → Type 0
+IsAtStop [] = Unit {0}
+IsAtStop (found ∷ rest) = is_stop found ≡ true
+
+-- nothing was ever put on the disk
+abbrev pub IsNew : Meaning → Type 0
+IsNew disk = disk ≡ record { places = []; steps = []; faults = 0 }
+
+-- the line opens the core again, after a crash or not
+abbrev pub Restarts : Option Command → Held → Held → Type 0
+Restarts (Some (Crash keep)) old new = Crashes keep old new
+Restarts (Some Reopen) old new = Reopens old new
+Restarts found old new = ⊥
+
+-- A session of these commands: the core as it stands, what was printed so far, and the commands to come.
+-- The calls up to a crash or a reopening are one run.
+pub data Session (commands : List (Option Command)) : Held → List (List ℕ) → List (Option Command) → Type 0 where
+  begun : (disk : Meaning) (core : Held) → IsNew disk → OpenedOn disk core → Session commands core [] commands
+  run : (old new : Held) (printed : List (List ℕ)) (lines rest : List (Option Command)) (replies : List Reply)
+      → Session commands old printed (lines ++ rest) → All (λ found. is_stop found ≡ false) lines → IsAtStop rest
+      → RunsCalls old (calls_of lines) replies new → Session commands new (printed ++ answers_to lines replies) rest
+  restarted : (old new : Held) (printed : List (List ℕ)) (stop : Option Command) (rest : List (Option Command))
+      → Session commands old printed (stop ∷ rest) → Restarts stop old new
+      → Session commands new (printed ++ codes "ok" ∷ []) rest
+
+-- a session of these commands has come as far as this rest, and its answers were added to a text
+pub record Prints (commands : List (Option Command)) (core : Held) (rest : List (Option Command)) (old new : List ℕ) : Type 0 where
+  pub printed : List (List ℕ)
+  pub session : Session commands core printed rest
+  pub text : new ≡ old ++ text_of printed
+
+-- all commands were answered, and then the core was closed
+pub record PrintsAll (commands : List (Option Command)) (old new : List ℕ) : Type 0 where
+  pub core : Held
+  pub prints : Prints commands core [] old new
+  pub closed : IsClosed core
+
+-- nothing was answered, or a beginning
+abbrev pub PrintsSome : List (Option Command) → List ℕ → List ℕ → Type 0
+PrintsSome commands old new = (new ≡ old) ⊎ ((core : Held) × ((rest : List (Option Command)) × Prints commands core rest old new))
+
+-- The calls before the first crash or reopening were one run, and their answers were added to a text.
+pub record RunsFront (commands rest : List (Option Command)) (core after : Held) (old new : List ℕ) : Type 0 where
+  pub lines : List (Option Command)
+  pub replies : List Reply
+  pub split : commands ≡ lines ++ rest
+  pub calls_alone : All (λ found. is_stop found ≡ false) lines
+  pub stop : IsAtStop rest
+  pub runs : RunsCalls core (calls_of lines) replies after
+  pub text : new ≡ old ++ text_of (answers_to lines replies)

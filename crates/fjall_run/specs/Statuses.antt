@@ -1,0 +1,10 @@
+-- How the program ends, as a number.
+use Rattle.std.specs.Prelude.{ℕ}
+use Rattle.fjall_run.specs.declared.run.Status.{Status}
+use Rattle.fjall_run.specs.declared.run.Status.TheVariants.{Success, Failure, Usage}
+
+-- the status that a process ends with
+abbrev pub status_code : Status → ℕ
+status_code Success = 0
+status_code Failure = 1
+status_code Usage = 2

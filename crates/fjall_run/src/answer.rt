@@ -1,0 +1,53 @@
+//! The text of an answer.
+
+ghost use Rattle.std.specs.Prelude.{◌≡◌, IfOk, Some, string_bytes};
+ghost use Rattle.fjall_run.specs.Lines.{hex_word};
+ghost use Rattle.fjall_run.specs.Answers.{refusal_text, reply_text};
+
+use fjall_base::{Error, Slice};
+use fjall_core::Reply;
+use std::alloc::{AllocError, Global};
+use std::fmt;
+
+/// What a line that is no command is answered.
+pub const BAD_LINE: &str = "error 0 BadLine";
+
+/// Bytes in lower-case hexadecimal, `-` for none.
+pub fn hex_word(alloc: Global, bytes: &Slice) -> Result<String, AllocError>
+    ensures { IfOk result (λ word. string_bytes word ≡ hex_word bytes.now) }
+{
+    if bytes.as_slice().is_empty() {
+        return String::from_str(alloc, "-");
+    }
+    hex::encode(alloc, bytes.as_slice())
+}
+
+/// A refusal as it is printed: its number and its name, as in `error 12 KeyEmpty`.
+#[derive(Clone, Copy)]
+pub struct Refusal(pub Error);
+
+impl fmt::Display for Refusal {
+    ghost output = { λ refusal. Some (refusal_text refusal.0) };
+
+    fn fmt<W: fmt::Write>(&self, f: &mut fmt::Formatter<W>) -> fmt::Result {
+        let number = self.0.number();
+        let name = self.0.name();
+        write!(f, "error {number} {name}")
+    }
+}
+
+/// What a call is answered.
+pub fn answer(alloc: Global, reply: &Reply) -> Result<String, AllocError>
+    ensures { IfOk result (λ text. string_bytes text ≡ reply_text reply.now) }
+{
+    match reply {
+        Reply::Done => String::from_str(alloc, "ok"),
+        Reply::Value(None) => String::from_str(alloc, "none"),
+        Reply::Value(Some(value)) => {
+            let word = hex_word(alloc, value)?;
+            format!(in alloc; "value {word}")
+        }
+        Reply::Number(count) => format!(in alloc; "count {count}"),
+        Reply::Refused(error) => Refusal(*error).to_string(alloc),
+    }
+}

@@ -1,0 +1,19 @@
+//! The commands that a line may spell.
+
+use fjall_base::{UserKey, UserValue};
+
+/// What a line asks for.
+#[derive(Debug, Drop)]
+pub enum Command {
+    /// `insert ID K V`: gives a key of a keyspace a value.
+    Insert(u64, UserKey, UserValue),
+    /// `get ID K`: the value of a key.
+    Get(u64, UserKey),
+    /// `persist`: makes all that was written safe.
+    Persist,
+    /// `crash N`: of each file at most so many bytes that no sync has made safe are kept, and the
+    /// core opens again.
+    Crash(u64),
+    /// `reopen`: the core closes and opens again.
+    Reopen,
+}

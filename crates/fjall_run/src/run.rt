@@ -1,0 +1,134 @@
+//! The program: all of an input is read, run and answered.
+
+ghost use Rattle.std.specs.Prelude.{◌≡◌, ◌++◌, ◌∷◌, ◌≢◌, ◌↔◌, [], IfErr, IfOk, IfSome, OnOk, codes, length, map, string_bytes};
+ghost use Rattle.std.specs.Io.KnownBytes.{Appends};
+ghost use Rattle.fjall_run.specs.Answers.{refusal_text};
+ghost use Rattle.std.specs.Process.{exit_status};
+ghost use Rattle.fjall_run.specs.Runs.{AnswersInput, IsIoOrMemory, Serves};
+ghost use Rattle.fjall_run.specs.Statuses.{status_code};
+
+use crate::answer::Refusal;
+use crate::script::commands;
+use crate::session::run_session;
+use fjall_base::{Error, Result};
+use std::alloc::Global;
+use std::io;
+use std::io::{ErrorKind, Read, Write};
+use std::process::ExitCode;
+
+/// What wrong arguments are answered.
+pub const USAGE: &str = "usage: fjall-run memory|FOLDER";
+
+/// How the program ends.
+#[derive(Clone, Copy, Debug, PartialEq, Eq)]
+pub enum Status {
+    /// All lines were answered.
+    Success = 0,
+    /// An opening, the closing, a list of calls, or the input or output failed.
+    Failure = 1,
+    /// The arguments are wrong.
+    Usage = 2,
+}
+
+impl From<Status> for ExitCode {
+    ghost from_gives = { λ status code. exit_status code ≡ status_code status };
+
+    fn from(status: Status) -> ExitCode {
+        ExitCode::from(status as u8)
+    }
+}
+
+// Writes a refusal's line.
+fn report<E: Write>(error: Error, errors: &mut E) -> io::Result<()>
+    ensures { OnOk result (Appends (E.contents errors.old) (E.contents errors.new) (refusal_text error ++ 10 ∷ [])) }
+{
+    errors.writeln(Refusal(error))?;
+    errors.flush()
+}
+
+/// Tells of a refusal that ends the program.
+pub fn fail<E: Write>(error: Error, errors: &mut E) -> Status
+    ensures { result ≡ Status.Failure }
+{
+    let _ = report(error, errors);
+    Status::Failure
+}
+
+// Reads all of an input, runs it, and writes the answers. The inner result is that of the session: where
+// it was refused, the answers before that were written.
+fn serve<R: Read, W: Write>(alloc: Global, input: &mut R, output: &mut W) -> Result<Result<()>>
+    ensures answered { IfOk result (λ ended. IfSome (R.remaining input.old) (λ text. Serves text ended (W.contents output.old) (W.contents output.new))) }
+    ensures cause { IfErr result IsIoOrMemory }
+{
+    let mut text = Vec::new(alloc);
+    input.read_to_end(&mut text)?;
+    let commands = commands(alloc, text.as_slice())?;
+    let mut answers = String::new(alloc);
+    let ended = run_session(alloc, commands.as_slice(), &mut answers);
+    output.write_all(answers.as_bytes())?;
+    output.flush()?;
+    Ok(ended)
+}
+
+/// Runs the commands of an input over an engine in memory, and prints a line for each.
+///
+/// All of the input is read first. Where the input or the output fails, or the session is refused (see
+/// [`run_session`]), the answers before that are printed, and `errors` gets the refusal's line.
+pub fn run_memory<R: Read, W: Write, E: Write>(
+    alloc: Global,
+    input: &mut R,
+    output: &mut W,
+    errors: &mut E,
+) -> Status
+    ensures answered { result ≡ Status.Success → IfSome (R.remaining input.old) (λ text. AnswersInput text (W.contents output.old) (W.contents output.new)) }
+    ensures quiet { result ≡ Status.Success → E.contents errors.new ≡ E.contents errors.old }
+    ensures no_usage { result ≢ Status.Usage }
+{
+    match serve(alloc, input, output) {
+        Ok(Ok(())) => Status::Success,
+        Ok(Err(error)) | Err(error) => fail(error, errors),
+    }
+}
+
+/// Runs the commands of an input over an engine in a folder. There is no such engine yet, so this is
+/// refused as a failing device is, and nothing is read or printed.
+pub fn run_folder<R: Read, W: Write, E: Write>(
+    _path: &str,
+    _input: &mut R,
+    _output: &mut W,
+    errors: &mut E,
+) -> Status
+    ensures failed { result ≡ Status.Failure }
+    ensures nothing_read { R.remaining _input.new ≡ R.remaining _input.old }
+    ensures nothing_written { W.contents _output.new ≡ W.contents _output.old }
+{
+    fail(Error::Io(ErrorKind::Unsupported), errors)
+}
+
+/// Tells how the program is called.
+pub fn usage<E: Write>(errors: &mut E) -> Status
+    ensures { result ≡ Status.Usage }
+{
+    let _ = writeln!(errors, "{USAGE}");
+    Status::Usage
+}
+
+/// Runs the program on its arguments, the program's own name left out: `memory`, or a folder's path.
+pub fn run<R: Read, W: Write, E: Write>(
+    alloc: Global,
+    arguments: &[String],
+    input: &mut R,
+    output: &mut W,
+    errors: &mut E,
+) -> Status
+    ensures usage { (result ≡ Status.Usage) ↔ (length arguments.now ≢ 1) }
+    ensures memory { result ≡ Status.Success → map string_bytes arguments.now ≡ codes "memory" ∷ [] }
+    ensures answered { result ≡ Status.Success → IfSome (R.remaining input.old) (λ text. AnswersInput text (W.contents output.old) (W.contents output.new)) }
+    ensures quiet { result ≡ Status.Success → E.contents errors.new ≡ E.contents errors.old }
+{
+    match arguments {
+        [place] if place.as_str() == "memory" => run_memory(alloc, input, output, errors),
+        [path] => run_folder(path.as_str(), input, output, errors),
+        _ => usage(errors),
+    }
+}

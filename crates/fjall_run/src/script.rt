@@ -1,0 +1,43 @@
+//! Cuts an input into lines, and reads each as a command.
+
+ghost use Rattle.std.specs.Prelude.{◌≡◌, ◌<◌, ◌∷◌, ◌==◌, IfOk, length, position};
+ghost use Rattle.std.specs.List.{AllZip};
+ghost use Rattle.fjall_run.specs.Lines.{lines_of, Reads};
+
+use crate::command::Command;
+use crate::parse::parse;
+use std::alloc::{AllocError, Global};
+
+// Where the first line feed stands.
+fn line_end(text: &[u8]) -> Option<usize>
+    ensures { result ≡ position (λ b. b == 10) text.now }
+{
+    text.iter().position(|b| *b == b'\n')
+}
+
+// The first line of a text, and what follows its line feed.
+fn first_line(text: &[u8]) -> (&[u8], &[u8])
+    requires { 0 < length text.now }
+    ensures line { lines_of text.now ≡ result.0.now ∷ lines_of result.1.now }
+    ensures shorter { length result.1.now < length text.now }
+{
+    match line_end(text) {
+        Some(end) => (&text[..end], &text[end + 1..]),
+        None => (text, &[]),
+    }
+}
+
+/// The commands of a text, one for each line, and none for a line that is no command. A line ends with a
+/// line feed, the last one also with the text.
+pub fn commands(alloc: Global, text: &[u8]) -> Result<Vec<Option<Command>>, AllocError>
+    ensures { IfOk result (λ commands. AllZip Reads (lines_of text.now) commands.items) }
+{
+    let mut commands = Vec::new(alloc);
+    let mut rest = text;
+    while !rest.is_empty() {
+        let (line, after) = first_line(rest);
+        commands.push(parse(alloc, line)?)?;
+        rest = after;
+    }
+    Ok(commands)
+}

@@ -1,0 +1,158 @@
+//! Runs commands over a core in memory, and gathers what is to be printed.
+
+ghost use Rattle.std.specs.Prelude.{◌≡◌, ◌++◌, true, IfOk, OnOk, OnErr, string_bytes};
+ghost use Rattle.std.specs.List.{position};
+ghost use Rattle.fjall_run.specs.Answers.{text_of};
+ghost use Rattle.fjall_base.specs.MemoryDisk.{meaning_in};
+ghost use Rattle.fjall_run.specs.Machine.{OpenedOn, Crashes, Reopens};
+ghost use Rattle.fjall_run.specs.Sessions.{answers_to, call_of, calls_of, is_stop, PrintsAll, PrintsSome, Restarts, RunsFront};
+
+use crate::answer::{BAD_LINE, answer};
+use crate::command::Command;
+use fjall_base::{MemoryDisk, Result};
+use fjall_core::{Call, Config, Core, PersistMode, Reply, View};
+use std::alloc::{AllocError, Global};
+
+fn is_stop(found: &Option<Command>) -> bool
+    ensures { result ≡ is_stop found.now }
+{
+    matches!(found, Some(Command::Crash(_) | Command::Reopen))
+}
+
+// Where the first crash or reopening stands.
+fn first_stop(commands: &[Option<Command>]) -> Option<usize>
+    ensures { result ≡ position is_stop commands.now }
+{
+    commands.iter().position(|found| is_stop(found))
+}
+
+fn call_of(found: &Option<Command>) -> std::result::Result<Option<Call>, AllocError>
+    ensures { IfOk result (λ call. call ≡ call_of found.now) }
+{
+    match found {
+        Some(Command::Insert(id, key, value)) => {
+            Ok(Some(Call::Insert(*id, key.clone()?, value.clone()?)))
+        }
+        Some(Command::Get(id, key)) => Ok(Some(Call::GetAt(View::Present, *id, key.clone()?))),
+        Some(Command::Persist) => Ok(Some(Call::Persist(PersistMode::SyncAll))),
+        _ => Ok(None),
+    }
+}
+
+fn calls_of(
+    alloc: Global,
+    commands: &[Option<Command>],
+) -> std::result::Result<Vec<Call>, AllocError>
+    ensures { IfOk result (λ calls. calls.items ≡ calls_of commands.now) }
+{
+    let mut calls = Vec::new(alloc);
+    for found in commands {
+        if let Some(call) = call_of(found)? {
+            calls.push(call)?;
+        }
+    }
+    Ok(calls)
+}
+
+// The answers to calls, a line for each, and to the lines between them that are no commands.
+fn answers_to(
+    alloc: Global,
+    commands: &[Option<Command>],
+    replies: &[Reply],
+) -> std::result::Result<String, AllocError>
+    ensures { IfOk result (λ text. string_bytes text ≡ text_of (answers_to commands.now replies.now)) }
+{
+    let mut text = String::new(alloc);
+    let mut left = replies;
+    for found in commands {
+        match found {
+            None => text.push_str(BAD_LINE)?,
+            Some(_) => {
+                let Some((reply, more)) = left.split_first() else {
+                    return Ok(text);
+                };
+                text.push_str(answer(alloc, reply)?.as_str())?;
+                left = more;
+            }
+        }
+        text.push_str("\n")?;
+    }
+    Ok(text)
+}
+
+fn opened(alloc: Global, disk: MemoryDisk) -> Result<Core<MemoryDisk>>
+    ensures { IfOk result (λ core. OpenedOn (meaning_in disk) core) }
+{
+    let config = Config::new(alloc, "memory")?;
+    match Core::open(alloc, config, disk) {
+        Ok(core) => Ok(core),
+        Err(refused) => Err(refused.error),
+    }
+}
+
+// The core after a crash that leaves so many unsynced bytes of each file.
+fn crashed(alloc: Global, core: Core<MemoryDisk>, keep: u64) -> Result<Core<MemoryDisk>>
+    ensures { IfOk result (λ after. Crashes keep core after) }
+{
+    let disk = core.into_disk().crash(keep as usize)?;
+    opened(alloc, disk)
+}
+
+// The core, closed and opened again. That the closing is refused does not matter.
+fn reopened(alloc: Global, core: Core<MemoryDisk>) -> Result<Core<MemoryDisk>>
+    ensures { IfOk result (λ after. Reopens core after) }
+{
+    let (disk, _) = core.close();
+    opened(alloc, disk)
+}
+
+// The core after a crash or a reopening.
+fn restarted(
+    alloc: Global,
+    core: Core<MemoryDisk>,
+    stop: &Option<Command>,
+) -> Result<Core<MemoryDisk>>
+    requires { is_stop stop.now ≡ true }
+    ensures { IfOk result (λ after. Restarts stop.now core after) }
+{
+    match stop {
+        Some(Command::Crash(keep)) => crashed(alloc, core, *keep),
+        _ => reopened(alloc, core),
+    }
+}
+
+// Runs the calls before the first crash or reopening as one list, adds their answers, and returns the
+// commands from there on.
+fn run_front<'a>(
+    alloc: Global,
+    core: &mut Core<MemoryDisk>,
+    commands: &'a [Option<Command>],
+    answers: &mut String,
+) -> Result<&'a [Option<Command>]>
+    ensures ok { IfOk result (λ rest. RunsFront commands.now rest.now core.old core.new (string_bytes answers.old) (string_bytes answers.new)) }
+    ensures err { OnErr result (string_bytes answers.new ≡ string_bytes answers.old) }
+{
+    let end = first_stop(commands).unwrap_or(commands.len());
+    let (front, rest) = commands.split_at(end);
+    let replies = core.run(calls_of(alloc, front)?)?;
+    let text = answers_to(alloc, front, replies.as_slice())?;
+    answers.push_str(text.as_str())?;
+    Ok(rest)
+}
+
+/// Runs commands over a core on an empty disk in memory, and adds to a text what they print, a line for
+/// each. A refused opening, a list of calls that is refused as a whole and a refused closing at the end
+/// end it.
+pub fn run_session(alloc: Global, commands: &[Option<Command>], answers: &mut String) -> Result<()>
+    ensures ok { OnOk result (PrintsAll commands.now (string_bytes answers.old) (string_bytes answers.new)) }
+    ensures err { OnErr result (PrintsSome commands.now (string_bytes answers.old) (string_bytes answers.new)) }
+{
+    let mut core = opened(alloc, MemoryDisk::new(alloc))?;
+    let mut rest = run_front(alloc, &mut core, commands, answers)?;
+    while let Some((stop, after)) = rest.split_first() {
+        core = restarted(alloc, core, stop)?;
+        answers.push_str("ok\n")?;
+        rest = run_front(alloc, &mut core, after, answers)?;
+    }
+    core.close().1
+}

@@ -1,0 +1,242 @@
+//! What scripts print, worked out by hand.
+
+use crate::run::{Status, run, run_folder, run_memory};
+use std::alloc::Global;
+use std::io;
+use std::io::{Error, ErrorKind, Read, Write};
+use std::process::{Abort, ExitCode};
+use std::test::Fail;
+
+// Runs a script in memory, which must print just these lines.
+fn check(rt: &impl Abort, alloc: Global, script: &[u8], want: &str) {
+    let mut input = script;
+    let mut output = Vec::new(alloc);
+    let mut errors = Vec::new(alloc);
+    let status = run_memory(alloc, &mut input, &mut output, &mut errors);
+    assert_eq!(rt; status, Status::Success);
+    assert_eq!(rt; output.as_slice(), want.as_bytes());
+    assert!(rt; errors.is_empty());
+}
+
+#[test]
+fn a_synced_insert_outlives_a_crash(rt: HostRuntime) {
+    let script = b"insert 1 61 62\npersist\ncrash 0\nget 1 61\n";
+    check(&rt, rt.alloc(), script, "ok\nok\nok\nvalue 62\n");
+}
+
+#[test]
+fn a_crash_keeps_whole_batches_alone(rt: HostRuntime) {
+    let alloc = rt.alloc();
+    check(
+        &rt,
+        alloc,
+        b"insert 1 61 62\ncrash 48\nget 1 61\n",
+        "ok\nok\nnone\n",
+    );
+    check(
+        &rt,
+        alloc,
+        b"insert 1 61 62\ncrash 49\nget 1 61\n",
+        "ok\nok\nvalue 62\n",
+    );
+    let most = b"insert 1 61 62\ncrash 18446744073709551615\nget 1 61\n";
+    check(&rt, alloc, most, "ok\nok\nvalue 62\n");
+}
+
+#[test]
+fn a_reopened_core_has_what_was_written(rt: HostRuntime) {
+    let script = b"insert 1 61 62\nreopen\nget 1 61\ninsert 1 61 63\nget 1 61";
+    check(&rt, rt.alloc(), script, "ok\nok\nvalue 62\nok\nvalue 63\n");
+}
+
+#[test]
+fn refusals_have_their_number_and_name(rt: HostRuntime) {
+    let alloc = rt.alloc();
+    check(&rt, alloc, b"insert 1 - 62\n", "error 12 KeyEmpty\n");
+    check(&rt, alloc, b"get 2 61\n", "error 19 UnknownKeyspace\n");
+    check(
+        &rt,
+        alloc,
+        b"get 18446744073709551615 61\n",
+        "error 19 UnknownKeyspace\n",
+    );
+}
+
+#[test]
+fn words_of_bytes(rt: HostRuntime) {
+    let alloc = rt.alloc();
+    check(&rt, alloc, b"insert 1 61 -\nget 1 61\n", "ok\nvalue -\n");
+    check(
+        &rt,
+        alloc,
+        b"insert 1 00ff09af 0a\nget 1 00ff09af\n",
+        "ok\nvalue 0a\n",
+    );
+}
+
+#[test]
+fn other_lines_are_no_commands(rt: HostRuntime) {
+    let lines = [
+        "INSERT 1 61 62",
+        "insert 1 6A 62",
+        "insert 01 61 62",
+        "insert 00 61 62",
+        "insert +1 61 62",
+        "insert -1 61 62",
+        "insert  1 61 62",
+        " insert 1 61 62",
+        "insert 1 61 62 ",
+        "insert 1 6 62",
+        "insert 1 6g 62",
+        "insert 1 61",
+        "insert 1 61 62 63",
+        "insert 1 61 ",
+        "insert 18446744073709551616 61 62",
+        "get 1",
+        "get x 61",
+        "get\t1 61",
+        "persist ",
+        "persist\r",
+        "crash",
+        "crash -",
+        "crash 00",
+        "reopen now",
+        "snapshot",
+        "-",
+    ];
+    for line in lines {
+        check(&rt, rt.alloc(), line.as_bytes(), "error 0 BadLine\n");
+    }
+    check(&rt, rt.alloc(), b"get 1 61\xff\n", "error 0 BadLine\n");
+    check(&rt, rt.alloc(), b"\xff\xfe", "error 0 BadLine\n");
+}
+
+#[test]
+fn each_line_has_its_answer(rt: HostRuntime) {
+    let alloc = rt.alloc();
+    check(&rt, alloc, b"", "");
+    check(&rt, alloc, b"\n", "error 0 BadLine\n");
+    check(&rt, alloc, b"\n\n", "error 0 BadLine\nerror 0 BadLine\n");
+    check(
+        &rt,
+        alloc,
+        b"get 1 61\n\nget 1 61",
+        "none\nerror 0 BadLine\nnone\n",
+    );
+    check(
+        &rt,
+        alloc,
+        b"x\ncrash 0\ny\nreopen\nz\n",
+        "error 0 BadLine\nok\nerror 0 BadLine\nok\nerror 0 BadLine\n",
+    );
+}
+
+// Fails at the call of that number.
+#[derive(Drop)]
+struct Failing {
+    calls: usize,
+}
+
+impl Read for Failing {
+    fn read(&mut self, buf: &mut [u8]) -> io::Result<usize> {
+        if self.calls == 0 || buf.is_empty() {
+            return Err(Error::from(ErrorKind::Other));
+        }
+        self.calls -= 1;
+        buf[0] = b'\n';
+        Ok(1)
+    }
+}
+
+impl Write for Failing {
+    fn write(&mut self, buf: &[u8]) -> io::Result<usize> {
+        if self.calls == 0 || buf.is_empty() {
+            return Err(Error::from(ErrorKind::Other));
+        }
+        self.calls -= 1;
+        Ok(1)
+    }
+
+    fn flush(&mut self) -> io::Result<()> {
+        Ok(())
+    }
+}
+
+#[test]
+fn a_failing_input_is_told(rt: HostRuntime) {
+    let alloc = rt.alloc();
+    for calls in 0..3 {
+        let mut output = Vec::new(alloc);
+        let mut errors = Vec::new(alloc);
+        let status = run_memory(alloc, &mut Failing { calls }, &mut output, &mut errors);
+        assert_eq!(rt; status, Status::Failure);
+        assert!(rt; output.is_empty());
+        assert_eq!(rt; errors.as_slice(), b"error 1 Io\n".as_slice());
+    }
+}
+
+#[test]
+fn a_failing_output_is_told(rt: HostRuntime) {
+    let alloc = rt.alloc();
+    for calls in 0..4 {
+        let mut input = b"persist\n".as_slice();
+        let mut errors = Vec::new(alloc);
+        let status = run_memory(alloc, &mut input, &mut Failing { calls }, &mut errors);
+        if calls == 3 {
+            assert_eq!(rt; status, Status::Success);
+            assert!(rt; errors.is_empty());
+        } else {
+            assert_eq!(rt; status, Status::Failure);
+            assert_eq!(rt; errors.as_slice(), b"error 1 Io\n".as_slice());
+        }
+    }
+}
+
+#[test]
+fn a_folder_is_refused_for_now(rt: HostRuntime) {
+    let alloc = rt.alloc();
+    let mut input = b"persist\n".as_slice();
+    let mut output = Vec::new(alloc);
+    let mut errors = Vec::new(alloc);
+    let status = run_folder("data", &mut input, &mut output, &mut errors);
+    assert_eq!(rt; status, Status::Failure);
+    assert!(rt; output.is_empty());
+    assert_eq!(rt; errors.as_slice(), b"error 1 Io\n".as_slice());
+}
+
+#[test]
+fn wrong_arguments_are_told_the_usage(rt: HostRuntime) -> Result<(), Fail> {
+    let alloc = rt.alloc();
+    let mut arguments = Vec::new(alloc);
+    for count in 0..3 {
+        let mut input = b"persist\n".as_slice();
+        let mut output = Vec::new(alloc);
+        let mut errors = Vec::new(alloc);
+        let status = run(
+            alloc,
+            arguments.as_slice(),
+            &mut input,
+            &mut output,
+            &mut errors,
+        );
+        if count == 1 {
+            assert_eq!(rt; status, Status::Success);
+            assert_eq!(rt; output.as_slice(), b"ok\n".as_slice());
+        } else {
+            assert_eq!(rt; status, Status::Usage);
+            assert_eq!(rt;
+                errors.as_slice(),
+                b"usage: fjall-run memory|FOLDER\n".as_slice()
+            );
+        }
+        arguments.push(String::from_str(alloc, "memory")?)?;
+    }
+    Ok(())
+}
+
+#[test]
+fn statuses_are_exit_codes(rt: HostRuntime) {
+    assert_eq!(rt; ExitCode::from(Status::Success), ExitCode::from(0));
+    assert_eq!(rt; ExitCode::from(Status::Failure), ExitCode::from(1));
+    assert_eq!(rt; ExitCode::from(Status::Usage), ExitCode::from(2));
+}
