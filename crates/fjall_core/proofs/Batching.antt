@@ -1,20 +1,20 @@
 -- The versions that a journal's batches make are the store that its commands make.
-use Rattle.std.proofs.Common.{◌≡◌, ◌==◌, ◌||◌, ℕ, zero, suc, Bool, true, false, cond, if◌then◌else◌, List, [], ◌∷◌, ◌++◌, map, Option, None, Some, unwrap_or, codes, refl, sym, ◌∙◌, ap, subst, arith, append_assoc}
-use Rattle.std.proofs.lemmas.List.{append-nil, map-append}
+use Rattle.std.proofs.Common.{◌≡◌, ◌==◌, ◌||◌, ℕ, Bool, true, false, cond, if◌then◌else◌, List, [], ◌∷◌, ◌++◌, map, Option, None, Some, unwrap_or, codes, refl, sym, ◌∙◌, ap, subst, arith, append_assoc}
+use Rattle.std.proofs.lemmas.List.{append-nil}
 use Rattle.std.proofs.lemmas.Bool.{true≢false}
 use Rattle.std.proofs.lemmas.Bool.Decides.{nat_tests}
-use Rattle.std.specs.List.{flat_map, list_any}
+use Rattle.std.specs.List.{list_any}
 use Rattle.std.specs.Option.{is_some}
 use Rattle.std.specs.Ordering.{nat_cmp, eq_by_cmp}
 use Rattle.std.specs.Cmp.{nat_cmp_total}
 use Rattle.std.specs.FinMap.{FinMap, empty, get, insert, retain_keys, contains_key, get-insert, get-empty}
-use Rattle.fjall_base.specs.Pairs.{Bytes, Pairs, altered}
-use Rattle.fjall_base.specs.Store.{Store, Item, Command, Write, Clear, map_at, written, fold, apply, kept}
+use Rattle.fjall_base.specs.Pairs.{Pairs, altered}
+use Rattle.fjall_base.specs.Store.{Store, Item, Write, Clear, map_at, written, fold, apply, kept}
 use Rattle.fjall_journal.specs.declared.batch.ReadBatchItem.{ReadBatchItem}
 use Rattle.fjall_journal.specs.Batches.{Shown}
 use Rattle.fjall_core.specs.declared.version.Version.{Version}
 use Rattle.fjall_core.specs.Replays.{initial, item_of, commands_of, journal_commands, value_of}
-use Rattle.fjall_core.specs.Versions.{version_in, versions_in, cleared, versions_after, versions_behind, versions_of}
+use Rattle.fjall_core.specs.Versions.{versions_in, cleared, versions_after, versions_behind, versions_of}
 use Rattle.fjall_core.specs.Standing.{command_of, store_of}
 use Rattle.fjall_core.proofs.Kept.{fold-append, same_retained}
 use Rattle.fjall_core.proofs.Owing.{store_more}

@@ -1,14 +1,13 @@
 -- Which refusal is due depends on a store by its names and next id alone, and those never change with writes.
-use Rattle.std.proofs.Common.{◌≡◌, ◌==◌, ◌||◌, not, nat_le, ℕ, zero, suc, ◌<◌, ◌≤◌, ◌^◌, Bool, true, false, cond, if◌then◌else◌, List, [], ◌∷◌, length, map, Option, None, Some, refl, sym, ◌∙◌, ap, subst, arith}
-use Rattle.std.proofs.lemmas.Bool.{true≢false, le-leb, lt-ltb, ne_eqb}
+use Rattle.std.proofs.Common.{◌≡◌, ◌==◌, ◌||◌, not, nat_le, ℕ, zero, suc, ◌^◌, Bool, true, false, if◌then◌else◌, List, [], ◌∷◌, length, map, None, Some, refl, sym, ◌∙◌, ap, arith}
+use Rattle.std.proofs.lemmas.Bool.{true≢false, le-leb, ne_eqb}
 use Rattle.std.proofs.lemmas.Option.{none-some}
-use Rattle.std.specs.FinMap.{FinMap, empty, get, contains_key, get-insert}
+use Rattle.std.specs.FinMap.{empty, contains_key, get-insert}
 use Rattle.std.specs.Option.{is_some}
-use Rattle.std.specs.Ordering.{nat_cmp}
 use Rattle.std.specs.Cmp.{nat_cmp_total}
 use Rattle.std.specs.Prelude.{codes}
 use Rattle.fjall_base.specs.Pairs.{Bytes}
-use Rattle.fjall_base.specs.Store.{Store, fold, kept}
+use Rattle.fjall_base.specs.Store.{Store, fold}
 use Rattle.fjall_base.specs.declared.error.Error.{Error}
 use Rattle.fjall_base.specs.declared.error.Error.TheVariants.{Poisoned, KeyspaceDeleted, KeyEmpty, KeyTooLong, ValueTooLong, NumbersUsedUp, UnknownKeyspace}
 use Rattle.std.specs.List.{AllByRecursion}

@@ -6,3 +6,12 @@ mod Writing
 mod Serving
 mod Replaying
 mod Batching
+mod Images
+mod Amids
+mod Crashing
+mod Calling
+mod Closing
+mod Repairing
+mod Held
+mod Tries
+mod Running

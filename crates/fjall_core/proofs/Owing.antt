@@ -1,8 +1,8 @@
 -- What a call owes is a step of the machine, for each state that the core stood for.
-use Rattle.std.proofs.Common.{◌≡◌, ℕ, ◌+◌, ◌<◌, Bool, true, false, List, [], ◌∷◌, ◌++◌, length, map, take, get_or, Option, None, Some, refl, sym, ◌∙◌, ap, subst, arith, length-append, append_assoc}
+use Rattle.std.proofs.Common.{◌≡◌, ℕ, ◌+◌, ◌<◌, true, List, [], ◌∷◌, ◌++◌, length, map, take, get_or, Option, None, Some, refl, sym, ◌∙◌, ap, subst, arith, length-append}
 use Rattle.std.proofs.lemmas.List.{map-append, take_more}
 use Rattle.fjall_base.specs.Pairs.{Bytes, lookup}
-use Rattle.fjall_base.specs.Store.{Store, Command, Write, map_at, fold, kept}
+use Rattle.fjall_base.specs.Store.{map_at, fold, kept}
 use Rattle.fjall_base.specs.declared.error.Error.{Error}
 use Rattle.fjall_base.specs.declared.error.Error.TheVariants.{Io, OutOfMemory}
 use Rattle.fjall_journal.specs.Writer.{Journal, counted, filled}
@@ -15,7 +15,7 @@ use Rattle.fjall_core.specs.declared.call.Reply.{Reply}
 use Rattle.fjall_core.specs.declared.call.Reply.TheVariants.{Done, Value, Number, Refused}
 use Rattle.fjall_core.specs.declared.version.Version.{Version}
 use Rattle.fjall_core.specs.Histories.{number, grown}
-use Rattle.fjall_core.specs.Machine.{State, Parts, Step, Run, Refuses, MayFail, due, present, write_of, written_out, insert_len}
+use Rattle.fjall_core.specs.Machine.{State, Parts, Step, Run, Refuses, MayFail, present, write_of, written_out, insert_len}
 use Rattle.fjall_core.specs.Holding.{Held}
 use Rattle.fjall_core.specs.Replays.{initial}
 use Rattle.fjall_core.specs.Standing.{StandsFor, Owes, OwesAll, OwesRefusal, OwesFailure, Poisons, Grows, HandsOver, held_due, insert_text, store_of, command_of, parts_of, newest}

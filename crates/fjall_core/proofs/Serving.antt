@@ -1,6 +1,6 @@
 -- What came of the work of a call is what the call owes.
-use Rattle.std.proofs.Common.{◌≡◌, ◌≢◌, ◌⊎◌, inl, inr, ℕ, ◌<◌, ◌≤◌, ◌^◌, Bool, true, false, cond, nat_le, ◌==◌, not, if◌then◌else◌, List, [], ◌∷◌, ◌++◌, length, take, get_or, Option, None, Some, Result, Ok, Err, IfOk, IsOkUnless, refl, sym, ◌∙◌, ap, subst, arith}
-use Rattle.std.proofs.lemmas.List.{append-nil, take_more, take_all}
+use Rattle.std.proofs.Common.{◌≡◌, ◌≢◌, ◌⊎◌, inl, inr, ℕ, ◌<◌, ◌^◌, Bool, true, false, nat_le, ◌==◌, not, if◌then◌else◌, List, [], ◌∷◌, length, Option, None, Some, Result, Ok, Err, IfOk, IsOkUnless, refl, sym, ◌∙◌, ap, subst, arith}
+use Rattle.std.proofs.lemmas.List.{append-nil, take_all}
 use Rattle.std.proofs.lemmas.Bool.{true≢false, ne_eqb}
 use Rattle.std.proofs.lemmas.Bool.Decides.{nat_tests}
 use Rattle.std.proofs.lemmas.Option.{none-some}
@@ -8,9 +8,9 @@ use Rattle.fjall_base.specs.Pairs.{Bytes}
 use Rattle.fjall_base.specs.Disk.{Meaning, Name, Append, Took, TookPart}
 use Rattle.fjall_base.specs.Errors.{IsFault}
 use Rattle.fjall_base.specs.declared.error.Error.{Error}
-use Rattle.fjall_base.specs.declared.error.Error.TheVariants.{Io, OutOfMemory, Poisoned, UnknownKeyspace}
+use Rattle.fjall_base.specs.declared.error.Error.TheVariants.{Io, OutOfMemory, UnknownKeyspace}
 use Rattle.fjall_journal.specs.Spelling.{item_refusal}
-use Rattle.fjall_journal.specs.Writer.{Journal, appending, written_out, persist_steps, PersistTook}
+use Rattle.fjall_journal.specs.Writer.{appending, persist_steps, PersistTook}
 use Rattle.fjall_journal.specs.declared.persist_mode.PersistMode.{PersistMode}
 use Rattle.fjall_core.specs.declared.call.View.{View}
 use Rattle.fjall_core.specs.declared.call.Call.{Call}
@@ -18,11 +18,12 @@ use Rattle.fjall_core.specs.declared.call.Call.TheVariants.{Insert, GetAt, Persi
 use Rattle.fjall_core.specs.declared.call.Reply.{Reply}
 use Rattle.fjall_core.specs.declared.call.Reply.TheVariants.{Done, Value, Number, Refused}
 use Rattle.fjall_core.specs.declared.version.Version.{Version}
-use Rattle.fjall_core.specs.Machine.{State, Step, Run, TakesMemory, first_due, one_refusals}
+use Rattle.fjall_core.specs.Machine.{TakesMemory, first_due, one_refusals}
 use Rattle.fjall_core.specs.Holding.{Held}
-use Rattle.fjall_core.specs.Standing.{StandsFor, Owes, OwesAll, OwesRefusal, Serves, OnDisk, Writes, WritesDisk, Poisons, HandsOver, held_due, insert_text, newest, reply_of, value_reply}
+use Rattle.fjall_core.specs.Standing.{Owes, OwesRefusal, Serves, OnDisk, Writes, WritesDisk, held_due, insert_text, newest, reply_of, value_reply}
 use Rattle.fjall_core.proofs.Dues.{none_due, one_due, one_read_due}
 use Rattle.fjall_core.proofs.Owing.{owes_step}
+use Rattle.fjall_core.proofs.Calling.{crashing}
 
 -- a write that nothing refuses can be made
 pub record Admits (core : Held) (id : ℕ) (key value : Bytes) : Type 0 where
@@ -73,7 +74,7 @@ refused_on_disk core JournalDiskSpace (Io kind) due = absurd (none-some _ due)
 refused_on_disk core call error due = refl
 
 pub serving : (old new : Held) (call : Call) (reply : Reply) → Owes old call reply new → OnDisk old call reply new → Serves old call reply new
-serving old new call reply owes disk = record { step = λ s stands. owes_step old new call reply s owes stands; disk = disk }
+serving old new call reply owes disk = record { step = λ s stands. owes_step old new call reply s owes stands; disk = disk; crash = λ s d stands on. crashing old new call reply owes disk s d stands on }
 
 -- a refusal that is due
 pub due_owes : (core : Held) (call : Call) (error : Error) → held_due core call ≡ Some error → Owes core call (Refused error) core

@@ -1,15 +1,15 @@
 -- What came of a write and of a sync, over plain values.
-use Rattle.std.proofs.Common.{◌≡◌, ◌≢◌, ◌⊎◌, inl, inr, ⊎_elim, ℕ, Bool, true, false, cond, OnErr, nat_le, List, [], ◌∷◌, ◌++◌, length, take, Result, Ok, Err, refl, sym, ◌∙◌, ap, subst}
+use Rattle.std.proofs.Common.{◌≡◌, inl, inr, ℕ, Bool, true, false, cond, OnErr, nat_le, List, [], ◌∷◌, ◌++◌, length, take, Result, Ok, Err, refl, sym, ◌∙◌, ap}
 use Rattle.std.proofs.lemmas.List.{append-nil}
-use Rattle.fjall_base.specs.Disk.{Meaning, Name, Step, Append, Took, TookPart, state_in, after, HasCause}
-use Rattle.fjall_base.specs.Errors.{IsFaultOrMemory, Rose}
+use Rattle.fjall_base.specs.Disk.{Meaning, Name, Step, Append, Took, TookPart, after}
+use Rattle.fjall_base.specs.Errors.{IsFaultOrMemory}
 use Rattle.fjall_base.specs.declared.error.Error.{Error}
 use Rattle.fjall_base.specs.declared.error.Error.TheVariants.{Io, OutOfMemory}
-use Rattle.fjall_journal.specs.Writer.{Journal, filled, written_out, after_write, write_steps, persist_steps, PersistTook}
+use Rattle.fjall_journal.specs.Writer.{Journal, filled, written_out, after_write, write_steps, PersistTook}
 use Rattle.fjall_journal.specs.declared.persist_mode.PersistMode.TheVariants.{Buffer}
 use Rattle.fjall_core.specs.declared.version.Version.{Version}
 use Rattle.fjall_core.specs.Holding.{Held}
-use Rattle.fjall_core.specs.Standing.{Poisons, Writes, is_io}
+use Rattle.fjall_core.specs.Standing.{Writes, is_io}
 
 -- steps after a disk that took none
 pub took_after : (old mid new : Meaning) (steps : List Step) → Took old mid [] → Took mid new steps → Took old new steps

@@ -2,6 +2,8 @@ pub mod Histories
 pub mod Machine
 pub mod Replays
 pub mod Versions
+pub mod Durables
+pub mod Crashes
 pub mod Holding
 pub mod Standing
 pub mod Openings

@@ -5,7 +5,6 @@ use Rattle.fjall_base.specs.Pairs.{Bytes, lookup}
 use Rattle.fjall_base.specs.Store.{Store, Command, Write, map_at}
 use Rattle.fjall_base.specs.declared.error.Error.{Error}
 use Rattle.fjall_base.specs.declared.error.Error.TheVariants.{Io, Poisoned, KeyspaceDeleted, KeyEmpty, KeyTooLong, ValueTooLong, OutOfMemory, NumbersUsedUp, UnknownKeyspace}
-use Rattle.fjall_journal.specs.declared.persist_mode.PersistMode.{PersistMode}
 use Rattle.fjall_journal.specs.declared.entry.ValueType.TheVariants as kinds
 use Rattle.fjall_journal.specs.Batches.{batch_text, of_item}
 use Rattle.fjall_journal.specs.Writer.{counted}

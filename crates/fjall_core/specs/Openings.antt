@@ -1,35 +1,23 @@
 -- What opening finds in a journal, and what it makes of the disk.
-use Rattle.std.specs.Prelude.{◌≡◌, ◌⊎◌, ℕ, ◌≤◌, Bool, true, false, List, [], ◌∷◌, ◌++◌, length, drop, map, codes, None, IsSomeAnd, if◌then◌else◌}
-use Rattle.fjall_base.specs.Store.{Store, fold, kept}
-use Rattle.fjall_base.specs.Disk.{Name, Meaning, Entry, Missing, File, Folder, Step, Put, Sync, Loosen, Cut, SyncFolder, Took, state_in, making}
+use Rattle.std.specs.Prelude.{◌≡◌, ℕ, ◌≤◌, Bool, true, false, List, [], ◌∷◌, ◌++◌, length, drop, map, None, IsSomeAnd}
+use Rattle.fjall_base.specs.Store.{Store, kept}
+use Rattle.fjall_base.specs.Disk.{Meaning, Entry, File, Step, Sync, Loosen, Cut, SyncFolder, Took, TookOrNot, TookCut, LeavesOnly, state_in, making}
 use Rattle.fjall_base.specs.Errors.{Rose}
 use Rattle.fjall_base.specs.declared.error.Error.{Error}
 use Rattle.fjall_base.specs.declared.error.Error.TheVariants.{Io, OutOfMemory, JournalRecovery}
 use Rattle.fjall_journal.specs.declared.batch.Tail.{Tail}
 use Rattle.fjall_journal.specs.declared.batch.Tail.TheVariants.{Clean, Torn, Damaged}
-use Rattle.fjall_journal.specs.Batches.{Written, Shown, shown, IsWhole, IsTail}
-use Rattle.fjall_core.specs.Replays.{initial, journal_commands, least_after, next_after, first_fault, Names}
-use Rattle.fjall_core.specs.Machine.{Parts, opened_state}
+use Rattle.fjall_journal.specs.Batches.{Written, shown, IsWhole, IsTail}
+use Rattle.fjall_core.specs.Replays.{least_after, next_after, first_fault, Names}
+use Rattle.fjall_core.specs.Durables.{journal_name, text_in, store_in, Stands, Holds}
+use Rattle.fjall_core.specs.Machine.{opened_state}
 use Rattle.fjall_core.specs.Holding.{Held}
-use Rattle.fjall_core.specs.Standing.{StandsFor, parts_of, store_of}
+use Rattle.fjall_core.specs.Standing.{StandsFor, StandsOn, parts_of, store_of}
 use Rattle.fjall_core.specs.declared.version.Version.{Version}
-
--- the name of the one journal
-abbrev pub journal_name : Name
-journal_name = codes "0.jnl"
-
--- the text of a journal: its file's bytes, and none where there is no file
-abbrev pub text_in : Entry → List ℕ
-text_in (File synced unsynced) = synced ++ unsynced
-text_in entry = []
 
 -- the journal's text on this disk
 abbrev pub journal_text : Meaning → List ℕ
 journal_text disk = text_in (state_in disk journal_name).now
-
--- the store that whole batches stand for
-abbrev pub store_in : List Written → Store
-store_in batches = kept (fold initial (journal_commands (map shown batches)))
 
 -- Why a journal's text isn't opened: memory ran out; or a batch has a fault, the first one there is; or, where none
 -- has, a damage stands behind the whole batches.
@@ -86,3 +74,22 @@ HasRisen old new error = Unit {0}
 abbrev pub IsDueTo : List ℕ → Meaning → Meaning → Error → Type 0
 IsDueTo text old new (Io kind) = Unit {0}
 IsDueTo text old new error = Refuses text error × Took old new []
+
+-- the whole batches of the text end there
+abbrev pub EndsWhole : List ℕ → ℕ → Type 0
+EndsWhole text end = (batches : List Written) (at : ℕ) → IsWhole text batches at → end ≡ at
+
+-- what the cut of a torn tail, or the sync of a journal that has none, took of the disk, whether it succeeded or not
+abbrev pub Ended : Bool → ℕ → Meaning → Meaning → Type 0
+Ended true end old new = TookCut old new journal_name end
+Ended false end old new = TookOrNot old new (Sync journal_name ∷ [])
+
+-- whatever store the disk held, a crash at each moment from old to new leaves that store
+abbrev pub KeepsStore : Meaning → Meaning → Type 0
+KeepsStore old new = (store : Store) → Holds (state_in old) store → LeavesOnly old new (λ image. Stands image store)
+
+-- A core that was just opened stands for this store, with it as its base, and nothing is pending.
+pub record OpensAs (core : Held) (store : Store) : Type 0 where
+  pub next : ℕ
+  pub state : Opens core store next
+  pub base : StandsOn core (record { meaning = core.disk; base = store; pending = [] })

@@ -1,17 +1,16 @@
 -- The store that a journal's batches stand for, and what no sound journal has.
-use Rattle.std.specs.Prelude.{◌≡◌, ℕ, ◌+◌, ◌^◌, Bool, true, false, nat_lt, nat_le, max, ◌||◌, ◌==◌, if◌then◌else◌, List, [], ◌∷◌, ◌++◌, length, map, codes, take, drop, Option, Some, None, IsSomeAnd}
+use Rattle.std.specs.Prelude.{◌≡◌, ℕ, ◌+◌, ◌^◌, Bool, true, false, nat_lt, nat_le, max, ◌||◌, ◌==◌, if◌then◌else◌, List, [], ◌∷◌, ◌++◌, map, codes, Option, Some, None, IsSomeAnd}
 use Rattle.std.specs.Option.{option_or}
 use Rattle.std.specs.List.{flat_map, list_any}
 use Rattle.std.specs.FinMap.{empty}
 use Rattle.fjall_base.specs.Pairs.{Bytes}
-use Rattle.fjall_base.specs.Store.{Store, Item, Command, Write, Clear, Create, apply, fold, kept}
-use Rattle.fjall_base.specs.Disk.{Entry, Missing, File, Folder}
+use Rattle.fjall_base.specs.Store.{Store, Item, Command, Write, Clear, Create, apply}
 use Rattle.fjall_base.specs.declared.error.Error.{Error}
 use Rattle.fjall_base.specs.declared.error.Error.TheVariants.{Unrecoverable, InvalidTag, OutOfMemory}
 use Rattle.fjall_journal.specs.declared.entry.ValueType.{ValueType}
-use Rattle.fjall_journal.specs.declared.entry.ValueType.TheVariants.{Value, Tombstone, WeakTombstone, Indirection}
+use Rattle.fjall_journal.specs.declared.entry.ValueType.TheVariants.{Value, Indirection}
 use Rattle.fjall_journal.specs.declared.batch.ReadBatchItem.{ReadBatchItem}
-use Rattle.fjall_journal.specs.Batches.{Shown, Written, IsWhole, shown}
+use Rattle.fjall_journal.specs.Batches.{Shown}
 
 -- keyspace 1, named "items", made under number 0, and nothing in it
 abbrev pub initial : Store

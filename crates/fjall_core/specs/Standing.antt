@@ -1,16 +1,15 @@
 -- What a core stands for, and what its calls owe.
-use Rattle.std.specs.Prelude.{◌≡◌, ◌⊎◌, ℕ, ◌+◌, ◌≤◌, Bool, true, false, cond, List, [], ◌∷◌, ◌++◌, length, map, Option, Some, None, Result, Ok, Err}
+use Rattle.std.specs.Prelude.{◌≡◌, ◌⊎◌, ℕ, ◌+◌, ◌≤◌, Bool, true, false, cond, List, [], ◌∷◌, ◌++◌, length, map, take, Option, Some, None, Result, Ok, Err, OnOk}
 use Rattle.std.specs.Str.{bytes_eq}
 use Rattle.fjall_base.specs.Pairs.{Bytes}
 use Rattle.fjall_base.specs.Store.{Store, Command, fold, kept}
-use Rattle.fjall_base.specs.Disk.{Meaning, Took, TookPart}
+use Rattle.fjall_base.specs.Disk.{Meaning, Took, TookPart, LeavesOnly, state_in}
 use Rattle.fjall_base.specs.Errors.{Rose}
 use Rattle.fjall_base.specs.declared.error.Error.{Error}
 use Rattle.fjall_base.specs.declared.error.Error.TheVariants.{Io, OutOfMemory, Poisoned}
 use Rattle.fjall_journal.specs.declared.entry.ValueType.TheVariants as kinds
-use Rattle.fjall_journal.specs.declared.persist_mode.PersistMode.{PersistMode}
 use Rattle.fjall_journal.specs.declared.persist_mode.PersistMode.TheVariants.{SyncAll}
-use Rattle.fjall_journal.specs.Batches.{batch_text, of_item}
+use Rattle.fjall_journal.specs.Batches.{batch_text, of_item, shown}
 use Rattle.fjall_journal.specs.Writer.{Journal, filled, written_out, appending, persist_steps}
 use Rattle.fjall_core.specs.declared.call.Call.{Call}
 use Rattle.fjall_core.specs.declared.call.Call.TheVariants.{Insert, GetAt, Persist, Seqno, VisibleSeqno, JournalDiskSpace}
@@ -19,7 +18,9 @@ use Rattle.fjall_core.specs.declared.call.Reply.TheVariants.{Done, Value, Number
 use Rattle.fjall_core.specs.declared.version.Version.{Version}
 use Rattle.fjall_core.specs.Histories.{number}
 use Rattle.fjall_core.specs.Machine.{Parts, State, Step, Run, TakesMemory, present, due_in, write_of}
-use Rattle.fjall_core.specs.Replays.{initial}
+use Rattle.fjall_core.specs.Replays.{initial, next_after}
+use Rattle.fjall_core.specs.Durables.{Durable, StandsAmid, Passes, Holds, Lies, MakesPresent, journal_name, texts_of}
+use Rattle.fjall_core.specs.Crashes.{CallPasses, RunOn, Tried, IsSyncAt, SafeAt}
 use Rattle.fjall_core.specs.Holding.{Held}
 
 -- a version as the write that made it
@@ -49,6 +50,16 @@ pub record StandsFor (core : Held) (s : State) : Type 0 where
   pub number : number s.history ≡ core.next
   pub poisoned : s.poisoned ≡ core.poisoned
   pub parts : s.parts ≡ parts_of core.journal
+
+-- The core stands on this disk, with this base and this pending. While no fault has poisoned it, the bytes of the
+-- pending batches are those that aren't synced and those in the buffer, and the next number comes behind all batches.
+pub record StandsOn (core : Held) (d : Durable) : Type 0 where
+  pub same : d.meaning ≡ core.disk
+  pub lies : Lies (state_in d.meaning) d.base d.pending
+  pub name : core.poisoned ≡ false → core.journal.name ≡ journal_name
+  pub exact : core.poisoned ≡ false → take lies.cut (texts_of lies.later) ++ core.journal.buffer ≡ texts_of lies.later
+  pub next : core.poisoned ≡ false → core.next ≡ next_after (map shown (lies.whole ++ lies.later))
+  pub present : MakesPresent core.poisoned d (store_of core.versions)
 
 -- the refusal that is due for a call of this core
 abbrev pub held_due : Held → Call → Option Error
@@ -150,10 +161,13 @@ OnDisk old call (Refused (Io kind)) new = DiskFailed old call new
 OnDisk old call reply new = new.disk ≡ old.disk
 
 -- One call over a disk that returns what it holds. Whichever state the core stood for, it steps to one that it stands
--- for now, and the disk took what such a call writes.
+-- for now, and the disk took what such a call writes. Whatever base and pending it stood on, a crash during the call or
+-- after it leaves what such a step may leave.
 pub record Serves (old : Held) (call : Call) (reply : Reply) (new : Held) : Type 0 where
   pub step : (s : State) → StandsFor old s → (t : State) × StandsFor new t × Step s call reply t
   pub disk : OnDisk old call reply new
+  pub crash : (s : State) (d : Durable) → StandsFor old s → StandsOn old d
+      → (t : State) × (e : Durable) × StandsFor new t × StandsOn new e × Step s call reply t × CallPasses s d call reply e
 
 -- the reply to a change or to a sync
 abbrev pub reply_of : Result Unit Error → Reply
@@ -169,6 +183,23 @@ value_reply (Err error) = Refused error
 abbrev pub Runs : Held → List Call → List Reply → Held → Type 0
 Runs old calls replies new = (s : State) → StandsFor old s → (t : State) × StandsFor new t × Run s calls replies t
 
+-- Calls one after another over a disk that may crash. At any moment a crash leaves the base with a beginning of what was
+-- pending and what was tried. After a sync that succeeded it leaves all that was tried up to that call.
+pub record RunsOn (old : Held) (calls : List Call) (replies : List Reply) (new : Held) (s : State) (d : Durable) : Type 0 where
+  pub tried : List Command
+  pub state : State
+  pub durable : Durable
+  pub stands : StandsFor new state
+  pub on : StandsOn new durable
+  pub run : RunOn s d calls replies tried state durable
+  pub accepted : Tried s tried state
+  pub any_moment : LeavesOnly old.disk new.disk (StandsAmid d.base [] (d.pending ++ tried))
+  pub synced : (i : ℕ) → IsSyncAt s d calls replies tried state durable run i → SafeAt s d calls replies i tried new.disk
+
+-- the same from whatever state, base and pending the core stood for and on
+abbrev pub RunsSafely : Held → List Call → List Reply → Held → Type 0
+RunsSafely old calls replies new = (s : State) (d : Durable) → StandsFor old s → StandsOn old d → RunsOn old calls replies new s d
+
 -- What closing owes whatever the disk is: the cause of each refusal; a poisoned core leaves the disk alone.
 abbrev pub OwesClosing : Held → Result Unit Error → Meaning → Type 0
 OwesClosing old (Ok _) disk = (old.poisoned ≡ false) × (old.disk.faults ≤ disk.faults)
@@ -181,3 +212,15 @@ abbrev pub ClosesDisk : Held → Result Unit Error → Meaning → Type 0
 ClosesDisk old (Ok _) disk = Took old.disk disk (persist_steps old.journal SyncAll)
 ClosesDisk old (Err (Io kind)) disk = TookPart old.disk disk old.journal.name old.journal.buffer ⊎ Took old.disk disk (persist_steps old.journal SyncAll)
 ClosesDisk old (Err error) disk = disk ≡ old.disk
+
+-- What closing leaves: a crash during it leaves the base with a beginning of what was pending. Where it succeeds, the
+-- disk holds the present store.
+pub record Closes (s : State) (d : Durable) (result : Result Unit Error) (disk : Meaning) : Type 0 where
+  pub after : Durable
+  pub same : after.meaning ≡ disk
+  pub passes : Passes d [] after
+  pub closed : OnOk result (Holds (state_in disk) (kept (present s)))
+
+-- the same from whatever state, base and pending the core stood for and on
+abbrev pub ClosesSafely : Held → Result Unit Error → Meaning → Type 0
+ClosesSafely core result disk = (s : State) (d : Durable) → StandsFor core s → StandsOn core d → Closes s d result disk

@@ -1,16 +1,17 @@
 //! The core: one machine over a disk.
 
 ghost use Rattle.std.specs.Prelude.{◌≡◌, ◌≤◌, ◌<◌, ◌+◌, ◌^◌, ◌++◌, ◌∷◌, [], Some, None, Err, ℕ, IsTrue, IsErrOf, IfOk, IfErr, IsOkUnless, OnOk, OnErr, false, Result};
-ghost use Rattle.fjall_base.specs.Disk.{Meaning};
+ghost use Rattle.fjall_base.specs.Disk.{Meaning, state_in};
 ghost use Rattle.fjall_journal.specs.Spelling.{item_refusal};
 ghost use Rattle.fjall_journal.specs.Batches.{batch_text, of_item};
 ghost use Rattle.fjall_core.specs.declared.call.Call.TheVariants.{Insert, GetAt, Persist, Seqno, VisibleSeqno, JournalDiskSpace};
 ghost use Rattle.fjall_core.specs.declared.call.Reply.TheVariants.{Number};
 ghost use Rattle.fjall_core.specs.Histories.{number};
 ghost use Rattle.fjall_base.specs.Store.{Store};
-ghost use Rattle.fjall_core.specs.Openings.{journal_text, Opens, OpensOn, Repaired, HasRisen, IsDueTo};
+ghost use Rattle.fjall_core.specs.Openings.{journal_text, Opens, OpensOn, OpensAs, Repaired, KeepsStore, HasRisen, IsDueTo};
+ghost use Rattle.fjall_core.specs.Durables.{Holds};
 ghost use Rattle.fjall_core.specs.Machine.{State, Run};
-ghost use Rattle.fjall_core.specs.Standing.{StandsFor, Owes, OwesAll, Serves, Writes, WritesDisk, Runs, OwesClosing, ClosesDisk, reply_of, value_reply};
+ghost use Rattle.fjall_core.specs.Standing.{StandsFor, Owes, OwesAll, Serves, Writes, WritesDisk, Runs, RunsSafely, OwesClosing, ClosesDisk, ClosesSafely, reply_of, value_reply};
 
 use crate::call::{Call, Reply, View};
 use crate::config::Config;
@@ -52,6 +53,9 @@ impl<D: Disk> Core<D> {
     pub fn open(alloc: Global, config: Config, disk: D) -> std::result::Result<Core<D>, Refused<D>>
         ensures opened { IsTrue D.honest → IfOk result (λ core. OpensOn (journal_text (D.meaning disk)) core) }
         ensures repaired { IsTrue D.honest → IfOk result (λ core. Repaired (D.meaning disk) core.disk) }
+        ensures safe { IsTrue D.honest → (store : Store) → Holds (state_in (D.meaning disk)) store → IfOk result (λ core. OpensAs core store) }
+        ensures any_moment { IsTrue D.honest → IfOk result (λ core. KeepsStore (D.meaning disk) core.disk) }
+        ensures any_moment_err { IsTrue D.honest → IfErr result (λ refused. KeepsStore (D.meaning disk) (D.meaning refused.value)) }
         ensures stands { IfOk result (λ core. (store : Store) × (next : ℕ) × Opens core store next) }
         ensures later { IfOk result (λ core. (D.meaning disk).faults ≤ core.disk.faults) }
         ensures later_err { IfErr result (λ refused. (D.meaning disk).faults ≤ (D.meaning refused.value).faults) }
@@ -206,6 +210,7 @@ impl<D: Disk> Core<D> {
     /// whole list refused, before its first call.
     pub fn run(&mut self, calls: Vec<Call>) -> Result<Vec<Reply>>
         ensures runs { IsTrue D.honest → IfOk result (λ replies. Runs self.old calls.items replies.items self.new) }
+        ensures crash { IsTrue D.honest → IfOk result (λ replies. RunsSafely self.old calls.items replies.items self.new) }
         ensures owes { IfOk result (λ replies. OwesAll self.old calls.items replies.items self.new) }
         ensures err { OnErr result (self.new ≡ self.old) }
         ensures only { IsOkUnless result Error.OutOfMemory }
@@ -241,6 +246,7 @@ impl<D: Disk> Core<D> {
     pub fn close(self) -> (D, Result<()>)
         ensures owes { OwesClosing self result.1 (D.meaning result.0) }
         ensures disk { IsTrue D.honest → ClosesDisk self result.1 (D.meaning result.0) }
+        ensures crash { IsTrue D.honest → ClosesSafely self result.1 (D.meaning result.0) }
     {
         let mut core = self;
         let closed = core.persist(PersistMode::SyncAll);

@@ -5,6 +5,7 @@ mod call;
 mod config;
 mod engine;
 mod journaling;
+mod laws;
 mod recovery;
 mod refusal;
 mod replay;
@@ -14,6 +15,7 @@ pub use call::{Call, Reply, View};
 pub use config::Config;
 pub use engine::Core;
 pub use fjall_journal::PersistMode;
+pub use laws::{crash_holds, holds_through_crash, no_journal_holds};
 pub use version::Version;
 
 #[cfg(test)]

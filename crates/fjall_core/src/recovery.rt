@@ -2,7 +2,8 @@
 
 ghost use Rattle.std.specs.Prelude.{◌≡◌, ◌≤◌, [], IsTrue, IfOk, IfErr, OnOk};
 ghost use Rattle.fjall_base.specs.Disk.{Took, HasCause, OnlyFaults, state_in};
-ghost use Rattle.fjall_core.specs.Openings.{Refuses, Recovers, journal_name, journal_text, ends_by, repair_steps, HasRisen, IsDueTo};
+ghost use Rattle.fjall_core.specs.Durables.{journal_name};
+ghost use Rattle.fjall_core.specs.Openings.{Refuses, Recovers, journal_text, ends_by, repair_steps, HasRisen, IsDueTo, Ended, EndsWhole, KeepsStore};
 
 use crate::replay::replay;
 use crate::version::Version;
@@ -45,6 +46,7 @@ pub(crate) const JOURNAL_NAME: &str = "0.jnl";
 /// Cuts the journal's torn tail, or syncs a journal that has none.
 fn end_cleanly<D: Disk>(disk: &mut D, torn: bool, end: usize) -> Result<()>
     ensures took { IsTrue D.honest → OnOk result (Took (D.meaning disk.old) (D.meaning disk.new) (ends_by torn end)) }
+    ensures ended { IsTrue D.honest → Ended torn end (D.meaning disk.old) (D.meaning disk.new) }
     ensures cause { OnlyFaults (D.meaning disk.old) (D.meaning disk.new) result }
 {
     if torn {
@@ -57,6 +59,7 @@ fn end_cleanly<D: Disk>(disk: &mut D, torn: bool, end: usize) -> Result<()>
 /// Makes the journal where it is missing, cuts its torn tail or else syncs it, and syncs the root folder.
 pub(crate) fn repair<D: Disk>(disk: &mut D, torn: bool, end: usize) -> Result<()>
     ensures took { IsTrue D.honest → OnOk result (Took (D.meaning disk.old) (D.meaning disk.new) (repair_steps (state_in (D.meaning disk.old) journal_name).now torn end)) }
+    ensures any_moment { IsTrue D.honest → EndsWhole (journal_text (D.meaning disk.old)) end → KeepsStore (D.meaning disk.old) (D.meaning disk.new) }
     ensures cause { OnlyFaults (D.meaning disk.old) (D.meaning disk.new) result }
 {
     disk.create(JOURNAL_NAME)?;
@@ -70,6 +73,7 @@ pub(crate) fn repair<D: Disk>(disk: &mut D, torn: bool, end: usize) -> Result<()
 pub(crate) fn restore<D: Disk>(alloc: Global, disk: &mut D) -> Result<(Writer, Recovered)>
     ensures found { IsTrue D.honest → IfOk result (λ opened. Recovers (journal_text (D.meaning disk.old)) opened.1.versions.items opened.1.least opened.1.end opened.1.torn) }
     ensures took { IsTrue D.honest → IfOk result (λ opened. Took (D.meaning disk.old) (D.meaning disk.new) (repair_steps (state_in (D.meaning disk.old) journal_name).now opened.1.torn opened.1.end)) }
+    ensures any_moment { IsTrue D.honest → KeepsStore (D.meaning disk.old) (D.meaning disk.new) }
     ensures journal { IfOk result (λ opened. opened.0 ≡ record { name = journal_name; buffer = []; len = opened.1.end }) }
     ensures later { (D.meaning disk.old).faults ≤ (D.meaning disk.new).faults }
     ensures risen { IfErr result (HasRisen (D.meaning disk.old).faults (D.meaning disk.new).faults) }

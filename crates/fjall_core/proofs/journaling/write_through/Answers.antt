@@ -1,6 +1,6 @@
 use Rattle.std.proofs.Common.{◌≡◌, ◌++◌, [], refl, ap, sym, ◌∙◌, subst}
 use Rattle.std.proofs.lemmas.Bool.{true≢false}
-use Rattle.fjall_base.specs.Disk.{Meaning, TookPart}
+use Rattle.fjall_base.specs.Disk.{TookPart}
 use Rattle.fjall_journal.specs.Batches.{batch_text, of_item}
 use Rattle.fjall_journal.specs.Writer.{Journal, PersistTook, after_write}
 use Rattle.fjall_journal.specs.declared.persist_mode.PersistMode.TheVariants.{Buffer}

@@ -1,4 +1,4 @@
-use Rattle.std.proofs.Common.{◌≡◌, ◌∙◌, map, ap, sym, rules}
+use Rattle.std.proofs.Common.{◌∙◌, map, ap, sym, rules}
 use Rattle.fjall_base.specs.Store.{fold, kept}
 use Rattle.fjall_journal.specs.Batches.{shown}
 use Rattle.fjall_core.specs.Replays.{initial, journal_commands, least_after}

@@ -1,11 +1,10 @@
-use Rattle.std.proofs.Common.{◌≡◌, ◌+◌, ◌<◌, ◌∙◌, List, length, take, get_or, map, None, ap, sym, subst, rules, arith}
+use Rattle.std.proofs.Common.{◌∙◌, List, ap, sym, subst, rules}
 use Rattle.std.proofs.lemmas.Result.{err_from_is_err_and}
 use Rattle.std.proofs.lemmas.Iterator.Adapters.{YieldsList-from_vec}
 use Rattle.std.proofs.lemmas.Iterator.Consumers.{YieldsList-so_far, YieldsList-turn}
-use Rattle.fjall_journal.specs.declared.batch.Batch.{Batch}
 use Rattle.fjall_journal.specs.Batches.{view}
 use Rattle.fjall_core.specs.declared.version.Version.{Version}
-use Rattle.fjall_core.specs.Replays.{Fault, fault_of, IsReplayFault, first_fault}
+use Rattle.fjall_core.specs.Replays.{fault_of, IsReplayFault}
 use Rattle.fjall_core.specs.Versions.{versions_after}
 use Rattle.fjall_core.proofs.Replaying.{one_version_more, one_number_more, one_sound_more, fault_found}
 use Rattle.fjall_core.proofs.replay.replay.Goals as goal

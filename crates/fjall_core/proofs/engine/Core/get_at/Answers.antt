@@ -1,4 +1,4 @@
-use Rattle.std.proofs.Common.{◌≡◌, ap, sym, ◌∙◌, subst, IfOk}
+use Rattle.std.proofs.Common.{◌≡◌, ap, ◌∙◌, subst, IfOk}
 use Rattle.fjall_base.specs.declared.error.Error.TheVariants.{UnknownKeyspace}
 use Rattle.fjall_core.specs.declared.call.Call.TheVariants.{GetAt}
 use Rattle.fjall_core.specs.Holding.{Held}

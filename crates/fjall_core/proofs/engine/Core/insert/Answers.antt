@@ -1,13 +1,10 @@
-use Rattle.std.proofs.Common.{◌≡◌, ◌<◌, ◌^◌, false, ap, sym, ◌∙◌, subst, Some, None, Ok, Err}
+use Rattle.std.proofs.Common.{ap, sym, ◌∙◌, subst, Some, None}
 use Rattle.std.proofs.lemmas.Result.{err_from_is_err_and}
-use Rattle.fjall_base.specs.declared.error.Error.TheVariants.{OutOfMemory}
-use Rattle.fjall_journal.specs.Spelling.{item_refusal}
 use Rattle.fjall_core.specs.declared.call.Call.TheVariants.{Insert}
 use Rattle.fjall_core.specs.declared.version.Version.{Version}
 use Rattle.fjall_core.specs.Holding.{Held}
-use Rattle.fjall_core.specs.Machine.{first_due, one_refusals}
-use Rattle.fjall_core.specs.Standing.{Owes, Serves, Writes, insert_text, held_due, reply_of}
-use Rattle.fjall_core.proofs.Serving.{Admits, admits, insert_due, due_serves, due_owes, memory_owes, memory_serves, insert_owes, insert_serves}
+use Rattle.fjall_core.specs.Standing.{Writes, insert_text}
+use Rattle.fjall_core.proofs.Serving.{insert_due, due_serves, due_owes, memory_owes, memory_serves, insert_owes, insert_serves}
 use Rattle.fjall_core.proofs.engine.Core.insert.Goals as goal
 
 pub returns-in-Some-clause-owes : goal.returns-in-Some-clause-owes

@@ -1,8 +1,8 @@
 use Rattle.std.proofs.Common.{◌≡◌, true, ap, sym, ◌∙◌, subst, rules, if◌then◌else◌, Some, None}
-use Rattle.fjall_base.specs.Disk.{Meaning, Took}
+use Rattle.fjall_base.specs.Disk.{Took}
 use Rattle.fjall_base.specs.Errors.{IsFault}
 use Rattle.fjall_base.specs.declared.error.Error.TheVariants.{Poisoned}
-use Rattle.fjall_journal.specs.Writer.{Journal, PersistTook, persist_steps}
+use Rattle.fjall_journal.specs.Writer.{PersistTook, persist_steps}
 use Rattle.fjall_core.specs.declared.call.Call.TheVariants.{Persist}
 use Rattle.fjall_core.specs.Holding.{Held}
 use Rattle.fjall_core.proofs.Serving.{due_serves, serving, unpersisted_on_disk}

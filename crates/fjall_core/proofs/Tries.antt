@@ -1,0 +1,111 @@
+-- A step leaves the history as it is or adds one command, and a poisoned state tries nothing.
+use Rattle.std.proofs.Common.{◌≡◌, true, false, List, [], ◌∷◌, ◌++◌, Option, Some, None, refl, sym, ◌∙◌, ap, subst, append_assoc}
+use Rattle.std.proofs.lemmas.List.{append-nil}
+use Rattle.std.proofs.lemmas.Bool.{true≢false}
+use Rattle.fjall_base.specs.Store.{Command}
+use Rattle.fjall_base.specs.declared.error.Error.{Error}
+use Rattle.fjall_base.specs.declared.error.Error.TheVariants.{Io, OutOfMemory}
+use Rattle.fjall_core.specs.declared.call.Call.{Call}
+use Rattle.fjall_core.specs.declared.call.Call.TheVariants.{Insert, GetAt, Persist, Seqno, VisibleSeqno, JournalDiskSpace}
+use Rattle.fjall_core.specs.declared.call.Reply.{Reply}
+use Rattle.fjall_core.specs.declared.call.Reply.TheVariants.{Done, Value, Number, Refused}
+use Rattle.fjall_core.specs.Histories.{grown, extended, number}
+use Rattle.fjall_core.specs.Machine.{State, Step, Refuses, MayFail, due, present, write_refusals, write_of}
+use Rattle.fjall_core.specs.Durables.{Durable}
+use Rattle.fjall_core.specs.Crashes.{attempt, RunOn, Tried}
+use Rattle.fjall_core.specs.Standing.{is_io}
+use Rattle.fjall_core.proofs.Dues.{none_due}
+use Rattle.fjall_core.proofs.Calling.{is_fault, never_due_in, no_attempt}
+
+-- what a step tried and what it did to the history
+pub data Moves (s : State) (tried : List Command) (t : State) : Type 0 where
+  stays : (nothing : tried ≡ []) (history : t.history ≡ s.history) (flag : s.poisoned ≡ true → t.poisoned ≡ true) → Moves s tried t
+  accepts : (command : Command) (one : tried ≡ command ∷ []) (history : t.history ≡ grown s.history command) (well : s.poisoned ≡ false) → Moves s tried t
+  faults : (command : Command) (one : tried ≡ command ∷ []) (history : t.history ≡ s.history) (flag : t.poisoned ≡ true) (well : s.poisoned ≡ false) → Moves s tried t
+
+as_it_was : (s t : State) (tried : List Command) → tried ≡ [] → t ≡ s → Moves s tried t
+as_it_was s t tried none same = stays none (ap (λ (x : State). x.history) same) (λ bad. ap (λ (x : State). x.poisoned) same ∙ bad)
+
+well_insert : (s : State) (id : _) (key value : _) → due s (Insert id key value) ≡ None → s.poisoned ≡ false
+well_insert s id key value none = (none_due (write_refusals (present s) (number s.history) s.poisoned id key value) none).1.1.1.1.1.0
+
+failure_moves : (s t : State) (call : Call) (error : Error) → due s call ≡ None → MayFail call error s t → Moves s (attempt s call (Refused error)) t
+failure_moves s t (Insert id key value) (Io kind) none fault = faults (write_of id key (Some value)) refl fault.0 fault.1 (well_insert s id key value none)
+failure_moves s t (Persist mode) (Io kind) none fault = stays refl fault.0 (λ _. fault.1)
+failure_moves s t (GetAt view id key) (Io kind) none same = as_it_was s t [] refl same
+failure_moves s t Seqno (Io kind) none fault = absurd fault
+failure_moves s t VisibleSeqno (Io kind) none fault = absurd fault
+failure_moves s t JournalDiskSpace (Io kind) none fault = absurd fault
+failure_moves s t call OutOfMemory none (takes, same) = as_it_was s t _ (no_attempt s call OutOfMemory refl) same
+failure_moves s t call error none fault = absurd fault
+
+refusal_moves : (s t : State) (call : Call) (error : Error) (first : Option Error) → due s call ≡ first → Refuses first call error s t → Moves s (attempt s call (Refused error)) t
+refusal_moves s t call error (Some first) due_is (is, same) =
+    as_it_was s t _ (no_attempt s call error (ap is_io is ∙ ap is_fault (sym due_is) ∙ never_due_in (present s) (number s.history) s.poisoned call)) same
+refusal_moves s t call error None due_is failure = failure_moves s t call error due_is failure
+
+-- each step of the machine is one of these
+pub step_moves : (s t : State) (call : Call) (reply : Reply) → Step s call reply t → Moves s (attempt s call reply) t
+step_moves s t call (Refused error) refuses = refusal_moves s t call error (due s call) refl refuses
+step_moves s t (Insert id key value) Done (none, is) = accepts (write_of id key (Some value)) refl (ap (λ (x : State). x.history) is) (well_insert s id key value none)
+step_moves s t (Persist mode) Done (none, is) = stays refl (ap (λ (x : State). x.history) is) (λ bad. ap (λ (x : State). x.poisoned) is ∙ bad)
+step_moves s t (GetAt view id key) (Value found) (none, is, same) = as_it_was s t [] refl same
+step_moves s t Seqno (Number n) (is, same) = as_it_was s t [] refl same
+step_moves s t VisibleSeqno (Number n) (is, same) = as_it_was s t [] refl same
+step_moves s t JournalDiskSpace (Number n) (is, same) = as_it_was s t [] refl same
+step_moves s t call reply none = absurd none
+
+poisoned_moves : (s t : State) (tried : List Command) → s.poisoned ≡ true → Moves s tried t → (tried ≡ []) × (t.history ≡ s.history) × (t.poisoned ≡ true)
+poisoned_moves s t tried bad (stays nothing history flag) = (nothing, history, flag bad)
+poisoned_moves s t tried bad (accepts command one history well) = absurd (true≢false (sym bad ∙ well))
+poisoned_moves s t tried bad (faults command one history flag well) = absurd (true≢false (sym bad ∙ well))
+
+-- a poisoned state tries nothing any more
+pub poisoned_run : (s t : State) (d e : Durable) (calls : List Call) (replies : List Reply) (tried : List Command) → s.poisoned ≡ true → RunOn s d calls replies tried t e → (tried ≡ []) × (t.history ≡ s.history) × (t.poisoned ≡ true)
+poisoned_run s t d e [] [] tried bad run = (run.0, ap (λ (x : State). x.history) run.1, ap (λ (x : State). x.poisoned) run.1 ∙ bad)
+poisoned_run s t d e (c ∷ calls) (r ∷ replies) tried bad (mid, on, rest, step, call, is, run) =
+    let one = poisoned_moves s mid (attempt s c r) bad (step_moves s mid c r step) in
+    let more = poisoned_run mid t on e calls replies rest one.2 run in
+    (is ∙ ap (λ (l : List Command). l ++ rest) one.0 ∙ more.0, more.1 ∙ one.1, more.2)
+poisoned_run s t d e [] (r ∷ replies) tried bad run = absurd run
+poisoned_run s t d e (c ∷ calls) [] tried bad run = absurd run
+
+tries_more : (s mid t : State) (first rest : List Command) → Moves s first mid → Tried mid rest t → (mid.poisoned ≡ true → (rest ≡ []) × (t.history ≡ mid.history) × (t.poisoned ≡ true)) → Tried s (first ++ rest) t
+tries_more s mid t first rest (stays nothing history flag) more ends = record {
+  accepted = more.accepted;
+  history = more.history ∙ ap (λ h. extended h more.accepted) history;
+  refused = more.refused;
+  all = ap (λ (l : List Command). l ++ rest) nothing ∙ more.all;
+  fault = more.fault;
+}
+tries_more s mid t first rest (accepts command one history well) more ends = record {
+  accepted = command ∷ more.accepted;
+  history = more.history ∙ ap (λ h. extended h more.accepted) history ∙ ap (λ (l : List Command). record s.history { commands = l }) (append_assoc s.history.commands (command ∷ []) more.accepted);
+  refused = more.refused;
+  all = ap (λ (l : List Command). l ++ rest) one ∙ ap (λ (l : List Command). command ∷ l) more.all;
+  fault = more.fault;
+}
+tries_more s mid t first rest (faults command one history flag well) more ends =
+    let end = ends flag in
+    record {
+      accepted = [];
+      history = end.1 ∙ history ∙ ap (λ (l : List Command). record s.history { commands = l }) (sym (append-nil s.history.commands));
+      refused = Some command;
+      all = ap (λ (l : List Command). l ++ rest) one ∙ ap (λ (l : List Command). command ∷ l) end.0;
+      fault = λ _. end.2;
+    }
+
+-- what a run tried was accepted, and at most one more at the end
+pub run_tries : (s t : State) (d e : Durable) (calls : List Call) (replies : List Reply) (tried : List Command) → RunOn s d calls replies tried t e → Tried s tried t
+run_tries s t d e [] [] tried run = record {
+  accepted = [];
+  history = ap (λ (x : State). x.history) run.1 ∙ ap (λ (l : List Command). record s.history { commands = l }) (sym (append-nil s.history.commands));
+  refused = None;
+  all = run.0;
+  fault = λ some. absurd (true≢false (sym some));
+}
+run_tries s t d e (c ∷ calls) (r ∷ replies) tried (mid, on, rest, step, call, is, run) =
+    subst (λ l. Tried s l t) (sym is)
+    (tries_more s mid t (attempt s c r) rest (step_moves s mid c r step) (run_tries mid t on e calls replies rest run) (λ bad. poisoned_run mid t on e calls replies rest bad run))
+run_tries s t d e [] (r ∷ replies) tried run = absurd run
+run_tries s t d e (c ∷ calls) [] tried run = absurd run
