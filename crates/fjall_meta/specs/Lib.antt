@@ -1,1 +1,4 @@
 pub mod Trackers
+pub mod Reading
+pub mod Policies
+pub mod Options
