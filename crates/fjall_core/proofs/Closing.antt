@@ -2,10 +2,10 @@
 use Rattle.std.proofs.Common.{◌≡◌, inl, false, List, [], ◌∷◌, ◌++◌, length, drop, map, None, Result, Ok, Err, refl, sym, ◌∙◌, ap, subst, arith}
 use Rattle.std.proofs.lemmas.List.{append-nil, drop_all}
 use Rattle.std.specs.List.{AllByRecursion}
-use Rattle.fjall_base.specs.Store.{Store, fold, kept}
+use Rattle.fjall_base.specs.Store.{Store, Command, fold, kept}
 use Rattle.fjall_base.specs.Disk.{Place, File, Sync, State, IsNoFolder, standing, state_in}
 use Rattle.fjall_base.specs.declared.error.Error.{Error}
-use Rattle.fjall_base.specs.declared.error.Error.TheVariants.{Poisoned}
+use Rattle.fjall_base.specs.declared.error.Error.TheVariants.{Io, Poisoned}
 use Rattle.fjall_journal.specs.Batches.{Written, IsWritten, IsWhole, shown}
 use Rattle.fjall_journal.specs.declared.persist_mode.PersistMode.TheVariants.{SyncAll}
 use Rattle.fjall_journal.specs.Writer.{appending}
@@ -16,7 +16,8 @@ use Rattle.fjall_core.specs.Machine.{present}
 use Rattle.fjall_core.specs.Machine as Machine
 use Rattle.fjall_core.specs.Replays.{initial, journal_commands, first_fault}
 use Rattle.fjall_core.specs.Holding.{Held}
-use Rattle.fjall_core.specs.Durables.{journal_name, image_text, text_in, store_in, texts_of, IsSynced, Holds, Durable}
+use Rattle.fjall_core.specs.Durables.{journal_name, image_text, text_in, store_in, texts_of, IsSynced, Holds, Durable, Passes}
+use Rattle.fjall_core.specs.Crashes.{attempt}
 use Rattle.fjall_core.specs.Standing.{StandsFor, StandsOn, Owes, OnDisk, Closes, reply_of}
 use Rattle.fjall_core.proofs.Kept.{kept_twice}
 use Rattle.fjall_core.proofs.Dues.{none_due}
@@ -43,6 +44,11 @@ texts_hold state store batches each sound place makes =
       };
     }
 
+-- a sync asks for no command
+no_command : (s : Machine.State) (error : Error) → attempt s (Persist SyncAll) (Refused error) ≡ []
+no_command s (Io kind) = refl
+no_command s error = refl
+
 -- closing leaves what it may
 pub closing : (old new : Held) (result : Result Unit Error) (s : Machine.State) (d : Durable) → Owes old (Persist SyncAll) (reply_of result) new → OnDisk old (Persist SyncAll) (reply_of result) new → StandsFor old s → StandsOn old d → Closes s d result new.disk
 closing old new (Ok _) s d (none, hands) done stands on =
@@ -62,4 +68,4 @@ closing old new (Ok _) s d (none, hands) done stands on =
     }
 closing old new (Err error) s d owes disk stands on =
     let led = call_leads old new (Persist SyncAll) (Refused error) s d owes disk on in
-    record { after = led.0; same = led.1.same; passes = led.2.0; closed = tt }
+    record { after = led.0; same = led.1.same; passes = subst (λ (l : List Command). Passes d l led.0) (no_command s error) led.2.0; closed = tt }

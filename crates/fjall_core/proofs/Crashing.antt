@@ -11,23 +11,23 @@ use Rattle.fjall_base.specs.Store.{Store, Command, fold, kept}
 use Rattle.fjall_base.specs.Disk.{Name, File, Place, State, Image, Survives, IsImage, Leaves, Meaning, Took, TookPart, LeavesOnly, Step, Append, Sync, change, after, appended, all_synced, state_in}
 use Rattle.fjall_base.proofs.States.{alter-same}
 use Rattle.fjall_base.proofs.Moments.{Leaves-append, after-append}
-use Rattle.fjall_journal.specs.declared.entry.ValueType.TheVariants as kinds
 use Rattle.fjall_journal.specs.declared.persist_mode.PersistMode.{PersistMode}
 use Rattle.fjall_journal.specs.declared.persist_mode.PersistMode.TheVariants.{Buffer, SyncData, SyncAll}
 use Rattle.fjall_journal.specs.Batches.{Written, IsWritten, batch_text, of_item, shown}
 use Rattle.fjall_journal.specs.Writer.{Journal, appending, persist_steps}
-use Rattle.fjall_core.specs.declared.call.Call.TheVariants.{Insert, Persist}
+use Rattle.fjall_core.specs.declared.call.Call.TheVariants.{Persist}
 use Rattle.fjall_core.specs.declared.version.Version.{Version}
-use Rattle.fjall_core.specs.Machine.{write_refusals, write_of}
+use Rattle.fjall_core.specs.Ops.{Op, Put, Remove, RemoveWeak, value_in, bytes_in, kind_of, op_text}
+use Rattle.fjall_core.specs.Machine.{first_due, write_refusals, write_of}
 use Rattle.fjall_core.specs.Machine as Machine
 use Rattle.fjall_core.specs.declared.call.Reply.TheVariants.{Done}
 use Rattle.fjall_core.specs.Crashes.{IsSync}
-use Rattle.fjall_core.specs.Replays.{Fault, Unordered, journal_commands, first_fault, fault_of, least_after, next_after}
+use Rattle.fjall_core.specs.Replays.{Fault, Unordered, Indirect, value_of, is_indirection, journal_commands, first_fault, fault_of, least_after, next_after}
 use Rattle.fjall_core.specs.Holding.{Held}
 use Rattle.fjall_core.specs.Durables.{journal_name, store_in, texts_of, Durable, StandsAmid, Passes, Lies, MakesPresent}
-use Rattle.fjall_core.specs.Standing.{StandsOn, Poisons, Grows, HandsOver, held_due, insert_text, store_of, command_of}
+use Rattle.fjall_core.specs.Standing.{StandsOn, Poisons, Grows, HandsOver, store_of, command_of, version_of}
 use Rattle.fjall_core.proofs.Kept.{kept_along, kept_twice, fold-append}
-use Rattle.fjall_core.proofs.Dues.{none_due, insert_one}
+use Rattle.fjall_core.proofs.Dues.{none_due, write_one}
 use Rattle.fjall_core.proofs.Owing.{store_more}
 use Rattle.fjall_core.proofs.Replaying.{least_after-append, first_fault-append}
 use Rattle.fjall_core.proofs.Images.{images, all_both, texts-append, commands-append, store-append}
@@ -118,7 +118,19 @@ synced_lies state new base pending lies place =
       place = place ∙ ap (λ l. place_of l []) (sym (texts-append lies.whole lies.later));
     }
 
--- ---- the batch of an insert
+-- ---- the batch of a write
+
+-- what the item says of its key is what the write does to it
+op_value : (o : Op) → value_in o ≡ value_of (kind_of o) (bytes_in o)
+op_value (Put value) = refl
+op_value Remove = refl
+op_value RemoveWeak = refl
+
+-- its value stands in the journal itself
+op_direct : (o : Op) → is_indirection (kind_of o) ≡ false
+op_direct (Put value) = refl
+op_direct Remove = refl
+op_direct RemoveWeak = refl
 
 in_order : (least next : ℕ) → least ≤ next → nat_le (2 ^ 63) next ≡ false → (nat_lt next least || nat_le (2 ^ 63) next) ≡ false
 in_order least next le room = grind (arith, nat_tests)
@@ -132,23 +144,29 @@ one_at_least least next is = (omega arith, omega arith)
 above_one : (n : ℕ) → n + 1 ≡ max (n + 1) 1
 above_one n = omega arith
 
--- the batch of an insert, behind sound batches
-module _ (id : ℕ) (key value : Bytes) (next : ℕ) where
-  -- it commands its write
-  pub one_command : 1 ≤ next → write_of id key (Some value) ∷ [] ≡ journal_commands (map shown (of_item id key value kinds.Value next ∷ []))
-  one_command le = ap (λ b. (if b then [] else write_of id key (Some value) ∷ []) ++ []) (sym (ne_eqb next 0 (λ e. omega arith)))
+-- the batch of a write, behind sound batches
+module _ (id : ℕ) (key : Bytes) (o : Op) (next : ℕ) where
+  abbrev one : Written
+  one = of_item id key (bytes_in o) (kind_of o) next
 
-  pub one_sound : (batches : List Written) → next ≡ next_after (map shown batches) → nat_le (2 ^ 63) next ≡ false → first_fault 0 (map shown batches) ≡ None → first_fault 0 (map shown (batches ++ of_item id key value kinds.Value next ∷ [])) ≡ None
+  -- it commands that write
+  pub one_command : 1 ≤ next → write_of id key (value_in o) ∷ [] ≡ journal_commands (map shown (one ∷ []))
+  one_command le =
+      ap (λ v. write_of id key v ∷ []) (op_value o)
+      ∙ ap (λ b. (if b then [] else write_of id key (value_of (kind_of o) (bytes_in o)) ∷ []) ++ []) (sym (ne_eqb next 0 (λ e. omega arith)))
+
+  pub one_sound : (batches : List Written) → next ≡ next_after (map shown batches) → nat_le (2 ^ 63) next ≡ false → first_fault 0 (map shown batches) ≡ None → first_fault 0 (map shown (batches ++ one ∷ [])) ≡ None
   one_sound batches is room sound =
       let least = least_after 0 (map shown batches) in
-      let batch = shown (of_item id key value kinds.Value next) in
-      let none : fault_of least batch ≡ None = ap (λ b. if b then Some Unordered else None) (in_order least next (one_at_least least next is).0 room) in
-      ap (first_fault 0) (map-append shown batches (of_item id key value kinds.Value next ∷ [])) ∙ first_fault-append 0 (map shown batches) (batch ∷ [])
-      ∙ no_fault (first_fault 0 (map shown batches)) (fault_of least batch) sound none
+      let none : fault_of least (shown one) ≡ None =
+      ap (λ b. if b then Some Unordered else (if is_indirection (kind_of o) || false then Some Indirect else None)) (in_order least next (one_at_least least next is).0 room)
+      ∙ ap (λ b. if b || false then Some Indirect else None) (op_direct o) in
+      ap (first_fault 0) (map-append shown batches (one ∷ [])) ∙ first_fault-append 0 (map shown batches) (shown one ∷ [])
+      ∙ no_fault (first_fault 0 (map shown batches)) (fault_of least (shown one)) sound none
 
-  pub one_next : (batches : List Written) → next + 1 ≡ next_after (map shown (batches ++ of_item id key value kinds.Value next ∷ []))
+  pub one_next : (batches : List Written) → next + 1 ≡ next_after (map shown (batches ++ one ∷ []))
   one_next batches =
-      above_one next ∙ ap (λ n. max n 1) (sym (ap (least_after 0) (map-append shown batches (of_item id key value kinds.Value next ∷ [])) ∙ least_after-append 0 (map shown batches) (shown (of_item id key value kinds.Value next) ∷ [])))
+      above_one next ∙ ap (λ n. max n 1) (sym (ap (least_after 0) (map-append shown batches (one ∷ [])) ∙ least_after-append 0 (map shown batches) (shown one ∷ [])))
 
 fits : (limit n : ℕ) → nat_le limit n ≡ false → n < limit
 fits limit n test = grind (arith, nat_tests)
@@ -156,17 +174,21 @@ fits limit n test = grind (arith, nat_tests)
 some_bytes : (n : ℕ) → (n == 0) ≡ false → 0 < n
 some_bytes n test = grind (arith, nat_tests)
 
--- what is known of an insert that nothing refuses
-pub record Inserts (core : Held) (id : ℕ) (key value : Bytes) : Type 0 where
+-- what is known of a write that nothing refuses
+pub record Makes (core : Held) (id : ℕ) (key : Bytes) (o : Op) : Type 0 where
   pub one : id ≡ 1
   pub well : core.poisoned ≡ false
   pub room : nat_le (2 ^ 63) core.next ≡ false
-  pub written : AllByRecursion IsWritten (of_item id key value kinds.Value core.next ∷ [])
+  pub written : AllByRecursion IsWritten (of_item id key (bytes_in o) (kind_of o) core.next ∷ [])
 
-pub inserts : (core : Held) (id : ℕ) (key value : Bytes) → held_due core (Insert id key value) ≡ None → Inserts core id key value
-inserts core id key value none =
-    let causes = none_due (write_refusals (store_of core.versions) core.next core.poisoned id key value) none in
-    let is = insert_one core id key value none in
+-- no refusal is due for the write
+abbrev pub IsAdmitted : Held → ℕ → Bytes → Op → Type 0
+IsAdmitted core id key o = first_due (write_refusals (store_of core.versions) core.next core.poisoned id key (bytes_in o)) ≡ None
+
+pub makes : (core : Held) (id : ℕ) (key : Bytes) (o : Op) → IsAdmitted core id key o → Makes core id key o
+makes core id key o none =
+    let causes = none_due (write_refusals (store_of core.versions) core.next core.poisoned id key (bytes_in o)) none in
+    let is = write_one core id key (bytes_in o) none in
     let room = causes.1.1.1.1.1.1.0 in
     record {
       one = is;
@@ -176,7 +198,7 @@ inserts core id key value none =
         record {
           number = let below = fits (2 ^ 63) core.next room in omega arith;
           count = omega arith;
-          each = (((omega arith), some_bytes (length key) causes.0, fits (2 ^ 16) (length key) causes.1.0, fits (2 ^ 32) (length value) causes.1.1.0), tt);
+          each = (((omega arith), some_bytes (length key) causes.0, fits (2 ^ 16) (length key) causes.1.0, fits (2 ^ 32) (length (bytes_in o)) causes.1.1.0), tt);
         },
         tt,
       );
@@ -216,22 +238,22 @@ present_more old new d version command is versions was =
     ap kept (fold-append d.base d.pending (command ∷ [])) ∙ kept_along (fold d.base d.pending) (store_of old.versions) (command ∷ []) was
     ∙ ap (λ c. kept (fold (store_of old.versions) (c ∷ []))) is ∙ ap kept (sym (store_more old.versions (version ∷ []))) ∙ ap (λ vs. kept (store_of vs)) (sym versions)
 
--- an insert that was done
-pub insert_leads : (old new : Held) (id : ℕ) (key value : Bytes) (d : Durable) → held_due old (Insert id key value) ≡ None → Grows old (record { seqno = old.next; key = key; value = Some value }) (insert_text old id key value) new
-    → Took old.disk new.disk (appending old.journal.name (old.journal.buffer ++ insert_text old id key value)) → StandsOn old d → Leads new d (write_of id key (Some value) ∷ [])
+-- a write that was done
+pub write_leads : (old new : Held) (id : ℕ) (key : Bytes) (o : Op) (d : Durable) → IsAdmitted old id key o → Grows old (version_of old.next key o) (op_text id key o old.next) new
+    → Took old.disk new.disk (appending old.journal.name (old.journal.buffer ++ op_text id key o old.next)) → StandsOn old d → Leads new d (write_of id key (value_in o) ∷ [])
 unfolding more_lies
-insert_leads old new id key value d none grows done stands =
-    let facts = inserts old id key value none in
+write_leads old new id key o d none grows done stands =
+    let facts = makes old id key o none in
     let lies = stands.lies in
     let batches = lies.whole ++ lies.later in
-    let batch = of_item id key value kinds.Value old.next in
-    let command = write_of id key (Some value) in
+    let batch = of_item id key (bytes_in o) (kind_of o) old.next in
+    let command = write_of id key (value_in o) in
     let buffer = old.journal.buffer in
     let exact = stands.exact facts.well in
     let next = stands.next facts.well in
     let le = (one_at_least (least_after 0 (map shown batches)) old.next next).1 in
-    let is = one_command id key value old.next le in
-    let sound = one_sound id key value old.next batches next facts.room lies.sound in
+    let is = one_command id key o old.next le in
+    let sound = one_sound id key o old.next batches next facts.room lies.sound in
     let text : texts_of (batch ∷ []) ≡ batch_text batch = append-nil (batch_text batch) in
     let took : Took d.meaning new.disk (appending journal_name (buffer ++ texts_of (batch ∷ []))) =
     subst (λ m. Took m new.disk (appending journal_name (buffer ++ texts_of (batch ∷ [])))) (sym stands.same)
@@ -250,9 +272,9 @@ insert_leads old new id key value d none grows done stands =
         name = λ _. ap (λ (j : Journal). j.name) grows.journal ∙ stands.name facts.well;
         exact = λ _. ap (λ (j : Journal). take behind.cut (texts_of behind.later) ++ j.buffer) grows.journal
             ∙ more_exact (state_in d.meaning) (state_in new.disk) d.base d.pending (batch ∷ []) (command ∷ []) buffer lies facts.written sound is exact place;
-        next = λ _. grows.next ∙ one_next id key value old.next batches ∙ ap (λ l. next_after (map shown l)) (append_assoc lies.whole lies.later (batch ∷ []));
+        next = λ _. grows.next ∙ one_next id key o old.next batches ∙ ap (λ l. next_after (map shown l)) (append_assoc lies.whole lies.later (batch ∷ []));
         present = subst (λ flag. MakesPresent flag (record { meaning = new.disk; base = d.base; pending = d.pending ++ command ∷ [] }) (store_of new.versions)) (sym (grows.poisoned ∙ facts.well))
-            (present_more old new d (record { seqno = old.next; key = key; value = Some value }) command (ap (λ i. write_of i key (Some value)) facts.one) grows.versions (present_of old d false facts.well stands));
+            (present_more old new d (version_of old.next key o) command (ap (λ i. write_of i key (value_in o)) facts.one) grows.versions (present_of old d false facts.well stands));
       },
       more_passes d new.disk (command ∷ []) (appending journal_name bytes) lies behind took (appended_images d.meaning new.disk bytes took),
     )
@@ -268,21 +290,21 @@ part_passes d new tried bytes lies behind (inl none) = more_passes d new tried [
 part_passes d new tried bytes lies behind (inr (n, took)) = more_passes d new tried (Append journal_name (take n bytes) ∷ []) lies behind took
     (λ image P before now left. ⊎_elim before (λ later. now (subst (λ (s : State). IsImage s image) (sym took.state) later)) left)
 
--- an insert that a fault refused
-pub torn_leads : (old new : Held) (id : ℕ) (key value : Bytes) (d : Durable) → held_due old (Insert id key value) ≡ None → Poisons old new
-    → TookPart old.disk new.disk old.journal.name (old.journal.buffer ++ insert_text old id key value) → StandsOn old d → Leads new d (write_of id key (Some value) ∷ [])
-torn_leads old new id key value d none fault torn stands =
-    let facts = inserts old id key value none in
+-- a write that a fault refused
+pub torn_leads : (old new : Held) (id : ℕ) (key : Bytes) (o : Op) (d : Durable) → IsAdmitted old id key o → Poisons old new
+    → TookPart old.disk new.disk old.journal.name (old.journal.buffer ++ op_text id key o old.next) → StandsOn old d → Leads new d (write_of id key (value_in o) ∷ [])
+torn_leads old new id key o d none fault torn stands =
+    let facts = makes old id key o none in
     let lies = stands.lies in
     let batches = lies.whole ++ lies.later in
-    let batch = of_item id key value kinds.Value old.next in
-    let command = write_of id key (Some value) in
+    let batch = of_item id key (bytes_in o) (kind_of o) old.next in
+    let command = write_of id key (value_in o) in
     let buffer = old.journal.buffer in
     let exact = stands.exact facts.well in
     let next = stands.next facts.well in
     let le = (one_at_least (least_after 0 (map shown batches)) old.next next).1 in
-    let is = one_command id key value old.next le in
-    let sound = one_sound id key value old.next batches next facts.room lies.sound in
+    let is = one_command id key o old.next le in
+    let sound = one_sound id key o old.next batches next facts.room lies.sound in
     let bytes = buffer ++ texts_of (batch ∷ []) in
     let text : texts_of (batch ∷ []) ≡ batch_text batch = append-nil (batch_text batch) in
     let took : TookPart d.meaning new.disk journal_name bytes =

@@ -11,17 +11,17 @@ use Rattle.fjall_base.specs.Store.{Store, fold}
 use Rattle.fjall_base.specs.declared.error.Error.{Error}
 use Rattle.fjall_base.specs.declared.error.Error.TheVariants.{Poisoned, KeyspaceDeleted, KeyEmpty, KeyTooLong, ValueTooLong, NumbersUsedUp, UnknownKeyspace}
 use Rattle.std.specs.List.{AllByRecursion}
-use Rattle.fjall_core.specs.declared.call.View.{View}
 use Rattle.fjall_core.specs.declared.call.Call.{Call}
-use Rattle.fjall_core.specs.declared.call.Call.TheVariants.{Insert, GetAt, Persist, Seqno, VisibleSeqno, JournalDiskSpace}
+use Rattle.fjall_core.specs.declared.call.Call.TheVariants.{Insert, Remove, RemoveWeak, GetAt, PageAt, Persist, Seqno, VisibleSeqno, JournalDiskSpace}
 use Rattle.fjall_core.specs.declared.version.Version.{Version}
 use Rattle.fjall_core.specs.Machine.{State, first_due, write_refusals, one_refusals, is_unknown, is_deleted, due_in, due, present}
 use Rattle.fjall_core.specs.Holding.{Held}
 use Rattle.fjall_core.specs.Replays.{initial}
 use Rattle.fjall_core.specs.Standing.{StandsFor, command_of, store_of, held_due}
 
-pub due_along : (a b : Store) (n m : ℕ) (p q : Bool) (call : Call) → a.next ≡ b.next → a.names ≡ b.names → n ≡ m → p ≡ q → due_in a n p call ≡ due_in b m q call
-due_along a b n m p q (Insert id key value) next names number flag = λ i. first_due (
+-- the refusals of a write
+write_along : (a b : Store) (n m : ℕ) (p q : Bool) (id : ℕ) (key value : Bytes) → a.next ≡ b.next → a.names ≡ b.names → n ≡ m → p ≡ q → first_due (write_refusals a n p id key value) ≡ first_due (write_refusals b m q id key value)
+write_along a b n m p q id key value next names number flag = λ i. first_due (
     (length key == 0, KeyEmpty)
     ∷ (nat_le (2 ^ 16) (length key), KeyTooLong)
     ∷ (nat_le (2 ^ 32) (length value), ValueTooLong)
@@ -30,7 +30,13 @@ due_along a b n m p q (Insert id key value) next names number flag = λ i. first
     ∷ (flag i, Poisoned)
     ∷ (nat_le (2 ^ 63) (number i), NumbersUsedUp)
     ∷ [])
+
+pub due_along : (a b : Store) (n m : ℕ) (p q : Bool) (call : Call) → a.next ≡ b.next → a.names ≡ b.names → n ≡ m → p ≡ q → due_in a n p call ≡ due_in b m q call
+due_along a b n m p q (Insert id key value) next names number flag = write_along a b n m p q id key value next names number flag
+due_along a b n m p q (Remove id key) next names number flag = write_along a b n m p q id key [] next names number flag
+due_along a b n m p q (RemoveWeak id key) next names number flag = write_along a b n m p q id key [] next names number flag
 due_along a b n m p q (GetAt view id key) next names number flag = λ i. first_due ((id == 0 || nat_le (next i) id, UnknownKeyspace) ∷ [])
+due_along a b n m p q (PageAt view id range back max) next names number flag = λ i. first_due ((id == 0 || nat_le (next i) id, UnknownKeyspace) ∷ [])
 due_along a b n m p q (Persist mode) next names number flag = λ i. first_due ((flag i, Poisoned) ∷ [])
 due_along a b n m p q Seqno next names number flag = refl
 due_along a b n m p q VisibleSeqno next names number flag = refl
@@ -71,15 +77,15 @@ known_one (suc zero) next is e = refl
 known_one (suc (suc id)) next is e =
     absurd (true≢false (sym (ap (λ b. b || nat_le next (suc (suc id))) (ne_eqb (suc (suc id)) 0 (λ z. omega arith)) ∙ le-leb next (suc (suc id)) (omega arith)) ∙ e))
 
--- an insert that is not refused is into keyspace 1
-pub insert_one : (core : Held) (id : ℕ) (key value : Bytes) → held_due core (Insert id key value) ≡ None → id ≡ 1
-insert_one core id key value none =
+-- a write that is not refused is into keyspace 1
+pub write_one : (core : Held) (id : ℕ) (key value : Bytes) → first_due (write_refusals (store_of core.versions) core.next core.poisoned id key value) ≡ None → id ≡ 1
+write_one core id key value none =
     let causes = none_due (write_refusals (store_of core.versions) core.next core.poisoned id key value) none in
     known_one id (store_of core.versions).next (store_next core.versions) causes.1.1.1.0
 
 -- so is a read
-pub read_one : (core : Held) (id : ℕ) (view : View) (key : Bytes) → held_due core (GetAt view id key) ≡ None → id ≡ 1
-read_one core id view key none =
+pub read_one : (core : Held) (id : ℕ) → first_due ((is_unknown (store_of core.versions) id, UnknownKeyspace) ∷ []) ≡ None → id ≡ 1
+read_one core id none =
     let causes = none_due ((is_unknown (store_of core.versions) id, UnknownKeyspace) ∷ []) none in
     known_one id (store_of core.versions).next (store_next core.versions) causes.0
 
@@ -100,7 +106,7 @@ named_one : (store : Store) (id : ℕ) → store.next ≡ 2 → store.names ≡ 
 named_one store id next names known =
     ap not (ap (λ i. contains_key store.names i) (known_one id store.next next known) ∙ ap (λ n. contains_key n 1) names ∙ living)
 
-pub one_due : (versions : List Version) (next : ℕ) (poisoned : Bool) (id : ℕ) (key value : Bytes) → due_in (store_of versions) next poisoned (Insert id key value) ≡ first_due (one_refusals next poisoned id key value)
+pub one_due : (versions : List Version) (next : ℕ) (poisoned : Bool) (id : ℕ) (key value : Bytes) → first_due (write_refusals (store_of versions) next poisoned id key value) ≡ first_due (one_refusals next poisoned id key value)
 one_due versions next poisoned id key value =
     let store = store_of versions in
     let rest = (poisoned, Poisoned) ∷ (nat_le (2 ^ 63) next, NumbersUsedUp) ∷ [] in
@@ -109,5 +115,5 @@ one_due versions next poisoned id key value =
     ap (λ o. if length key == 0 then Some KeyEmpty else (if nat_le (2 ^ 16) (length key) then Some KeyTooLong else (if nat_le (2 ^ 32) (length value) then Some ValueTooLong else o)))
     (tail ∙ ap (λ b. first_due ((b, UnknownKeyspace) ∷ rest)) head)
 
-pub one_read_due : (versions : List Version) (next : ℕ) (poisoned : Bool) (view : View) (id : ℕ) (key : Bytes) → due_in (store_of versions) next poisoned (GetAt view id key) ≡ first_due ((not (id == 1), UnknownKeyspace) ∷ [])
-one_read_due versions next poisoned view id key = ap (λ b. first_due ((b, UnknownKeyspace) ∷ [])) (unknown_one id (store_of versions).next (store_next versions))
+pub one_read_due : (versions : List Version) (id : ℕ) → first_due ((is_unknown (store_of versions) id, UnknownKeyspace) ∷ []) ≡ first_due ((not (id == 1), UnknownKeyspace) ∷ [])
+one_read_due versions id = ap (λ b. first_due ((b, UnknownKeyspace) ∷ [])) (unknown_one id (store_of versions).next (store_next versions))

@@ -1,6 +1,7 @@
 mod Kept
 mod Dues
 mod Newest
+mod Pages
 mod Owing
 mod Writing
 mod Serving

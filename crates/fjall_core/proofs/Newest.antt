@@ -36,8 +36,12 @@ read_versions (v ∷ versions) t found key here =
 at_first : (key : Bytes) → get (map_at initial.maps 1) key ≡ None
 at_first key = ap (λ m. get m key) (map_put empty empty) ∙ get-empty byte_order key
 
+-- what the store of versions has at a key is what the newest of them says
+pub stored_newest : (versions : List Version) (key : Bytes) → lookup (map_at (store_of versions).maps 1) key ≡ newest versions key
+stored_newest versions key = read_versions versions initial None key (at_first key)
+
 -- the state's map is that of the versions in memory
-present_map : (core : Held) (s : State) → StandsFor core s → map_at (present s).maps 1 ≡ map_at (store_of core.versions).maps 1
+pub present_map : (core : Held) (s : State) → StandsFor core s → map_at (present s).maps 1 ≡ map_at (store_of core.versions).maps 1
 present_map core s stands =
     let names = store_names core.versions in
     let same : (present s).names ≡ initial.names = ap (λ (t : Store). t.names) stands.present ∙ names in
@@ -45,4 +49,4 @@ present_map core s stands =
 
 -- a look-up at present is the newest version in memory
 pub present_lookup : (core : Held) (s : State) (key : Bytes) → StandsFor core s → lookup (map_at (present s).maps 1) key ≡ newest core.versions key
-present_lookup core s key stands = ap (λ m. get m key) (present_map core s stands) ∙ read_versions core.versions initial None key (at_first key)
+present_lookup core s key stands = ap (λ m. get m key) (present_map core s stands) ∙ stored_newest core.versions key

@@ -1,7 +1,8 @@
 -- What a call owes is a step of the machine, for each state that the core stood for.
-use Rattle.std.proofs.Common.{◌≡◌, ℕ, ◌+◌, ◌<◌, true, List, [], ◌∷◌, ◌++◌, length, map, take, get_or, Option, None, Some, refl, sym, ◌∙◌, ap, subst, arith, length-append}
+use Rattle.std.proofs.Common.{◌≡◌, ℕ, ◌+◌, ◌<◌, true, List, [], ◌∷◌, ◌++◌, length, map, take, get_or, Bool, Vec, Option, None, Some, refl, sym, ◌∙◌, ap, subst, arith, length-append}
+use Rattle.std.specs.declared.alloc.Global.{Global}
 use Rattle.std.proofs.lemmas.List.{map-append, take_more}
-use Rattle.fjall_base.specs.Pairs.{Bytes, lookup}
+use Rattle.fjall_base.specs.Pairs.{Bytes, KeyRange, lookup, pairs_between, page}
 use Rattle.fjall_base.specs.Store.{map_at, fold, kept}
 use Rattle.fjall_base.specs.declared.error.Error.{Error}
 use Rattle.fjall_base.specs.declared.error.Error.TheVariants.{Io, OutOfMemory}
@@ -10,18 +11,19 @@ use Rattle.fjall_journal.specs.Writer as writer
 use Rattle.fjall_core.specs.declared.call.View.{View}
 use Rattle.fjall_core.specs.declared.call.View.TheVariants.{Present}
 use Rattle.fjall_core.specs.declared.call.Call.{Call}
-use Rattle.fjall_core.specs.declared.call.Call.TheVariants.{Insert, GetAt, Persist, Seqno, VisibleSeqno, JournalDiskSpace}
+use Rattle.fjall_core.specs.declared.call.Call.TheVariants.{Insert, Remove, RemoveWeak, GetAt, PageAt, Persist, Seqno, VisibleSeqno, JournalDiskSpace}
 use Rattle.fjall_core.specs.declared.call.Reply.{Reply}
-use Rattle.fjall_core.specs.declared.call.Reply.TheVariants.{Done, Value, Number, Refused}
+use Rattle.fjall_core.specs.declared.call.Reply.TheVariants.{Done, Value, Pairs, Number, Refused}
 use Rattle.fjall_core.specs.declared.version.Version.{Version}
-use Rattle.fjall_core.specs.Histories.{number, grown}
-use Rattle.fjall_core.specs.Machine.{State, Parts, Step, Run, Refuses, MayFail, present, write_of, written_out, insert_len}
+use Rattle.fjall_core.specs.Ops.{Op, Put, value_in, op_text}
+use Rattle.fjall_core.specs.Ops as op
+use Rattle.fjall_core.specs.Machine.{State, Parts, Step, Run, Refuses, MayFail, due, present, write_of, written_out, accepted}
 use Rattle.fjall_core.specs.Holding.{Held}
 use Rattle.fjall_core.specs.Replays.{initial}
-use Rattle.fjall_core.specs.Standing.{StandsFor, Owes, OwesAll, OwesRefusal, OwesFailure, Poisons, Grows, HandsOver, held_due, insert_text, store_of, command_of, parts_of, newest}
+use Rattle.fjall_core.specs.Standing.{StandsFor, Owes, OwesAll, OwesRefusal, OwesFailure, Poisons, Grows, HandsOver, held_due, store_of, command_of, version_of, parts_of, newest}
 use Rattle.fjall_core.proofs.Kept.{kept_along, fold-append}
-use Rattle.fjall_core.proofs.Dues.{same_due, insert_one, read_one}
-use Rattle.fjall_core.proofs.Newest.{present_lookup}
+use Rattle.fjall_core.proofs.Dues.{same_due, write_one, read_one}
+use Rattle.fjall_core.proofs.Newest.{present_map, present_lookup}
 
 -- the machine may step so, to a state that the core stands for now
 abbrev pub Steps : Held → State → Call → Reply → Type 0
@@ -48,7 +50,10 @@ failure_steps : (old new : Held) (s : State) (call : Call) (error : Error) → S
 unfolding poisoned_state
 failure_steps old new s (Insert id key value) (Io kind) stands fault = (poisoned_state new s, poisoned_stands old new s fault stands, (refl, refl))
 failure_steps old new s (Persist mode) (Io kind) stands fault = (poisoned_state new s, poisoned_stands old new s fault stands, (refl, refl))
+failure_steps old new s (Remove id key) (Io kind) stands fault = (poisoned_state new s, poisoned_stands old new s fault stands, (refl, refl))
+failure_steps old new s (RemoveWeak id key) (Io kind) stands fault = (poisoned_state new s, poisoned_stands old new s fault stands, (refl, refl))
 failure_steps old new s (GetAt view id key) (Io kind) stands none = absurd none
+failure_steps old new s (PageAt view id range back max) (Io kind) stands none = absurd none
 failure_steps old new s Seqno (Io kind) stands none = absurd none
 failure_steps old new s VisibleSeqno (Io kind) stands none = absurd none
 failure_steps old new s JournalDiskSpace (Io kind) stands none = absurd none
@@ -65,25 +70,27 @@ counted_more j parts text is =
     ap (λ (p : Parts). written_out p (length text)) is
     ∙ ap (λ n. record { journal = counted (j.len + n); buffer = 0 }) (sym (length-append j.buffer text))
 
-grown_steps : (old new : Held) (s : State) (id : ℕ) (key value : Bytes) → held_due old (Insert id key value) ≡ None → Grows old (record { seqno = old.next; key = key; value = Some value }) (insert_text old id key value) new → StandsFor old s → Steps new s (Insert id key value) Done
-grown_steps old new s id key value none grows stands =
-    let version : Version = record { seqno = old.next; key = key; value = Some value } in
-    let one = insert_one old id key value none in
-    let command : write_of id key (Some value) ≡ command_of version = ap (λ i. write_of i key (Some value)) one in (
-      record s { history = grown s.history (write_of id key (Some value)); parts = written_out s.parts (insert_len id key value (number s.history)) },
-      record {
-        present = ap kept (fold-append s.history.opened s.history.commands (write_of id key (Some value) ∷ []))
-            ∙ kept_along (present s) (store_of old.versions) (write_of id key (Some value) ∷ []) stands.present
-            ∙ ap (λ c. kept (fold (store_of old.versions) (c ∷ []))) command
-            ∙ ap kept (sym (store_more old.versions (version ∷ [])))
-            ∙ ap (λ vs. kept (store_of vs)) (sym grows.versions);
-        number = omega (arith, length-append s.history.commands (write_of id key (Some value) ∷ []), stands.number, grows.next);
-        poisoned = stands.poisoned ∙ sym grows.poisoned;
-        parts = ap (λ n. written_out s.parts (insert_len id key value n)) stands.number
-            ∙ counted_more old.journal s.parts (insert_text old id key value) stands.parts ∙ ap parts_of (sym grows.journal);
-      },
-      (same_due old s (Insert id key value) stands ∙ none, refl),
-    )
+-- a write that was accepted
+grown_stands : (old new : Held) (s : State) (id : ℕ) (key : Bytes) (o : Op) → id ≡ 1 → Grows old (version_of old.next key o) (op_text id key o old.next) new → StandsFor old s → StandsFor new (accepted s id key o)
+grown_stands old new s id key o one grows stands =
+    let version = version_of old.next key o in
+    let more = write_of id key (value_in o) ∷ [] in
+    let command : write_of id key (value_in o) ≡ command_of version = ap (λ i. write_of i key (value_in o)) one in
+    record {
+      present = ap kept (fold-append s.history.opened s.history.commands more)
+          ∙ kept_along (present s) (store_of old.versions) more stands.present
+          ∙ ap (λ c. kept (fold (store_of old.versions) (c ∷ []))) command
+          ∙ ap kept (sym (store_more old.versions (version ∷ [])))
+          ∙ ap (λ vs. kept (store_of vs)) (sym grows.versions);
+      number = omega (arith, length-append s.history.commands more, stands.number, grows.next);
+      poisoned = stands.poisoned ∙ sym grows.poisoned;
+      parts = ap (λ n. written_out s.parts (length (op_text id key o n))) stands.number
+          ∙ counted_more old.journal s.parts (op_text id key o old.next) stands.parts ∙ ap parts_of (sym grows.journal);
+    }
+
+grown_steps : (old new : Held) (s : State) (call : Call) (id : ℕ) (key : Bytes) (o : Op) → id ≡ 1 → held_due old call ≡ None → Grows old (version_of old.next key o) (op_text id key o old.next) new → StandsFor old s
+    → (StandsFor new (accepted s id key o)) × (due s call ≡ None)
+grown_steps old new s call id key o one none grows stands = (grown_stands old new s id key o one grows stands, same_due old s call stands ∙ none)
 
 handed_steps : (old new : Held) (s : State) (mode : _) → held_due old (Persist mode) ≡ None → HandsOver old new → StandsFor old s → Steps new s (Persist mode) Done
 handed_steps old new s mode none hands stands = (
@@ -103,7 +110,7 @@ still_steps old new s same stands = subst (λ c. StandsFor c s) (sym same) stand
 
 read_steps : (old new : Held) (s : State) (view : View) (id : ℕ) (key : Bytes) (found : Option Bytes) → held_due old (GetAt view id key) ≡ None → found ≡ newest old.versions key → new ≡ old → StandsFor old s → Steps new s (GetAt view id key) (Value found)
 read_steps old new s Present id key found none is same stands =
-    let one = read_one old id Present key none in (
+    let one = read_one old id none in (
       s,
       still_steps old new s same stands,
       (
@@ -113,12 +120,38 @@ read_steps old new s Present id key found none is same stands =
       ),
     )
 
+-- the map of keyspace 1 is that of the versions in memory
+same_map : (core : Held) (s : State) (id : ℕ) → id ≡ 1 → StandsFor core s → map_at (store_of core.versions).maps id ≡ map_at (present s).maps id
+same_map core s id one stands =
+    ap (λ i. map_at (store_of core.versions).maps i) one ∙ sym (present_map core s stands) ∙ ap (λ i. map_at (present s).maps i) (sym one)
+
+page_steps : (old new : Held) (s : State) (view : View) (id : ℕ) (range : KeyRange) (back : Bool) (max : ℕ) (found : Vec (Bytes × Bytes) Global) → held_due old (PageAt view id range back max) ≡ None
+    → found.items ≡ page back max (pairs_between range (map_at (store_of old.versions).maps id)) → new ≡ old → StandsFor old s → Steps new s (PageAt view id range back max) (Pairs found)
+page_steps old new s Present id range back max found none is same stands = (
+  s,
+  still_steps old new s same stands,
+  (
+    same_due old s (PageAt Present id range back max) stands ∙ none,
+    is ∙ ap (λ m. page back max (pairs_between range m)) (same_map old s id (read_one old id none) stands),
+    refl,
+  ),
+)
+
 -- each call is a step
 pub owes_step : (old new : Held) (call : Call) (reply : Reply) (s : State) → Owes old call reply new → StandsFor old s → Steps new s call reply
 owes_step old new call (Refused error) s owes stands =
     subst (λ first. (t : State) × StandsFor new t × Refuses first call error s t) (sym (same_due old s call stands)) (refusal_steps old new s call error (held_due old call) stands owes)
-owes_step old new (Insert id key value) Done s (none, grows) stands = grown_steps old new s id key value none grows stands
+owes_step old new (Insert id key value) Done s (none, grows) stands =
+    let on = grown_steps old new s (Insert id key value) id key (Put value) (write_one old id key value none) none grows stands in
+    (accepted s id key (Put value), on.0, (on.1, refl))
+owes_step old new (Remove id key) Done s (none, grows) stands =
+    let on = grown_steps old new s (Remove id key) id key op.Remove (write_one old id key [] none) none grows stands in
+    (accepted s id key op.Remove, on.0, (on.1, refl))
+owes_step old new (RemoveWeak id key) Done s (none, grows) stands =
+    let on = grown_steps old new s (RemoveWeak id key) id key op.RemoveWeak (write_one old id key [] none) none grows stands in
+    (accepted s id key op.RemoveWeak, on.0, (on.1, refl))
 owes_step old new (GetAt view id key) (Value found) s (none, is, same) stands = read_steps old new s view id key found none is same stands
+owes_step old new (PageAt view id range back max) (Pairs found) s (none, is, same) stands = page_steps old new s view id range back max found none is same stands
 owes_step old new (Persist mode) Done s (none, hands) stands = handed_steps old new s mode none hands stands
 owes_step old new Seqno (Number n) s (is, same) stands = (s, still_steps old new s same stands, (is ∙ sym stands.number, refl))
 owes_step old new VisibleSeqno (Number n) s (is, same) stands = (s, still_steps old new s same stands, (is ∙ sym stands.number, refl))

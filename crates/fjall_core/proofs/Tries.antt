@@ -6,11 +6,11 @@ use Rattle.fjall_base.specs.Store.{Command}
 use Rattle.fjall_base.specs.declared.error.Error.{Error}
 use Rattle.fjall_base.specs.declared.error.Error.TheVariants.{Io, OutOfMemory}
 use Rattle.fjall_core.specs.declared.call.Call.{Call}
-use Rattle.fjall_core.specs.declared.call.Call.TheVariants.{Insert, GetAt, Persist, Seqno, VisibleSeqno, JournalDiskSpace}
+use Rattle.fjall_core.specs.declared.call.Call.TheVariants.{Insert, Remove, RemoveWeak, GetAt, PageAt, Persist, Seqno, VisibleSeqno, JournalDiskSpace}
 use Rattle.fjall_core.specs.declared.call.Reply.{Reply}
-use Rattle.fjall_core.specs.declared.call.Reply.TheVariants.{Done, Value, Number, Refused}
+use Rattle.fjall_core.specs.declared.call.Reply.TheVariants.{Done, Value, Pairs, Number, Refused}
 use Rattle.fjall_core.specs.Histories.{grown, extended, number}
-use Rattle.fjall_core.specs.Machine.{State, Step, Refuses, MayFail, due, present, write_refusals, write_of}
+use Rattle.fjall_core.specs.Machine.{State, Step, Refuses, MayFail, due, first_due, present, write_refusals, write_of}
 use Rattle.fjall_core.specs.Durables.{Durable}
 use Rattle.fjall_core.specs.Crashes.{attempt, RunOn, Tried}
 use Rattle.fjall_core.specs.Standing.{is_io}
@@ -26,13 +26,16 @@ pub data Moves (s : State) (tried : List Command) (t : State) : Type 0 where
 as_it_was : (s t : State) (tried : List Command) → tried ≡ [] → t ≡ s → Moves s tried t
 as_it_was s t tried none same = stays none (ap (λ (x : State). x.history) same) (λ bad. ap (λ (x : State). x.poisoned) same ∙ bad)
 
-well_insert : (s : State) (id : _) (key value : _) → due s (Insert id key value) ≡ None → s.poisoned ≡ false
-well_insert s id key value none = (none_due (write_refusals (present s) (number s.history) s.poisoned id key value) none).1.1.1.1.1.0
+well_write : (s : State) (id : _) (key value : _) → first_due (write_refusals (present s) (number s.history) s.poisoned id key value) ≡ None → s.poisoned ≡ false
+well_write s id key value none = (none_due (write_refusals (present s) (number s.history) s.poisoned id key value) none).1.1.1.1.1.0
 
 failure_moves : (s t : State) (call : Call) (error : Error) → due s call ≡ None → MayFail call error s t → Moves s (attempt s call (Refused error)) t
-failure_moves s t (Insert id key value) (Io kind) none fault = faults (write_of id key (Some value)) refl fault.0 fault.1 (well_insert s id key value none)
+failure_moves s t (Insert id key value) (Io kind) none fault = faults (write_of id key (Some value)) refl fault.0 fault.1 (well_write s id key value none)
+failure_moves s t (Remove id key) (Io kind) none fault = faults (write_of id key None) refl fault.0 fault.1 (well_write s id key [] none)
+failure_moves s t (RemoveWeak id key) (Io kind) none fault = faults (write_of id key None) refl fault.0 fault.1 (well_write s id key [] none)
 failure_moves s t (Persist mode) (Io kind) none fault = stays refl fault.0 (λ _. fault.1)
 failure_moves s t (GetAt view id key) (Io kind) none same = as_it_was s t [] refl same
+failure_moves s t (PageAt view id range back max) (Io kind) none same = as_it_was s t [] refl same
 failure_moves s t Seqno (Io kind) none fault = absurd fault
 failure_moves s t VisibleSeqno (Io kind) none fault = absurd fault
 failure_moves s t JournalDiskSpace (Io kind) none fault = absurd fault
@@ -47,9 +50,12 @@ refusal_moves s t call error None due_is failure = failure_moves s t call error 
 -- each step of the machine is one of these
 pub step_moves : (s t : State) (call : Call) (reply : Reply) → Step s call reply t → Moves s (attempt s call reply) t
 step_moves s t call (Refused error) refuses = refusal_moves s t call error (due s call) refl refuses
-step_moves s t (Insert id key value) Done (none, is) = accepts (write_of id key (Some value)) refl (ap (λ (x : State). x.history) is) (well_insert s id key value none)
+step_moves s t (Insert id key value) Done (none, is) = accepts (write_of id key (Some value)) refl (ap (λ (x : State). x.history) is) (well_write s id key value none)
+step_moves s t (Remove id key) Done (none, is) = accepts (write_of id key None) refl (ap (λ (x : State). x.history) is) (well_write s id key [] none)
+step_moves s t (RemoveWeak id key) Done (none, is) = accepts (write_of id key None) refl (ap (λ (x : State). x.history) is) (well_write s id key [] none)
 step_moves s t (Persist mode) Done (none, is) = stays refl (ap (λ (x : State). x.history) is) (λ bad. ap (λ (x : State). x.poisoned) is ∙ bad)
 step_moves s t (GetAt view id key) (Value found) (none, is, same) = as_it_was s t [] refl same
+step_moves s t (PageAt view id range back max) (Pairs found) (none, is, same) = as_it_was s t [] refl same
 step_moves s t Seqno (Number n) (is, same) = as_it_was s t [] refl same
 step_moves s t VisibleSeqno (Number n) (is, same) = as_it_was s t [] refl same
 step_moves s t JournalDiskSpace (Number n) (is, same) = as_it_was s t [] refl same

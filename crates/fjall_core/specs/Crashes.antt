@@ -6,17 +6,24 @@ use Rattle.fjall_base.specs.Disk as disk
 use Rattle.fjall_base.specs.declared.error.Error.TheVariants.{Io}
 use Rattle.fjall_journal.specs.declared.persist_mode.PersistMode.TheVariants.{SyncData, SyncAll}
 use Rattle.fjall_core.specs.declared.call.Call.{Call}
-use Rattle.fjall_core.specs.declared.call.Call.TheVariants.{Insert, Persist}
+use Rattle.fjall_core.specs.declared.call.Call.TheVariants.{Insert, Remove, RemoveWeak, Persist}
 use Rattle.fjall_core.specs.declared.call.Reply.{Reply}
 use Rattle.fjall_core.specs.declared.call.Reply.TheVariants.{Done, Refused}
 use Rattle.fjall_core.specs.Histories.{extended}
 use Rattle.fjall_core.specs.Machine.{State, Step, write_of}
 use Rattle.fjall_core.specs.Durables.{Durable, Stands, StandsAmid, Passes}
 
+-- the command that a call asks for
+abbrev pub asked : Call → List Command
+asked (Insert id key value) = write_of id key (Some value) ∷ []
+asked (Remove id key) = write_of id key None ∷ []
+asked (RemoveWeak id key) = write_of id key None ∷ []
+asked call = []
+
 -- what a call in that state tried to do: its command, where it was accepted or a fault of the disk refused it
 abbrev pub attempt : State → Call → Reply → List Command
-attempt s (Insert id key value) Done = write_of id key (Some value) ∷ []
-attempt s (Insert id key value) (Refused (Io kind)) = write_of id key (Some value) ∷ []
+attempt s call Done = asked call
+attempt s call (Refused (Io kind)) = asked call
 attempt s call reply = []
 
 -- in that state, a sync of the journal that succeeded

@@ -1,4 +1,6 @@
 pub mod Histories
+pub mod Ops
+pub mod Changes
 pub mod Machine
 pub mod Replays
 pub mod Versions

@@ -1,19 +1,19 @@
 -- The engine as a machine: what each call may answer, and the state after it.
 use Rattle.std.specs.Prelude.{◌≡◌, ℕ, ◌+◌, Bool, true, false, nat_le, not, ◌==◌, ◌||◌, ◌^◌, if◌then◌else◌, List, [], ◌∷◌, length, Option, None, Some}
 use Rattle.std.specs.FinMap.{contains_key}
-use Rattle.fjall_base.specs.Pairs.{Bytes, lookup}
+use Rattle.fjall_base.specs.Pairs.{Bytes, lookup, pairs_between, page}
 use Rattle.fjall_base.specs.Store.{Store, Command, Write, map_at}
 use Rattle.fjall_base.specs.declared.error.Error.{Error}
 use Rattle.fjall_base.specs.declared.error.Error.TheVariants.{Io, Poisoned, KeyspaceDeleted, KeyEmpty, KeyTooLong, ValueTooLong, OutOfMemory, NumbersUsedUp, UnknownKeyspace}
-use Rattle.fjall_journal.specs.declared.entry.ValueType.TheVariants as kinds
-use Rattle.fjall_journal.specs.Batches.{batch_text, of_item}
 use Rattle.fjall_journal.specs.Writer.{counted}
 use Rattle.fjall_core.specs.declared.call.View.{View}
 use Rattle.fjall_core.specs.declared.call.View.TheVariants.{Present}
 use Rattle.fjall_core.specs.declared.call.Call.{Call}
-use Rattle.fjall_core.specs.declared.call.Call.TheVariants.{Insert, GetAt, Persist, Seqno, VisibleSeqno, JournalDiskSpace}
+use Rattle.fjall_core.specs.declared.call.Call.TheVariants.{Insert, Remove, RemoveWeak, GetAt, PageAt, Persist, Seqno, VisibleSeqno, JournalDiskSpace}
 use Rattle.fjall_core.specs.declared.call.Reply.{Reply}
-use Rattle.fjall_core.specs.declared.call.Reply.TheVariants.{Done, Value, Number, Refused}
+use Rattle.fjall_core.specs.declared.call.Reply.TheVariants.{Done, Value, Pairs, Number, Refused}
+use Rattle.fjall_core.specs.Ops.{Op, value_in, op_text}
+use Rattle.fjall_core.specs.Ops as op
 use Rattle.fjall_core.specs.Histories.{History, number, grown, latest}
 
 -- How many bytes the journal's file has, and how many wait in the buffer.
@@ -46,10 +46,6 @@ written_out parts more = record { journal = counted (parts.journal + (parts.buff
 -- the write of one key
 abbrev pub write_of : ℕ → Bytes → Option Bytes → Command
 write_of id key value = Write (record { id = id; key = key; value = value } ∷ [])
-
--- the length of the text of the batch that an insert writes
-abbrev pub insert_len : ℕ → Bytes → Bytes → ℕ → ℕ
-insert_len id key value number = length (batch_text (of_item id key value kinds.Value number))
 
 -- no keyspace ever had the id
 abbrev pub is_unknown : Store → ℕ → Bool
@@ -92,7 +88,10 @@ one_refusals next poisoned id key value =
 -- disk is asked for anything.
 abbrev pub due_in : Store → ℕ → Bool → Call → Option Error
 due_in store next poisoned (Insert id key value) = first_due (write_refusals store next poisoned id key value)
+due_in store next poisoned (Remove id key) = first_due (write_refusals store next poisoned id key [])
+due_in store next poisoned (RemoveWeak id key) = first_due (write_refusals store next poisoned id key [])
 due_in store next poisoned (GetAt view id key) = first_due ((is_unknown store id, UnknownKeyspace) ∷ [])
+due_in store next poisoned (PageAt view id range back max) = first_due ((is_unknown store id, UnknownKeyspace) ∷ [])
 due_in store next poisoned (Persist mode) = first_due ((poisoned, Poisoned) ∷ [])
 due_in store next poisoned Seqno = None
 due_in store next poisoned VisibleSeqno = None
@@ -104,15 +103,24 @@ due s call = due_in (present s) (number s.history) s.poisoned call
 -- a call that takes memory
 abbrev pub TakesMemory : Call → Type 0
 TakesMemory (Insert id key value) = Unit {0}
+TakesMemory (Remove id key) = Unit {0}
+TakesMemory (RemoveWeak id key) = Unit {0}
 TakesMemory (GetAt view id key) = Unit {0}
+TakesMemory (PageAt view id range back max) = Unit {0}
 TakesMemory call = ⊥
 
--- What a fault of the disk leaves: after a call that changes the disk the engine is poisoned, and its parts are not
--- known; after a read all is as before.
+-- after a fault in a call that changes the disk the engine is poisoned, and its parts are not known
+abbrev pub IsPoisoned : State → State → Type 0
+IsPoisoned old new = (new.history ≡ old.history) × (new.poisoned ≡ true)
+
+-- what a fault of the disk leaves; after a read all is as before
 abbrev pub AfterFault : Call → State → State → Type 0
-AfterFault (Insert id key value) old new = (new.history ≡ old.history) × (new.poisoned ≡ true)
+AfterFault (Insert id key value) old new = IsPoisoned old new
+AfterFault (Remove id key) old new = IsPoisoned old new
+AfterFault (RemoveWeak id key) old new = IsPoisoned old new
 AfterFault (GetAt view id key) old new = new ≡ old
-AfterFault (Persist mode) old new = (new.history ≡ old.history) × (new.poisoned ≡ true)
+AfterFault (PageAt view id range back max) old new = new ≡ old
+AfterFault (Persist mode) old new = IsPoisoned old new
 AfterFault call old new = ⊥
 
 -- where none is due, memory may run out, or the disk fail
@@ -126,14 +134,24 @@ abbrev pub Refuses : Option Error → Call → Error → State → State → Typ
 Refuses (Some first) call error old new = (error ≡ first) × (new ≡ old)
 Refuses None call error old new = MayFail call error old new
 
+-- a write was accepted: it is the next command, and its batch is in the journal's file
+abbrev pub accepted : State → ℕ → Bytes → Op → State
+accepted s id key o = record s {
+  history = grown s.history (write_of id key (value_in o));
+  parts = written_out s.parts (length (op_text id key o (number s.history)));
+}
+
 -- From old, the engine may give this reply, and go on to new.
 abbrev pub Step : State → Call → Reply → State → Type 0
 Step old call (Refused error) new = Refuses (due old call) call error old new
-Step old (Insert id key value) Done new =
-    (due old (Insert id key value) ≡ None)
-    × (new ≡ record old { history = grown old.history (write_of id key (Some value)); parts = written_out old.parts (insert_len id key value (number old.history)) })
+Step old (Insert id key value) Done new = (due old (Insert id key value) ≡ None) × (new ≡ accepted old id key (op.Put value))
+Step old (Remove id key) Done new = (due old (Remove id key) ≡ None) × (new ≡ accepted old id key op.Remove)
+Step old (RemoveWeak id key) Done new = (due old (RemoveWeak id key) ≡ None) × (new ≡ accepted old id key op.RemoveWeak)
 Step old (GetAt view id key) (Value found) new =
     (due old (GetAt view id key) ≡ None) × (found ≡ lookup (map_at (view_at old view).maps id) key) × (new ≡ old)
+Step old (PageAt view id range back max) (Pairs found) new =
+    (due old (PageAt view id range back max) ≡ None)
+    × (found.items ≡ page back max (pairs_between range (map_at (view_at old view).maps id))) × (new ≡ old)
 Step old (Persist mode) Done new = (due old (Persist mode) ≡ None) × (new ≡ record old { parts = written_out old.parts 0 })
 Step old Seqno (Number n) new = (n ≡ number old.history) × (new ≡ old)
 Step old VisibleSeqno (Number n) new = (n ≡ number old.history) × (new ≡ old)

@@ -1,22 +1,24 @@
 -- What a core stands for, and what its calls owe.
-use Rattle.std.specs.Prelude.{◌≡◌, ◌⊎◌, ℕ, ◌+◌, ◌≤◌, Bool, true, false, cond, List, [], ◌∷◌, ◌++◌, length, map, take, Option, Some, None, Result, Ok, Err, OnOk}
+use Rattle.std.specs.Prelude.{◌≡◌, ◌⊎◌, ℕ, ◌+◌, ◌≤◌, Bool, true, false, cond, List, [], ◌∷◌, ◌++◌, length, map, take, Option, Some, None, Result, Ok, Err, OnOk, Vec}
+use Rattle.std.specs.declared.alloc.Global.{Global}
 use Rattle.std.specs.Str.{bytes_eq}
-use Rattle.fjall_base.specs.Pairs.{Bytes}
-use Rattle.fjall_base.specs.Store.{Store, Command, fold, kept}
+use Rattle.fjall_base.specs.Pairs.{Bytes, pairs_between, page}
+use Rattle.fjall_base.specs.Store.{Store, Command, map_at, fold, kept}
 use Rattle.fjall_base.specs.Disk.{Meaning, Took, TookPart, LeavesOnly, state_in}
 use Rattle.fjall_base.specs.Errors.{Rose}
 use Rattle.fjall_base.specs.declared.error.Error.{Error}
 use Rattle.fjall_base.specs.declared.error.Error.TheVariants.{Io, OutOfMemory, Poisoned}
-use Rattle.fjall_journal.specs.declared.entry.ValueType.TheVariants as kinds
 use Rattle.fjall_journal.specs.declared.persist_mode.PersistMode.TheVariants.{SyncAll}
-use Rattle.fjall_journal.specs.Batches.{batch_text, of_item, shown}
+use Rattle.fjall_journal.specs.Batches.{shown}
 use Rattle.fjall_journal.specs.Writer.{Journal, filled, written_out, appending, persist_steps}
 use Rattle.fjall_core.specs.declared.call.Call.{Call}
-use Rattle.fjall_core.specs.declared.call.Call.TheVariants.{Insert, GetAt, Persist, Seqno, VisibleSeqno, JournalDiskSpace}
+use Rattle.fjall_core.specs.declared.call.Call.TheVariants.{Insert, Remove, RemoveWeak, GetAt, PageAt, Persist, Seqno, VisibleSeqno, JournalDiskSpace}
 use Rattle.fjall_core.specs.declared.call.Reply.{Reply}
-use Rattle.fjall_core.specs.declared.call.Reply.TheVariants.{Done, Value, Number, Refused}
+use Rattle.fjall_core.specs.declared.call.Reply.TheVariants.{Done, Value, Pairs, Number, Refused}
 use Rattle.fjall_core.specs.declared.version.Version.{Version}
 use Rattle.fjall_core.specs.Histories.{number}
+use Rattle.fjall_core.specs.Ops.{Op, value_in, op_text}
+use Rattle.fjall_core.specs.Ops as op
 use Rattle.fjall_core.specs.Machine.{Parts, State, Step, Run, TakesMemory, present, due_in, write_of}
 use Rattle.fjall_core.specs.Replays.{initial, next_after}
 use Rattle.fjall_core.specs.Durables.{Durable, StandsAmid, Passes, Holds, Lies, MakesPresent, journal_name, texts_of}
@@ -65,9 +67,9 @@ pub record StandsOn (core : Held) (d : Durable) : Type 0 where
 abbrev pub held_due : Held → Call → Option Error
 held_due core call = due_in (store_of core.versions) core.next core.poisoned call
 
--- the text of the batch that an insert writes
-abbrev pub insert_text : Held → ℕ → Bytes → Bytes → List ℕ
-insert_text core id key value = batch_text (of_item id key value kinds.Value core.next)
+-- the version that a write makes under a number
+abbrev pub version_of : ℕ → Bytes → Op → Version
+version_of number key o = record { seqno = number; key = key; value = value_in o }
 
 -- A fault of the disk has poisoned the core, and what is in memory is as before.
 pub record Poisons (old new : Held) : Type 0 where
@@ -112,6 +114,8 @@ WritesDisk old text (Err error) new = TookPart old.disk new.disk old.journal.nam
 -- a fault is told by a change of the disk alone
 abbrev pub Faults : Call → Held → Held → Type 0
 Faults (Insert id key value) old new = Poisons old new
+Faults (Remove id key) old new = Poisons old new
+Faults (RemoveWeak id key) old new = Poisons old new
 Faults (Persist mode) old new = Poisons old new
 Faults call old new = ⊥
 
@@ -126,14 +130,21 @@ abbrev pub OwesRefusal : Option Error → Held → Call → Error → Held → T
 OwesRefusal (Some first) old call error new = (error ≡ first) × (new ≡ old)
 OwesRefusal None old call error new = OwesFailure old call error new
 
+-- a write that nothing refused stands in memory, and its batch in the journal
+abbrev pub OwesWrite : Held → Call → ℕ → Bytes → Op → Held → Type 0
+OwesWrite old call id key o new = (held_due old call ≡ None) × Grows old (version_of old.next key o) (op_text id key o old.next) new
+
 -- What a call owes whatever the disk is: each refusal for its cause, with what it leaves, and each answer from memory.
 abbrev pub Owes : Held → Call → Reply → Held → Type 0
 Owes old call (Refused error) new = OwesRefusal (held_due old call) old call error new
-Owes old (Insert id key value) Done new =
-    (held_due old (Insert id key value) ≡ None)
-    × Grows old (record { seqno = old.next; key = key; value = Some value }) (insert_text old id key value) new
+Owes old (Insert id key value) Done new = OwesWrite old (Insert id key value) id key (op.Put value) new
+Owes old (Remove id key) Done new = OwesWrite old (Remove id key) id key op.Remove new
+Owes old (RemoveWeak id key) Done new = OwesWrite old (RemoveWeak id key) id key op.RemoveWeak new
 Owes old (GetAt view id key) (Value found) new =
     (held_due old (GetAt view id key) ≡ None) × (found ≡ newest old.versions key) × (new ≡ old)
+Owes old (PageAt view id range back max) (Pairs found) new =
+    (held_due old (PageAt view id range back max) ≡ None)
+    × (found.items ≡ page back max (pairs_between range (map_at (store_of old.versions).maps id))) × (new ≡ old)
 Owes old (Persist mode) Done new = (held_due old (Persist mode) ≡ None) × HandsOver old new
 Owes old Seqno (Number n) new = (n ≡ old.next) × (new ≡ old)
 Owes old VisibleSeqno (Number n) new = (n ≡ old.next) × (new ≡ old)
@@ -148,14 +159,18 @@ OwesAll old calls replies new = ⊥
 
 -- what the disk took of a call where it failed: some beginning of what was appended, or all of it and the sync
 abbrev pub DiskFailed : Held → Call → Held → Type 0
-DiskFailed old (Insert id key value) new = TookPart old.disk new.disk old.journal.name (old.journal.buffer ++ insert_text old id key value)
+DiskFailed old (Insert id key value) new = TookPart old.disk new.disk old.journal.name (old.journal.buffer ++ op_text id key (op.Put value) old.next)
+DiskFailed old (Remove id key) new = TookPart old.disk new.disk old.journal.name (old.journal.buffer ++ op_text id key op.Remove old.next)
+DiskFailed old (RemoveWeak id key) new = TookPart old.disk new.disk old.journal.name (old.journal.buffer ++ op_text id key op.RemoveWeak old.next)
 DiskFailed old (Persist mode) new = TookPart old.disk new.disk old.journal.name old.journal.buffer ⊎ Took old.disk new.disk (persist_steps old.journal mode)
 DiskFailed old call new = ⊥
 
 -- What the disk took of a call: the batch's text behind what waited in the buffer, or the buffer and a sync where the
 -- mode asks for one, and else nothing.
 abbrev pub OnDisk : Held → Call → Reply → Held → Type 0
-OnDisk old (Insert id key value) Done new = Took old.disk new.disk (appending old.journal.name (old.journal.buffer ++ insert_text old id key value))
+OnDisk old (Insert id key value) Done new = Took old.disk new.disk (appending old.journal.name (old.journal.buffer ++ op_text id key (op.Put value) old.next))
+OnDisk old (Remove id key) Done new = Took old.disk new.disk (appending old.journal.name (old.journal.buffer ++ op_text id key op.Remove old.next))
+OnDisk old (RemoveWeak id key) Done new = Took old.disk new.disk (appending old.journal.name (old.journal.buffer ++ op_text id key op.RemoveWeak old.next))
 OnDisk old (Persist mode) Done new = Took old.disk new.disk (persist_steps old.journal mode)
 OnDisk old call (Refused (Io kind)) new = DiskFailed old call new
 OnDisk old call reply new = new.disk ≡ old.disk
@@ -178,6 +193,11 @@ reply_of (Err error) = Refused error
 abbrev pub value_reply : Result (Option Bytes) Error → Reply
 value_reply (Ok found) = Value found
 value_reply (Err error) = Refused error
+
+-- the reply to a read of pairs
+abbrev pub pairs_reply : Result (Vec (Bytes × Bytes) Global) Error → Reply
+pairs_reply (Ok found) = Pairs found
+pairs_reply (Err error) = Refused error
 
 -- Calls one after another, as a run of the machine.
 abbrev pub Runs : Held → List Call → List Reply → Held → Type 0

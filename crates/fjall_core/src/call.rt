@@ -1,6 +1,7 @@
 //! The calls of a core as values, and their replies.
 
-use fjall_base::{Error, UserKey, UserValue};
+use crate::page::KeyRange;
+use fjall_base::{Error, KvPair, UserKey, UserValue};
 use fjall_journal::PersistMode;
 
 /// What a read shows.
@@ -15,8 +16,14 @@ pub enum View {
 pub enum Call {
     /// `insert`: keyspace id, key and value.
     Insert(u64, UserKey, UserValue),
+    /// `remove`: keyspace id and key.
+    Remove(u64, UserKey),
+    /// `remove_weak`: keyspace id and key.
+    RemoveWeak(u64, UserKey),
     /// `get_at`: view, keyspace id and key.
     GetAt(View, u64, UserKey),
+    /// `page_at`: view, keyspace id, range of keys, whether from behind, and how many pairs at most.
+    PageAt(View, u64, KeyRange, bool, usize),
     /// `persist`.
     Persist(PersistMode),
     /// `seqno`.
@@ -34,6 +41,8 @@ pub enum Reply {
     Done,
     /// The value of a key, where it has one.
     Value(Option<UserValue>),
+    /// Pairs in the order of their keys.
+    Pairs(Vec<KvPair>),
     /// A count.
     Number(u64),
     /// It was refused.

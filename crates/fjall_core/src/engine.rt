@@ -4,22 +4,25 @@ ghost use Rattle.std.specs.Prelude.{◌≡◌, ◌≤◌, ◌<◌, ◌+◌, ◌^
 ghost use Rattle.fjall_base.specs.Disk.{Meaning, state_in};
 ghost use Rattle.fjall_journal.specs.Spelling.{item_refusal};
 ghost use Rattle.fjall_journal.specs.Batches.{batch_text, of_item};
-ghost use Rattle.fjall_core.specs.declared.call.Call.TheVariants.{Insert, GetAt, Persist, Seqno, VisibleSeqno, JournalDiskSpace};
+ghost use Rattle.fjall_core.specs.Changes.{op_of, call_of};
+ghost use Rattle.fjall_core.specs.declared.call.Call.TheVariants.{Insert, Remove, RemoveWeak, GetAt, PageAt, Persist, Seqno, VisibleSeqno, JournalDiskSpace};
 ghost use Rattle.fjall_core.specs.declared.call.Reply.TheVariants.{Number};
 ghost use Rattle.fjall_core.specs.Histories.{number};
 ghost use Rattle.fjall_base.specs.Store.{Store};
 ghost use Rattle.fjall_core.specs.Openings.{journal_text, Opens, OpensOn, OpensAs, Repaired, KeepsStore, HasRisen, IsDueTo};
 ghost use Rattle.fjall_core.specs.Durables.{Holds};
 ghost use Rattle.fjall_core.specs.Machine.{State, Run};
-ghost use Rattle.fjall_core.specs.Standing.{StandsFor, Owes, OwesAll, Serves, Writes, WritesDisk, Runs, RunsSafely, OwesClosing, ClosesDisk, ClosesSafely, reply_of, value_reply};
+ghost use Rattle.fjall_core.specs.Standing.{StandsFor, Owes, OwesAll, Serves, Writes, WritesDisk, Runs, RunsSafely, OwesClosing, ClosesDisk, ClosesSafely, reply_of, value_reply, pairs_reply};
 
 use crate::call::{Call, Reply, View};
+use crate::change::Change;
 use crate::config::Config;
 use crate::journaling::write_through;
+use crate::page::{KeyRange, page};
 use crate::recovery::restore;
 use crate::refusal::{KEYSPACE_ID, is_fault, write_refusal};
-use crate::version::{Version, newest_value, put_version, shared_value};
-use fjall_base::{Disk, Error, Refused, Result, UserValue};
+use crate::version::{Version, newest_value, shared_value};
+use fjall_base::{Disk, Error, KvPair, Refused, Result, UserValue};
 use fjall_journal::{PersistMode, ValueType, Writer};
 use std::alloc::Global;
 use std::marker::Model;
@@ -111,6 +114,19 @@ impl<D: Disk> Core<D> {
         self.next += 1;
         Ok(())
     }
+
+    // Changes a key, where nothing refuses it.
+    fn change(&mut self, id: u64, key: &[u8], change: Change<'_>) -> Result<()>
+        ensures serves { IsTrue D.honest → Serves self.old (call_of id key.now (op_of change.entry)) (reply_of result) self.new }
+        ensures owes { Owes self.old (call_of id key.now (op_of change.entry)) (reply_of result) self.new }
+    {
+        let value = change.bytes();
+        if let Some(error) = write_refusal(self.next, self.poisoned, id, key, value) {
+            return Err(error);
+        }
+        let version = change.version(self.alloc, self.next, key)?;
+        self.write(id, version, key, value, change.value_type())
+    }
 }
 
 impl<D: Disk> Core<D> {
@@ -124,11 +140,24 @@ impl<D: Disk> Core<D> {
         ensures serves { IsTrue D.honest → Serves self.old (Insert id key.now value.now) (reply_of result) self.new }
         ensures owes { Owes self.old (Insert id key.now value.now) (reply_of result) self.new }
     {
-        if let Some(error) = write_refusal(self.next, self.poisoned, id, key, value) {
-            return Err(error);
-        }
-        let version = put_version(self.alloc, self.next, key, value)?;
-        self.write(id, version, key, value, ValueType::Value)
+        self.change(id, key, Change::Put(value))
+    }
+
+    /// Takes a key of a keyspace and its value away, under the next number, whether the key is there or not. It is
+    /// refused as [`insert`](Core::insert) is, and a crash may lose it as long.
+    pub fn remove(&mut self, id: u64, key: &[u8]) -> Result<()>
+        ensures serves { IsTrue D.honest → Serves self.old (Remove id key.now) (reply_of result) self.new }
+        ensures owes { Owes self.old (Remove id key.now) (reply_of result) self.new }
+    {
+        self.change(id, key, Change::Remove)
+    }
+
+    /// Acts as [`remove`](Core::remove); the journal alone tells the two apart.
+    pub fn remove_weak(&mut self, id: u64, key: &[u8]) -> Result<()>
+        ensures serves { IsTrue D.honest → Serves self.old (RemoveWeak id key.now) (reply_of result) self.new }
+        ensures owes { Owes self.old (RemoveWeak id key.now) (reply_of result) self.new }
+    {
+        self.change(id, key, Change::RemoveWeak)
     }
 
     /// The value that a key of a keyspace has in a view. A key that no write can have has none.
@@ -144,6 +173,29 @@ impl<D: Disk> Core<D> {
             return Err(Error::UnknownKeyspace);
         }
         shared_value(newest_value(&self.versions, key))
+    }
+
+    /// The first pairs of a keyspace's range in a view or, where `back`, the last ones: at most `max`, in the order of
+    /// their keys.
+    ///
+    /// Refusals: `UnknownKeyspace`, `OutOfMemory`. Nothing changes.
+    pub fn page_at(
+        &mut self,
+        view: View,
+        id: u64,
+        range: &KeyRange,
+        back: bool,
+        max: usize,
+    ) -> Result<Vec<KvPair>>
+        ensures serves { IsTrue D.honest → Serves self.old (PageAt view id range.now back max) (pairs_reply result) self.new }
+        ensures owes { Owes self.old (PageAt view id range.now back max) (pairs_reply result) self.new }
+        ensures same { self.new ≡ self.old }
+    {
+        let View::Present = view;
+        if id != KEYSPACE_ID {
+            return Err(Error::UnknownKeyspace);
+        }
+        page(self.alloc, &self.versions, range, back, max)
     }
 
     /// Writes the journal's buffer out and, in the two sync modes, syncs the journal: what was accepted before then
@@ -198,6 +250,11 @@ impl<D: Disk> Core<D> {
     {
         match call {
             Call::Insert(id, key, value) => reply_of(self.insert(*id, key, value)),
+            Call::Remove(id, key) => reply_of(self.remove(*id, key)),
+            Call::RemoveWeak(id, key) => reply_of(self.remove_weak(*id, key)),
+            Call::PageAt(view, id, range, back, max) => {
+                pairs_reply(self.page_at(*view, *id, range, *back, *max))
+            }
             Call::GetAt(view, id, key) => value_reply(self.get_at(*view, *id, key)),
             Call::Persist(mode) => reply_of(self.persist(*mode)),
             Call::Seqno => Reply::Number(self.seqno()),
@@ -268,6 +325,15 @@ fn value_reply(found: Result<Option<UserValue>>) -> Reply
 {
     match found {
         Ok(value) => Reply::Value(value),
+        Err(error) => Reply::Refused(error),
+    }
+}
+
+fn pairs_reply(found: Result<Vec<KvPair>>) -> Reply
+    ensures { result ≡ pairs_reply found }
+{
+    match found {
+        Ok(pairs) => Reply::Pairs(pairs),
         Err(error) => Reply::Refused(error),
     }
 }

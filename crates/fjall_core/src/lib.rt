@@ -2,10 +2,12 @@
 #![tactic(auto)]
 
 mod call;
+mod change;
 mod config;
 mod engine;
 mod journaling;
 mod laws;
+mod page;
 mod recovery;
 mod refusal;
 mod replay;
@@ -16,6 +18,7 @@ pub use config::Config;
 pub use engine::Core;
 pub use fjall_journal::PersistMode;
 pub use laws::{crash_holds, holds_through_crash, no_journal_holds};
+pub use page::KeyRange;
 pub use version::Version;
 
 #[cfg(test)]

@@ -7,6 +7,7 @@ use fjall_base::{
 use fjall_journal::{Entry, ValueType, checksum};
 use std::alloc::Global;
 use std::io::ErrorKind;
+use std::ops::Bound;
 use std::process::Abort;
 use std::test::Fail;
 
@@ -395,6 +396,96 @@ fn a_sync_outlives_a_crash(rt: HostRuntime) -> Result<(), Fail> {
     Ok(())
 }
 
+/// The keys of a page, one byte each, in their order.
+fn page<D: Disk>(
+    alloc: Global,
+    core: &mut Core<D>,
+    range: (Bound<&[u8]>, Bound<&[u8]>),
+    back: bool,
+    max: usize,
+) -> Result<Vec<u8>, Error> {
+    let range = (owned(alloc, range.0)?, owned(alloc, range.1)?);
+    let mut keys = Vec::new(alloc);
+    for (key, _) in &core.page_at(View::Present, 1, &range, back, max)? {
+        keys.extend_from_slice(key.as_slice())?;
+    }
+    Ok(keys)
+}
+
+/// A bound with a key of its own.
+fn owned(alloc: Global, bound: Bound<&[u8]>) -> Result<Bound<Slice>, Error> {
+    Ok(match bound {
+        Bound::Included(key) => Bound::Included(Slice::new(alloc, key)?),
+        Bound::Excluded(key) => Bound::Excluded(Slice::new(alloc, key)?),
+        Bound::Unbounded => Bound::Unbounded,
+    })
+}
+
+const ALL: (Bound<&[u8]>, Bound<&[u8]>) = (Bound::Unbounded, Bound::Unbounded);
+
+#[test]
+fn removals(rt: HostRuntime) -> Result<(), Fail> {
+    let alloc = rt.alloc();
+    let mut core = opened(alloc, MemoryDisk::new(alloc))?;
+    core.insert(1, b"a", b"v")?;
+    core.insert(1, b"b", b"w")?;
+    core.remove(1, b"a")?;
+    assert_eq!(rt;
+        page(alloc, &mut core, ALL, false, 9)?.as_slice(),
+        b"b".as_slice()
+    );
+    core.remove_weak(1, b"b")?;
+    assert_eq!(rt; page(alloc, &mut core, ALL, false, 9)?.len(), 0);
+    assert_eq!(rt; core.remove(1, b"").err(), Some(Error::KeyEmpty));
+    assert_eq!(rt;
+        core.remove_weak(2, b"a").err(),
+        Some(Error::UnknownKeyspace)
+    );
+    assert_eq!(rt; (core.seqno(), core.journal_disk_space()), (5, 194));
+    let mut core = opened(alloc, core.into_disk().crash(193)?)?;
+    assert_eq!(rt;
+        page(alloc, &mut core, ALL, false, 9)?.as_slice(),
+        b"b".as_slice()
+    );
+    assert_eq!(rt; (core.seqno(), core.journal_disk_space()), (4, 146));
+    Ok(())
+}
+
+#[test]
+fn pages(rt: HostRuntime) -> Result<(), Fail> {
+    let alloc = rt.alloc();
+    let mut core = opened(alloc, MemoryDisk::new(alloc))?;
+    for key in [b"d", b"b", b"a", b"c", b"b", b"e"] {
+        core.insert(1, key, b"v")?;
+    }
+    core.remove(1, b"e")?;
+    let from_b = (Bound::Included(b"b".as_slice()), Bound::Unbounded);
+    let to_c = (
+        Bound::Excluded(b"a".as_slice()),
+        Bound::Excluded(b"d".as_slice()),
+    );
+    let reversed = (
+        Bound::Included(b"c".as_slice()),
+        Bound::Included(b"b".as_slice()),
+    );
+    for (range, back, max, keys) in [
+        (ALL, false, 9, b"abcd".as_slice()),
+        (ALL, false, 2, b"ab"),
+        (ALL, true, 2, b"cd"),
+        (ALL, true, 9, b"abcd"),
+        (ALL, false, 0, b""),
+        (from_b, false, 9, b"bcd"),
+        (to_c, true, 1, b"c"),
+        (reversed, false, 9, b""),
+    ] {
+        assert_eq!(rt; page(alloc, &mut core, range, back, max)?.as_slice(), keys);
+    }
+    let all = (Bound::Unbounded, Bound::Unbounded);
+    let refused = core.page_at(View::Present, 2, &all, false, 9).err();
+    assert_eq!(rt; refused, Some(Error::UnknownKeyspace));
+    Ok(())
+}
+
 /// The replies of a new core over an empty disk to a list with each call.
 fn replies_over<D: Disk + Drop>(alloc: Global, disk: D) -> Result<Vec<Reply>, Error> {
     let mut core = opened(alloc, disk)?;
@@ -405,22 +496,45 @@ fn replies_over<D: Disk + Drop>(alloc: Global, disk: D) -> Result<Vec<Reply>, Er
         Call::Seqno,
         Call::Insert(1, key.clone()?, value.clone()?),
         Call::Insert(2, key.clone()?, value),
-        Call::GetAt(View::Present, 1, key),
+        Call::GetAt(View::Present, 1, key.clone()?),
         Call::Persist(PersistMode::SyncAll),
         Call::VisibleSeqno,
         Call::JournalDiskSpace,
+        Call::Remove(1, key.clone()?),
+        Call::RemoveWeak(2, key),
+        Call::PageAt(
+            View::Present,
+            1,
+            (Bound::Unbounded, Bound::Unbounded),
+            false,
+            1
+        ),
     ]?;
     core.run(calls)
 }
 
 fn has_each_reply(replies: &[Reply]) -> bool {
-    let [none, first, done, refused, found, synced, next, len] = replies else {
+    let [
+        none,
+        first,
+        done,
+        refused,
+        found,
+        synced,
+        next,
+        len,
+        removed,
+        other,
+        page,
+    ] = replies
+    else {
         return false;
     };
-    let Reply::Value(Some(value)) = found else {
+    let (Reply::Value(Some(value)), Reply::Pairs(pairs)) = (found, page) else {
         return false;
     };
     value.as_slice() == b"b".as_slice()
+        && pairs.is_empty()
         && matches!(none, Reply::Value(None))
         && matches!(first, Reply::Number(1))
         && matches!(done, Reply::Done)
@@ -428,6 +542,8 @@ fn has_each_reply(replies: &[Reply]) -> bool {
         && matches!(synced, Reply::Done)
         && matches!(next, Reply::Number(2))
         && matches!(len, Reply::Number(49))
+        && matches!(removed, Reply::Done)
+        && matches!(other, Reply::Refused(Error::UnknownKeyspace))
 }
 
 #[test]

@@ -4,8 +4,7 @@ ghost use Rattle.std.specs.Prelude.{◌≡◌, Some, IfOk, IsOkUnless};
 ghost use Rattle.std.specs.Option.{option_copied};
 ghost use Rattle.fjall_core.specs.Standing.{newest};
 
-use fjall_base::{Error, Result, Slice, UserKey, UserValue};
-use std::alloc::Global;
+use fjall_base::{Error, Result, UserKey, UserValue};
 
 /// What the change of a number made of a key: its value, or none where it was removed.
 #[derive(Debug, Drop)]
@@ -26,18 +25,6 @@ pub(crate) fn newest_value<'a>(versions: &'a [Version], key: &[u8]) -> Option<&'
         }
     }
     found
-}
-
-/// The version that gives a key this value under this number.
-pub(crate) fn put_version(alloc: Global, seqno: u64, key: &[u8], value: &[u8]) -> Result<Version>
-    ensures ok { IfOk result (λ version. version ≡ record { seqno = seqno; key = key.now; value = Some value.now }) }
-    ensures only { IsOkUnless result Error.OutOfMemory }
-{
-    Ok(Version {
-        seqno,
-        key: Slice::new(alloc, key)?,
-        value: Some(Slice::new(alloc, value)?),
-    })
 }
 
 /// Another owner of a value, where there is one.

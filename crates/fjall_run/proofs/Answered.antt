@@ -1,6 +1,6 @@
 -- Each line has an answer, and the one for bad lines is given to no command.
 use Rattle.std.proofs.Common.{◌≡◌, ℕ, ◌<◌, ◌^◌, false, List, [], ◌∷◌, ◌++◌, length, drop, get_or, Option, Some, None, refl, sym, ap, ◌∙◌, append_assoc, codes, decimal, arith, lit<}
-use Rattle.std.specs.Prelude.{All}
+use Rattle.std.specs.Prelude.{All, IfSome}
 use Rattle.std.specs.List.{AllZip}
 use Rattle.std.proofs.lemmas.List.{append-nil}
 use Rattle.std.proofs.lemmas.List.Elements.{All-head, All-tail}
@@ -8,23 +8,14 @@ use Rattle.std.proofs.lemmas.Fmt.{first_decimal, decimal_nonempty}
 use Rattle.fjall_base.specs.declared.error.Error.{Error}
 use Rattle.fjall_base.specs.declared.error.Error.TheVariants.{Io}
 use Rattle.fjall_base.specs.Errors.{number_of, name_of}
-use Rattle.fjall_core.specs.declared.call.Call.{Call}
 use Rattle.fjall_core.specs.declared.call.Reply.{Reply}
-use Rattle.fjall_core.specs.declared.call.Reply.TheVariants.{Done, Value, Number, Refused}
+use Rattle.fjall_core.specs.declared.call.Reply.TheVariants.{Done, Value, Pairs, Number, Refused}
 use Rattle.fjall_run.specs.declared.command.Command.{Command}
-use Rattle.fjall_run.specs.declared.command.Command.TheVariants.{Insert, Get, Persist, Crash, Reopen}
+use Rattle.fjall_run.specs.declared.command.Command.TheVariants.{Insert, Remove, RemoveWeak, Get, Len, Scan, Persist, Crash, Reopen}
 use Rattle.fjall_run.specs.Answers.{bad_line, reply_text}
 use Rattle.fjall_core.specs.Holding.{Held}
-use Rattle.fjall_core.specs.Standing.{OwesAll}
-use Rattle.fjall_run.specs.Sessions.{answers_to, calls_of, is_stop, IsAnswer, IsSaid, Session, begun, run, restarted, Restarts}
-
--- a run replies to each call
-owes_count : (calls : List Call) (replies : List Reply) (old new : Held) → OwesAll old calls replies new → length replies ≡ length calls
-owes_count [] [] old new h = refl
-owes_count [] (reply ∷ replies) old new h = absurd h
-owes_count (call ∷ calls) [] old new h = absurd h
-owes_count (call ∷ calls) (reply ∷ replies) old new h =
-    let ih = owes_count calls replies h.0 new h.2 in omega (arith, ih)
+use Rattle.fjall_core.specs.Standing.{Owes, OwesAll}
+use Rattle.fjall_run.specs.Sessions.{answers_to, call_of, calls_of, is_stop, IsAnswer, IsReplyTo, IsSaid, Session, begun, run, restarted, Restarts}
 
 -- no refusal has the number 0
 numbered : (error : Error) → (0 < number_of error) × (number_of error < 2 ^ 64)
@@ -35,12 +26,25 @@ get_or-front : (a b : List ℕ) → 0 < length a → get_or (a ++ b) 0 0 ≡ get
 get_or-front [] b h = absurd (omega arith)
 get_or-front (x ∷ a) b h = refl
 
-not_bad : (reply : Reply) → reply_text reply ≡ bad_line → ⊥
-not_bad Done h = let first = ap (λ (t : List ℕ). get_or t 0 0) h in omega arith
-not_bad (Value None) h = let first = ap (λ (t : List ℕ). get_or t 0 0) h in omega arith
-not_bad (Value (Some value)) h = let first = ap (λ (t : List ℕ). get_or t 0 0) h in omega arith
-not_bad (Number count) h = let first = ap (λ (t : List ℕ). get_or t 0 0) h in omega arith
-not_bad (Refused error) h =
+abbrev first_of : List ℕ → ℕ
+first_of text = get_or text 0 0
+
+-- no answer to a call is the one for bad lines
+not_bad : (command : Command) (reply : Reply) → reply_text command reply ≡ bad_line → ⊥
+not_bad command Done h = let first = ap first_of h in omega arith
+not_bad command (Value None) h = let first = ap first_of h in omega arith
+not_bad command (Value (Some value)) h = let first = ap first_of h in omega arith
+not_bad (Insert id key value) (Pairs pairs) h = let first = ap first_of h in omega arith
+not_bad (Remove id key) (Pairs pairs) h = let first = ap first_of h in omega arith
+not_bad (RemoveWeak id key) (Pairs pairs) h = let first = ap first_of h in omega arith
+not_bad (Get id key) (Pairs pairs) h = let first = ap first_of h in omega arith
+not_bad (Len id) (Pairs pairs) h = let first = ap first_of h in omega arith
+not_bad (Scan id) (Pairs pairs) h = let first = ap first_of h in omega arith
+not_bad Persist (Pairs pairs) h = let first = ap first_of h in omega arith
+not_bad (Crash keep) (Pairs pairs) h = let first = ap first_of h in omega arith
+not_bad Reopen (Pairs pairs) h = let first = ap first_of h in omega arith
+not_bad command (Number count) h = let first = ap first_of h in omega arith
+not_bad command (Refused error) h =
     let number = numbered error in
     let some = decimal_nonempty (number_of error) number.1 in
     let high = first_decimal (number_of error) number.0 number.1 in
@@ -48,37 +52,92 @@ not_bad (Refused error) h =
     let front = get_or-front (decimal (number_of error)) (codes " " ++ name_of error) some in
     omega (arith, at, front, high)
 
-replied : (command : Command) (reply : Reply) → IsSaid (Some command) (reply_text reply) → IsAnswer (Some command) (reply_text reply)
-replied command reply said = record { said = said; bad = λ h. absurd (not_bad reply h) }
+-- what a call owes is a reply to its command
+fits : (command : Command) (reply : Reply) (old new : Held) → is_stop (Some command) ≡ false → IfSome (call_of (Some command)) (λ call. Owes old call reply new)
+    → IsReplyTo command reply
+fits command (Refused error) old new h owes = tt
+fits (Insert id key value) Done old new h owes = tt
+fits (Insert id key value) (Value found) old new h owes = absurd owes
+fits (Insert id key value) (Pairs pairs) old new h owes = absurd owes
+fits (Insert id key value) (Number count) old new h owes = absurd owes
+fits (Remove id key) Done old new h owes = tt
+fits (Remove id key) (Value found) old new h owes = absurd owes
+fits (Remove id key) (Pairs pairs) old new h owes = absurd owes
+fits (Remove id key) (Number count) old new h owes = absurd owes
+fits (RemoveWeak id key) Done old new h owes = tt
+fits (RemoveWeak id key) (Value found) old new h owes = absurd owes
+fits (RemoveWeak id key) (Pairs pairs) old new h owes = absurd owes
+fits (RemoveWeak id key) (Number count) old new h owes = absurd owes
+fits (Get id key) Done old new h owes = absurd owes
+fits (Get id key) (Value found) old new h owes = tt
+fits (Get id key) (Pairs pairs) old new h owes = absurd owes
+fits (Get id key) (Number count) old new h owes = absurd owes
+fits (Len id) Done old new h owes = absurd owes
+fits (Len id) (Value found) old new h owes = absurd owes
+fits (Len id) (Pairs pairs) old new h owes = tt
+fits (Len id) (Number count) old new h owes = absurd owes
+fits (Scan id) Done old new h owes = absurd owes
+fits (Scan id) (Value found) old new h owes = absurd owes
+fits (Scan id) (Pairs pairs) old new h owes = tt
+fits (Scan id) (Number count) old new h owes = absurd owes
+fits Persist Done old new h owes = tt
+fits Persist (Value found) old new h owes = absurd owes
+fits Persist (Pairs pairs) old new h owes = absurd owes
+fits Persist (Number count) old new h owes = absurd owes
+fits (Crash keep) reply old new h owes = cc h
+fits Reopen reply old new h owes = cc h
 
 abbrev IsCall : Option Command → Type 0
 IsCall found = is_stop found ≡ false
 
 -- the calls of a run
-front_answers : (lines : List (Option Command)) (replies : List Reply) → All IsCall lines → length replies ≡ length (calls_of lines)
+front_answers : (lines : List (Option Command)) (replies : List Reply) (old new : Held) → All IsCall lines → OwesAll old (calls_of lines) replies new
     → AllZip IsAnswer lines (answers_to lines replies)
-front_answers [] replies calls same = tt
-front_answers (None ∷ rest) replies calls same =
-    (record { said = refl; bad = λ h. refl }, front_answers rest replies (All-tail IsCall None rest calls) same)
-front_answers (Some command ∷ rest) [] calls same = absurd (no_reply command (All-head IsCall (Some command) rest calls) same)
+front_answers [] replies old new calls owes = tt
+front_answers (None ∷ rest) replies old new calls owes =
+    (record { said = refl; bad = λ h. refl }, front_answers rest replies old new (All-tail IsCall None rest calls) owes)
+front_answers (Some command ∷ rest) [] old new calls owes = absurd (no_reply command (All-head IsCall (Some command) rest calls) owes)
   where
-    no_reply : (c : Command) → is_stop (Some c) ≡ false → 0 ≡ length (calls_of (Some c ∷ rest)) → ⊥
-    no_reply (Insert id key value) h e = omega arith
-    no_reply (Get id key) h e = omega arith
-    no_reply Persist h e = omega arith
-    no_reply (Crash keep) h e = cc h
-    no_reply Reopen h e = cc h
-front_answers (Some command ∷ rest) (reply ∷ replies) calls same =
-    let here = one command (All-head IsCall (Some command) rest calls) same in
-    (replied command reply here.0, front_answers rest replies (All-tail IsCall (Some command) rest calls) here.1)
+    no_reply : (c : Command) → is_stop (Some c) ≡ false → OwesAll old (calls_of (Some c ∷ rest)) [] new → ⊥
+    no_reply (Insert id key value) h owed = absurd owed
+    no_reply (Remove id key) h owed = absurd owed
+    no_reply (RemoveWeak id key) h owed = absurd owed
+    no_reply (Get id key) h owed = absurd owed
+    no_reply (Len id) h owed = absurd owed
+    no_reply (Scan id) h owed = absurd owed
+    no_reply Persist h owed = absurd owed
+    no_reply (Crash keep) h owed = cc h
+    no_reply Reopen h owed = cc h
+front_answers (Some command ∷ rest) (reply ∷ replies) old new calls owes =
+    let call = All-head IsCall (Some command) rest calls in
+    let here = split command call owes in
+    let fit = fits command reply old here.0 call here.1 in (
+      record { said = said command call fit; bad = λ h. absurd (not_bad command reply h) },
+      front_answers rest replies here.0 new (All-tail IsCall (Some command) rest calls) here.2,
+    )
   where
-    one : (c : Command) → is_stop (Some c) ≡ false → length (reply ∷ replies) ≡ length (calls_of (Some c ∷ rest))
-        → IsSaid (Some c) (reply_text reply) × (length replies ≡ length (calls_of rest))
-    one (Insert id key value) h e = ((reply, refl), omega arith)
-    one (Get id key) h e = ((reply, refl), omega arith)
-    one Persist h e = ((reply, refl), omega arith)
-    one (Crash keep) h e = cc h
-    one Reopen h e = cc h
+    split : (c : Command) → is_stop (Some c) ≡ false → OwesAll old (calls_of (Some c ∷ rest)) (reply ∷ replies) new
+        → (mid : Held) × IfSome (call_of (Some c)) (λ call. Owes old call reply mid) × OwesAll mid (calls_of rest) replies new
+    split (Insert id key value) h owed = owed
+    split (Remove id key) h owed = owed
+    split (RemoveWeak id key) h owed = owed
+    split (Get id key) h owed = owed
+    split (Len id) h owed = owed
+    split (Scan id) h owed = owed
+    split Persist h owed = owed
+    split (Crash keep) h owed = cc h
+    split Reopen h owed = cc h
+
+    said : (c : Command) → is_stop (Some c) ≡ false → IsReplyTo c reply → IsSaid (Some c) (reply_text c reply)
+    said (Insert id key value) h fit = (reply, fit, refl)
+    said (Remove id key) h fit = (reply, fit, refl)
+    said (RemoveWeak id key) h fit = (reply, fit, refl)
+    said (Get id key) h fit = (reply, fit, refl)
+    said (Len id) h fit = (reply, fit, refl)
+    said (Scan id) h fit = (reply, fit, refl)
+    said Persist h fit = (reply, fit, refl)
+    said (Crash keep) h fit = cc h
+    said Reopen h fit = cc h
 
 AllZip-append : (a b : List (Option Command)) (x y : List (List ℕ)) → AllZip IsAnswer a x → AllZip IsAnswer b y → AllZip IsAnswer (a ++ b) (x ++ y)
 AllZip-append [] b [] y h g = g
@@ -88,10 +147,14 @@ AllZip-append (c ∷ a) b (p ∷ x) y h g = (h.0, AllZip-append a b x y h.1 g)
 
 -- a crash or a reopening is answered by ok, which is no bad line
 ok_answer : (stop : Option Command) (old new : Held) → Restarts stop old new → IsAnswer stop (codes "ok")
-ok_answer (Some (Crash keep)) old new h = record { said = refl; bad = λ e. absurd (not_bad Done e) }
-ok_answer (Some Reopen) old new h = record { said = refl; bad = λ e. absurd (not_bad Done e) }
+ok_answer (Some (Crash keep)) old new h = record { said = refl; bad = λ e. absurd (not_bad Reopen Done e) }
+ok_answer (Some Reopen) old new h = record { said = refl; bad = λ e. absurd (not_bad Reopen Done e) }
 ok_answer (Some (Insert id key value)) old new h = absurd h
+ok_answer (Some (Remove id key)) old new h = absurd h
+ok_answer (Some (RemoveWeak id key)) old new h = absurd h
 ok_answer (Some (Get id key)) old new h = absurd h
+ok_answer (Some (Len id)) old new h = absurd h
+ok_answer (Some (Scan id)) old new h = absurd h
 ok_answer (Some Persist) old new h = absurd h
 ok_answer None old new h = absurd h
 
@@ -101,7 +164,7 @@ answered : (commands rest : List (Option Command)) (core : Held) (printed : List
 answered commands _ _ _ (begun disk core new h) = ([], refl, tt)
 answered commands _ _ _ (run old new printed lines rest replies s calls stop runs) =
     let so_far = answered commands (lines ++ rest) old printed s in
-    let here = front_answers lines replies calls (owes_count (calls_of lines) replies old new runs.owes) in
+    let here = front_answers lines replies old new calls runs.owes in
     (so_far.0 ++ lines, so_far.1 ∙ sym (append_assoc so_far.0 lines rest), AllZip-append so_far.0 lines printed (answers_to lines replies) so_far.2 here)
 answered commands _ _ _ (restarted old new printed stop rest s r) =
     let so_far = answered commands (stop ∷ rest) old printed s in

@@ -26,10 +26,10 @@ bad_step commands i found left later text mid after whole lt at none same first 
     rw (last, first, same) (add_line text bad_line (text_of (answers_to (drop (i + 1) commands) left)) ∙ here)
 
 pub reply_step : (commands : List (Option Command)) (i : ℕ) (found : Option Command) (command : Command) (left later : List Reply) (reply : Reply) (text mid after whole : List ℕ)
-    → i < length commands → found ≡ get_or commands i found → found ≡ Some command → left ≡ reply ∷ later → mid ≡ text ++ reply_text reply → after ≡ mid ++ 10 ∷ []
+    → i < length commands → found ≡ get_or commands i found → found ≡ Some command → left ≡ reply ∷ later → mid ≡ text ++ reply_text command reply → after ≡ mid ++ 10 ∷ []
     → text ++ text_of (answers_to (drop i commands) left) ≡ whole
     → after ++ text_of (answers_to (drop (i + 1) commands) later) ≡ whole
 reply_step commands i found command left later reply text mid after whole lt at some split first last h =
     let next = next_is commands i found lt at in
     let here : text ++ text_of (answers_to (Some command ∷ drop (i + 1) commands) (reply ∷ later)) ≡ whole = rw (next, some, split) at h in
-    rw (last, first) (add_line text (reply_text reply) (text_of (answers_to (drop (i + 1) commands) later)) ∙ here)
+    rw (last, first) (add_line text (reply_text command reply) (text_of (answers_to (drop (i + 1) commands) later)) ∙ here)

@@ -11,7 +11,7 @@ use Rattle.std.proofs.lemmas.Str.Parse.{tells_digits, numerals_by_value}
 use Rattle.std.proofs.lemmas.Fmt.{digits_decimal}
 use Rattle.hex.specs.Hex.{IsBytes, encode_lower, encode_with, lower_digits}
 use Rattle.fjall_run.specs.declared.command.Command.{Command}
-use Rattle.fjall_run.specs.declared.command.Command.TheVariants.{Insert, Get, Persist, Crash, Reopen}
+use Rattle.fjall_run.specs.declared.command.Command.TheVariants.{Insert, Remove, RemoveWeak, Get, Len, Scan, Persist, Crash, Reopen}
 use Rattle.fjall_run.specs.Lines.{hex_word, words_of, spelling, IsCommand, Spells, Reads}
 use Rattle.fjall_run.proofs.Bytes.{or_false, digit, lower_digit}
 
@@ -105,14 +105,22 @@ plain_bytes : (bytes : List ℕ) → IsBytes bytes → IsPlain (hex_word bytes)
 plain_bytes [] h = refl
 plain_bytes (b ∷ rest) h = plain_hex (b ∷ rest) h
 
+-- a word, a number and a key
+plain_key : (word : List ℕ) (id : ℕ) (key : List ℕ) → IsPlain word → (id < 2 ^ 64) × IsBytes key → ArePlain (word ∷ decimal id ∷ hex_word key ∷ [])
+plain_key word id key h both =
+    more word (decimal id) (hex_word key ∷ []) h
+    (more (decimal id) (hex_word key) [] (plain_number id both.0) (one (hex_word key) (plain_bytes key both.1)))
+
 plain_words : (command : Command) → IsCommand command → ArePlain (words_of command)
 plain_words (Insert id key value) h =
     more (codes "insert") (decimal id) (hex_word key ∷ hex_word value ∷ []) refl
     (more (decimal id) (hex_word key) (hex_word value ∷ []) (plain_number id h.0)
     (more (hex_word key) (hex_word value) [] (plain_bytes key h.1) (one (hex_word value) (plain_bytes value h.2))))
-plain_words (Get id key) h =
-    more (codes "get") (decimal id) (hex_word key ∷ []) refl
-    (more (decimal id) (hex_word key) [] (plain_number id h.0) (one (hex_word key) (plain_bytes key h.1)))
+plain_words (Remove id key) h = plain_key (codes "remove") id key refl h
+plain_words (RemoveWeak id key) h = plain_key (codes "remove_weak") id key refl h
+plain_words (Get id key) h = plain_key (codes "get") id key refl h
+plain_words (Len id) h = more (codes "len") (decimal id) [] refl (one (decimal id) (plain_number id h))
+plain_words (Scan id) h = more (codes "scan") (decimal id) [] refl (one (decimal id) (plain_number id h))
 plain_words Persist h = one (codes "persist") refl
 plain_words (Crash keep) h = more (codes "crash") (decimal keep) [] refl (one (decimal keep) (plain_number keep h))
 plain_words Reopen h = one (codes "reopen") refl

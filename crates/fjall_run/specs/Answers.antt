@@ -1,23 +1,39 @@
 -- What is printed.
-use Rattle.std.specs.Prelude.{ℕ, List, [], ◌∷◌, ◌++◌, codes, decimal, Some, None}
+use Rattle.std.specs.Prelude.{ℕ, List, [], ◌∷◌, ◌++◌, length, codes, decimal, Some, None}
 use Rattle.std.specs.List.{flat_map}
 use Rattle.fjall_base.specs.declared.error.Error.{Error}
 use Rattle.fjall_base.specs.Errors.{number_of, name_of}
+use Rattle.fjall_base.specs.Pairs.{Bytes}
 use Rattle.fjall_core.specs.declared.call.Reply.{Reply}
-use Rattle.fjall_core.specs.declared.call.Reply.TheVariants.{Done, Value, Number, Refused}
+use Rattle.fjall_core.specs.declared.call.Reply.TheVariants.{Done, Value, Pairs, Number, Refused}
+use Rattle.fjall_run.specs.declared.command.Command.{Command}
+use Rattle.fjall_run.specs.declared.command.Command.TheVariants.{Len}
 use Rattle.fjall_run.specs.Lines.{hex_word}
 
 -- a refusal: its number and its name
 abbrev pub refusal_text : Error → List ℕ
 refusal_text error = codes "error " ++ (decimal (number_of error) ++ (codes " " ++ name_of error))
 
--- the answer to a call
-abbrev pub reply_text : Reply → List ℕ
-reply_text Done = codes "ok"
-reply_text (Value None) = codes "none"
-reply_text (Value (Some value)) = codes "value " ++ hex_word value
-reply_text (Number count) = codes "count " ++ decimal count
-reply_text (Refused error) = refusal_text error
+-- a pair: the key, an equals sign and the value
+abbrev pub pair_word : Bytes × Bytes → List ℕ
+pair_word (key, value) = hex_word key ++ (codes "=" ++ hex_word value)
+
+-- pairs, each behind a space
+abbrev pub pairs_text : List (Bytes × Bytes) → List ℕ
+pairs_text pairs = codes "pairs" ++ flat_map (λ pair. codes " " ++ pair_word pair) pairs
+
+abbrev pub count_text : ℕ → List ℕ
+count_text count = codes "count " ++ decimal count
+
+-- the answer to a command, by the reply to its call: `len` tells how many pairs there are, and `scan` tells the pairs
+abbrev pub reply_text : Command → Reply → List ℕ
+reply_text command Done = codes "ok"
+reply_text command (Value None) = codes "none"
+reply_text command (Value (Some value)) = codes "value " ++ hex_word value
+reply_text (Len id) (Pairs pairs) = count_text (length pairs.items)
+reply_text command (Pairs pairs) = pairs_text pairs.items
+reply_text command (Number count) = count_text count
+reply_text command (Refused error) = refusal_text error
 
 -- the answer to a line that is no command
 abbrev pub bad_line : List ℕ

@@ -3,7 +3,7 @@ use Rattle.std.specs.Prelude.{◌≡◌, ℕ, ◌==◌, ◌<◌, ◌^◌, if◌t
 use Rattle.std.specs.List.{onto_first, join_with_byte}
 use Rattle.hex.specs.Hex.{encode_lower, IsBytes}
 use Rattle.fjall_run.specs.declared.command.Command.{Command}
-use Rattle.fjall_run.specs.declared.command.Command.TheVariants.{Insert, Get, Persist, Crash, Reopen}
+use Rattle.fjall_run.specs.declared.command.Command.TheVariants.{Insert, Remove, RemoveWeak, Get, Len, Scan, Persist, Crash, Reopen}
 
 -- a line feed ends a line, and so does the end of the text
 abbrev pub lines_of : List ℕ → List (List ℕ)
@@ -18,7 +18,11 @@ hex_word (b ∷ rest) = encode_lower (b ∷ rest)
 -- the words of a command
 abbrev pub words_of : Command → List (List ℕ)
 words_of (Insert id key value) = codes "insert" ∷ decimal id ∷ hex_word key ∷ hex_word value ∷ []
+words_of (Remove id key) = codes "remove" ∷ decimal id ∷ hex_word key ∷ []
+words_of (RemoveWeak id key) = codes "remove_weak" ∷ decimal id ∷ hex_word key ∷ []
 words_of (Get id key) = codes "get" ∷ decimal id ∷ hex_word key ∷ []
+words_of (Len id) = codes "len" ∷ decimal id ∷ []
+words_of (Scan id) = codes "scan" ∷ decimal id ∷ []
 words_of Persist = codes "persist" ∷ []
 words_of (Crash keep) = codes "crash" ∷ decimal keep ∷ []
 words_of Reopen = codes "reopen" ∷ []
@@ -30,7 +34,11 @@ spelling command = join_with_byte 32 (words_of command)
 -- its numbers have 64 bits, its keys and values are bytes
 abbrev pub IsCommand : Command → Type 0
 IsCommand (Insert id key value) = (id < 2 ^ 64) × IsBytes key × IsBytes value
+IsCommand (Remove id key) = (id < 2 ^ 64) × IsBytes key
+IsCommand (RemoveWeak id key) = (id < 2 ^ 64) × IsBytes key
 IsCommand (Get id key) = (id < 2 ^ 64) × IsBytes key
+IsCommand (Len id) = id < 2 ^ 64
+IsCommand (Scan id) = id < 2 ^ 64
 IsCommand Persist = Unit {0}
 IsCommand (Crash keep) = keep < 2 ^ 64
 IsCommand Reopen = Unit {0}

@@ -1,6 +1,7 @@
 -- What a session prints: the answers to its commands, in turn.
-use Rattle.std.specs.Prelude.{◌≡◌, ℕ, Bool, true, false, List, [], ◌∷◌, ◌++◌, codes, Option, Some, None, All, ◌⊎◌}
+use Rattle.std.specs.Prelude.{◌≡◌, ℕ, ◌-◌, ◌^◌, Bool, true, false, List, [], ◌∷◌, ◌++◌, codes, Option, Some, None, All, ◌⊎◌}
 use Rattle.std.specs.List.{filter_map}
+use Rattle.std.specs.declared.ops.Bound.TheVariants.{Unbounded}
 use Rattle.fjall_base.specs.Disk.{Meaning}
 use Rattle.fjall_core.specs.Holding.{Held}
 use Rattle.fjall_core.specs.declared.call.Call.{Call}
@@ -8,15 +9,24 @@ use Rattle.fjall_core.specs.declared.call.Call.TheVariants as calls
 use Rattle.fjall_core.specs.declared.call.View.TheVariants.{Present}
 use Rattle.fjall_journal.specs.declared.persist_mode.PersistMode.TheVariants.{SyncAll}
 use Rattle.fjall_core.specs.declared.call.Reply.{Reply}
+use Rattle.fjall_core.specs.declared.call.Reply.TheVariants.{Done, Value, Pairs, Refused}
 use Rattle.fjall_run.specs.declared.command.Command.{Command}
-use Rattle.fjall_run.specs.declared.command.Command.TheVariants.{Insert, Get, Persist, Crash, Reopen}
+use Rattle.fjall_run.specs.declared.command.Command.TheVariants.{Insert, Remove, RemoveWeak, Get, Len, Scan, Persist, Crash, Reopen}
 use Rattle.fjall_run.specs.Answers.{reply_text, bad_line, text_of}
 use Rattle.fjall_run.specs.Machine.{RunsCalls, OpenedOn, Crashes, Reopens, IsClosed}
+
+-- the call for all pairs of a keyspace, in the order of their keys
+abbrev pub all_pairs : ℕ → Call
+all_pairs id = calls.PageAt Present id (Unbounded, Unbounded) false (2 ^ 64 - 1)
 
 -- the call that a line makes; none for one that is no command, a crash or a reopening
 abbrev pub call_of : Option Command → Option Call
 call_of (Some (Insert id key value)) = Some (calls.Insert id key value)
+call_of (Some (Remove id key)) = Some (calls.Remove id key)
+call_of (Some (RemoveWeak id key)) = Some (calls.RemoveWeak id key)
 call_of (Some (Get id key)) = Some (calls.GetAt Present id key)
+call_of (Some (Len id)) = Some (all_pairs id)
+call_of (Some (Scan id)) = Some (all_pairs id)
 call_of (Some Persist) = Some (calls.Persist SyncAll)
 call_of found = None
 
@@ -34,14 +44,26 @@ abbrev pub answers_to : List (Option Command) → List Reply → List (List ℕ)
 answers_to [] replies = []
 answers_to (None ∷ rest) replies = bad_line ∷ answers_to rest replies
 answers_to (Some command ∷ rest) [] = []
-answers_to (Some command ∷ rest) (reply ∷ replies) = reply_text reply ∷ answers_to rest replies
+answers_to (Some command ∷ rest) (reply ∷ replies) = reply_text command reply ∷ answers_to rest replies
 
--- what a line may be answered: the reply to a call, ok for a crash or a reopening
+-- what the call of a command may reply: what the command asks for, or a refusal
+abbrev pub IsReplyTo : Command → Reply → Type 0
+IsReplyTo command (Refused error) = Unit {0}
+IsReplyTo (Insert id key value) Done = Unit {0}
+IsReplyTo (Remove id key) Done = Unit {0}
+IsReplyTo (RemoveWeak id key) Done = Unit {0}
+IsReplyTo Persist Done = Unit {0}
+IsReplyTo (Get id key) (Value found) = Unit {0}
+IsReplyTo (Len id) (Pairs pairs) = Unit {0}
+IsReplyTo (Scan id) (Pairs pairs) = Unit {0}
+IsReplyTo command reply = ⊥
+
+-- what a line may be answered: the reply to its call, ok for a crash or a reopening
 abbrev pub IsSaid : Option Command → List ℕ → Type 0
 IsSaid None answer = answer ≡ bad_line
 IsSaid (Some (Crash keep)) answer = answer ≡ codes "ok"
 IsSaid (Some Reopen) answer = answer ≡ codes "ok"
-IsSaid (Some command) answer = (reply : Reply) × (answer ≡ reply_text reply)
+IsSaid (Some command) answer = (reply : Reply) × IsReplyTo command reply × (answer ≡ reply_text command reply)
 
 -- The answer to a line. The one for bad lines is given only where the line is no command.
 pub record IsAnswer (found : Option Command) (answer : List ℕ) : Type 0 where

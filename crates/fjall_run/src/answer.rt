@@ -2,9 +2,10 @@
 
 ghost use Rattle.std.specs.Prelude.{◌≡◌, IfOk, Some, string_bytes};
 ghost use Rattle.fjall_run.specs.Lines.{hex_word};
-ghost use Rattle.fjall_run.specs.Answers.{refusal_text, reply_text};
+ghost use Rattle.fjall_run.specs.Answers.{pairs_text, refusal_text, reply_text};
 
-use fjall_base::{Error, Slice};
+use crate::command::Command;
+use fjall_base::{Error, KvPair, Slice};
 use fjall_core::Reply;
 use std::alloc::{AllocError, Global};
 use std::fmt;
@@ -36,9 +37,23 @@ impl fmt::Display for Refusal {
     }
 }
 
-/// What a call is answered.
-pub fn answer(alloc: Global, reply: &Reply) -> Result<String, AllocError>
-    ensures { IfOk result (λ text. string_bytes text ≡ reply_text reply.now) }
+// Pairs as they are printed, each behind a space.
+fn pairs_text(alloc: Global, pairs: &[KvPair]) -> Result<String, AllocError>
+    ensures { IfOk result (λ text. string_bytes text ≡ pairs_text pairs.now) }
+{
+    let mut text = String::from_str(alloc, "pairs")?;
+    for (key, value) in pairs {
+        text.push_str(" ")?;
+        text.push_str(hex_word(alloc, key)?.as_str())?;
+        text.push_str("=")?;
+        text.push_str(hex_word(alloc, value)?.as_str())?;
+    }
+    Ok(text)
+}
+
+/// What a command is answered, by the reply to its call.
+pub fn answer(alloc: Global, command: &Command, reply: &Reply) -> Result<String, AllocError>
+    ensures { IfOk result (λ text. string_bytes text ≡ reply_text command.now reply.now) }
 {
     match reply {
         Reply::Done => String::from_str(alloc, "ok"),
@@ -47,6 +62,13 @@ pub fn answer(alloc: Global, reply: &Reply) -> Result<String, AllocError>
             let word = hex_word(alloc, value)?;
             format!(in alloc; "value {word}")
         }
+        Reply::Pairs(pairs) => match command {
+            Command::Len(_) => {
+                let count = pairs.len();
+                format!(in alloc; "count {count}")
+            }
+            _ => pairs_text(alloc, pairs.as_slice()),
+        },
         Reply::Number(count) => format!(in alloc; "count {count}"),
         Reply::Refused(error) => Refusal(*error).to_string(alloc),
     }

@@ -7,8 +7,16 @@ use fjall_base::{UserKey, UserValue};
 pub enum Command {
     /// `insert ID K V`: gives a key of a keyspace a value.
     Insert(u64, UserKey, UserValue),
+    /// `remove ID K`: takes a key of a keyspace and its value away.
+    Remove(u64, UserKey),
+    /// `remove_weak ID K`: the same, marked as weak in the journal.
+    RemoveWeak(u64, UserKey),
     /// `get ID K`: the value of a key.
     Get(u64, UserKey),
+    /// `len ID`: how many keys a keyspace has.
+    Len(u64),
+    /// `scan ID`: all pairs of a keyspace.
+    Scan(u64),
     /// `persist`: makes all that was written safe.
     Persist,
     /// `crash N`: of each file at most so many bytes that no sync has made safe are kept, and the

@@ -5,9 +5,13 @@
 mod answer;
 mod command;
 mod parse;
+#[cfg(test)]
+mod reference;
 mod run;
 mod script;
 mod session;
+#[cfg(test)]
+mod sweep;
 #[cfg(test)]
 mod tests;
 

@@ -7,7 +7,7 @@ ghost use Rattle.hex.specs.Hex.{IsBytes};
 ghost use Rattle.fjall_run.specs.Lines.{hex_word, Reads, Spells};
 
 use crate::command::Command;
-use fjall_base::Slice;
+use fjall_base::{Slice, UserKey};
 use hex::FromHexError;
 use std::alloc::{AllocError, Global};
 use std::str;
@@ -50,49 +50,80 @@ pub fn bytes(alloc: Global, word: &str) -> Result<Option<Slice>, AllocError>
     }
 }
 
-fn insert(alloc: Global, id: &str, key: &str, value: &str) -> Result<Option<Command>, AllocError>
-    ensures { IfOk result (λ found. Spells (codes "insert" ∷ id.now ∷ key.now ∷ value.now ∷ []) found) }
+// A keyspace's id and a key, where the words spell them.
+fn id_and_key(alloc: Global, id: &str, key: &str) -> Result<Option<(u64, UserKey)>, AllocError>
+    ensures spelled { IfOk result (λ found. IfSome found (λ both. (id.now ≡ decimal both.0) × (key.now ≡ hex_word both.1))) }
+    ensures all_found { IfOk result (λ found. (n : ℕ) (b : List ℕ) → n < 2 ^ 64 → IsBytes b → id.now ≡ decimal n → key.now ≡ hex_word b → found ≡ Some (n, b)) }
 {
     let Some(number) = number(id) else {
         return Ok(None);
     };
     let Some(key) = bytes(alloc, key)? else {
+        return Ok(None);
+    };
+    Ok(Some((number, key)))
+}
+
+fn insert(alloc: Global, id: &str, key: &str, value: &str) -> Result<Option<Command>, AllocError>
+    ensures { IfOk result (λ found. Spells (codes "insert" ∷ id.now ∷ key.now ∷ value.now ∷ []) found) }
+{
+    let Some((id, key)) = id_and_key(alloc, id, key)? else {
         return Ok(None);
     };
     let Some(value) = bytes(alloc, value)? else {
         return Ok(None);
     };
-    Ok(Some(Command::Insert(number, key, value)))
+    Ok(Some(Command::Insert(id, key, value)))
 }
 
-fn get(alloc: Global, id: &str, key: &str) -> Result<Option<Command>, AllocError>
-    ensures { IfOk result (λ found. Spells (codes "get" ∷ id.now ∷ key.now ∷ []) found) }
+// The command of one word.
+fn bare(word: &str) -> Option<Command>
+    ensures { Spells (word.now ∷ []) result }
 {
-    let Some(number) = number(id) else {
+    match word {
+        "persist" => Some(Command::Persist),
+        "reopen" => Some(Command::Reopen),
+        _ => None,
+    }
+}
+
+// The command of a word and a number.
+fn with_number(word: &str, number: &str) -> Option<Command>
+    ensures { Spells (word.now ∷ number.now ∷ []) result }
+{
+    let number = self::number(number)?;
+    match word {
+        "len" => Some(Command::Len(number)),
+        "scan" => Some(Command::Scan(number)),
+        "crash" => Some(Command::Crash(number)),
+        _ => None,
+    }
+}
+
+// The command of a word, a keyspace's id and a key.
+fn with_key(alloc: Global, word: &str, id: &str, key: &str) -> Result<Option<Command>, AllocError>
+    ensures { IfOk result (λ found. Spells (word.now ∷ id.now ∷ key.now ∷ []) found) }
+{
+    let Some((id, key)) = id_and_key(alloc, id, key)? else {
         return Ok(None);
     };
-    let Some(key) = bytes(alloc, key)? else {
-        return Ok(None);
-    };
-    Ok(Some(Command::Get(number, key)))
+    Ok(match word {
+        "remove" => Some(Command::Remove(id, key)),
+        "remove_weak" => Some(Command::RemoveWeak(id, key)),
+        "get" => Some(Command::Get(id, key)),
+        _ => None,
+    })
 }
 
-fn crash(keep: &str) -> Option<Command>
-    ensures { Spells (codes "crash" ∷ keep.now ∷ []) result }
-{
-    Some(Command::Crash(number(keep)?))
-}
-
-/// The command that these words spell, or none.
+// The command that these words spell, or none.
 fn command(alloc: Global, words: &[&str]) -> Result<Option<Command>, AllocError>
     ensures { IfOk result (λ found. Spells (map (λ word. word.now) words.now) found) }
 {
     match words {
+        [word] => Ok(bare(word)),
+        [word, number] => Ok(with_number(word, number)),
+        [word, id, key] => with_key(alloc, word, id, key),
         ["insert", id, key, value] => insert(alloc, id, key, value),
-        ["get", id, key] => get(alloc, id, key),
-        ["persist"] => Ok(Some(Command::Persist)),
-        ["crash", keep] => Ok(crash(keep)),
-        ["reopen"] => Ok(Some(Command::Reopen)),
         _ => Ok(None),
     }
 }

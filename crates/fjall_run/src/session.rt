@@ -5,13 +5,14 @@ ghost use Rattle.std.specs.List.{position};
 ghost use Rattle.fjall_run.specs.Answers.{text_of};
 ghost use Rattle.fjall_base.specs.MemoryDisk.{meaning_in};
 ghost use Rattle.fjall_run.specs.Machine.{OpenedOn, Crashes, Reopens};
-ghost use Rattle.fjall_run.specs.Sessions.{answers_to, call_of, calls_of, is_stop, PrintsAll, PrintsSome, Restarts, RunsFront};
+ghost use Rattle.fjall_run.specs.Sessions.{all_pairs, answers_to, call_of, calls_of, is_stop, PrintsAll, PrintsSome, Restarts, RunsFront};
 
 use crate::answer::{BAD_LINE, answer};
 use crate::command::Command;
 use fjall_base::{MemoryDisk, Result};
 use fjall_core::{Call, Config, Core, PersistMode, Reply, View};
 use std::alloc::{AllocError, Global};
+use std::ops::Bound;
 
 fn is_stop(found: &Option<Command>) -> bool
     ensures { result ≡ is_stop found.now }
@@ -26,6 +27,14 @@ fn first_stop(commands: &[Option<Command>]) -> Option<usize>
     commands.iter().position(|found| is_stop(found))
 }
 
+// The call for all pairs of a keyspace.
+fn all_pairs(id: u64) -> Call
+    ensures { result ≡ all_pairs id }
+{
+    let everywhere = (Bound::Unbounded, Bound::Unbounded);
+    Call::PageAt(View::Present, id, everywhere, false, usize::MAX)
+}
+
 fn call_of(found: &Option<Command>) -> std::result::Result<Option<Call>, AllocError>
     ensures { IfOk result (λ call. call ≡ call_of found.now) }
 {
@@ -33,6 +42,9 @@ fn call_of(found: &Option<Command>) -> std::result::Result<Option<Call>, AllocEr
         Some(Command::Insert(id, key, value)) => {
             Ok(Some(Call::Insert(*id, key.clone()?, value.clone()?)))
         }
+        Some(Command::Remove(id, key)) => Ok(Some(Call::Remove(*id, key.clone()?))),
+        Some(Command::RemoveWeak(id, key)) => Ok(Some(Call::RemoveWeak(*id, key.clone()?))),
+        Some(Command::Len(id) | Command::Scan(id)) => Ok(Some(all_pairs(*id))),
         Some(Command::Get(id, key)) => Ok(Some(Call::GetAt(View::Present, *id, key.clone()?))),
         Some(Command::Persist) => Ok(Some(Call::Persist(PersistMode::SyncAll))),
         _ => Ok(None),
@@ -67,11 +79,11 @@ fn answers_to(
     for found in commands {
         match found {
             None => text.push_str(BAD_LINE)?,
-            Some(_) => {
+            Some(command) => {
                 let Some((reply, more)) = left.split_first() else {
                     return Ok(text);
                 };
-                text.push_str(answer(alloc, reply)?.as_str())?;
+                text.push_str(answer(alloc, command, reply)?.as_str())?;
                 left = more;
             }
         }

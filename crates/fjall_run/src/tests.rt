@@ -95,6 +95,13 @@ fn other_lines_are_no_commands(rt: HostRuntime) {
         "get 1",
         "get x 61",
         "get\t1 61",
+        "remove 1",
+        "remove-weak 1 61",
+        "remove_weak 01 61",
+        "len",
+        "len 01",
+        "scan -",
+        "Scan 1",
         "persist ",
         "persist\r",
         "crash",
@@ -129,6 +136,51 @@ fn each_line_has_its_answer(rt: HostRuntime) {
         b"x\ncrash 0\ny\nreopen\nz\n",
         "error 0 BadLine\nok\nerror 0 BadLine\nok\nerror 0 BadLine\n",
     );
+}
+
+#[test]
+fn removed_keys_are_gone(rt: HostRuntime) {
+    let alloc = rt.alloc();
+    check(
+        &rt,
+        alloc,
+        b"insert 1 61 31\ninsert 1 62 32\nremove 1 61\nremove_weak 1 62\nlen 1\nget 1 61\nscan 1\n",
+        "ok\nok\nok\nok\ncount 0\nnone\npairs\n",
+    );
+    check(&rt, alloc, b"remove 1 -\n", "error 12 KeyEmpty\n");
+    check(
+        &rt,
+        alloc,
+        b"remove 1 61\nremove_weak 0 61\n",
+        "ok\nerror 19 UnknownKeyspace\n",
+    );
+}
+
+#[test]
+fn pairs_are_told_in_the_order_of_their_keys(rt: HostRuntime) {
+    let alloc = rt.alloc();
+    check(&rt, alloc, b"scan 1\nlen 1\n", "pairs\ncount 0\n");
+    check(
+        &rt,
+        alloc,
+        b"insert 1 62ff 3233\ninsert 1 61 31\nlen 1\nscan 1\n",
+        "ok\nok\ncount 2\npairs 61=31 62ff=3233\n",
+    );
+    check(&rt, alloc, b"insert 1 61 -\nscan 1\n", "ok\npairs 61=-\n");
+    check(
+        &rt,
+        alloc,
+        b"scan 2\nlen 0\n",
+        "error 19 UnknownKeyspace\nerror 19 UnknownKeyspace\n",
+    );
+}
+
+#[test]
+fn pairs_outlive_a_crash_and_a_reopening(rt: HostRuntime) {
+    let script =
+        b"insert 1 61 31\ninsert 1 62 32\nremove 1 61\ncrash 98\nscan 1\nremove 1 61\nreopen\nscan 1\nlen 1\n";
+    let want = "ok\nok\nok\nok\npairs 61=31 62=32\nok\nok\npairs 62=32\ncount 1\n";
+    check(&rt, rt.alloc(), script, want);
 }
 
 // Fails at the call of that number.

@@ -1,4 +1,4 @@
-use Rattle.std.proofs.Common.{◌≡◌, ap, ◌∙◌, subst, IfOk}
+use Rattle.std.proofs.Common.{◌≡◌, refl, ap, ◌∙◌, subst, IfOk}
 use Rattle.fjall_base.specs.declared.error.Error.TheVariants.{UnknownKeyspace}
 use Rattle.fjall_core.specs.declared.call.Call.TheVariants.{GetAt}
 use Rattle.fjall_core.specs.Holding.{Held}
@@ -8,11 +8,13 @@ use Rattle.fjall_core.proofs.engine.Core.get_at.Goals as goal
 
 pub returns-then-id-ne-KEYSPACE_ID-clause-owes : goal.returns-then-id-ne-KEYSPACE_ID-clause-owes
 returns-then-id-ne-KEYSPACE_ID-clause-owes g c =
-    due_owes c.args.self.now (GetAt c.args.view c.args.id c.args.key.now) UnknownKeyspace (unknown_due c.args.self.now c.args.view c.args.id c.args.key.now c.if-id-ne-KEYSPACE_ID.true)
+    let call = GetAt c.args.view c.args.id c.args.key.now in
+    due_owes c.args.self.now call UnknownKeyspace (unknown_due c.args.self.now call c.args.id refl c.if-id-ne-KEYSPACE_ID.true)
 
 pub returns-then-id-ne-KEYSPACE_ID-clause-serves : goal.returns-then-id-ne-KEYSPACE_ID-clause-serves
 returns-then-id-ne-KEYSPACE_ID-clause-serves g c = λ _.
-    due_serves c.args.self.now (GetAt c.args.view c.args.id c.args.key.now) UnknownKeyspace (unknown_due c.args.self.now c.args.view c.args.id c.args.key.now c.if-id-ne-KEYSPACE_ID.true)
+    let call = GetAt c.args.view c.args.id c.args.key.now in
+    due_serves c.args.self.now call UnknownKeyspace (unknown_due c.args.self.now call c.args.id refl c.if-id-ne-KEYSPACE_ID.true)
 
 pub returns-clause-owes : goal.returns-clause-owes
 returns-clause-owes g c =
