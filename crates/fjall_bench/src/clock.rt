@@ -1,0 +1,37 @@
+//! How long a piece of work took.
+
+use std::io;
+use std::rt::Clock;
+use std::time::{CpuClock, Duration, Instant};
+
+/// The time that a piece of work took, by the wall's clock and of the processor.
+#[derive(Clone, Copy, Debug, PartialEq, Eq)]
+pub struct Spent {
+    pub wall: Duration,
+    pub processor: Duration,
+}
+
+/// Runs since it was made.
+#[derive(Clone, Copy, Debug)]
+pub struct Stopwatch {
+    wall: Instant,
+    processor: Duration,
+}
+
+impl Stopwatch {
+    /// Starts now.
+    pub fn start<R: Clock + CpuClock>(rt: &R) -> io::Result<Stopwatch> {
+        Ok(Stopwatch {
+            wall: Instant::now(rt)?,
+            processor: rt.process_cpu_time()?,
+        })
+    }
+
+    /// The time since the start. Processor time that went back counts as none.
+    pub fn spent<R: Clock + CpuClock>(&self, rt: &R) -> io::Result<Spent> {
+        Ok(Spent {
+            wall: self.wall.elapsed(rt)?,
+            processor: rt.process_cpu_time()?.saturating_sub(self.processor),
+        })
+    }
+}

@@ -1,0 +1,48 @@
+//! The keys and values that are written: the same in each run.
+
+ghost use Rattle.std.specs.Prelude.{◌≡◌, IfOk, IsPermutation};
+ghost use Rattle.std.specs.List.{range_with_len};
+
+use rand::seq::SliceRandom;
+use rand_pcg::Pcg64Mcg;
+use std::alloc::{AllocError, Global};
+
+/// A key has 16 bytes.
+pub const KEY_LEN: usize = 16;
+
+/// A value has 100 bytes.
+pub const VALUE_LEN: usize = 100;
+
+/// The records of the machine's own limits have 150 bytes; the batch of one insert has 163.
+pub const RECORD_LEN: usize = 150;
+
+// The order of a random fill is drawn from this seed.
+const SEED: u128 = 0x0466_6a61_6c6c;
+
+/// The key of a number. Keys are in the order of their numbers.
+pub fn key_of(number: u64) -> [u8; KEY_LEN] {
+    u128::from(number).to_be_bytes()
+}
+
+/// The value of a number, which begins with it.
+pub fn value_of(number: u64) -> [u8; VALUE_LEN] {
+    let mut value = [0x76; VALUE_LEN];
+    value[..8].copy_from_slice(&number.to_be_bytes());
+    value
+}
+
+/// The numbers below `count` in ascending order.
+pub fn in_order(alloc: Global, count: u64) -> Result<Vec<u64>, AllocError>
+    ensures { IfOk result (λ numbers. numbers.items ≡ range_with_len 0 count) }
+{
+    (0..count).collect(alloc)
+}
+
+/// The numbers below `count` in an order that is the same in each run.
+pub fn at_random(alloc: Global, count: u64) -> Result<Vec<u64>, AllocError>
+    ensures { IfOk result (λ numbers. IsPermutation (range_with_len 0 count) numbers.items) }
+{
+    let mut numbers = in_order(alloc, count)?;
+    numbers.as_mut_slice().shuffle(&mut Pcg64Mcg::new(SEED));
+    Ok(numbers)
+}

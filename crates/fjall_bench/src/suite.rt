@@ -1,0 +1,149 @@
+//! All workloads, one after another.
+
+use crate::clock::{Spent, Stopwatch};
+use crate::data::{at_random, in_order};
+use crate::place::Place;
+use crate::report::Row;
+use crate::workload::{append_records, digest_records, fill, fill_synced, holds, open};
+use anyhow::{Result, bail};
+use fjall_base::Disk;
+use fjall_core::Core;
+use std::alloc::Global;
+use std::rt::Clock;
+use std::time::CpuClock;
+
+// So many writes are synced one by one at most.
+const SYNCED_WRITES: u64 = 500;
+
+/// Runs every workload with this count. What was done is told on standard output, the same in each run, and the
+/// table of times on standard error.
+pub fn run<R: Print + Eprint + Clock + CpuClock, P: Place>(
+    rt: &R,
+    alloc: Global,
+    place: &P,
+    count: u64,
+) -> Result<()> {
+    eprintln!(rt; "engine\tworkload\tcount\twall s\tprocessor s\toperations/s")?;
+    let ascending = in_order(alloc, count)?;
+    fill_and_reopen(
+        rt,
+        alloc,
+        place.disk(alloc, "order")?,
+        "fill in order",
+        &ascending,
+    )?;
+    let shuffled = at_random(alloc, count)?;
+    fill_and_reopen(
+        rt,
+        alloc,
+        place.disk(alloc, "random")?,
+        "fill at random",
+        &shuffled,
+    )?;
+    let few = in_order(alloc, count.min(SYNCED_WRITES))?;
+    sync_each(rt, alloc, place.disk(alloc, "sync")?, &few)?;
+    limits(rt, place.disk(alloc, "limits")?, count)
+}
+
+// Prints a row of the table.
+fn tell<R: Eprint>(
+    rt: &R,
+    engine: &'static str,
+    workload: &'static str,
+    count: u64,
+    spent: Spent,
+) -> Result<()> {
+    let row = Row {
+        engine,
+        workload,
+        count,
+        spent,
+    };
+    eprintln!(rt; "{row}")?;
+    Ok(())
+}
+
+// Says what a core holds, once its first and last pair were read back.
+fn check<R: Print, D: Disk>(
+    rt: &R,
+    core: &mut Core<D>,
+    workload: &'static str,
+    numbers: &[u64],
+) -> Result<()> {
+    for number in numbers.first().into_iter().chain(numbers.last()) {
+        if !holds(core, *number)? {
+            bail!("a pair is missing");
+        }
+    }
+    let (seqno, journal) = (core.visible_seqno(), core.journal_disk_space());
+    println!(rt; "{workload}: visible number {seqno}, journal {journal} bytes")?;
+    Ok(())
+}
+
+// Fills a new database, closes it and opens it again.
+fn fill_and_reopen<R: Print + Eprint + Clock + CpuClock, D: Disk + Drop>(
+    rt: &R,
+    alloc: Global,
+    disk: D,
+    workload: &'static str,
+    numbers: &[u64],
+) -> Result<()> {
+    let count = numbers.len() as u64;
+    let mut core = open(alloc, disk)?;
+    let watch = Stopwatch::start(rt)?;
+    fill(&mut core, numbers)?;
+    tell(rt, "pothvilai", workload, count, watch.spent(rt)?)?;
+    check(rt, &mut core, workload, numbers)?;
+
+    let (disk, closed) = core.close();
+    closed?;
+    let watch = Stopwatch::start(rt)?;
+    let mut core = open(alloc, disk)?;
+    tell(rt, "pothvilai", "reopen", count, watch.spent(rt)?)?;
+    check(rt, &mut core, "reopen", numbers)
+}
+
+// Writes a few pairs, each synced before the next.
+fn sync_each<R: Print + Eprint + Clock + CpuClock, D: Disk + Drop>(
+    rt: &R,
+    alloc: Global,
+    disk: D,
+    numbers: &[u64],
+) -> Result<()> {
+    let count = numbers.len() as u64;
+    let mut core = open(alloc, disk)?;
+    let watch = Stopwatch::start(rt)?;
+    fill_synced(&mut core, numbers)?;
+    tell(rt, "pothvilai", "one sync a write", count, watch.spent(rt)?)?;
+    check(rt, &mut core, "one sync a write", numbers)
+}
+
+// What the machine can do at best.
+fn limits<R: Print + Eprint + Clock + CpuClock, D: Disk + Drop>(
+    rt: &R,
+    disk: D,
+    count: u64,
+) -> Result<()> {
+    let mut disk = disk;
+    let watch = Stopwatch::start(rt)?;
+    append_records(&mut disk, count)?;
+    tell(
+        rt,
+        "disk alone",
+        "append 150 bytes",
+        count,
+        watch.spent(rt)?,
+    )?;
+
+    let watch = Stopwatch::start(rt)?;
+    let last = digest_records(count);
+    tell(
+        rt,
+        "sha2 alone",
+        "digest 150 bytes",
+        count,
+        watch.spent(rt)?,
+    )?;
+    println!(rt; "limits: {count} records, the last digest begins with {last}")?;
+    Ok(())
+}

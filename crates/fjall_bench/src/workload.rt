@@ -1,0 +1,60 @@
+//! What is done to an engine and to the machine below it.
+
+use crate::data::{RECORD_LEN, key_of, value_of};
+use fjall_base::{Disk, Result};
+use fjall_core::{Config, Core, PersistMode, View};
+use sha2::{Digest, Sha256};
+use std::alloc::Global;
+
+/// Inserts each number's pair, and hands all of it to the system.
+pub fn fill<D: Disk>(core: &mut Core<D>, numbers: &[u64]) -> Result<()> {
+    for number in numbers {
+        core.insert(1, &key_of(*number), &value_of(*number))?;
+    }
+    core.persist(PersistMode::Buffer)
+}
+
+/// Inserts each number's pair, and syncs the journal behind each.
+pub fn fill_synced<D: Disk>(core: &mut Core<D>, numbers: &[u64]) -> Result<()> {
+    for number in numbers {
+        core.insert(1, &key_of(*number), &value_of(*number))?;
+        core.persist(PersistMode::SyncAll)?;
+    }
+    Ok(())
+}
+
+/// Opens the engine on a disk.
+pub fn open<D: Disk + Drop>(alloc: Global, disk: D) -> Result<Core<D>> {
+    match Core::open(alloc, Config::new(alloc, "")?, disk) {
+        Ok(core) => Ok(core),
+        Err(refused) => Err(refused.error),
+    }
+}
+
+/// Whether the pair of a number is there.
+pub fn holds<D: Disk>(core: &mut Core<D>, number: u64) -> Result<bool> {
+    match core.get_at(View::Present, 1, &key_of(number))? {
+        Some(value) => Ok(value.as_slice() == value_of(number).as_slice()),
+        None => Ok(false),
+    }
+}
+
+/// Appends so many records to a file, one call of the disk for each.
+pub fn append_records<D: Disk>(disk: &mut D, count: u64) -> Result<()> {
+    disk.create("records")?;
+    for _ in 0..count {
+        disk.append("records", &[0x76; RECORD_LEN])?;
+    }
+    Ok(())
+}
+
+/// Takes the SHA-256 of so many records, and the first byte of the last one's.
+pub fn digest_records(count: u64) -> u8 {
+    let mut first = 0;
+    for number in 0..count {
+        let mut record = [0x76; RECORD_LEN];
+        record[..8].copy_from_slice(&number.to_be_bytes());
+        first = Sha256::digest(&record)[0];
+    }
+    first
+}

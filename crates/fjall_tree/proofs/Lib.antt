@@ -1,0 +1,10 @@
+pub mod Codecs
+pub mod Texts
+pub mod Loops
+pub mod Records
+pub mod RecordCodecs
+pub mod Frames
+pub mod Lists
+pub mod Currents
+pub mod Damages
+pub mod BlockParts

@@ -1,0 +1,140 @@
+//! A record from bytes.
+
+ghost use Rattle.std.specs.Prelude.{◌≡◌, ◌≤◌, ◌<◌, ◌^◌, ℕ, List, length, IfOk, IfErr, IsOkUnless, IsTrue, ◌↔◌};
+ghost use Rattle.fjall_base.specs.declared.error.StorageError.TheVariants.{RecordDamaged};
+ghost use Rattle.fjall_tree.specs.Reading.{Shows, Gives, DamagedWhere, number_at, many_at};
+ghost use Rattle.fjall_tree.specs.Records.{view, level_of, optional_at, table_at, numbers_at, body_of, body, IsRecord, IsNoBody};
+
+use crate::fields::{u8_of, u32_of, u64_of};
+use crate::level::Level;
+use crate::record::{Numbers, Record, TableInfo};
+use fjall_base::{Error, Result, StorageError};
+use std::alloc::Global;
+
+const DAMAGED: Error = Error::Storage(StorageError::RecordDamaged);
+
+#[tactic(auto, unfolding(crate::specs::Records::optional_at))]
+fn optional_of(bytes: &[u8]) -> Option<(Option<u64>, &[u8])>
+    ensures { Shows (λ x. (x.0, x.1.now)) result (optional_at bytes.now) }
+{
+    let (flag, rest) = u8_of(bytes)?;
+    let (number, rest) = u64_of(rest)?;
+    match (flag, number) {
+        (1, number) => Some((Some(number), rest)),
+        (0, 0) => Some((None, rest)),
+        _ => None,
+    }
+}
+
+fn level_named(b: u8) -> Option<Level>
+    ensures { result ≡ level_of b }
+{
+    match b {
+        0 => Some(Level::L0),
+        1 => Some(Level::L1),
+        _ => None,
+    }
+}
+
+#[tactic(auto, unfolding(crate::specs::Records::table_at))]
+fn table_of(bytes: &[u8]) -> Option<(TableInfo, &[u8])>
+    ensures { Shows (λ x. (x.0, x.1.now)) result (table_at bytes.now) }
+{
+    let (id, rest) = u64_of(bytes)?;
+    let (level, rest) = u8_of(rest)?;
+    let level = level_named(level)?;
+    let (file_len, rest) = u64_of(rest)?;
+    let (entry_count, rest) = u64_of(rest)?;
+    let table = TableInfo {
+        id,
+        level,
+        file_len,
+        entry_count,
+    };
+    Some((table, rest))
+}
+
+/// That many tables. Their count isn't trusted: memory grows with what was read.
+fn tables_of(alloc: Global, count: u32, bytes: &[u8]) -> Result<(Vec<TableInfo>, &[u8])>
+    ensures { Gives RecordDamaged (λ x. (x.0.items, x.1.now)) result (many_at table_at count bytes.now) }
+{
+    let mut tables = Vec::new(alloc);
+    let mut rest = bytes;
+    for _ in 0..count {
+        let Some((table, after)) = table_of(rest) else {
+            return Err(DAMAGED);
+        };
+        tables.push(table)?;
+        rest = after;
+    }
+    Ok((tables, rest))
+}
+
+fn clears_of(alloc: Global, count: u32, bytes: &[u8]) -> Result<(Vec<u64>, &[u8])>
+    ensures { Gives RecordDamaged (λ x. (x.0.items, x.1.now)) result (many_at (number_at 8) count bytes.now) }
+{
+    let mut clears = Vec::new(alloc);
+    let mut rest = bytes;
+    for _ in 0..count {
+        let Some((clear, after)) = u64_of(rest) else {
+            return Err(DAMAGED);
+        };
+        clears.push(clear)?;
+        rest = after;
+    }
+    Ok((clears, rest))
+}
+
+#[tactic(auto, unfolding(crate::specs::Records::numbers_at))]
+fn numbers_of(bytes: &[u8]) -> Option<(Numbers, &[u8])>
+    ensures { Shows (λ x. (x.0, x.1.now)) result (numbers_at bytes.now) }
+{
+    let (1, rest) = u8_of(bytes)? else {
+        return None;
+    };
+    let (persisted, rest) = optional_of(rest)?;
+    let (highest, rest) = optional_of(rest)?;
+    let (next_table_id, rest) = u64_of(rest)?;
+    let (next_keyspace_id, rest) = u64_of(rest)?;
+    let numbers = Numbers {
+        persisted,
+        highest,
+        next_table_id,
+        next_keyspace_id,
+    };
+    Some((numbers, rest))
+}
+
+#[tactic(auto, unfolding(crate::specs::Records::body_of))]
+fn parse_body(alloc: Global, bytes: &[u8]) -> Result<Record>
+    ensures { Gives RecordDamaged view result (body_of bytes.now) }
+{
+    let (numbers, rest) = numbers_of(bytes).ok_or(DAMAGED)?;
+    let (table_count, rest) = u32_of(rest).ok_or(DAMAGED)?;
+    let (tables, rest) = tables_of(alloc, table_count, rest)?;
+    let (clear_count, rest) = u32_of(rest).ok_or(DAMAGED)?;
+    let (clears, rest) = clears_of(alloc, clear_count, rest)?;
+    if !rest.is_empty() {
+        return Err(DAMAGED);
+    }
+    Ok(Record {
+        persisted: numbers.persisted,
+        highest: numbers.highest,
+        next_table_id: numbers.next_table_id,
+        next_keyspace_id: numbers.next_keyspace_id,
+        tables,
+        clears,
+    })
+}
+
+/// The record that a body spells.
+pub(crate) fn record_of(alloc: Global, payload: &[u8]) -> Result<Record>
+    ensures is { IfOk result (λ r. length payload.now < 2 ^ 32 → IsRecord (view r) × (payload.now ≡ body (view r))) }
+    ensures damaged { IfErr result (DamagedWhere RecordDamaged (IsNoBody payload.now)) }
+{
+    let record = parse_body(alloc, payload)?;
+    if !record.is_consistent(alloc)? {
+        return Err(DAMAGED);
+    }
+    Ok(record)
+}

@@ -1,0 +1,36 @@
+//! A payload between its length and the check of both.
+
+ghost use Rattle.std.specs.Prelude.{◌≡◌, ◌⊎◌, ◌≤◌, ◌+◌, length, IfSome};
+ghost use Rattle.fjall_tree.specs.Reading.{Shows, number_at, frame_at};
+
+use crate::check::is_check;
+use crate::fields::{bytes_of, u32_of, u64_of};
+
+/// A length of that many bytes, four or eight.
+fn len_of(bytes: &[u8], width: usize) -> Option<(usize, &[u8])>
+    requires { (width ≡ 4) ⊎ (width ≡ 8) }
+    ensures { Shows (λ x. (x.0, x.1.now)) result (number_at width bytes.now) }
+{
+    if width == 4 {
+        let (len, rest) = u32_of(bytes)?;
+        Some((len as usize, rest))
+    } else {
+        let (len, rest) = u64_of(bytes)?;
+        Some((len as usize, rest))
+    }
+}
+
+/// The payload of the frame at the front, and the bytes after the frame, where its check is right.
+#[tactic(auto, unfolding(crate::specs::Reading::frame_at))]
+pub(crate) fn frame_of(bytes: &[u8], width: usize) -> Option<(&[u8], &[u8])>
+    requires { (width ≡ 4) ⊎ (width ≡ 8) }
+    ensures { Shows (λ x. (x.0.now, x.1.now)) result (frame_at width bytes.now) }
+{
+    let (len, rest) = len_of(bytes, width)?;
+    let (payload, rest) = bytes_of(rest, len)?;
+    let (sum, rest) = bytes_of(rest, 8)?;
+    if !is_check(sum, &bytes[..width + len]) {
+        return None;
+    }
+    Some((payload, rest))
+}

@@ -1,0 +1,27 @@
+//! The formats below the journal, as bytes and back: records of a keyspace's `current`, and the data blocks of tables.
+#![tactic(auto)]
+
+mod block;
+mod check;
+mod consistency;
+mod current;
+mod decoding;
+mod encoding;
+mod fields;
+mod frame;
+mod laws;
+mod level;
+mod record;
+#[cfg(test)]
+mod tests;
+mod version;
+
+pub use block::{BLOCK_BYTES, read_block};
+pub use current::{Current, read_current};
+pub use laws::{
+    cut_reads, no_records_with_a_contradiction, one_list_of_records, records_grow,
+    texts_are_records,
+};
+pub use level::Level;
+pub use record::{Record, TableInfo};
+pub use version::Version;
