@@ -1,5 +1,5 @@
 -- Each line has an answer, and the one for bad lines is given to no command.
-use Rattle.std.proofs.Common.{◌≡◌, ℕ, ◌<◌, ◌^◌, false, List, [], ◌∷◌, ◌++◌, length, drop, get_or, Option, Some, None, refl, sym, ap, ◌∙◌, append_assoc, codes, decimal, arith, lit<}
+use Rattle.std.proofs.Common.{◌≡◌, ℕ, ◌<◌, ◌^◌, Bool, false, List, [], ◌∷◌, ◌++◌, length, drop, get_or, Option, Some, None, refl, sym, ap, ◌∙◌, append_assoc, codes, decimal, arith, lit<}
 use Rattle.std.specs.Prelude.{All, IfSome}
 use Rattle.std.specs.List.{AllZip}
 use Rattle.std.proofs.lemmas.List.{append-nil}
@@ -146,32 +146,32 @@ AllZip-append (c ∷ a) b [] y h g = absurd h
 AllZip-append (c ∷ a) b (p ∷ x) y h g = (h.0, AllZip-append a b x y h.1 g)
 
 -- a crash or a reopening is answered by ok, which is no bad line
-ok_answer : (stop : Option Command) (old new : Held) → Restarts stop old new → IsAnswer stop (codes "ok")
-ok_answer (Some (Crash keep)) old new h = record { said = refl; bad = λ e. absurd (not_bad Reopen Done e) }
-ok_answer (Some Reopen) old new h = record { said = refl; bad = λ e. absurd (not_bad Reopen Done e) }
-ok_answer (Some (Insert id key value)) old new h = absurd h
-ok_answer (Some (Remove id key)) old new h = absurd h
-ok_answer (Some (RemoveWeak id key)) old new h = absurd h
-ok_answer (Some (Get id key)) old new h = absurd h
-ok_answer (Some (Len id)) old new h = absurd h
-ok_answer (Some (Scan id)) old new h = absurd h
-ok_answer (Some Persist) old new h = absurd h
-ok_answer None old new h = absurd h
+ok_answer : (honest : Bool) (stop : Option Command) (old new : Held) → Restarts honest stop old new → IsAnswer stop (codes "ok")
+ok_answer honest (Some (Crash keep)) old new h = record { said = refl; bad = λ e. absurd (not_bad Reopen Done e) }
+ok_answer honest (Some Reopen) old new h = record { said = refl; bad = λ e. absurd (not_bad Reopen Done e) }
+ok_answer honest (Some (Insert id key value)) old new h = absurd h
+ok_answer honest (Some (Remove id key)) old new h = absurd h
+ok_answer honest (Some (RemoveWeak id key)) old new h = absurd h
+ok_answer honest (Some (Get id key)) old new h = absurd h
+ok_answer honest (Some (Len id)) old new h = absurd h
+ok_answer honest (Some (Scan id)) old new h = absurd h
+ok_answer honest (Some Persist) old new h = absurd h
+ok_answer honest None old new h = absurd h
 
 -- the commands that a session has gone through have an answer each
-answered : (commands rest : List (Option Command)) (core : Held) (printed : List (List ℕ)) → Session commands core printed rest
+answered : (honest : Bool) (commands rest : List (Option Command)) (core : Held) (printed : List (List ℕ)) → Session honest commands core printed rest
     → (front : List (Option Command)) × (commands ≡ front ++ rest) × AllZip IsAnswer front printed
-answered commands _ _ _ (begun disk core new h) = ([], refl, tt)
-answered commands _ _ _ (run old new printed lines rest replies s calls stop runs) =
-    let so_far = answered commands (lines ++ rest) old printed s in
+answered honest commands _ _ _ (begun core h) = ([], refl, tt)
+answered honest commands _ _ _ (run old new printed lines rest replies s calls stop runs) =
+    let so_far = answered honest commands (lines ++ rest) old printed s in
     let here = front_answers lines replies old new calls runs.owes in
     (so_far.0 ++ lines, so_far.1 ∙ sym (append_assoc so_far.0 lines rest), AllZip-append so_far.0 lines printed (answers_to lines replies) so_far.2 here)
-answered commands _ _ _ (restarted old new printed stop rest s r) =
-    let so_far = answered commands (stop ∷ rest) old printed s in
-    (so_far.0 ++ stop ∷ [], so_far.1 ∙ sym (append_assoc so_far.0 (stop ∷ []) rest), AllZip-append so_far.0 (stop ∷ []) printed (codes "ok" ∷ []) so_far.2 (ok_answer stop old new r, tt))
+answered honest commands _ _ _ (restarted old new printed stop rest s r) =
+    let so_far = answered honest commands (stop ∷ rest) old printed s in
+    (so_far.0 ++ stop ∷ [], so_far.1 ∙ sym (append_assoc so_far.0 (stop ∷ []) rest), AllZip-append so_far.0 (stop ∷ []) printed (codes "ok" ∷ []) so_far.2 (ok_answer honest stop old new r, tt))
 
-pub all_answered : (commands : List (Option Command)) (core : Held) (printed : List (List ℕ)) → Session commands core printed [] → AllZip IsAnswer commands printed
-all_answered commands core printed s =
-    let h = answered commands [] core printed s in
+pub all_answered : (honest : Bool) (commands : List (Option Command)) (core : Held) (printed : List (List ℕ)) → Session honest commands core printed [] → AllZip IsAnswer commands printed
+all_answered honest commands core printed s =
+    let h = answered honest commands [] core printed s in
     let same : commands ≡ h.0 = h.1 ∙ append-nil h.0 in
     rw same h.2

@@ -57,11 +57,11 @@ end_is commands stop h =
       | inr past ↦ let last : length commands ≡ position_or_len is_stop commands = omega arith in grind (arith, h, last)
     ]
 
-pub runs_front : (commands front rest : List (Option Command)) (stop : Option ℕ) (end : ℕ) (core after : Held) (calls : List Call) (replies shown : List Reply) (old new : List ℕ)
+pub runs_front : (honest : Bool) (commands front rest : List (Option Command)) (stop : Option ℕ) (end : ℕ) (core after : Held) (calls : List Call) (replies shown : List Reply) (old new : List ℕ)
     → stop ≡ position is_stop commands → end ≡ unwrap_or stop (length commands) → front ≡ take end commands → rest ≡ drop end commands
-    → calls ≡ calls_of front → RunsCalls core calls replies after → shown ≡ replies → new ≡ old ++ text_of (answers_to front shown)
-    → RunsFront commands rest core after old new
-runs_front commands front rest stop end core after calls replies shown old new found at before behind made runs same text =
+    → calls ≡ calls_of front → RunsCalls honest core calls replies after → shown ≡ replies → new ≡ old ++ text_of (answers_to front shown)
+    → RunsFront honest commands rest core after old new
+runs_front honest commands front rest stop end core after calls replies shown old new found at before behind made runs same text =
     let end' = at ∙ end_is commands stop found in
     let parts = front_at commands end end' in record {
       lines = front;

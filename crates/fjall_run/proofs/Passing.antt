@@ -1,5 +1,5 @@
 -- A session goes on: calls are run, and the core opens again.
-use Rattle.std.proofs.Common.{◌≡◌, ℕ, List, [], ◌∷◌, ◌++◌, Option, sym, ap, ◌∙◌, append_assoc, codes, subst, length, Result, Ok, Err, inr, arith}
+use Rattle.std.proofs.Common.{◌≡◌, ℕ, Bool, IsTrue, List, [], ◌∷◌, ◌++◌, Option, sym, ap, ◌∙◌, append_assoc, codes, subst, length, Result, Ok, Err, inr, arith}
 use Rattle.std.specs.Prelude.{OnOk, OnErr}
 use Rattle.std.proofs.lemmas.List.{append-nil}
 use Rattle.std.proofs.lemmas.List.Concat.{flat_map-append}
@@ -9,8 +9,8 @@ use Rattle.fjall_run.specs.Answers.{text_of}
 use Rattle.fjall_base.specs.Disk.{Meaning}
 use Rattle.fjall_base.specs.declared.error.Error.{Error}
 use Rattle.fjall_core.specs.Holding.{Held}
-use Rattle.fjall_run.specs.Machine.{OpenedOn, IsClosed}
-use Rattle.fjall_run.specs.Sessions.{answers_to, IsNew, Session, begun, run, restarted, Restarts, Prints, PrintsAll, PrintsSome, RunsFront}
+use Rattle.fjall_run.specs.Machine.{Begins, IsClosed}
+use Rattle.fjall_run.specs.Sessions.{answers_to, Session, begun, run, restarted, Restarts, Prints, PrintsAll, PrintsSome, RunsFront}
 
 text_of-append : (a b : List (List ℕ)) → text_of (a ++ b) ≡ text_of a ++ text_of b
 text_of-append a b = flat_map-append (λ (line : List ℕ). line ++ 10 ∷ []) a b
@@ -20,23 +20,23 @@ grown : (a b : List (List ℕ)) (start old new : List ℕ) → old ≡ start ++ 
 grown a b start old new h g =
     g ∙ ap (λ (t : List ℕ). t ++ text_of b) h ∙ append_assoc start (text_of a) (text_of b) ∙ ap (λ (t : List ℕ). start ++ t) (sym (text_of-append a b))
 
-pub prints_none : (commands : List (Option Command)) (disk : Meaning) (core : Held) (text : List ℕ) → IsNew disk → OpenedOn disk core → Prints commands core commands text text
-prints_none commands disk core text new h = record { printed = []; session = begun disk core new h; text = sym (append-nil text) }
+pub prints_none : (honest : Bool) (commands : List (Option Command)) (core : Held) (text : List ℕ) → Begins honest core → Prints honest commands core commands text text
+prints_none honest commands core text h = record { printed = []; session = begun core h; text = sym (append-nil text) }
 
-pub prints_run : (commands front rest : List (Option Command)) (core after : Held) (start old new : List ℕ)
-    → Prints commands core front start old → RunsFront front rest core after old new → Prints commands after rest start new
-prints_run commands front rest core after start old new p r =
-    let here : Session commands core p.printed (r.lines ++ rest) = (let P : List (Option Command) → Type 0 = λ left. Session commands core p.printed left in subst P r.split p.session) in
+pub prints_run : (honest : Bool) (commands front rest : List (Option Command)) (core after : Held) (start old new : List ℕ)
+    → Prints honest commands core front start old → RunsFront honest front rest core after old new → Prints honest commands after rest start new
+prints_run honest commands front rest core after start old new p r =
+    let here : Session honest commands core p.printed (r.lines ++ rest) = (let P : List (Option Command) → Type 0 = λ left. Session honest commands core p.printed left in subst P r.split p.session) in
     record {
       printed = p.printed ++ answers_to r.lines r.replies;
       session = run core after p.printed r.lines rest r.replies here r.calls_alone r.stop r.runs;
       text = grown p.printed (answers_to r.lines r.replies) start old new p.text r.text;
     }
 
-pub prints_stop : (commands : List (Option Command)) (stop : Option Command) (left rest : List (Option Command)) (core after : Held) (start old new : List ℕ)
-    → Prints commands core left start old → left ≡ stop ∷ rest → Restarts stop core after → new ≡ old ++ text_of (codes "ok" ∷ []) → Prints commands after rest start new
-prints_stop commands stop left rest core after start old new p split r t =
-    let here : Session commands core p.printed (stop ∷ rest) = (let P : List (Option Command) → Type 0 = λ l. Session commands core p.printed l in subst P split p.session) in
+pub prints_stop : (honest : Bool) (commands : List (Option Command)) (stop : Option Command) (left rest : List (Option Command)) (core after : Held) (start old new : List ℕ)
+    → Prints honest commands core left start old → left ≡ stop ∷ rest → Restarts honest stop core after → new ≡ old ++ text_of (codes "ok" ∷ []) → Prints honest commands after rest start new
+prints_stop honest commands stop left rest core after start old new p split r t =
+    let here : Session honest commands core p.printed (stop ∷ rest) = (let P : List (Option Command) → Type 0 = λ l. Session honest commands core p.printed l in subst P split p.session) in
     record {
       printed = p.printed ++ codes "ok" ∷ [];
       session = restarted core after p.printed stop rest here r;
@@ -44,22 +44,22 @@ prints_stop commands stop left rest core after start old new p split r t =
     }
 
 -- a part that was not added
-pub prints_same : (commands rest : List (Option Command)) (core : Held) (start old new : List ℕ) → Prints commands core rest start old → new ≡ old → Prints commands core rest start new
-prints_same commands rest core start old new p same = record { printed = p.printed; session = p.session; text = same ∙ p.text }
+pub prints_same : (honest : Bool) (commands rest : List (Option Command)) (core : Held) (start old new : List ℕ) → Prints honest commands core rest start old → new ≡ old → Prints honest commands core rest start new
+prints_same honest commands rest core start old new p same = record { printed = p.printed; session = p.session; text = same ∙ p.text }
 
-pub prints_some : {A E : Type 0} (commands rest : List (Option Command)) (core : Held) (start new : List ℕ) (r : Result A E) → Prints commands core rest start new
-    → OnErr r (PrintsSome commands start new)
-prints_some commands rest core start new (Ok x) p = tt
-prints_some commands rest core start new (Err e) p = inr (core, (rest, p))
+pub prints_some : {A E : Type 0} (honest : Bool) (commands rest : List (Option Command)) (core : Held) (start new : List ℕ) (r : Result A E) → Prints honest commands core rest start new
+    → OnErr r (PrintsSome honest commands start new)
+prints_some honest commands rest core start new (Ok x) p = tt
+prints_some honest commands rest core start new (Err e) p = inr (core, (rest, p))
 
 -- nothing is left
-pub prints_to_end : (commands rest : List (Option Command)) (core : Held) (start new : List ℕ) (r : Result Unit Error) → Prints commands core rest start new → length rest ≡ 0
-    → OnOk r (IsClosed core) → OnOk r (PrintsAll commands start new)
-prints_to_end commands [] core start new (Ok x) p none closed = record { core = core; prints = p; closed = closed }
-prints_to_end commands (found ∷ rest) core start new (Ok x) p none closed = absurd (omega arith)
-prints_to_end commands rest core start new (Err e) p none closed = tt
+pub prints_to_end : (honest : Bool) (commands rest : List (Option Command)) (core : Held) (start new : List ℕ) (r : Result Unit Error) → Prints honest commands core rest start new → length rest ≡ 0
+    → OnOk r (IsClosed honest core) → OnOk r (PrintsAll honest commands start new)
+prints_to_end honest commands [] core start new (Ok x) p none closed = record { core = core; prints = p; closed = closed }
+prints_to_end honest commands (found ∷ rest) core start new (Ok x) p none closed = absurd (omega arith)
+prints_to_end honest commands rest core start new (Err e) p none closed = tt
 
 -- what a closing leaves, where it was not refused
-pub closed : (core : Held) (r : Result Unit Error) (disk : Meaning) → OwesClosing core r disk → ClosesDisk core r disk → OnOk r (IsClosed core)
-closed core (Ok done) disk owes took = record { disk = disk; closes = record { owes = owes; took = took } }
-closed core (Err error) disk owes took = tt
+pub closed : (honest : Bool) (core : Held) (r : Result Unit Error) (disk : Meaning) → OwesClosing core r disk → (IsTrue honest → ClosesDisk core r disk) → OnOk r (IsClosed honest core)
+closed honest core (Ok done) disk owes took = record { disk = disk; closes = record { owes = owes; took = took } }
+closed honest core (Err error) disk owes took = tt

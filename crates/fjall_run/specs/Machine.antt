@@ -1,5 +1,6 @@
--- The core in memory, as a session drives it: what it holds, before and after.
-use Rattle.std.specs.Prelude.{◌≡◌, ℕ, List, Result, Ok}
+-- The core, as a session drives it: what it holds, before and after. Over a disk that returns what it holds, as the one
+-- in memory does, all is said that the core promises; over another one, as a folder, what needs no such premise.
+use Rattle.std.specs.Prelude.{◌≡◌, ℕ, Bool, IsTrue, [], List, Result, Ok}
 use Rattle.fjall_base.specs.Crash.{crashed}
 use Rattle.fjall_base.specs.Disk.{Meaning, disk_of, state_in}
 use Rattle.fjall_base.specs.declared.error.Error.{Error}
@@ -12,36 +13,48 @@ use Rattle.fjall_core.specs.declared.call.Reply.{Reply}
 
 -- The replies are those of a run of the engine, whichever state the core stood for, and each is owed by
 -- what the core held.
-pub record RunsCalls (old : Held) (calls : List Call) (replies : List Reply) (new : Held) : Type 0 where
-  pub runs : Runs old calls replies new
+pub record RunsCalls (honest : Bool) (old : Held) (calls : List Call) (replies : List Reply) (new : Held) : Type 0 where
+  pub runs : IsTrue honest → Runs old calls replies new
   pub owes : OwesAll old calls replies new
 
 -- A core that was opened on this disk: it stands for what the journal's text says, and the disk took what
 -- opening does.
-pub record OpenedOn (disk : Meaning) (core : Held) : Type 0 where
-  pub text : OpensOn (journal_text disk) core
-  pub repaired : Repaired disk core.disk
+pub record OpenedOn (honest : Bool) (disk : Meaning) (core : Held) : Type 0 where
+  pub text : IsTrue honest → OpensOn (journal_text disk) core
+  pub repaired : IsTrue honest → Repaired disk core.disk
   pub stands : (store : Store) × (next : ℕ) × Opens core store next
 
--- a core that was opened on what a crash of the old one's disk left, so many unsynced bytes of each file
-pub record Crashes (keep : ℕ) (old new : Held) : Type 0 where
+-- nothing was ever put on the disk
+abbrev pub IsNew : Meaning → Type 0
+IsNew disk = disk ≡ record { places = []; steps = []; faults = 0 }
+
+-- a core that a session begins with: in memory, over a new disk
+pub record Begins (honest : Bool) (core : Held) : Type 0 where
   pub disk : Meaning
-  pub left : state_in disk ≡ disk_of (crashed keep (state_in old.disk))
-  pub opened : OpenedOn disk new
+  pub fresh : IsTrue honest → IsNew disk
+  pub opened : OpenedOn honest disk core
+
+-- a core that was opened on what a crash of the old one's disk left, so many unsynced bytes of each file
+pub record Crashes (honest : Bool) (keep : ℕ) (old new : Held) : Type 0 where
+  pub disk : Meaning
+  pub left : IsTrue honest → state_in disk ≡ disk_of (crashed keep (state_in old.disk))
+  pub opened : OpenedOn honest disk new
 
 -- the core's disk after a closing, answered or refused
-pub record Closes (core : Held) (result : Result Unit Error) (disk : Meaning) : Type 0 where
+pub record Closes (honest : Bool) (core : Held) (result : Result Unit Error) (disk : Meaning) : Type 0 where
   pub owes : OwesClosing core result disk
-  pub took : ClosesDisk core result disk
+  pub took : IsTrue honest → ClosesDisk core result disk
 
--- a core that was opened on the disk of the old one, which was closed, with success or not
-pub record Reopens (old new : Held) : Type 0 where
+-- a core that was opened again on the disk of the old one, which was closed, with success or not
+pub record Reopens (honest : Bool) (old new : Held) : Type 0 where
   pub closing : Result Unit Error
+  pub closed : Meaning
+  pub closes : Closes honest old closing closed
   pub disk : Meaning
-  pub closes : Closes old closing disk
-  pub opened : OpenedOn disk new
+  pub same : IsTrue honest → disk ≡ closed
+  pub opened : OpenedOn honest disk new
 
 -- the core was closed
-pub record IsClosed (core : Held) : Type 0 where
+pub record IsClosed (honest : Bool) (core : Held) : Type 0 where
   pub disk : Meaning
-  pub closes : Closes core (Ok tt) disk
+  pub closes : Closes honest core (Ok tt) disk

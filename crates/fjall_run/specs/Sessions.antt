@@ -2,7 +2,8 @@
 use Rattle.std.specs.Prelude.{◌≡◌, ℕ, ◌-◌, ◌^◌, Bool, true, false, List, [], ◌∷◌, ◌++◌, codes, Option, Some, None, All, ◌⊎◌}
 use Rattle.std.specs.List.{filter_map}
 use Rattle.std.specs.declared.ops.Bound.TheVariants.{Unbounded}
-use Rattle.fjall_base.specs.Disk.{Meaning}
+use Rattle.fjall_base.specs.Crash.{crashed}
+use Rattle.fjall_base.specs.Disk.{Meaning, disk_of, state_in}
 use Rattle.fjall_core.specs.Holding.{Held}
 use Rattle.fjall_core.specs.declared.call.Call.{Call}
 use Rattle.fjall_core.specs.declared.call.Call.TheVariants as calls
@@ -13,7 +14,7 @@ use Rattle.fjall_core.specs.declared.call.Reply.TheVariants.{Done, Value, Pairs,
 use Rattle.fjall_run.specs.declared.command.Command.{Command}
 use Rattle.fjall_run.specs.declared.command.Command.TheVariants.{Insert, Remove, RemoveWeak, Get, Len, Scan, Persist, Crash, Reopen}
 use Rattle.fjall_run.specs.Answers.{reply_text, bad_line, text_of}
-use Rattle.fjall_run.specs.Machine.{RunsCalls, OpenedOn, Crashes, Reopens, IsClosed}
+use Rattle.fjall_run.specs.Machine.{RunsCalls, Begins, Crashes, Reopens, IsClosed}
 
 -- the call for all pairs of a keyspace, in the order of their keys
 abbrev pub all_pairs : ℕ → Call
@@ -75,49 +76,50 @@ abbrev pub IsAtStop : List (Option Command) → Type 0
 IsAtStop [] = Unit {0}
 IsAtStop (found ∷ rest) = is_stop found ≡ true
 
--- nothing was ever put on the disk
-abbrev pub IsNew : Meaning → Type 0
-IsNew disk = disk ≡ record { places = []; steps = []; faults = 0 }
+-- what a crash leaves of a disk, so many unsynced bytes of each file, or the same disk at a reopening
+abbrev pub Leaves : Option Command → Meaning → Meaning → Type 0
+Leaves (Some (Crash keep)) old new = state_in new ≡ disk_of (crashed keep (state_in old))
+Leaves stop old new = new ≡ old
 
 -- the line opens the core again, after a crash or not
-abbrev pub Restarts : Option Command → Held → Held → Type 0
-Restarts (Some (Crash keep)) old new = Crashes keep old new
-Restarts (Some Reopen) old new = Reopens old new
-Restarts found old new = ⊥
+abbrev pub Restarts : Bool → Option Command → Held → Held → Type 0
+Restarts honest (Some (Crash keep)) old new = Crashes honest keep old new
+Restarts honest (Some Reopen) old new = Reopens honest old new
+Restarts honest found old new = ⊥
 
 -- A session of these commands: the core as it stands, what was printed so far, and the commands to come.
 -- The calls up to a crash or a reopening are one run.
-pub data Session (commands : List (Option Command)) : Held → List (List ℕ) → List (Option Command) → Type 0 where
-  begun : (disk : Meaning) (core : Held) → IsNew disk → OpenedOn disk core → Session commands core [] commands
+pub data Session (honest : Bool) (commands : List (Option Command)) : Held → List (List ℕ) → List (Option Command) → Type 0 where
+  begun : (core : Held) → Begins honest core → Session honest commands core [] commands
   run : (old new : Held) (printed : List (List ℕ)) (lines rest : List (Option Command)) (replies : List Reply)
-      → Session commands old printed (lines ++ rest) → All (λ found. is_stop found ≡ false) lines → IsAtStop rest
-      → RunsCalls old (calls_of lines) replies new → Session commands new (printed ++ answers_to lines replies) rest
+      → Session honest commands old printed (lines ++ rest) → All (λ found. is_stop found ≡ false) lines → IsAtStop rest
+      → RunsCalls honest old (calls_of lines) replies new → Session honest commands new (printed ++ answers_to lines replies) rest
   restarted : (old new : Held) (printed : List (List ℕ)) (stop : Option Command) (rest : List (Option Command))
-      → Session commands old printed (stop ∷ rest) → Restarts stop old new
-      → Session commands new (printed ++ codes "ok" ∷ []) rest
+      → Session honest commands old printed (stop ∷ rest) → Restarts honest stop old new
+      → Session honest commands new (printed ++ codes "ok" ∷ []) rest
 
 -- a session of these commands has come as far as this rest, and its answers were added to a text
-pub record Prints (commands : List (Option Command)) (core : Held) (rest : List (Option Command)) (old new : List ℕ) : Type 0 where
+pub record Prints (honest : Bool) (commands : List (Option Command)) (core : Held) (rest : List (Option Command)) (old new : List ℕ) : Type 0 where
   pub printed : List (List ℕ)
-  pub session : Session commands core printed rest
+  pub session : Session honest commands core printed rest
   pub text : new ≡ old ++ text_of printed
 
 -- all commands were answered, and then the core was closed
-pub record PrintsAll (commands : List (Option Command)) (old new : List ℕ) : Type 0 where
+pub record PrintsAll (honest : Bool) (commands : List (Option Command)) (old new : List ℕ) : Type 0 where
   pub core : Held
-  pub prints : Prints commands core [] old new
-  pub closed : IsClosed core
+  pub prints : Prints honest commands core [] old new
+  pub closed : IsClosed honest core
 
 -- nothing was answered, or a beginning
-abbrev pub PrintsSome : List (Option Command) → List ℕ → List ℕ → Type 0
-PrintsSome commands old new = (new ≡ old) ⊎ ((core : Held) × ((rest : List (Option Command)) × Prints commands core rest old new))
+abbrev pub PrintsSome : Bool → List (Option Command) → List ℕ → List ℕ → Type 0
+PrintsSome honest commands old new = (new ≡ old) ⊎ ((core : Held) × ((rest : List (Option Command)) × Prints honest commands core rest old new))
 
 -- The calls before the first crash or reopening were one run, and their answers were added to a text.
-pub record RunsFront (commands rest : List (Option Command)) (core after : Held) (old new : List ℕ) : Type 0 where
+pub record RunsFront (honest : Bool) (commands rest : List (Option Command)) (core after : Held) (old new : List ℕ) : Type 0 where
   pub lines : List (Option Command)
   pub replies : List Reply
   pub split : commands ≡ lines ++ rest
   pub calls_alone : All (λ found. is_stop found ≡ false) lines
   pub stop : IsAtStop rest
-  pub runs : RunsCalls core (calls_of lines) replies after
+  pub runs : RunsCalls honest core (calls_of lines) replies after
   pub text : new ≡ old ++ text_of (answers_to lines replies)

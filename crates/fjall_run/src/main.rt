@@ -1,10 +1,13 @@
 //! `fjall-run memory` reads commands from standard input, one a line, runs them over the engine, and
-//! prints a line for each.
+//! prints a line for each. `fjall-run FOLDER` does so over a folder of files.
 #![tactic(auto)]
 
 mod answer;
 mod command;
+#[cfg(test)]
+mod folder_tests;
 mod parse;
+mod place;
 #[cfg(test)]
 mod reference;
 mod run;
@@ -32,7 +35,7 @@ fn main(rt: HostRuntime) -> ExitCode {
     let mut errors = rt.stderr();
     let status = match arguments(&rt) {
         Ok(words) => run(
-            rt.alloc(),
+            &rt,
             words.as_slice(),
             &mut rt.stdin(),
             &mut rt.stdout(),

@@ -1,13 +1,14 @@
 //! The program: all of an input is read, run and answered.
 
-ghost use Rattle.std.specs.Prelude.{◌≡◌, ◌++◌, ◌∷◌, ◌≢◌, ◌↔◌, [], IfErr, IfOk, IfSome, OnOk, codes, length, map, string_bytes};
+ghost use Rattle.std.specs.Prelude.{◌≡◌, true, false, ◌++◌, ◌∷◌, ◌≢◌, ◌↔◌, [], IfErr, IfOk, IfSome, OnOk, codes, length, map, string_bytes};
 ghost use Rattle.std.specs.Io.KnownBytes.{Appends};
 ghost use Rattle.fjall_run.specs.Answers.{refusal_text};
 ghost use Rattle.std.specs.Process.{exit_status};
-ghost use Rattle.fjall_run.specs.Runs.{AnswersInput, IsIoOrMemory, Serves};
+ghost use Rattle.fjall_run.specs.Runs.{AnswersInput, IsIoOrMemory, Serves, is_memory};
 ghost use Rattle.fjall_run.specs.Statuses.{status_code};
 
 use crate::answer::Refusal;
+use crate::place::{Folder, Memory, Place};
 use crate::script::commands;
 use crate::session::run_session;
 use fjall_base::{Error, Result};
@@ -56,18 +57,41 @@ pub fn fail<E: Write>(error: Error, errors: &mut E) -> Status
 
 // Reads all of an input, runs it, and writes the answers. The inner result is that of the session: where
 // it was refused, the answers before that were written.
-fn serve<R: Read, W: Write>(alloc: Global, input: &mut R, output: &mut W) -> Result<Result<()>>
-    ensures answered { IfOk result (λ ended. IfSome (R.remaining input.old) (λ text. Serves text ended (W.contents output.old) (W.contents output.new))) }
+fn serve<P: Place, R: Read, W: Write>(
+    alloc: Global,
+    place: &P,
+    input: &mut R,
+    output: &mut W,
+) -> Result<Result<()>>
+    ensures answered { IfOk result (λ ended. IfSome (R.remaining input.old) (λ text. Serves P.Disk.honest text ended (W.contents output.old) (W.contents output.new))) }
     ensures cause { IfErr result IsIoOrMemory }
 {
     let mut text = Vec::new(alloc);
     input.read_to_end(&mut text)?;
-    let commands = commands(alloc, text.as_slice())?;
+    let commands = commands(alloc, text.as_slice(), place.hears_crashes())?;
     let mut answers = String::new(alloc);
-    let ended = run_session(alloc, commands.as_slice(), &mut answers);
+    let ended = run_session(alloc, place, commands.as_slice(), &mut answers);
     output.write_all(answers.as_bytes())?;
     output.flush()?;
     Ok(ended)
+}
+
+// Runs the commands of an input over the engine of a place, and tells of a refusal.
+fn run_over<P: Place, R: Read, W: Write, E: Write>(
+    alloc: Global,
+    place: &P,
+    input: &mut R,
+    output: &mut W,
+    errors: &mut E,
+) -> Status
+    ensures answered { result ≡ Status.Success → IfSome (R.remaining input.old) (λ text. AnswersInput P.Disk.honest text (W.contents output.old) (W.contents output.new)) }
+    ensures quiet { result ≡ Status.Success → E.contents errors.new ≡ E.contents errors.old }
+    ensures no_usage { result ≢ Status.Usage }
+{
+    match serve(alloc, place, input, output) {
+        Ok(Ok(())) => Status::Success,
+        Ok(Err(error)) | Err(error) => fail(error, errors),
+    }
 }
 
 /// Runs the commands of an input over an engine in memory, and prints a line for each.
@@ -80,29 +104,30 @@ pub fn run_memory<R: Read, W: Write, E: Write>(
     output: &mut W,
     errors: &mut E,
 ) -> Status
-    ensures answered { result ≡ Status.Success → IfSome (R.remaining input.old) (λ text. AnswersInput text (W.contents output.old) (W.contents output.new)) }
+    ensures answered { result ≡ Status.Success → IfSome (R.remaining input.old) (λ text. AnswersInput true text (W.contents output.old) (W.contents output.new)) }
     ensures quiet { result ≡ Status.Success → E.contents errors.new ≡ E.contents errors.old }
     ensures no_usage { result ≢ Status.Usage }
 {
-    match serve(alloc, input, output) {
-        Ok(Ok(())) => Status::Success,
-        Ok(Err(error)) | Err(error) => fail(error, errors),
-    }
+    run_over(alloc, &Memory { alloc }, input, output, errors)
 }
 
-/// Runs the commands of an input over an engine in a folder. There is no such engine yet, so this is
-/// refused as a failing device is, and nothing is read or printed.
+/// Runs the commands of an input over an engine in a folder, made where it is missing, as [`run_memory`] does. There a
+/// crash can't be asked for: its line is no command.
+///
+/// It is refused where the folder can't be made or is none (`Io`), and where it is open already (`Locked`).
 pub fn run_folder<R: Read, W: Write, E: Write>(
-    _path: &str,
-    _input: &mut R,
-    _output: &mut W,
+    rt: &HostRuntime,
+    path: &str,
+    input: &mut R,
+    output: &mut W,
     errors: &mut E,
 ) -> Status
-    ensures failed { result ≡ Status.Failure }
-    ensures nothing_read { R.remaining _input.new ≡ R.remaining _input.old }
-    ensures nothing_written { W.contents _output.new ≡ W.contents _output.old }
+    ensures answered { result ≡ Status.Success → IfSome (R.remaining input.old) (λ text. AnswersInput false text (W.contents output.old) (W.contents output.new)) }
+    ensures quiet { result ≡ Status.Success → E.contents errors.new ≡ E.contents errors.old }
+    ensures no_usage { result ≢ Status.Usage }
 {
-    fail(Error::Io(ErrorKind::Unsupported), errors)
+    let alloc = rt.alloc();
+    run_over(alloc, &Folder { rt, alloc, path }, input, output, errors)
 }
 
 /// Tells how the program is called.
@@ -115,20 +140,19 @@ pub fn usage<E: Write>(errors: &mut E) -> Status
 
 /// Runs the program on its arguments, the program's own name left out: `memory`, or a folder's path.
 pub fn run<R: Read, W: Write, E: Write>(
-    alloc: Global,
+    rt: &HostRuntime,
     arguments: &[String],
     input: &mut R,
     output: &mut W,
     errors: &mut E,
 ) -> Status
     ensures usage { (result ≡ Status.Usage) ↔ (length arguments.now ≢ 1) }
-    ensures memory { result ≡ Status.Success → map string_bytes arguments.now ≡ codes "memory" ∷ [] }
-    ensures answered { result ≡ Status.Success → IfSome (R.remaining input.old) (λ text. AnswersInput text (W.contents output.old) (W.contents output.new)) }
+    ensures answered { result ≡ Status.Success → IfSome (R.remaining input.old) (λ text. AnswersInput (is_memory (map string_bytes arguments.now)) text (W.contents output.old) (W.contents output.new)) }
     ensures quiet { result ≡ Status.Success → E.contents errors.new ≡ E.contents errors.old }
 {
     match arguments {
-        [place] if place.as_str() == "memory" => run_memory(alloc, input, output, errors),
-        [path] => run_folder(path.as_str(), input, output, errors),
+        [place] if place.as_str() == "memory" => run_memory(rt.alloc(), input, output, errors),
+        [path] => run_folder(rt, path.as_str(), input, output, errors),
         _ => usage(errors),
     }
 }

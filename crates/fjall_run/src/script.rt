@@ -2,7 +2,8 @@
 
 ghost use Rattle.std.specs.Prelude.{◌≡◌, ◌<◌, ◌∷◌, ◌==◌, IfOk, length, position};
 ghost use Rattle.std.specs.List.{AllZip};
-ghost use Rattle.fjall_run.specs.Lines.{lines_of, Reads};
+ghost use Rattle.fjall_run.specs.Lines.{lines_of};
+ghost use Rattle.fjall_run.specs.Runs.{heard, Hears};
 
 use crate::command::Command;
 use crate::parse::parse;
@@ -27,16 +28,30 @@ fn first_line(text: &[u8]) -> (&[u8], &[u8])
     }
 }
 
-/// The commands of a text, one for each line, and none for a line that is no command. A line ends with a
-/// line feed, the last one also with the text.
-pub fn commands(alloc: Global, text: &[u8]) -> Result<Vec<Option<Command>>, AllocError>
-    ensures { IfOk result (λ commands. AllZip Reads (lines_of text.now) commands.items) }
+// What a line asks for, where crashes are heard or not.
+fn heard(found: Option<Command>, crashes: bool) -> Option<Command>
+    ensures { result ≡ heard crashes found }
+{
+    match found {
+        Some(Command::Crash(_)) if !crashes => None,
+        _ => found,
+    }
+}
+
+/// The commands of a text, one for each line, and none for a line that is no command, as a crash is where `crashes` is
+/// false. A line ends with a line feed, the last one also with the text.
+pub fn commands(
+    alloc: Global,
+    text: &[u8],
+    crashes: bool,
+) -> Result<Vec<Option<Command>>, AllocError>
+    ensures { IfOk result (λ commands. AllZip (Hears crashes) (lines_of text.now) commands.items) }
 {
     let mut commands = Vec::new(alloc);
     let mut rest = text;
     while !rest.is_empty() {
         let (line, after) = first_line(rest);
-        commands.push(parse(alloc, line)?)?;
+        commands.push(heard(parse(alloc, line)?, crashes))?;
         rest = after;
     }
     Ok(commands)

@@ -1,15 +1,15 @@
-//! Runs commands over a core in memory, and gathers what is to be printed.
+//! Runs commands over a core, and gathers what is to be printed.
 
-ghost use Rattle.std.specs.Prelude.{◌≡◌, ◌++◌, true, IfOk, OnOk, OnErr, string_bytes};
+ghost use Rattle.std.specs.Prelude.{◌≡◌, true, IfOk, OnOk, OnErr, string_bytes};
 ghost use Rattle.std.specs.List.{position};
 ghost use Rattle.fjall_run.specs.Answers.{text_of};
-ghost use Rattle.fjall_base.specs.MemoryDisk.{meaning_in};
-ghost use Rattle.fjall_run.specs.Machine.{OpenedOn, Crashes, Reopens};
+ghost use Rattle.fjall_run.specs.Machine.{Begins, OpenedOn};
 ghost use Rattle.fjall_run.specs.Sessions.{all_pairs, answers_to, call_of, calls_of, is_stop, PrintsAll, PrintsSome, Restarts, RunsFront};
 
 use crate::answer::{BAD_LINE, answer};
 use crate::command::Command;
-use fjall_base::{MemoryDisk, Result};
+use crate::place::Place;
+use fjall_base::{Disk, Result};
 use fjall_core::{Call, Config, Core, PersistMode, Reply, View};
 use std::alloc::{AllocError, Global};
 use std::ops::Bound;
@@ -92,56 +92,15 @@ fn answers_to(
     Ok(text)
 }
 
-fn opened(alloc: Global, disk: MemoryDisk) -> Result<Core<MemoryDisk>>
-    ensures { IfOk result (λ core. OpenedOn (meaning_in disk) core) }
-{
-    let config = Config::new(alloc, "memory")?;
-    match Core::open(alloc, config, disk) {
-        Ok(core) => Ok(core),
-        Err(refused) => Err(refused.error),
-    }
-}
-
-// The core after a crash that leaves so many unsynced bytes of each file.
-fn crashed(alloc: Global, core: Core<MemoryDisk>, keep: u64) -> Result<Core<MemoryDisk>>
-    ensures { IfOk result (λ after. Crashes keep core after) }
-{
-    let disk = core.into_disk().crash(keep as usize)?;
-    opened(alloc, disk)
-}
-
-// The core, closed and opened again. That the closing is refused does not matter.
-fn reopened(alloc: Global, core: Core<MemoryDisk>) -> Result<Core<MemoryDisk>>
-    ensures { IfOk result (λ after. Reopens core after) }
-{
-    let (disk, _) = core.close();
-    opened(alloc, disk)
-}
-
-// The core after a crash or a reopening.
-fn restarted(
-    alloc: Global,
-    core: Core<MemoryDisk>,
-    stop: &Option<Command>,
-) -> Result<Core<MemoryDisk>>
-    requires { is_stop stop.now ≡ true }
-    ensures { IfOk result (λ after. Restarts stop.now core after) }
-{
-    match stop {
-        Some(Command::Crash(keep)) => crashed(alloc, core, *keep),
-        _ => reopened(alloc, core),
-    }
-}
-
 // Runs the calls before the first crash or reopening as one list, adds their answers, and returns the
 // commands from there on.
-fn run_front<'a>(
+fn run_front<'a, D: Disk>(
     alloc: Global,
-    core: &mut Core<MemoryDisk>,
+    core: &mut Core<D>,
     commands: &'a [Option<Command>],
     answers: &mut String,
 ) -> Result<&'a [Option<Command>]>
-    ensures ok { IfOk result (λ rest. RunsFront commands.now rest.now core.old core.new (string_bytes answers.old) (string_bytes answers.new)) }
+    ensures ok { IfOk result (λ rest. RunsFront D.honest commands.now rest.now core.old core.new (string_bytes answers.old) (string_bytes answers.new)) }
     ensures err { OnErr result (string_bytes answers.new ≡ string_bytes answers.old) }
 {
     let end = first_stop(commands).unwrap_or(commands.len());
@@ -152,17 +111,53 @@ fn run_front<'a>(
     Ok(rest)
 }
 
-/// Runs commands over a core on an empty disk in memory, and adds to a text what they print, a line for
-/// each. A refused opening, a list of calls that is refused as a whole and a refused closing at the end
-/// end it.
-pub fn run_session(alloc: Global, commands: &[Option<Command>], answers: &mut String) -> Result<()>
-    ensures ok { OnOk result (PrintsAll commands.now (string_bytes answers.old) (string_bytes answers.new)) }
-    ensures err { OnErr result (PrintsSome commands.now (string_bytes answers.old) (string_bytes answers.new)) }
+fn opened<D: Disk + Drop>(alloc: Global, disk: D) -> Result<Core<D>>
+    ensures { IfOk result (λ core. OpenedOn D.honest (D.meaning disk) core) }
 {
-    let mut core = opened(alloc, MemoryDisk::new(alloc))?;
+    match Core::open(alloc, Config::new(alloc, "")?, disk) {
+        Ok(core) => Ok(core),
+        Err(refused) => Err(refused.error),
+    }
+}
+
+fn begun<P: Place>(alloc: Global, place: &P) -> Result<Core<P::Disk>>
+    ensures { IfOk result (λ core. Begins P.Disk.honest core) }
+{
+    opened(alloc, place.disk()?)
+}
+
+// The core after a crash or a reopening. That the closing is refused does not matter.
+fn restarted<P: Place>(
+    alloc: Global,
+    place: &P,
+    core: Core<P::Disk>,
+    stop: &Option<Command>,
+) -> Result<Core<P::Disk>>
+    requires { is_stop stop.now ≡ true }
+    ensures { IfOk result (λ after. Restarts P.Disk.honest stop.now core after) }
+{
+    let disk = match stop {
+        Some(Command::Crash(_)) => core.into_disk(),
+        _ => core.close().0,
+    };
+    opened(alloc, place.restart(disk, stop)?)
+}
+
+/// Runs commands over the engine of a place, and adds to a text what they print, a line for each. A refused opening, a
+/// list of calls that is refused as a whole and a refused closing at the end end it.
+pub fn run_session<P: Place>(
+    alloc: Global,
+    place: &P,
+    commands: &[Option<Command>],
+    answers: &mut String,
+) -> Result<()>
+    ensures ok { OnOk result (PrintsAll P.Disk.honest commands.now (string_bytes answers.old) (string_bytes answers.new)) }
+    ensures err { OnErr result (PrintsSome P.Disk.honest commands.now (string_bytes answers.old) (string_bytes answers.new)) }
+{
+    let mut core = begun(alloc, place)?;
     let mut rest = run_front(alloc, &mut core, commands, answers)?;
     while let Some((stop, after)) = rest.split_first() {
-        core = restarted(alloc, core, stop)?;
+        core = restarted(alloc, place, core, stop)?;
         answers.push_str("ok\n")?;
         rest = run_front(alloc, &mut core, after, answers)?;
     }

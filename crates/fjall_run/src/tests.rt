@@ -1,6 +1,6 @@
 //! What scripts print, worked out by hand.
 
-use crate::run::{Status, run, run_folder, run_memory};
+use crate::run::{Status, run, run_memory};
 use std::alloc::Global;
 use std::io;
 use std::io::{Error, ErrorKind, Read, Write};
@@ -245,18 +245,6 @@ fn a_failing_output_is_told(rt: HostRuntime) {
 }
 
 #[test]
-fn a_folder_is_refused_for_now(rt: HostRuntime) {
-    let alloc = rt.alloc();
-    let mut input = b"persist\n".as_slice();
-    let mut output = Vec::new(alloc);
-    let mut errors = Vec::new(alloc);
-    let status = run_folder("data", &mut input, &mut output, &mut errors);
-    assert_eq!(rt; status, Status::Failure);
-    assert!(rt; output.is_empty());
-    assert_eq!(rt; errors.as_slice(), b"error 1 Io\n".as_slice());
-}
-
-#[test]
 fn wrong_arguments_are_told_the_usage(rt: HostRuntime) -> Result<(), Fail> {
     let alloc = rt.alloc();
     let mut arguments = Vec::new(alloc);
@@ -265,7 +253,7 @@ fn wrong_arguments_are_told_the_usage(rt: HostRuntime) -> Result<(), Fail> {
         let mut output = Vec::new(alloc);
         let mut errors = Vec::new(alloc);
         let status = run(
-            alloc,
+            &rt,
             arguments.as_slice(),
             &mut input,
             &mut output,

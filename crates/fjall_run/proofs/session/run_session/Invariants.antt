@@ -4,7 +4,7 @@ use Rattle.fjall_run.specs.Sessions.{IsAtStop, Prints}
 use Rattle.fjall_run.proofs.session.run_session.Given as goal
 
 abbrev pub invariant-loop-stop : goal.invariant-loop-stop
-invariant-loop-stop l = record { so_far : Prints l.fn.commands l.core l.rest (string_bytes l.fn.answers) (string_bytes l.answers); stop : IsAtStop l.rest }
+invariant-loop-stop g l = record { so_far : Prints g.P.Disk.Disk.honest l.fn.commands l.core l.rest (string_bytes l.fn.answers) (string_bytes l.answers); stop : IsAtStop l.rest }
 
 abbrev pub decreases-loop-stop : goal.decreases-loop-stop
-decreases-loop-stop l = length l.rest
+decreases-loop-stop g l = length l.rest
