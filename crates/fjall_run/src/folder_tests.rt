@@ -110,7 +110,7 @@ fn a_damaged_journal_is_refused(rt: HostRuntime) -> Result<(), Fail> {
     answers(&rt, path, "insert 1 61 62\n")?;
     let mut disk = FolderDisk::open(&rt, rt.alloc(), path)?;
     let mut journal = disk.read(rt.alloc(), "0.jnl")?.ok_or("no journal")?;
-    journal[34] ^= 1;
+    *journal.as_mut_slice().get_mut(34).ok_or("too short")? ^= 1;
     disk.cut_sync("0.jnl", 0)?;
     disk.append("0.jnl", journal.as_slice())?;
     drop(disk);
