@@ -1,0 +1,5 @@
+mod Comparisons
+pub mod Under
+pub mod Changes
+pub mod Parts
+pub mod Made

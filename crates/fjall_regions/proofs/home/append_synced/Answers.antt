@@ -1,0 +1,15 @@
+use Rattle.fjall_base.specs.Disk.{Meaning}
+use Rattle.fjall_regions.proofs.Made.{appended_within, both_took, part_within, synced_within, within_both}
+use Rattle.fjall_regions.proofs.home.append_synced.Goals as goal
+
+pub returns-in_err-append-clause-within : goal.returns-in_err-append-clause-within
+returns-in_err-append-clause-within g c honest folder under = part_within folder c.args.file.now _ _ c.args.bytes.now under (c.in_err-append.ensures.err honest)
+
+pub returns-clause-took : goal.returns-clause-took
+returns-clause-took g c honest = both_took c.args.file.now _ _ _ c.args.bytes.now c.sync.result (c.in_ok-append.ensures.ok honest) (c.sync.ensures.ok honest)
+
+pub returns-clause-within : goal.returns-clause-within
+returns-clause-within g c honest folder under =
+    let m : _ → Meaning = g.D.Disk.meaning in
+    within_both folder (m c.args.disk.now) (m c.append.new.self) (m c.sync.new.self) (appended_within folder c.args.file.now _ _ c.args.bytes.now under (c.in_ok-append.ensures.ok honest))
+    (synced_within folder c.args.file.now _ _ c.sync.result under (c.sync.ensures.ok honest) (c.sync.ensures.err honest))

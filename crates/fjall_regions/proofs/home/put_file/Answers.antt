@@ -1,0 +1,20 @@
+use Rattle.fjall_base.specs.Disk.{Meaning}
+use Rattle.fjall_regions.proofs.Under.{in_folder}
+use Rattle.fjall_regions.proofs.Made.{safe_file, settled_within, within_both}
+use Rattle.fjall_regions.proofs.home.put_file.Goals as goal
+
+pub returns-in_err-make_file-clause-within : goal.returns-in_err-make_file-clause-within
+returns-in_err-make_file-clause-within g c honest some = c.make_file.ensures.within honest c.args.folder.now (in_folder c.args.folder.now c.args.file.now some c.requires.inside)
+
+pub returns-clause-safe : goal.returns-clause-safe
+returns-clause-safe g c honest none =
+    let m : _ → Meaning = g.D.Disk.meaning in
+    safe_file c.args.folder.now c.args.file.now c.requires.inside (m c.args.disk.now) (m c.make_file.new.disk) (m c.sync_folder.new.self) c.args.bytes.now c.sync_folder.result
+    (c.in_ok-make_file.ensures.made honest none) (c.sync_folder.ensures.ok honest)
+
+pub returns-clause-within : goal.returns-clause-within
+returns-clause-within g c honest some =
+    let m : _ → Meaning = g.D.Disk.meaning in
+    within_both c.args.folder.now (m c.args.disk.now) (m c.make_file.new.disk) (m c.sync_folder.new.self)
+    (c.make_file.ensures.within honest c.args.folder.now (in_folder c.args.folder.now c.args.file.now some c.requires.inside))
+    (settled_within c.args.folder.now _ _ c.sync_folder.result (c.sync_folder.ensures.ok honest) (c.sync_folder.ensures.err honest))

@@ -1,0 +1,47 @@
+-- Changes of a disk that stay within a folder, and what a crash may leave in a region of the names.
+use Rattle.std.specs.Prelude.{◌≡◌, ℕ, Bool, true, false, List, [], ◌∷◌, ◌++◌, ◌==◌, if◌then◌else◌}
+use Rattle.fjall_base.specs.Disk.{Name, State, Image, Crash, IsThere, SomeSurvivesBy, Missing, File, Folder, folder_of, Step, Put, Append, Sync, Loosen, Cut, SyncFolder, Meaning, Took}
+
+-- a name in a folder other than the root
+abbrev pub join : Name → Name → Name
+join folder name = folder ++ 47 ∷ name
+
+-- the name is the folder's or one under it, at any depth
+abbrev pub is_under : Name → Name → Bool
+is_under [] [] = true
+is_under [] (c ∷ cs) = c == 47
+is_under (f ∷ fs) [] = false
+is_under (f ∷ fs) (c ∷ cs) = if f == c then is_under fs cs else false
+
+-- the name that a step changes, or the folder whose names it syncs
+abbrev pub target : Step → Name
+target (Put name entry) = name
+target (Append name bytes) = name
+target (Sync name) = name
+target (Loosen name len) = name
+target (Cut name len) = name
+target (SyncFolder folder) = folder
+
+abbrev pub AreUnder : Name → List Step → Type 0
+AreUnder folder [] = Unit {0}
+AreUnder folder (step ∷ steps) = (is_under folder (target step) ≡ true) × AreUnder folder steps
+
+-- the disk went on by steps at this folder and under it, and by no others
+pub record Within (folder : Name) (old new : Meaning) : Type 0 where
+  pub added : List Step
+  pub took : Took old new added
+  pub under : AreUnder folder added
+
+-- A crash may leave this image at the names of a region; elsewhere it may hold anything.
+pub record IsImageIn (crash : Crash) (region : Name → Bool) (state : State) (image : Image) : Type 0 where
+  pub kept : (name : Name) → region name ≡ true → IsThere image (folder_of name) → SomeSurvivesBy crash ((state name).now ∷ (state name).older) (image name)
+  pub lost : (name : Name) → region name ≡ true → (IsThere image (folder_of name) → ⊥) → image name ≡ Missing
+
+-- a file of these bytes, all of them synced, and its name too
+abbrev pub IsSafe : State → Name → List ℕ → Type 0
+IsSafe state file bytes = state file ≡ record { now = File bytes []; older = [] }
+
+-- a folder stands there now, and in it a file of these bytes, all of them synced; their names may be not
+pub record IsMade (state : State) (folder file : Name) (bytes : List ℕ) : Type 0 where
+  pub folder_now : (state folder).now ≡ Folder
+  pub file_now : (state file).now ≡ File bytes []

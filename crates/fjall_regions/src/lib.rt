@@ -1,0 +1,10 @@
+//! Changes of a disk that stay within a folder: whatever stands elsewhere, and what a crash may leave of it, is as it was.
+#![tactic(auto)]
+
+mod home;
+mod laws;
+#[cfg(test)]
+mod tests;
+
+pub use home::{append_synced, make_file, make_home, put_file, remove_home};
+pub use laws::{crashes_see_a_region, elsewhere_stays};
