@@ -2,3 +2,4 @@ pub mod Frame
 pub mod Reading
 pub mod Records
 pub mod Blocks
+pub mod Tables
