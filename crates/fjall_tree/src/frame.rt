@@ -1,10 +1,12 @@
 //! A payload between its length and the check of both.
 
-ghost use Rattle.std.specs.Prelude.{◌≡◌, ◌⊎◌, ◌≤◌, ◌+◌, length, IfSome};
+ghost use Rattle.std.specs.Prelude.{◌≡◌, ◌⊎◌, ◌≤◌, ◌+◌, ◌++◌, length, IfSome, OnOk, OnErr, IsOkUnless};
+ghost use Rattle.fjall_tree.specs.Frame.{framed};
 ghost use Rattle.fjall_tree.specs.Reading.{Shows, number_at, frame_at};
 
-use crate::check::is_check;
+use crate::check::{checksum, is_check};
 use crate::fields::{bytes_of, u32_of, u64_of};
+use fjall_base::{Error, Result};
 
 /// A length of that many bytes, four or eight.
 fn len_of(bytes: &[u8], width: usize) -> Option<(usize, &[u8])>
@@ -33,4 +35,20 @@ pub(crate) fn frame_of(bytes: &[u8], width: usize) -> Option<(&[u8], &[u8])>
         return None;
     }
     Some((payload, rest))
+}
+
+/// Adds a payload behind its length, of eight bytes, and then the check of both. An `Err` adds nothing. The formats page
+/// has the layout.
+pub fn put_frame(out: &mut Vec<u8>, payload: &[u8]) -> Result<()>
+    ensures ok { OnOk result (out.new.items ≡ out.old.items ++ framed 8 payload.now) }
+    ensures err { OnErr result (out.new.items ≡ out.old.items) }
+    ensures only { IsOkUnless result Error.OutOfMemory }
+{
+    let before = out.len();
+    out.reserve(16 + payload.len())?;
+    out.extend_from_slice(&(payload.len() as u64).to_le_bytes())?;
+    out.extend_from_slice(payload)?;
+    let sum = checksum(&out[before..]);
+    out.extend_from_slice(&sum)?;
+    Ok(())
 }

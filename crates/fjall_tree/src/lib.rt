@@ -18,6 +18,7 @@ mod version;
 
 pub use block::{BLOCK_BYTES, read_block};
 pub use current::{Current, read_current};
+pub use frame::put_frame;
 pub use laws::{
     cut_reads, no_records_with_a_contradiction, one_list_of_records, records_grow,
     texts_are_records,
