@@ -141,7 +141,7 @@ ordered_at (w ∷ x ∷ vs) more v up = ordered_at (x ∷ vs) more v up.1
 
 -- ---- what was read so far
 
-last_behind : {A : Type 0} (xs : List A) (a : A) → last_of (xs ++ a ∷ []) ≡ Some a
+pub last_behind : {A : Type 0} (xs : List A) (a : A) → last_of (xs ++ a ∷ []) ≡ Some a
 last_behind [] a = refl
 last_behind (b ∷ []) a = refl
 last_behind (b ∷ d ∷ xs) a = last_behind (d ∷ xs) a
@@ -165,11 +165,11 @@ nothing_read payload fits = record {
 }
 
 -- a beginning has no longer a payload
-shorter : (vs more : List Entry) → length (payload_of vs) ≤ length (payload_of (vs ++ more))
+pub shorter : (vs more : List Entry) → length (payload_of vs) ≤ length (payload_of (vs ++ more))
 shorter vs more = let l = ap length (flat_map-append entry_text vs more) in let m = length-append (payload_of vs) (payload_of more) in omega arith
 
 -- a proper beginning of a list with one more is a beginning of the list
-begins : (vs front more : List Entry) (v : Entry) → 0 < length more → vs ++ v ∷ [] ≡ front ++ more → (back : List Entry) × (vs ≡ front ++ back)
+pub begins : (vs front more : List Entry) (v : Entry) → 0 < length more → vs ++ v ∷ [] ≡ front ++ more → (back : List Entry) × (vs ≡ front ++ back)
 begins vs [] more v some e = (vs, refl)
 begins [] (a ∷ front) more v some e = let l = ap length e in let m = length-append front more in absurd (omega arith)
 begins (b ∷ vs) (a ∷ front) more v some e =

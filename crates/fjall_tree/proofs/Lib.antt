@@ -8,3 +8,4 @@ pub mod Lists
 pub mod Currents
 pub mod Damages
 pub mod BlockParts
+pub mod TableWriting

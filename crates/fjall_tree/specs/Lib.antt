@@ -3,3 +3,4 @@ pub mod Reading
 pub mod Records
 pub mod Blocks
 pub mod Tables
+pub mod Writing

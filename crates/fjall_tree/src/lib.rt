@@ -3,6 +3,7 @@
 
 mod block;
 mod check;
+mod closed_blocks;
 mod consistency;
 mod current;
 mod decoding;
@@ -11,10 +12,14 @@ mod fields;
 mod frame;
 mod laws;
 mod level;
+mod open_block;
 mod record;
+mod table_writer;
 #[cfg(test)]
 mod tests;
 mod version;
+#[cfg(test)]
+mod writer_tests;
 
 pub use block::{BLOCK_BYTES, read_block};
 pub use current::{Current, read_current};
@@ -25,4 +30,5 @@ pub use laws::{
 };
 pub use level::Level;
 pub use record::{Record, TableInfo};
+pub use table_writer::TableWriter;
 pub use version::Version;

@@ -102,6 +102,16 @@ impl<'a> Version<'a> {
         }
     }
 
+    /// Whether it has a text.
+    pub(crate) fn check(&self) -> Result<()>
+        ensures { MatchOption (refusal (seen self.now).key (value_bytes (seen self.now).value)) (result ≡ Ok tt) (λ e. result ≡ Err e) }
+    {
+        match self.value {
+            Some(value) => check_entry(self.key, value),
+            None => check_entry(self.key, &[]),
+        }
+    }
+
     /// Adds the text of the version. An `Err` adds nothing: an empty key, one of more than 65,535 bytes, a value of
     /// more than 4,294,967,295, and the first of these that holds.
     #[tactic(auto, unfolding(crate::specs::Blocks::entry_text))]
