@@ -27,6 +27,10 @@ fn len_of(table: &Option<Vec<u8>>) -> Option<usize> {
     table.as_ref().map(|bytes| bytes.len())
 }
 
+fn part(bytes: &[u8], from: usize, to: usize) -> &[u8] {
+    bytes.get(from..to).unwrap_or(&[])
+}
+
 #[test]
 fn one_entry_table(rt: HostRuntime) -> std::result::Result<(), Fail> {
     let mut writer = TableWriter::new(rt.alloc());
@@ -37,23 +41,29 @@ fn one_entry_table(rt: HostRuntime) -> std::result::Result<(), Fail> {
     })?;
     let bytes = writer.finish()?.expect(&rt, "a table");
     assert_eq!(rt; bytes.len(), 104);
-    let block = read_block(rt.alloc(), &bytes[..33])?;
+    let block = read_block(rt.alloc(), part(&bytes, 0, 33))?;
     assert_eq!(rt; block.len(), 1);
     // The block of the index: its length, the block's offset and length, and its first key.
     assert!(rt;
-        bytes[33..].starts_with(&[
+        part(&bytes, 33, 60).starts_with(&[
             19, 0, 0, 0, 0, 0, 0, 0, 0, 0, 0, 0, 0, 0, 0, 0, 33, 0, 0, 0, 0, 0, 0, 0, 1, 0, 97
         ])
     );
     // The footer: the index's offset and length, and the count of entries.
     assert!(rt;
-        bytes[68..].starts_with(&[
+        part(&bytes, 68, 96).starts_with(&[
             0x46, 0x4a, 0x54, 0x01, 33, 0, 0, 0, 0, 0, 0, 0, 35, 0, 0, 0, 0, 0, 0, 0, 1, 0, 0, 0,
             0, 0, 0, 0
         ])
     );
-    assert_eq!(rt; &bytes[60..68], check::checksum(&bytes[33..60]).as_slice());
-    assert_eq!(rt; &bytes[96..], check::checksum(&bytes[68..96]).as_slice());
+    assert_eq!(rt;
+        part(&bytes, 60, 68),
+        check::checksum(part(&bytes, 33, 60)).as_slice()
+    );
+    assert_eq!(rt;
+        part(&bytes, 96, 104),
+        check::checksum(part(&bytes, 68, 96)).as_slice()
+    );
     Ok(())
 }
 
@@ -81,11 +91,11 @@ fn two_blocks(rt: HostRuntime) -> std::result::Result<(), Fail> {
     }
     let bytes = writer.finish()?.expect(&rt, "a table");
     assert_eq!(rt; bytes.len(), 5_224);
-    let first = read_block(rt.alloc(), &bytes[..4_113])?;
-    let second = read_block(rt.alloc(), &bytes[4_113..5_132])?;
+    let first = read_block(rt.alloc(), part(&bytes, 0, 4_113))?;
+    let second = read_block(rt.alloc(), part(&bytes, 4_113, 5_132))?;
     assert_eq!(rt; (first.len(), second.len()), (241, 59));
-    for (key, version) in first.iter().chain(second.iter()).enumerate() {
-        assert_eq!(rt; version.key, (key as u16).to_be_bytes().as_slice());
+    for (key, version) in (0..300u16).zip(first.iter().chain(second.iter())) {
+        assert_eq!(rt; version.key, key.to_be_bytes().as_slice());
         assert_eq!(rt; (version.number, version.value), (1, Some(b"".as_slice())));
     }
     Ok(())
@@ -112,7 +122,7 @@ fn refusals(rt: HostRuntime) -> std::result::Result<(), Fail> {
         value: None,
     })?;
     let bytes = writer.finish()?.expect(&rt, "a table");
-    let block = read_block(rt.alloc(), &bytes[..64])?;
+    let block = read_block(rt.alloc(), part(&bytes, 0, 64))?;
     assert_eq!(rt; block.len(), 3);
     for (version, (key, number)) in block.iter().zip([(b"b", 5), (b"b", 4), (b"c", 9)]) {
         assert_eq!(rt; version.key, key.as_slice());
