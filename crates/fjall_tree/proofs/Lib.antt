@@ -9,3 +9,4 @@ pub mod Currents
 pub mod Damages
 pub mod BlockParts
 pub mod TableWriting
+pub mod TableLaws

@@ -107,14 +107,14 @@ emptied payload none = rw none (as_read [] 0 [] nothing_open, open_reads [] 0 []
 
 -- ---- the closed blocks
 
-block_again : (vs : List Entry) (rest : List ℕ) → IsWritten vs → block_at (block_text vs ++ rest) ≡ Some (vs, rest)
+pub block_again : (vs : List Entry) (rest : List ℕ) → IsWritten vs → block_at (block_text vs ++ rest) ≡ Some (vs, rest)
 block_again vs rest is = rw (frame8.again (payload_of vs) rest is.1, entries_again vs is.0.each) refl
 
 no_block : block_at [] ≡ None
 unfolding frame_at
 no_block = refl
 
-block_some : (vs : List Entry) → 0 < length (block_text vs)
+pub block_some : (vs : List Entry) → 0 < length (block_text vs)
 block_some vs = let l = length_framed 8 (payload_of vs) in omega arith
 
 blocks_again : (blocks : List (List Entry)) → AllByRecursion IsWritten blocks → blocks_in (data_text blocks) ≡ blocks
@@ -152,7 +152,7 @@ index_behind blocks block =
     ap (flat_map handle_text) (handles_behind 0 blocks block) ∙ text_behind handle_text (handles_of 0 blocks) (record { offset = 0 + length (data_text blocks); len = length (block_text block); first_key = first_key block }) ∙ ap (λ (n : ℕ). flat_map handle_text (handles_of 0 blocks) ++ handle_text (record { offset = n; len = length (block_text block); first_key = first_key block })) zero_off
 
 -- an entry has a byte, and so a block no more entries than bytes
-entries_within : (blocks : List (List Entry)) → length (entries_of blocks) ≤ length (data_text blocks)
+pub entries_within : (blocks : List (List Entry)) → length (entries_of blocks) ≤ length (data_text blocks)
 entries_within [] = omega arith
 entries_within (b ∷ blocks) =
     let l = length-append b (entries_of blocks) in

@@ -25,7 +25,8 @@ pub use block::{BLOCK_BYTES, read_block};
 pub use current::{Current, read_current};
 pub use frame::put_frame;
 pub use laws::{
-    cut_reads, no_records_with_a_contradiction, one_list_of_records, records_grow,
+    blocks_stand_apart, cut_reads, no_records_with_a_contradiction, one_list_of_entries,
+    one_list_of_records, one_text_of_entries, records_grow, tables_have_an_index,
     texts_are_records,
 };
 pub use level::Level;
