@@ -1,5 +1,5 @@
 -- What a writer of tables holds, and how it grows.
-use Rattle.std.proofs.Common.{◌≡◌, ℕ, zero, suc, ◌+◌, ◌-◌, ◌^◌, ◌<◌, ◌≤◌, List, [], ◌∷◌, ◌++◌, length, Option, Some, None, Result, Ok, Err, OnOk, is_some, false, refl, sym, ap, subst, ◌∙◌, append_assoc, arith}
+use Rattle.std.proofs.Common.{◌≡◌, ℕ, zero, suc, ◌+◌, ◌-◌, ◌*◌, ◌^◌, ◌<◌, ◌≤◌, List, [], ◌∷◌, ◌++◌, length, Option, Some, None, Result, Ok, Err, OnOk, is_some, false, refl, sym, ap, subst, ◌∙◌, append_assoc, arith}
 use Rattle.std.specs.List.{flat_map, AllByRecursion}
 use Rattle.std.proofs.lemmas.List.{length-append, append-nil}
 use Rattle.std.proofs.lemmas.List.Concat.{flat_map-cons}
@@ -193,6 +193,28 @@ one_closed bytes index payload key now index_now count number offset len blocks 
   where
     framed_len : len ≡ length (block_text block)
     framed_len = let l = ap length added in let m = length-append bytes (framed 8 payload) in let p = ap (λ (t : List ℕ). length (framed 8 t)) is.text in omega arith
+
+-- and it has more than one
+two_each : (es : List Entry) → 2 * length es ≤ length (payload_of es)
+unfolding entry_text
+two_each [] = omega arith
+two_each (e ∷ es) = let m = length-append (entry_text e) (payload_of es) in let more = two_each es in omega arith
+
+pub two_open : (payload : List ℕ) (count : ℕ) (es : List Entry) → IsOpen payload count es → 2 * count ≤ length payload
+two_open payload count es is = let n = is.number in let t = ap length is.text in let m = two_each es in omega arith
+
+two_closed_each : (blocks : List (List Entry)) → 2 * length (entries_of blocks) ≤ length (data_text blocks)
+two_closed_each [] = omega arith
+two_closed_each (b ∷ blocks) =
+    let l = length-append b (entries_of blocks) in
+    let m = length-append (block_text b) (data_text blocks) in
+    let k = two_each b in
+    let f = length_framed 8 (payload_of b) in
+    let more = two_closed_each blocks in
+    omega arith
+
+pub two_closed : (bytes index : List ℕ) (count : ℕ) (blocks : List (List Entry)) → AreClosed bytes index count blocks → 2 * count ≤ length bytes
+two_closed bytes index count blocks are = let n = are.number in let t = ap length are.text in let m = two_closed_each blocks in omega arith
 
 -- ---- the whole table
 

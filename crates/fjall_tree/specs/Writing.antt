@@ -1,10 +1,16 @@
--- What a writer of tables holds: the entries that stand in its bytes.
+-- Writers of tables.
 use Rattle.std.specs.Prelude.{◌≡◌, ℕ, zero, suc, ◌<◌, ◌≤◌, ◌^◌, List, [], ◌∷◌, ◌++◌, length, Option, Some, None, IfSome}
 use Rattle.std.specs.List.{flat_map, AllByRecursion}
 use Rattle.fjall_tree.specs.Reading.{◌>>=◌, frame_at}
 use Rattle.fjall_tree.specs.Records.{last_of}
 use Rattle.fjall_tree.specs.Blocks.{Entry, entry_at, payload_of, IsEntry, IsBefore, IsOrdered, IsBlock}
 use Rattle.fjall_tree.specs.Tables.{entries_of, data_text, handle_text, handles_of}
+
+-- an entry stands behind all others
+abbrev pub Follows : List Entry → Entry → Type 0
+Follows entries entry = IfSome (last_of entries) (λ last. IsBefore last entry)
+
+-- ---- inside a writer: the entries that stand in its bytes, and what holds of them
 
 -- what was found, and then more behind it
 abbrev pub with_more : {A : Type 0} → Option (A × List ℕ) → (List ℕ → List A) → List A
@@ -50,10 +56,6 @@ pub record AreClosed (bytes index : List ℕ) (count : ℕ) (blocks : List (List
 -- each block has the size at which it is closed
 abbrev pub HaveReached : List (List Entry) → Type 0
 HaveReached blocks = AllByRecursion (λ block. 4096 ≤ length (payload_of block)) blocks
-
--- an entry stands behind all others
-abbrev pub Follows : List Entry → Entry → Type 0
-Follows entries entry = IfSome (last_of entries) (λ last. IsBefore last entry)
 
 -- the key and the number of the last entry, and no number where there is none
 abbrev pub IsLast : List ℕ → Option ℕ → Option Entry → Type 0

@@ -1,6 +1,6 @@
 //! The bytes of a table in the making: its closed data blocks, and then the index and the footer.
 
-ghost use Rattle.std.specs.Prelude.{◌≡◌, ◌≤◌, ◌<◌, ◌^◌, ◌++◌, ◌↔◌, [], ◌∷◌, length, IfOk, OnOk, OnErr, IsTrue, IsOkUnless};
+ghost use Rattle.std.specs.Prelude.{◌≡◌, ◌*◌, ◌≤◌, ◌<◌, ◌^◌, ◌++◌, ◌↔◌, [], ◌∷◌, length, IfOk, OnOk, OnErr, IsTrue, IsOkUnless};
 ghost use Rattle.fjall_tree.specs.Blocks.{IsOrdered};
 ghost use Rattle.fjall_tree.specs.Tables.{entries_of, handle_text, footer_text, AreFull, IsTable};
 
@@ -75,6 +75,13 @@ impl ClosedBlocks {
             index: Vec::new(alloc),
             entry_count: 0,
         }
+    }
+
+    pub(crate) fn entry_count(&self) -> u64
+        ensures count { result ≡ length (entries_of self.now) }
+        ensures small { 2 * result < 2 ^ 64 }
+    {
+        self.entry_count
     }
 
     /// Adds a block, and its line to the index. An `Err` adds nothing.

@@ -1,6 +1,6 @@
 //! The data block that a writer of tables adds to.
 
-ghost use Rattle.std.specs.Prelude.{◌≡◌, ◌≤◌, ◌<◌, ◌^◌, ◌++◌, ◌↔◌, [], ◌∷◌, length, OnOk, OnErr, IsTrue, IsOkUnless, MatchOption};
+ghost use Rattle.std.specs.Prelude.{◌≡◌, ◌*◌, ◌≤◌, ◌<◌, ◌^◌, ◌++◌, ◌↔◌, [], ◌∷◌, length, OnOk, OnErr, IsTrue, IsOkUnless, MatchOption};
 ghost use Rattle.fjall_tree.specs.Blocks.{seen, value_bytes, payload_of, refusal};
 ghost use Rattle.fjall_tree.specs.Tables.{first_key};
 ghost use Rattle.fjall_tree.specs.Writing.{IsOpen};
@@ -55,7 +55,8 @@ impl OpenBlock {
     }
 
     pub(crate) fn entry_count(&self) -> u64
-        ensures { result ≡ length self.now }
+        ensures count { result ≡ length self.now }
+        ensures small { 2 * result < 2 ^ 64 }
     {
         self.entry_count
     }

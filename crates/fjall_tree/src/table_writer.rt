@@ -81,6 +81,13 @@ impl TableWriter {
         }
     }
 
+    /// How many entries were written.
+    pub fn entry_count(&self) -> u64
+        ensures { result ≡ length self.now }
+    {
+        self.closed_blocks.entry_count() + self.open_block.entry_count()
+    }
+
     fn is_followed_by(&self, version: &Version<'_>) -> bool
         ensures { IsTrue result ↔ Follows self.now (seen version.now) }
     {

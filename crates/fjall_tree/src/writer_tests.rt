@@ -89,6 +89,7 @@ fn two_blocks(rt: HostRuntime) -> std::result::Result<(), Fail> {
     for key in 0..300u16 {
         writer.write(&entry(&key.to_be_bytes(), 1))?;
     }
+    assert_eq!(rt; writer.entry_count(), 300);
     let bytes = writer.finish()?.expect(&rt, "a table");
     assert_eq!(rt; bytes.len(), 5_224);
     let first = read_block(rt.alloc(), part(&bytes, 0, 4_113))?;

@@ -8,7 +8,7 @@ use Rattle.fjall_tree.proofs.closed_blocks.ClosedBlocks.close.Goals.{In_default}
 pub overflow_add-self : goal.overflow_add-self
 overflow_add-self c =
     let counted = count_closed c.self.inside.bytes.items c.self.inside.index.items c.payload.result.now c.put_frame.new.out.items c.self.inside.entry_count (length c.args.block.now) (blocks_in c.self.inside.bytes.items) c.args.block.now c.self.invariant c.payload.ensures c.in_ok-put_frame.ensures.ok in
-    omega (arith, counted, c.entry_count.ensures, c.put_frame.new.out.small, c.put_frame.new.out.ok.0)
+    omega (arith, counted, c.entry_count.ensures.count, c.put_frame.new.out.small, c.put_frame.new.out.ok.0)
 
 grown : (c : In_default) → AreClosed c.put_frame.new.out.items c.put_handle.new.out.items (c.self.inside.entry_count + length c.args.block.now) (blocks_in c.self.inside.bytes.items ++ c.args.block.now ∷ [])
 grown c =
@@ -17,7 +17,7 @@ grown c =
     c.in_ok-put_frame.ensures.ok (c.len-offset.ensures ∙ c.self.inside.bytes.ok.0) (ap (λ (n : ℕ). n - c.len-offset.result) (c.len.ensures ∙ c.put_frame.new.out.ok.0)) c.first_key-first_key.ensures.key c.in_default.ensures.ok
 
 pub invariant_of-self-2 : goal.invariant_of-self-2
-invariant_of-self-2 c = as_closed c.put_frame.new.out.items c.put_handle.new.out.items (c.self.inside.entry_count + c.entry_count.result) (blocks_in c.self.inside.bytes.items ++ c.args.block.now ∷ []) (rw c.entry_count.ensures (grown (goal.at.invariant_of-self-2 c).In_default))
+invariant_of-self-2 c = as_closed c.put_frame.new.out.items c.put_handle.new.out.items (c.self.inside.entry_count + c.entry_count.result) (blocks_in c.self.inside.bytes.items ++ c.args.block.now ∷ []) (rw c.entry_count.ensures.count (grown (goal.at.invariant_of-self-2 c).In_default))
 
 pub returns-clause-ok : goal.returns-clause-ok
 returns-clause-ok c =
