@@ -35,7 +35,7 @@ block_at bytes = do
 abbrev pub blocks_in : List ℕ → List (List Entry)
 blocks_in bytes = items_in block_at (length bytes) bytes
 
--- The payload and the count are those of these entries, to which more may be added before the block is closed.
+-- The payload and the count are those of these entries, and none was added once the payload had 4,096 bytes.
 pub record IsOpen (payload : List ℕ) (count : ℕ) (entries : List Entry) : Type 0 where
   pub text : payload ≡ payload_of entries
   pub number : count ≡ length entries
@@ -61,8 +61,7 @@ HaveReached blocks = AllByRecursion (λ block. 4096 ≤ length (payload_of block
 abbrev pub IsLast : List ℕ → Option ℕ → Option Entry → Type 0
 IsLast key (Some number) (Some entry) = (key ≡ entry.key) × (number ≡ entry.number)
 IsLast key None None = Unit {0}
-IsLast key (Some number) None = ⊥
-IsLast key None (Some entry) = ⊥
+IsLast key number entry = ⊥
 
 -- All entries are in order, this is the last of them, and each closed block is full.
 pub record IsSoFar (key : List ℕ) (number : Option ℕ) (closed : List (List Entry)) (open_block : List Entry) : Type 0 where
