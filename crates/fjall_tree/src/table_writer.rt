@@ -13,14 +13,15 @@ use std::alloc::Global;
 use std::marker::Model;
 use std::mem::swap;
 
-/// Builds a table in memory. Contracts see it as the entries written so far.
+/// Builds a table in memory, block by block: one is closed as soon as its payload has `BLOCK_BYTES`. Contracts see the
+/// writer as the entries written so far.
 #[derive(Drop)]
 pub struct TableWriter {
     closed_blocks: ClosedBlocks,
     open_block: OpenBlock,
     last_key: Vec<u8>,
     last_number: Option<u64>,
-    /// The room of the next `last_key`.
+    /// Where the next `last_key` is put, so that an `Err` leaves the old one.
     next_key: Vec<u8>,
 }
 
@@ -69,6 +70,7 @@ fn close_last(closed_blocks: &mut ClosedBlocks, open_block: &OpenBlock) -> Resul
 }
 
 impl TableWriter {
+    /// A writer of no entries yet. It takes no memory.
     pub fn new(alloc: Global) -> TableWriter
         ensures { result ≡ [] }
     {

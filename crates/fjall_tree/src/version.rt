@@ -102,7 +102,7 @@ impl<'a> Version<'a> {
         }
     }
 
-    /// Whether it has a text.
+    /// Refuses what has no text.
     pub(crate) fn check(&self) -> Result<()>
         ensures { MatchOption (refusal (seen self.now).key (value_bytes (seen self.now).value)) (result ≡ Ok tt) (λ e. result ≡ Err e) }
     {
