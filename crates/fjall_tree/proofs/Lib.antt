@@ -10,3 +10,5 @@ pub mod Damages
 pub mod BlockParts
 pub mod TableWriting
 pub mod TableLaws
+pub mod Footers
+pub mod Indexes

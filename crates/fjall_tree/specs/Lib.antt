@@ -4,3 +4,4 @@ pub mod Records
 pub mod Blocks
 pub mod Tables
 pub mod Writing
+pub mod TableReading

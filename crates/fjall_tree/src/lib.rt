@@ -9,7 +9,9 @@ mod current;
 mod decoding;
 mod encoding;
 mod fields;
+mod footer;
 mod frame;
+mod index;
 mod laws;
 mod level;
 mod open_block;
@@ -24,6 +26,8 @@ mod writer_tests;
 pub use block::{BLOCK_BYTES, read_block};
 pub use current::{Current, read_current};
 pub use frame::put_frame;
+pub use footer::{FOOTER_LEN, Footer};
+pub use index::{BlockHandle, Index};
 pub use laws::{
     blocks_stand_apart, cut_reads, no_records_with_a_contradiction, one_list_of_entries,
     one_list_of_records, one_text_of_entries, records_grow, tables_have_an_index,

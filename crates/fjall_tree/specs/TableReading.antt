@@ -1,0 +1,55 @@
+-- Reading a table: its footer, its index and its blocks.
+use Rattle.std.specs.Prelude.{◌≡◌, ◌≢◌, ℕ, ◌+◌, ◌<◌, ◌≤◌, ◌^◌, List, [], ◌∷◌, length, take, Option, Some, None, ◌&&◌, if◌then◌else◌}
+use Rattle.std.specs.Str.{bytes_eq}
+use Rattle.std.specs.declared.cmp.Ordering.TheVariants.{Greater}
+use Rattle.fjall_base.specs.Pairs.{byte_order}
+use Rattle.fjall_tree.specs.declared.footer.Footer.{Footer}
+use Rattle.fjall_tree.specs.declared.index.BlockHandle.{BlockHandle}
+use Rattle.fjall_tree.specs.Frame.{check}
+use Rattle.fjall_tree.specs.Reading.{◌>>=◌, number_at, bytes_at}
+use Rattle.fjall_tree.specs.Tables.{Handle, index_text, footer_text, IsIndex}
+
+abbrev pub handle_of : BlockHandle → Handle
+handle_of h = record { offset = h.offset; len = h.len; first_key = h.first_key.now }
+
+-- ---- the footer
+
+-- no footer has these bytes
+abbrev pub IsNoFooter : List ℕ → Type 0
+IsNoFooter bytes = (offset len count : ℕ) → offset < 2 ^ 64 → len < 2 ^ 64 → count < 2 ^ 64 → bytes ≡ footer_text offset len count → ⊥
+
+unfoldable pub footer_at : List ℕ → Option (Footer × List ℕ)
+footer_at bytes = do
+  magic ← bytes_at 4 bytes
+  offset ← number_at 8 magic.1
+  len ← number_at 8 offset.1
+  count ← number_at 8 len.1
+  sum ← bytes_at 8 count.1
+  if bytes_eq magic.0 (70 ∷ 74 ∷ 84 ∷ 1 ∷ []) && bytes_eq sum.0 (check (take 28 bytes)) then Some (record { index_offset = offset.0; index_len = len.0; entry_count = count.0 }, sum.1) else None
+
+-- ---- the index
+
+unfoldable pub handle_at : List ℕ → Option (Handle × List ℕ)
+handle_at bytes = do
+  offset ← number_at 8 bytes
+  len ← number_at 8 offset.1
+  key_len ← number_at 2 len.1
+  key ← bytes_at key_len.0 key_len.1
+  Some (record { offset = offset.0; len = len.0; first_key = key.0 }, key.1)
+
+-- what has a text
+pub record IsHandle (h : Handle) : Type 0 where
+  pub offset : h.offset < 2 ^ 64
+  pub len : h.len < 2 ^ 64
+  pub key : length h.first_key < 2 ^ 16
+
+-- A block may stand behind others that end at an offset, the last of which has this first key, and end within some bytes.
+pub record Follows (last_key : List ℕ) (at : ℕ) (end : ℕ) (h : Handle) : Type 0 where
+  pub offset : h.offset ≡ at
+  pub within : at + h.len ≤ end
+  pub some : 0 < length h.first_key
+  pub ascends : byte_order last_key h.first_key ≢ Greater
+
+-- no index over so many bytes of blocks has these bytes
+abbrev pub IsNoIndex : List ℕ → ℕ → Type 0
+IsNoIndex bytes data_len = (handles : List Handle) → IsIndex handles data_len → bytes ≡ index_text handles → ⊥
