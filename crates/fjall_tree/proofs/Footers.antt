@@ -17,16 +17,16 @@ pub record Room (f : Footer) : Type 0 where
   pub len : f.index_len < 2 ^ 64
   pub count : f.entry_count < 2 ^ 64
 
-abbrev text : Footer → List ℕ
+abbrev pub text : Footer → List ℕ
 text f = footer_text f.index_offset f.index_len f.entry_count
 
-abbrev magic : List ℕ
+abbrev pub magic : List ℕ
 magic = 70 ∷ 74 ∷ 84 ∷ 1 ∷ []
 
-abbrev head : ℕ → ℕ → ℕ → List ℕ
+abbrev pub head : ℕ → ℕ → ℕ → List ℕ
 head offset len count = 70 ∷ 74 ∷ 84 ∷ 1 ∷ little_bytes 8 offset ++ (little_bytes 8 len ++ little_bytes 8 count)
 
-head_len : (offset len count : ℕ) → length (head offset len count) ≡ 28
+pub head_len : (offset len count : ℕ) → length (head offset len count) ≡ 28
 head_len offset len count = refl
 
 both : (a b : Bool) → (a && b) ≡ true → (a ≡ true) × (b ≡ true)

@@ -1,5 +1,7 @@
 -- The handles of an index, as a reader meets them.
-use Rattle.std.proofs.Common.{◌≡◌, ◌≢◌, ℕ, ◌+◌, ◌^◌, ◌<◌, ◌≤◌, List, [], ◌∷◌, ◌++◌, length, Some, None, refl, sym, ap, subst, ◌∙◌, append_assoc, arith}
+use mathlib.Core.Logic.{∥∥₁_elim}
+use Rattle.std.proofs.Props.{props}
+use Rattle.std.proofs.Common.{◌≡◌, ◌≢◌, ℕ, zero, suc, slice_get, ◌+◌, ◌^◌, ◌<◌, ◌≤◌, List, [], ◌∷◌, ◌++◌, length, Some, None, refl, sym, ap, subst, ◌∙◌, append_assoc, arith}
 use Rattle.std.specs.List.{flat_map, AllByRecursion}
 use Rattle.std.proofs.lemmas.List.{length-append, append-nil, nil_from_length}
 use Rattle.std.specs.declared.cmp.Ordering.TheVariants.{Greater}
@@ -261,11 +263,39 @@ ends_elsewhere bytes payload rest last hs at end w lt el p none bad all is text 
     nothing [] e = refl
     nothing (h ∷ more) e = let l = ap length e in let s = text_some (h ∷ more) (omega arith) in absurd (omega arith)
 
-pub done : (bytes payload rest last : List ℕ) (hs : List Handle) (at end : ℕ) → Whole bytes payload → Part payload hs last at end rest → length rest ≡ 0 → (length payload ≡ 0 → ⊥) → at ≡ end → IsIndex hs end × (bytes ≡ index_text hs)
-done bytes payload rest last hs at end w p none some e =
-    let a = all_read bytes payload rest last hs at end w p none in
-    (record { some = has_one hs a.payload_is; keys = p.keys; cover = subst (λ (n : ℕ). Cover 0 n hs) e p.cover; ascend = p.ascend }, a.text)
-  where
-    has_one : (hs : List Handle) → payload ≡ flat_map handle_text hs → 0 < length hs
-    has_one [] e = absurd (some (ap length e))
-    has_one (h ∷ hs) e = omega arith
+-- each block ends within the bytes that are covered
+pub covers : (at end k : ℕ) (hs : List Handle) (h : Handle) → Cover at end hs → Some h ≡ slice_get hs k → h.offset + h.len ≤ end
+covers at end k [] h c e = absurd cc
+covers at end zero (a ∷ hs) h c e = let l = cover_end (at + a.len) end hs c.1 in let s = some_is h a e in omega (arith, c.0, ap (λ (x : Handle). x.offset) s, ap (λ (x : Handle). x.len) s)
+covers at end (suc k) (a ∷ hs) h c e = covers (at + a.len) end k hs h c.1 e
+
+-- ---- a fact that a ghost field holds
+
+Cover-prop : (at end : ℕ) (hs : List Handle) → IsProp (Cover at end hs)
+Cover-prop at end [] = hlevel props
+Cover-prop at end (h ∷ hs) = hlevel (props, Cover-prop (at + h.len) end hs)
+
+Ascend-prop : (hs : List Handle) → IsProp (Ascend hs)
+Ascend-prop [] = hlevel props
+Ascend-prop (h ∷ []) = hlevel props
+Ascend-prop (h ∷ next ∷ hs) = hlevel (props, Ascend-prop (next ∷ hs))
+
+HasKey-prop : (h : Handle) → IsProp (HasKey h)
+HasKey-prop h = hlevel props
+
+HasKeys-prop : (hs : List Handle) → IsProp (AllByRecursion HasKey hs)
+HasKeys-prop [] = hlevel props
+HasKeys-prop (h ∷ hs) = hlevel (props, HasKey-prop h, HasKeys-prop hs)
+
+IsIndex-prop : (hs : List Handle) (end : ℕ) → IsProp (IsIndex hs end)
+IsIndex-prop hs end x y =
+    let some_prop : IsProp (0 < length hs) = hlevel props in
+    λ i. record {
+      some = some_prop x.some y.some i;
+      keys = HasKeys-prop hs x.keys y.keys i;
+      cover = Cover-prop 0 end hs x.cover y.cover i;
+      ascend = Ascend-prop hs x.ascend y.ascend i;
+    }
+
+pub is_index : (hs : List Handle) (end : ℕ) → ∥ IsIndex hs end ∥₁ → IsIndex hs end
+is_index hs end h = ∥∥₁_elim h (IsIndex-prop hs end) (λ x. x)

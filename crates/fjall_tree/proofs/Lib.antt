@@ -12,3 +12,4 @@ pub mod TableWriting
 pub mod TableLaws
 pub mod Footers
 pub mod Indexes
+pub mod TableReading

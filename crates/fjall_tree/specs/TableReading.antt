@@ -1,13 +1,15 @@
 -- Reading a table: its footer, its index and its blocks.
-use Rattle.std.specs.Prelude.{◌≡◌, ◌≢◌, ℕ, ◌+◌, ◌<◌, ◌≤◌, ◌^◌, List, [], ◌∷◌, length, take, Option, Some, None, ◌&&◌, if◌then◌else◌}
+use Rattle.std.specs.Prelude.{◌≡◌, ◌≢◌, ℕ, ◌+◌, ◌<◌, ◌≤◌, ◌^◌, List, [], ◌∷◌, length, take, drop, Option, Some, None, ◌&&◌, if◌then◌else◌}
 use Rattle.std.specs.Str.{bytes_eq}
 use Rattle.std.specs.declared.cmp.Ordering.TheVariants.{Greater}
 use Rattle.fjall_base.specs.Pairs.{byte_order}
 use Rattle.fjall_tree.specs.declared.footer.Footer.{Footer}
 use Rattle.fjall_tree.specs.declared.index.BlockHandle.{BlockHandle}
+use Rattle.fjall_tree.specs.declared.record.TableInfo.{TableInfo}
 use Rattle.fjall_tree.specs.Frame.{check}
 use Rattle.fjall_tree.specs.Reading.{◌>>=◌, number_at, bytes_at}
-use Rattle.fjall_tree.specs.Tables.{Handle, index_text, footer_text, IsIndex}
+use Rattle.fjall_tree.specs.Blocks.{Entry, block_text, IsBlock}
+use Rattle.fjall_tree.specs.Tables.{Handle, first_key, index_text, footer_text, IsTable, IsIndex, HasIndex}
 
 abbrev pub handle_of : BlockHandle → Handle
 handle_of h = record { offset = h.offset; len = h.len; first_key = h.first_key.now }
@@ -53,3 +55,27 @@ pub record Follows (last_key : List ℕ) (at : ℕ) (end : ℕ) (h : Handle) : T
 -- no index over so many bytes of blocks has these bytes
 abbrev pub IsNoIndex : List ℕ → ℕ → Type 0
 IsNoIndex bytes data_len = (handles : List Handle) → IsIndex handles data_len → bytes ≡ index_text handles → ⊥
+
+-- ---- a table's file
+
+-- such a file, with as many entries, has no index
+abbrev pub HasNoIndex : List ℕ → TableInfo → Type 0
+HasNoIndex bytes info = (handles : List Handle) → length bytes ≡ info.file_len → HasIndex bytes handles info.entry_count → ⊥
+
+-- what stands in a file where a handle says
+abbrev pub part_at : Handle → List ℕ → List ℕ
+part_at h bytes = take h.len (drop h.offset bytes)
+
+-- The bytes are a block of these entries, the first of which has this key.
+pub record IsBlockFrom (key : List ℕ) (bytes : List ℕ) (vs : List Entry) : Type 0 where
+  pub is : IsBlock vs
+  pub text : bytes ≡ block_text vs
+  pub key_is : first_key vs ≡ key
+
+-- no block that begins with this key has these bytes
+abbrev pub IsNoBlockFrom : List ℕ → List ℕ → Type 0
+IsNoBlockFrom key bytes = (vs : List Entry) → IsBlockFrom key bytes vs → ⊥
+
+-- the bytes are a table of no entries
+abbrev pub IsNoTable : List ℕ → Type 0
+IsNoTable bytes = (entries : List Entry) → IsTable bytes entries → ⊥

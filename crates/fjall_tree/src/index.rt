@@ -3,11 +3,14 @@
 ghost use Rattle.std.specs.Prelude.{◌≡◌, ◌≤◌, ◌↔◌, map, IsTrue, IfOk, IfErr};
 ghost use Rattle.fjall_base.specs.declared.error.StorageError.TheVariants.{TableDamaged};
 ghost use Rattle.fjall_tree.specs.Reading.{Shows, DamagedWhere};
+ghost use Rattle.fjall_tree.specs.Blocks.{seen};
 ghost use Rattle.fjall_tree.specs.Tables.{index_text, IsIndex};
-ghost use Rattle.fjall_tree.specs.TableReading.{handle_of, handle_at, Follows, IsNoIndex};
+ghost use Rattle.fjall_tree.specs.TableReading.{handle_of, handle_at, Follows, IsBlockFrom, IsNoBlockFrom, IsNoIndex};
 
+use crate::block::read_block;
 use crate::fields::{bytes_of, u16_of, u64_of};
 use crate::frame::frame_of;
+use crate::version::Version;
 use fjall_base::{Error, Result, StorageError};
 use std::alloc::Global;
 use std::cmp::Ordering;
@@ -41,6 +44,19 @@ impl<'a> BlockHandle<'a> {
             first_key,
         };
         Some((handle, rest))
+    }
+
+    /// Reads the block from its bytes. Other bytes than a block's whose first key is the handle's are
+    /// `Storage(TableDamaged)`.
+    pub fn read<'b>(&self, alloc: Global, framed: &'b [u8]) -> Result<Vec<Version<'b>>>
+        ensures block { IfOk result (λ vs. IsBlockFrom self.now.first_key.now framed.now (map seen vs.items)) }
+        ensures damaged { IfErr result (DamagedWhere TableDamaged (IsNoBlockFrom self.now.first_key.now framed.now)) }
+    {
+        let versions = read_block(alloc, framed)?;
+        match versions.first() {
+            Some(first) if first.key == self.first_key => Ok(versions),
+            _ => Err(DAMAGED),
+        }
     }
 
     // Whether it stands at an offset, ends within some bytes, and has a key that isn't below the last one.

@@ -17,6 +17,7 @@ mod level;
 mod open_block;
 mod record;
 mod table_writer;
+mod table;
 #[cfg(test)]
 mod tests;
 mod version;
@@ -36,4 +37,5 @@ pub use laws::{
 pub use level::Level;
 pub use record::{Record, TableInfo};
 pub use table_writer::TableWriter;
+pub use table::Table;
 pub use version::Version;

@@ -1,0 +1,82 @@
+//! A table: entries in blocks, looked up by the index over them.
+
+ghost use Rattle.std.specs.Prelude.{◌≡◌, ◌<◌, ◌≤◌, ◌++◌, length, take, map, slice_get, IfOk, IfErr, IfSome};
+ghost use Rattle.fjall_base.specs.declared.error.StorageError.TheVariants.{TableDamaged};
+ghost use Rattle.fjall_tree.specs.Reading.{DamagedWhere};
+ghost use Rattle.fjall_tree.specs.Blocks.{seen};
+ghost use Rattle.fjall_tree.specs.Tables.{end_text, HasIndex};
+ghost use Rattle.fjall_tree.specs.TableReading.{handle_of, part_at, HasNoIndex, IsBlockFrom, IsNoBlockFrom};
+
+use crate::footer::{FOOTER_LEN, Footer};
+use crate::index::Index;
+use crate::record::TableInfo;
+use crate::version::Version;
+use fjall_base::{Error, Result, StorageError};
+use std::alloc::Global;
+
+const DAMAGED: Error = Error::Storage(StorageError::TableDamaged);
+
+/// A table over the bytes of its file. Its index is read; its blocks are read when they are asked for.
+#[derive(Debug, Drop)]
+pub struct Table<'a> {
+    pub(crate) alloc: Global,
+    pub(crate) bytes: &'a [u8],
+    pub(crate) index: Index<'a>,
+    pub(crate) entry_count: u64,
+    ghost within: { index.data_len ≤ length bytes.now },
+    ghost ends: { bytes.now ≡ take index.data_len bytes.now ++ end_text index.data_len (map handle_of index.handles.items) entry_count },
+}
+
+impl<'a> Table<'a> {
+    /// Opens the table of a record: reads its footer and its index. A file of another length, with a wrong footer or
+    /// index, or with another count of entries is `Storage(TableDamaged)`. Blocks aren't looked at.
+    pub fn open(alloc: Global, bytes: &'a [u8], info: TableInfo) -> Result<Table<'a>>
+        ensures bytes { IfOk result (λ table. table.bytes.now ≡ bytes.now) }
+        ensures len { IfOk result (λ table. length bytes.now ≡ info.file_len) }
+        ensures index { IfOk result (λ table. HasIndex bytes.now (map handle_of table.index.handles.items) info.entry_count) }
+        ensures damaged { IfErr result (DamagedWhere TableDamaged (HasNoIndex bytes.now info)) }
+    {
+        if bytes.len() as u64 != info.file_len || bytes.len() < FOOTER_LEN {
+            return Err(DAMAGED);
+        }
+        let (front, end) = bytes.split_at(bytes.len() - FOOTER_LEN);
+        let footer = Footer::read(end)?;
+        if footer.entry_count != info.entry_count {
+            return Err(DAMAGED);
+        }
+        if footer.index_offset > front.len() as u64 {
+            return Err(DAMAGED);
+        }
+        let (_, framed) = front.split_at(footer.index_offset as usize);
+        if framed.len() as u64 != footer.index_len {
+            return Err(DAMAGED);
+        }
+        let index = Index::read(alloc, framed, footer.index_offset)?;
+        Ok(Table {
+            alloc,
+            bytes,
+            index,
+            entry_count: footer.entry_count,
+        })
+    }
+
+    /// How many blocks it has.
+    pub fn block_count(&self) -> usize
+        ensures { result ≡ length self.now.index.handles.items }
+    {
+        self.index.handles.len()
+    }
+
+    /// Reads a block, counted from 0 on. One that is damaged or doesn't begin with the key that the index says is
+    /// `Storage(TableDamaged)`.
+    pub fn block(&self, at: usize) -> Result<Vec<Version<'a>>>
+        requires { at < length self.now.index.handles.items }
+        ensures block { IfOk result (λ vs. IfSome (slice_get self.now.index.handles.items at) (λ h. IsBlockFrom h.first_key.now (part_at (handle_of h) self.now.bytes.now) (map seen vs.items))) }
+        ensures damaged { IfErr result (DamagedWhere TableDamaged (IfSome (slice_get self.now.index.handles.items at) (λ h. IsNoBlockFrom h.first_key.now (part_at (handle_of h) self.now.bytes.now)))) }
+    {
+        let handle = self.index.handles[at];
+        let (_, rest) = self.bytes.split_at(handle.offset as usize);
+        let (framed, _) = rest.split_at(handle.len as usize);
+        handle.read(self.alloc, framed)
+    }
+}
