@@ -120,7 +120,7 @@ entry_codec = record { again = again; takes = takes }
         let s3 = step (number_at 4) _ _ u32_codec s2.rest (λ vl. bytes_at s0.value vl.1 >>= λ key. bytes_at vl.0 key.1 >>= λ st. value_of s1.value st.0 >>= λ value. entry_of s0.value key.0 s2.value value >>= λ en. Some (en, st.1)) (v, rest) s2.found.fits s2.next in
         behind_numbers bytes s0.rest s1.rest s2.rest s3.rest s0.value s1.value s2.value s3.value v rest s0.found.parts s0.found.is s1.found.parts s2.found.parts s2.found.is s3.found.parts s3.found.is s3.found.fits s3.next
 
-entry_some : (v : Entry) → 0 < length (entry_text v)
+pub entry_some : (v : Entry) → 0 < length (entry_text v)
 unfolding entry_text
 entry_some v = omega arith
 

@@ -13,3 +13,5 @@ pub mod TableLaws
 pub mod Footers
 pub mod Indexes
 pub mod TableReading
+pub mod Lookups
+pub mod TableBlocks

@@ -1,7 +1,9 @@
 -- Reading a table: its footer, its index and its blocks.
-use Rattle.std.specs.Prelude.{◌≡◌, ◌≢◌, ℕ, ◌+◌, ◌<◌, ◌≤◌, ◌^◌, List, [], ◌∷◌, length, take, drop, Option, Some, None, ◌&&◌, if◌then◌else◌}
+use Rattle.std.specs.Prelude.{◌≡◌, ◌≢◌, ℕ, ◌+◌, ◌<◌, ◌≤◌, ◌^◌, List, [], ◌∷◌, length, take, drop, filter, Bool, true, false, nat_le, Option, Some, None, ◌&&◌, if◌then◌else◌}
 use Rattle.std.specs.Str.{bytes_eq}
-use Rattle.std.specs.declared.cmp.Ordering.TheVariants.{Greater}
+use Rattle.std.specs.Ordering.{is_lt, is_le}
+use Rattle.std.specs.declared.cmp.Ordering.{Ordering}
+use Rattle.std.specs.declared.cmp.Ordering.TheVariants.{Less, Equal, Greater}
 use Rattle.fjall_base.specs.Pairs.{byte_order}
 use Rattle.fjall_tree.specs.declared.footer.Footer.{Footer}
 use Rattle.fjall_tree.specs.declared.index.BlockHandle.{BlockHandle}
@@ -79,3 +81,18 @@ IsNoBlockFrom key bytes = (vs : List Entry) → IsBlockFrom key bytes vs → ⊥
 -- the bytes are a table of no entries
 abbrev pub IsNoTable : List ℕ → Type 0
 IsNoTable bytes = (entries : List Entry) → IsTable bytes entries → ⊥
+
+-- ---- looking up
+
+-- how many blocks begin with a key below this one, and how many with one at most this one
+abbrev pub blocks_below : List ℕ → List Handle → ℕ
+blocks_below key handles = length (filter (λ h. is_lt (byte_order h.first_key key)) handles)
+
+abbrev pub blocks_up_to : List ℕ → List Handle → ℕ
+blocks_up_to key handles = length (filter (λ h. is_le (byte_order h.first_key key)) handles)
+
+-- whether a version whose key compares so with a key stands before all those of that key that are numbered below an instant
+abbrev pub is_ahead : Ordering → ℕ → ℕ → Bool
+is_ahead Less number instant = true
+is_ahead Equal number instant = nat_le instant number
+is_ahead Greater number instant = false

@@ -1,19 +1,21 @@
 //! The index of a table: where its blocks stand and with which keys they begin.
 
-ghost use Rattle.std.specs.Prelude.{◌≡◌, ◌≤◌, ◌↔◌, map, IsTrue, IfOk, IfErr};
+ghost use Rattle.std.specs.Prelude.{◌≡◌, ◌-◌, ◌≤◌, ◌↔◌, map, IsTrue, IfOk, IfErr};
 ghost use Rattle.fjall_base.specs.declared.error.StorageError.TheVariants.{TableDamaged};
 ghost use Rattle.fjall_tree.specs.Reading.{Shows, DamagedWhere};
 ghost use Rattle.fjall_tree.specs.Blocks.{seen};
 ghost use Rattle.fjall_tree.specs.Tables.{index_text, IsIndex};
-ghost use Rattle.fjall_tree.specs.TableReading.{handle_of, handle_at, Follows, IsBlockFrom, IsNoBlockFrom, IsNoIndex};
+ghost use Rattle.fjall_tree.specs.TableReading.{handle_of, blocks_below, blocks_up_to, handle_at, Follows, IsBlockFrom, IsNoBlockFrom, IsNoIndex};
 
 use crate::block::read_block;
 use crate::fields::{bytes_of, u16_of, u64_of};
 use crate::frame::frame_of;
+use crate::keys::{is_at_most, is_below};
 use crate::version::Version;
 use fjall_base::{Error, Result, StorageError};
 use std::alloc::Global;
 use std::cmp::Ordering;
+use std::ops::Range;
 
 const DAMAGED: Error = Error::Storage(StorageError::TableDamaged);
 
@@ -124,5 +126,18 @@ impl<'a> Index<'a> {
         ensures { result.now ≡ self.now.handles.items }
     {
         &self.handles
+    }
+
+    /// The numbers of the blocks that may hold a key: from the last one that begins with a key below it, if there is
+    /// one, to the last one that begins with a key at most it.
+    pub fn span(&self, key: &[u8]) -> Range<usize>
+        ensures start { result.start ≡ blocks_below key.now (map handle_of self.now.handles.items) - 1 }
+        ensures end { result.end ≡ blocks_up_to key.now (map handle_of self.now.handles.items) }
+    {
+        let below = self.handles.partition_point(|h| is_below(h.first_key, key));
+        let up_to = self
+            .handles
+            .partition_point(|h| is_at_most(h.first_key, key));
+        below.saturating_sub(1)..up_to
     }
 }

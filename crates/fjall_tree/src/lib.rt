@@ -12,9 +12,11 @@ mod fields;
 mod footer;
 mod frame;
 mod index;
+mod keys;
 mod laws;
 mod level;
 mod open_block;
+mod lookup;
 mod record;
 mod table_writer;
 mod table;
@@ -35,6 +37,7 @@ pub use laws::{
     texts_are_records,
 };
 pub use level::Level;
+pub use lookup::find_versions;
 pub use record::{Record, TableInfo};
 pub use table_writer::TableWriter;
 pub use table::Table;

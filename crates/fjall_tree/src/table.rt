@@ -1,14 +1,15 @@
 //! A table: entries in blocks, looked up by the index over them.
 
-ghost use Rattle.std.specs.Prelude.{◌≡◌, ◌<◌, ◌≤◌, ◌++◌, length, take, map, slice_get, IfOk, IfErr, IfSome};
+ghost use Rattle.std.specs.Prelude.{◌≡◌, ◌<◌, ◌≤◌, ◌++◌, length, take, map, slice_get, List, IfOk, IfErr, IfSome, IsOkUnless};
 ghost use Rattle.fjall_base.specs.declared.error.StorageError.TheVariants.{TableDamaged};
 ghost use Rattle.fjall_tree.specs.Reading.{DamagedWhere};
-ghost use Rattle.fjall_tree.specs.Blocks.{seen};
-ghost use Rattle.fjall_tree.specs.Tables.{end_text, HasIndex};
-ghost use Rattle.fjall_tree.specs.TableReading.{handle_of, part_at, HasNoIndex, IsBlockFrom, IsNoBlockFrom};
+ghost use Rattle.fjall_tree.specs.Blocks.{Entry, seen};
+ghost use Rattle.fjall_tree.specs.Tables.{end_text, IsTable, HasIndex, versions_at};
+ghost use Rattle.fjall_tree.specs.TableReading.{handle_of, part_at, HasNoIndex, IsBlockFrom, IsNoBlockFrom, IsNoTable};
 
 use crate::footer::{FOOTER_LEN, Footer};
 use crate::index::Index;
+use crate::lookup::{find_versions, put_versions};
 use crate::record::TableInfo;
 use crate::version::Version;
 use fjall_base::{Error, Result, StorageError};
@@ -78,5 +79,21 @@ impl<'a> Table<'a> {
         let (_, rest) = self.bytes.split_at(handle.offset as usize);
         let (framed, _) = rest.split_at(handle.len as usize);
         handle.read(self.alloc, framed)
+    }
+
+    /// The versions of a key that are numbered below an instant, the newest first. Only the blocks that may hold the key
+    /// are read, and one of these that is damaged is `Storage(TableDamaged)`.
+    pub fn versions_at(&self, key: &[u8], instant: u64) -> Result<Vec<Version<'a>>>
+        ensures found { (es : List Entry) → IsTable self.now.bytes.now es → IfOk result (λ vs. map seen vs.items ≡ versions_at key.now instant es) }
+        ensures only { (es : List Entry) → IsTable self.now.bytes.now es → IsOkUnless result Error.OutOfMemory }
+        ensures damaged { IfErr result (DamagedWhere TableDamaged (IsNoTable self.now.bytes.now)) }
+    {
+        let mut found = Vec::new(self.alloc);
+        let span = self.index.span(key);
+        for at in span.start..span.end {
+            let block = self.block(at)?;
+            put_versions(&mut found, find_versions(&block, key, instant))?;
+        }
+        Ok(found)
     }
 }
