@@ -134,7 +134,7 @@ ordered_more [] v up after = tt
 ordered_more (w ∷ []) v up after = (after, tt)
 ordered_more (w ∷ x ∷ vs) v up after = (up.0, ordered_more (x ∷ vs) v up.1 after)
 
-ordered_at : (vs more : List Entry) (v : Entry) → IsOrdered (vs ++ v ∷ more) → IfSome (last_of vs) (λ w. IsBefore w v)
+pub ordered_at : (vs more : List Entry) (v : Entry) → IsOrdered (vs ++ v ∷ more) → IfSome (last_of vs) (λ w. IsBefore w v)
 ordered_at [] more v up = tt
 ordered_at (w ∷ []) more v up = up.0
 ordered_at (w ∷ x ∷ vs) more v up = ordered_at (x ∷ vs) more v up.1

@@ -93,12 +93,12 @@ cover_end at end [] c = omega (arith, c)
 cover_end at end (h ∷ hs) c = let l = cover_end (at + h.len) end hs c.1 in omega arith
 
 -- what comes next stands where the others end
-cover_at : (from at end : ℕ) (hs more : List Handle) (h : Handle) → Cover from at hs → Cover from end (hs ++ h ∷ more) → (h.offset ≡ at) × (at + h.len ≤ end)
+pub cover_at : (from at end : ℕ) (hs more : List Handle) (h : Handle) → Cover from at hs → Cover from end (hs ++ h ∷ more) → (h.offset ≡ at) × (at + h.len ≤ end)
 cover_at from at end [] more h c d = (d.0 ∙ c, let l = cover_end (from + h.len) end more d.1 in omega (arith, c))
 cover_at from at end (a ∷ hs) more h c d = cover_at (from + a.len) at end hs more h c.1 d.1
 
 -- all of them end in one place
-one_end : (from at end : ℕ) (hs : List Handle) → Cover from at hs → Cover from end hs → at ≡ end
+pub one_end : (from at end : ℕ) (hs : List Handle) → Cover from at hs → Cover from end hs → at ≡ end
 one_end from at end [] c d = sym c ∙ d
 one_end from at end (h ∷ hs) c d = one_end (from + h.len) at end hs c.1 d.1
 

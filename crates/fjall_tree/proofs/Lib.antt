@@ -15,3 +15,4 @@ pub mod Indexes
 pub mod TableReading
 pub mod Lookups
 pub mod TableBlocks
+pub mod TableScans

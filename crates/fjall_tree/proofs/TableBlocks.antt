@@ -49,7 +49,7 @@ one_index bytes hs ks n m h k =
 
 -- ---- the index of blocks
 
-cover_blocks : (at : ℕ) (blocks : List (List Entry)) → Cover at (at + length (data_text blocks)) (handles_of at blocks)
+pub cover_blocks : (at : ℕ) (blocks : List (List Entry)) → Cover at (at + length (data_text blocks)) (handles_of at blocks)
 cover_blocks at [] = omega arith
 cover_blocks at (b ∷ bs) =
     let e : at + length (block_text b) + length (data_text bs) ≡ at + length (data_text (b ∷ bs)) = omega (arith, ap length (flat_map-cons block_text b bs), length-append (block_text b) (data_text bs)) in
@@ -86,7 +86,7 @@ ascend_blocks at ((e ∷ es) ∷ (f ∷ fs) ∷ bs) each up =
     let next : IsOrdered ((e ∷ es) ++ f ∷ (fs ++ entries_of bs)) = subst (λ (v : List Entry). IsOrdered ((e ∷ es) ++ v)) (flat_map-cons (λ (b : List Entry). b) (f ∷ fs) bs) all in
     (not_above_first e es f (fs ++ entries_of bs) next, ascend_blocks (at + length (block_text (e ∷ es))) ((f ∷ fs) ∷ bs) each.1 (ordered_back (e ∷ es) (entries_of ((f ∷ fs) ∷ bs)) all))
 
-handles_len : (at : ℕ) (blocks : List (List Entry)) → length (handles_of at blocks) ≡ length blocks
+pub handles_len : (at : ℕ) (blocks : List (List Entry)) → length (handles_of at blocks) ≡ length blocks
 handles_len at [] = refl
 handles_len at (b ∷ bs) = ap suc (handles_len (at + length (block_text b)) bs)
 
@@ -183,7 +183,7 @@ stands_at bytes hs n blocks at h x t e =
     let s = stands [] more blocks at h (ap (λ (ks : List Handle). slice_get ks at) (sym (handles_are bytes hs n blocks x t)) ∙ e) in
     subst (λ (b : List ℕ). Stands b blocks at h) (sym t.text) s
 
-is_at : {A : Type 0} (P : A → Type 0) (xs : List A) (i : ℕ) (x : A) → AllByRecursion P xs → slice_get xs i ≡ Some x → P x
+pub is_at : {A : Type 0} (P : A → Type 0) (xs : List A) (i : ℕ) (x : A) → AllByRecursion P xs → slice_get xs i ≡ Some x → P x
 is_at P [] i x all e = absurd cc
 is_at P (a ∷ xs) zero x all e = subst P (some_is a x e) all.0
 is_at P (a ∷ xs) (suc i) x all e = is_at P xs i x all.1 e
@@ -209,7 +209,7 @@ damaged_at bytes hs n at h x e none es t =
 
 -- ---- parts of lists
 
-more_taken : {A : Type 0} (xs : List A) (n : ℕ) (x : A) → slice_get xs n ≡ Some x → take (n + 1) xs ≡ take n xs ++ x ∷ []
+pub more_taken : {A : Type 0} (xs : List A) (n : ℕ) (x : A) → slice_get xs n ≡ Some x → take (n + 1) xs ≡ take n xs ++ x ∷ []
 more_taken xs n x e = ap (λ (k : ℕ). take k xs) (add-one n) ∙ go xs n e
   where
     go : {A : Type 0} {x : A} (xs : List A) (n : ℕ) → slice_get xs n ≡ Some x → take (suc n) xs ≡ take n xs ++ x ∷ []
@@ -226,10 +226,13 @@ got_dropped [] (suc from) at x le e = absurd cc
 got_dropped (a ∷ xs) (suc from) zero x le e = absurd (omega arith)
 got_dropped (a ∷ xs) (suc from) (suc at) x le e = let k : suc at - suc from ≡ at - from = omega arith in ap (slice_get (drop from xs)) k ∙ got_dropped xs from at x (omega arith) e
 
-drop_got : {A : Type 0} (xs : List A) (i : ℕ) (x : A) → slice_get xs i ≡ Some x → drop i xs ≡ x ∷ drop (suc i) xs
+pub drop_got : {A : Type 0} (xs : List A) (i : ℕ) (x : A) → slice_get xs i ≡ Some x → drop i xs ≡ x ∷ drop (suc i) xs
 drop_got [] i x e = absurd cc
 drop_got (a ∷ xs) zero x e = ap (λ (y : _). y ∷ xs) (some_is a x e)
 drop_got (a ∷ xs) (suc i) x e = drop_got xs i x e
+
+pub entries_joined : (bs : List (List Entry)) (vs : List Entry) → entries_of (bs ++ vs ∷ []) ≡ entries_of bs ++ vs
+entries_joined bs vs = flat_map-append (λ (b : List Entry). b) bs (vs ∷ []) ∙ ap (λ (v : List Entry). entries_of bs ++ v) (flat_map-cons (λ (b : List Entry). b) vs [] ∙ append-nil vs)
 
 -- ---- what a loop over the blocks of a span has found
 
@@ -261,9 +264,7 @@ found_more bytes key hs n instant from at h found vs x e b f = record {
 }
   where
     joined : (bs : List (List Entry)) (vs : List Entry) → versions_at key instant (entries_of (bs ++ vs ∷ [])) ≡ versions_at key instant (entries_of bs) ++ versions_at key instant vs
-    joined bs vs =
-        ap (versions_at key instant) (flat_map-append (λ (b : List Entry). b) bs (vs ∷ []) ∙ ap (λ (v : List Entry). entries_of bs ++ v) (flat_map-cons (λ (b : List Entry). b) vs [] ∙ append-nil vs))
-        ∙ filter-append (wanted key instant) (entries_of bs) vs
+    joined bs vs = ap (versions_at key instant) (entries_joined bs vs) ∙ filter-append (wanted key instant) (entries_of bs) vs
 
 -- ---- the blocks outside a span hold no version of the key
 
@@ -353,7 +354,7 @@ begins_with bytes hs n blocks at h x t e =
     let s = stands_at bytes hs n blocks at h x t e in
     subst (λ (k : List ℕ). From blocks at k) s.key (from_block blocks at s.block (is_at IsBlock blocks at s.block t.are.each s.here) s.here)
 
-parts_of : (blocks : List (List Entry)) (at : ℕ) → entries_of blocks ≡ entries_of (take at blocks) ++ entries_of (drop at blocks)
+pub parts_of : (blocks : List (List Entry)) (at : ℕ) → entries_of blocks ≡ entries_of (take at blocks) ++ entries_of (drop at blocks)
 parts_of blocks at = ap entries_of (sym (take-append-drop at blocks)) ∙ flat_map-append (λ (b : List Entry). b) (take at blocks) (drop at blocks)
 
 front_nothing : (bytes key : List ℕ) (hs : List Handle) (n instant at : ℕ) (blocks : List (List Entry)) → HasIndex bytes hs n → IsOf bytes blocks → Ascend hs → at ≡ blocks_below key hs - 1 → versions_at key instant (entries_of (take at blocks)) ≡ []
@@ -438,3 +439,6 @@ pub memory_only : (damage : StorageError) (e : Error) (P : Type 0) → DamagedWh
 memory_only damage OutOfMemory P f h = refl
 memory_only damage (Storage s) P f h = absurd (h f.1)
 memory_only damage e P f h = absurd f
+
+pub read_here : (bytes : List ℕ) (handles : List BlockHandle) (at : ℕ) (h : BlockHandle) (vs : List Entry) → slice_get handles at ≡ Some h → IfSome (slice_get handles at) (λ h. IsBlockFrom h.first_key.now (part_at (handle_of h) bytes) vs) → IsBlockFrom h.first_key.now (part_at (handle_of h) bytes) vs
+read_here bytes handles at h vs e b = subst (λ (o : Option BlockHandle). IfSome o (λ h. IsBlockFrom h.first_key.now (part_at (handle_of h) bytes) vs)) e b

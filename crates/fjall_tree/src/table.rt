@@ -1,12 +1,13 @@
 //! A table: entries in blocks, looked up by the index over them.
 
-ghost use Rattle.std.specs.Prelude.{◌≡◌, ◌<◌, ◌≤◌, ◌++◌, length, take, map, slice_get, List, IfOk, IfErr, IfSome, IsOkUnless};
+ghost use Rattle.std.specs.Prelude.{◌≡◌, ◌<◌, ◌≤◌, ◌++◌, ◌↔◌, IsTrue, length, take, map, slice_get, List, IfOk, IfErr, IfSome, IsOkUnless};
 ghost use Rattle.fjall_base.specs.declared.error.StorageError.TheVariants.{TableDamaged};
 ghost use Rattle.fjall_tree.specs.Reading.{DamagedWhere};
-ghost use Rattle.fjall_tree.specs.Blocks.{Entry, seen};
+ghost use Rattle.fjall_tree.specs.Blocks.{Entry, seen, IsOrdered};
 ghost use Rattle.fjall_tree.specs.Tables.{end_text, IsTable, HasIndex, versions_at};
 ghost use Rattle.fjall_tree.specs.TableReading.{handle_of, part_at, HasNoIndex, IsBlockFrom, IsNoBlockFrom, IsNoTable};
 
+use crate::block::BLOCK_BYTES;
 use crate::footer::{FOOTER_LEN, Footer};
 use crate::index::Index;
 use crate::lookup::{find_versions, put_versions};
@@ -16,6 +17,21 @@ use fjall_base::{Error, Result, StorageError};
 use std::alloc::Global;
 
 const DAMAGED: Error = Error::Storage(StorageError::TableDamaged);
+
+/// How many bytes the frame of a full block has at least.
+const FULL_LEN: u64 = 16 + BLOCK_BYTES as u64;
+
+/// Whether ordered versions and those of a block are in order together.
+fn goes_on(versions: &[Version<'_>], block: &[Version<'_>]) -> bool
+    requires before { IsOrdered (map seen versions.now) }
+    requires block { IsOrdered (map seen block.now) }
+    ensures { IsTrue result ↔ IsOrdered (map seen versions.now ++ map seen block.now) }
+{
+    match (versions.last(), block.first()) {
+        (Some(last), Some(first)) => last.is_before(first),
+        _ => true,
+    }
+}
 
 /// A table over the bytes of its file. Its index is read; its blocks are read when they are asked for.
 #[derive(Debug, Drop)]
@@ -95,5 +111,32 @@ impl<'a> Table<'a> {
             put_versions(&mut found, find_versions(&block, key, instant))?;
         }
         Ok(found)
+    }
+
+    /// All entries, in order. A file that isn't a table is `Storage(TableDamaged)`: besides damaged blocks, one with a
+    /// block before the last that was closed early, with blocks out of order, or with another count of entries.
+    pub fn versions(&self) -> Result<Vec<Version<'a>>>
+        ensures table { IfOk result (λ vs. IsTable self.now.bytes.now (map seen vs.items)) }
+        ensures damaged { IfErr result (DamagedWhere TableDamaged (IsNoTable self.now.bytes.now)) }
+    {
+        let entry_count = self.entry_count;
+        let mut versions = Vec::new(self.alloc);
+        let mut full = true;
+        for at in 0..self.block_count() {
+            let handle = self.index.handles[at];
+            let block = self.block(at)?;
+            if !full {
+                return Err(DAMAGED);
+            }
+            if !goes_on(&versions, &block) {
+                return Err(DAMAGED);
+            }
+            put_versions(&mut versions, &block)?;
+            full = handle.len >= FULL_LEN;
+        }
+        if versions.len() as u64 != entry_count {
+            return Err(DAMAGED);
+        }
+        Ok(versions)
     }
 }
