@@ -5,15 +5,13 @@ ghost use Rattle.fjall_tree.specs.Blocks.{IsOrdered};
 ghost use Rattle.fjall_tree.specs.Tables.{entries_of, handle_text, footer_text, AreFull, IsTable};
 
 use crate::check::checksum;
+use crate::footer::FOOTER_START;
 use crate::frame::put_frame;
 use crate::open_block::OpenBlock;
 use byteorder::{ByteOrder, LittleEndian};
 use fjall_base::{Error, Result};
 use std::alloc::Global;
 use std::marker::Model;
-
-/// A footer begins so: "FJT", and the number of the format.
-const FOOTER_START: [u8; 4] = [b'F', b'J', b'T', 1];
 
 /// The closed blocks of a table, one behind another, and what the index says of them.
 #[derive(Drop)]

@@ -14,7 +14,8 @@ use fjall_base::{Error, Result, StorageError};
 /// How many bytes a footer has.
 pub const FOOTER_LEN: usize = 36;
 
-const MAGIC: [u8; 4] = [0x46, 0x4a, 0x54, 0x01];
+/// A footer begins so: "FJT", and the number of the format.
+pub(crate) const FOOTER_START: [u8; 4] = [b'F', b'J', b'T', 1];
 
 const DAMAGED: Error = Error::Storage(StorageError::TableDamaged);
 
@@ -38,7 +39,7 @@ fn footer_of(bytes: &[u8]) -> Option<(Footer, &[u8])>
     let (index_len, rest) = u64_of(rest)?;
     let (entry_count, rest) = u64_of(rest)?;
     let (sum, rest) = bytes_of(rest, 8)?;
-    if magic != MAGIC.as_slice() || !is_check(sum, &bytes[..28]) {
+    if magic != FOOTER_START.as_slice() || !is_check(sum, &bytes[..28]) {
         return None;
     }
     let footer = Footer {

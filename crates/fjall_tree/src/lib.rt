@@ -15,11 +15,11 @@ mod index;
 mod keys;
 mod laws;
 mod level;
-mod open_block;
 mod lookup;
+mod open_block;
 mod record;
-mod table_writer;
 mod table;
+mod table_writer;
 #[cfg(test)]
 mod tests;
 mod version;
@@ -28,8 +28,8 @@ mod writer_tests;
 
 pub use block::{BLOCK_BYTES, read_block};
 pub use current::{Current, read_current};
-pub use frame::put_frame;
 pub use footer::{FOOTER_LEN, Footer};
+pub use frame::put_frame;
 pub use index::{BlockHandle, Index};
 pub use laws::{
     blocks_stand_apart, cut_reads, no_records_with_a_contradiction, one_list_of_entries,
@@ -39,6 +39,6 @@ pub use laws::{
 pub use level::Level;
 pub use lookup::find_versions;
 pub use record::{Record, TableInfo};
-pub use table_writer::TableWriter;
 pub use table::Table;
+pub use table_writer::TableWriter;
 pub use version::Version;
