@@ -7,6 +7,7 @@ mod data;
 mod place;
 mod report;
 mod suite;
+mod tables;
 mod workload;
 
 use anyhow::{Context, Result, anyhow};

@@ -4,6 +4,7 @@ use crate::clock::{Spent, Stopwatch};
 use crate::data::{at_random, in_order};
 use crate::place::Place;
 use crate::report::Row;
+use crate::tables::{digest_blocks, look_up, opened, read_blocks, written};
 use crate::workload::{append_records, digest_records, fill, fill_synced, holds, open};
 use anyhow::{Result, bail};
 use fjall_base::Disk;
@@ -14,6 +15,9 @@ use std::time::CpuClock;
 
 // So many writes are synced one by one at most.
 const SYNCED_WRITES: u64 = 500;
+
+// So many keys are looked up in a table at most.
+const LOOK_UPS: usize = 20_000;
 
 /// Runs every workload with this count. What was done is told on standard output, the same in each run, and the
 /// table of times on standard error.
@@ -42,6 +46,7 @@ pub fn run<R: Print + Eprint + Clock + CpuClock, P: Place>(
     )?;
     let few = in_order(alloc, count.min(SYNCED_WRITES))?;
     sync_each(rt, alloc, place.disk(alloc, "sync")?, &few)?;
+    tables(rt, alloc, &shuffled)?;
     limits(rt, place.disk(alloc, "limits")?, count)
 }
 
@@ -116,6 +121,58 @@ fn sync_each<R: Print + Eprint + Clock + CpuClock, D: Disk + Drop>(
     fill_synced(&mut core, numbers)?;
     tell(rt, "pothvilai", "one sync a write", count, watch.spent(rt)?)?;
     check(rt, &mut core, "one sync a write", numbers)
+}
+
+// Writes a table in memory, reads its blocks, and looks its keys up.
+fn tables<R: Print + Eprint + Clock + CpuClock>(
+    rt: &R,
+    alloc: Global,
+    numbers: &[u64],
+) -> Result<()> {
+    let count = numbers.len() as u64;
+    let watch = Stopwatch::start(rt)?;
+    let Some(bytes) = written(alloc, count)? else {
+        return Ok(());
+    };
+    tell(rt, "pothvilai", "write a table", count, watch.spent(rt)?)?;
+
+    let table = opened(alloc, &bytes, count)?;
+    let blocks = table.block_count();
+    let watch = Stopwatch::start(rt)?;
+    let entries = read_blocks(&table)?;
+    tell(
+        rt,
+        "pothvilai",
+        "read a block",
+        blocks as u64,
+        watch.spent(rt)?,
+    )?;
+
+    let (few, _) = numbers.split_at(numbers.len().min(LOOK_UPS));
+    let watch = Stopwatch::start(rt)?;
+    let found = look_up(&table, few)?;
+    tell(
+        rt,
+        "pothvilai",
+        "look up in a table",
+        few.len() as u64,
+        watch.spent(rt)?,
+    )?;
+
+    let watch = Stopwatch::start(rt)?;
+    let last = digest_blocks(blocks);
+    tell(
+        rt,
+        "sha2 alone",
+        "digest 4,096 bytes",
+        blocks as u64,
+        watch.spent(rt)?,
+    )?;
+    let len = bytes.len();
+    println!(rt;
+        "table: {len} bytes, {blocks} blocks, {entries} entries, {found} found, the last digest begins with {last}"
+    )?;
+    Ok(())
 }
 
 // What the machine can do at best.
