@@ -1,4 +1,4 @@
-//! The formats below the journal, as bytes and back: records of a keyspace's `current`, and the data blocks of tables.
+//! The formats below the journal, as bytes and back: records of a keyspace's `current`, and tables.
 #![tactic(auto)]
 
 mod block;
