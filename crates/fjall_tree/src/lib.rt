@@ -21,6 +21,8 @@ mod record;
 mod table;
 mod table_writer;
 #[cfg(test)]
+mod table_tests;
+#[cfg(test)]
 mod tests;
 mod version;
 #[cfg(test)]
