@@ -78,7 +78,7 @@ pub record IsBlockFrom (key : List ℕ) (bytes : List ℕ) (vs : List Entry) : T
 abbrev pub IsNoBlockFrom : List ℕ → List ℕ → Type 0
 IsNoBlockFrom key bytes = (vs : List Entry) → IsBlockFrom key bytes vs → ⊥
 
--- the bytes are a table of no entries
+-- there are no entries of which the bytes are a table
 abbrev pub IsNoTable : List ℕ → Type 0
 IsNoTable bytes = (entries : List Entry) → IsTable bytes entries → ⊥
 
