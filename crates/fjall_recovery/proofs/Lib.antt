@@ -1,0 +1,7 @@
+mod Numbers
+mod Partings
+mod LastDots
+mod Folders
+mod Headers
+mod Collecting
+mod Refusing

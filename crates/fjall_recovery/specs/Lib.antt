@@ -1,0 +1,4 @@
+pub mod Marker
+pub mod Names
+pub mod Lists
+pub mod Sought
