@@ -5,3 +5,4 @@ mod Folders
 mod Headers
 mod Collecting
 mod Refusing
+mod Distinct

@@ -42,3 +42,30 @@ LooksLikeJournal name = (extension : List ℕ) × HasExtension name extension ×
 -- it is named nearly like a journal: it has that extension, and isn't the name of any
 abbrev pub IsMisnamed : Name → Type 0
 IsMisnamed name = LooksLikeJournal name × ((id : ℕ) → IsJournalName name id → ⊥)
+
+-- the files and folders that the engine keeps, and the file that holds the lock
+pub data Kept : Type 0 where
+  Lock : Kept
+  Version : Kept
+  Journal : ℕ → Kept
+  AllKeyspaces : Kept
+  Keyspace : ℕ → Kept
+  Current : ℕ → Kept
+  Table : ℕ → ℕ → Kept
+
+abbrev pub name_of : Kept → Name
+name_of Lock = codes "lock"
+name_of Version = codes "version"
+name_of (Journal id) = journal_name id
+name_of AllKeyspaces = codes "keyspaces"
+name_of (Keyspace id) = keyspace_folder id
+name_of (Current id) = current_name id
+name_of (Table id table) = table_name id table
+
+-- its ids have 64 bits
+abbrev pub HasIds : Kept → Type 0
+HasIds (Journal id) = id < 2 ^ 64
+HasIds (Keyspace id) = id < 2 ^ 64
+HasIds (Current id) = id < 2 ^ 64
+HasIds (Table id table) = (id < 2 ^ 64) × (table < 2 ^ 64)
+HasIds kept = Unit {0}
