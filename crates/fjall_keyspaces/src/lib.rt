@@ -1,0 +1,11 @@
+//! The meta keyspace in memory: which keyspaces live, under which names, ids and options, and which id
+//! comes next.
+#![tactic(auto)]
+
+mod living;
+mod meta_keyspace;
+mod name;
+
+pub use living::LivingKeyspace;
+pub use meta_keyspace::MetaKeyspace;
+pub use name::is_valid_keyspace_name;
