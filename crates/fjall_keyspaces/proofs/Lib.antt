@@ -1,0 +1,4 @@
+pub mod Options
+pub mod Changes
+pub mod Rising
+pub mod Orders

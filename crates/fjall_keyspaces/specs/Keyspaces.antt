@@ -3,7 +3,8 @@ use Rattle.std.specs.Prelude.{◌≡◌, ◌≢◌, ℕ, ◌+◌, ◌<◌, ◌^�
 use Rattle.std.specs.Option.{option_map}
 use Rattle.std.specs.Str.{bytes_eq}
 use Rattle.fjall_base.specs.declared.error.Error.{Error}
-use Rattle.fjall_base.specs.declared.error.Error.TheVariants.{InvalidName, NumbersUsedUp}
+use Rattle.fjall_base.specs.declared.error.Error.TheVariants.{InvalidName, NumbersUsedUp, OutOfMemory}
+use Rattle.fjall_meta.specs.Options.{AreOptions}
 use Rattle.fjall_keyspaces.specs.declared.living.LivingKeyspace.{LivingKeyspace}
 
 -- the living keyspaces by id ascending, and the id that the next one gets
@@ -15,14 +16,16 @@ pub record Keyspaces : Type 0 where
 abbrev pub is_name : List ℕ → Bool
 is_name name = nat_le 1 (length name) && nat_le (length name) 255
 
--- Ids begin at 1, ascend and were given out before; names are names, and each is that of one keyspace.
+-- Ids begin at 1, have eight bytes, ascend and were given out before; names are names, and each is that of one keyspace; options are a keyspace's.
 pub record AreKeyspaces (s : Keyspaces) : Type 0 where
   pub begun : 0 < s.next
+  pub fits : s.next < 2 ^ 64
   pub ids : All (λ k. 0 < k.id) s.living
   pub given : All (λ k. k.id < s.next) s.living
   pub ascending : AllPairs (λ j k. j.id < k.id) s.living
   pub names : All (λ k. is_name k.name ≡ true) s.living
   pub distinct : AllPairs (λ j k. j.name ≢ k.name) s.living
+  pub options : All (λ k. AreOptions k.options) s.living
 
 -- the keyspace that has this id
 abbrev pub keyspace_at : ℕ → List LivingKeyspace → Option LivingKeyspace
@@ -55,6 +58,11 @@ resolved None name options number s = new_keyspace name options number s
 -- the id that a creation answers and the keyspaces after it, or why it is refused, while memory lasts
 abbrev pub creation : List ℕ → List (List ℕ) → ℕ → Keyspaces → Result (ℕ × Keyspaces) Error
 creation name options number s = if is_name name then resolved (id_of name s.living) name options number s else Err InvalidName
+
+-- why a creation is refused: for its cause, or, where a keyspace is to be made, since memory ran out
+abbrev pub IsCreationRefusal : List ℕ → List (List ℕ) → ℕ → Keyspaces → Error → Type 0
+IsCreationRefusal name options number s OutOfMemory = creation name options number s ≡ Ok (s.next, with_keyspace name options number s)
+IsCreationRefusal name options number s e = creation name options number s ≡ Err e
 
 -- the keyspaces without that of this id; its id is not given out again
 abbrev pub without_keyspace : ℕ → Keyspaces → Keyspaces

@@ -1,1 +1,2 @@
 pub mod Keyspaces
+pub mod Entries

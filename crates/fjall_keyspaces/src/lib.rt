@@ -2,10 +2,14 @@
 //! comes next.
 #![tactic(auto)]
 
+mod entry;
 mod living;
 mod meta_keyspace;
 mod name;
+#[cfg(test)]
+mod tests;
 
+pub use entry::MetaEntry;
 pub use living::LivingKeyspace;
 pub use meta_keyspace::MetaKeyspace;
 pub use name::is_valid_keyspace_name;

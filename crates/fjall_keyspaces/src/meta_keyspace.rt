@@ -1,12 +1,18 @@
 //! The keyspaces that live.
 
-ghost use Rattle.std.specs.Prelude.{◌≡◌, ◌*◌, ◌^◌, ◌-◌, ◌<◌, min, map, length, Some, is_some, IfOk, IfErr, IfSome, OnErr, IsPermutation, IsSorted};
+ghost use Rattle.std.specs.Prelude.{◌≡◌, ◌*◌, ◌^◌, ◌-◌, ◌<◌, min, map, length, Ok, Some, is_some, IfOk, IfErr, IfSome, OnErr, IsPermutation, IsSorted};
+ghost use Rattle.fjall_base.specs.Pairs.{byte_order};
+ghost use Rattle.fjall_base.specs.declared.error.Error.TheVariants.{OutOfMemory};
+ghost use Rattle.fjall_meta.specs.Options.{value_at};
 ghost use Rattle.std.specs.Option.{option_map, option_copied};
-ghost use Rattle.fjall_keyspaces.specs.Keyspaces.{no_keyspaces, keyspace_at, id_of, without_keyspace};
+ghost use Rattle.fjall_keyspaces.specs.Keyspaces.{no_keyspaces, keyspace_at, id_of, creation, IsCreationRefusal, without_keyspace};
+ghost use Rattle.fjall_keyspaces.specs.Entries.{entries_of, IsAscending};
 
+use crate::entry::{MetaEntry, put_all_names, put_all_options, value_of};
 use crate::living::LivingKeyspace;
-use fjall_base::Slice;
-use fjall_meta::KeyspaceCreateOptions;
+use crate::name::is_name;
+use fjall_base::{Error, Result, Slice, UserValue};
+use fjall_meta::{KeyspaceCreateOptions, StoredOption};
 use std::alloc::Global;
 use std::marker::Model;
 
@@ -112,5 +118,93 @@ impl MetaKeyspace {
     {
         let keyspace = self.get(id)?;
         Some(&keyspace.options)
+    }
+
+    /// The names of the keyspaces that live, in the order of their bytes. It allocates, and fails where
+    /// memory is used up.
+    pub fn list_keyspace_names(&self, alloc: Global) -> Result<Vec<Slice>>
+        ensures names { IfOk result (λ names. IsPermutation (map (λ k. k.name) self.now.living) names.items) }
+        ensures sorted { IfOk result (λ names. IsSorted byte_order names.items) }
+        ensures only { IfErr result (λ e. e ≡ OutOfMemory) }
+    {
+        let mut names = Vec::with_capacity(alloc, self.living.len())?;
+        for keyspace in &self.living {
+            names.push(keyspace.name.clone()?)?;
+        }
+        names.sort()?;
+        Ok(names)
+    }
+
+    /// Creates a keyspace of this name with these options, by the change of this number, and answers its
+    /// id, which is the next one. A name that a keyspace has answers that keyspace's id and changes
+    /// nothing.
+    ///
+    /// Refuses with `InvalidName`, then `NumbersUsedUp` where the next id is the greatest `u64`, then
+    /// `OutOfMemory`. After a refusal nothing has changed.
+    pub fn create_keyspace(
+        &mut self,
+        name: Slice,
+        options: KeyspaceCreateOptions,
+        number: u64,
+    ) -> Result<u64>
+        ensures ok { IfOk result (λ id. creation name options number self.old ≡ Ok (id, self.new)) }
+        ensures unchanged { OnErr result (self.new ≡ self.old) }
+        ensures cause { IfErr result (IsCreationRefusal name options number self.old) }
+    {
+        if !is_name(&name) {
+            return Err(Error::InvalidName);
+        }
+        if let Some(id) = self.resolve_id(&name) {
+            return Ok(id);
+        }
+        let id = self.next;
+        let Some(next) = id.checked_add(1) else {
+            return Err(Error::NumbersUsedUp);
+        };
+        self.living.push(LivingKeyspace {
+            id,
+            number,
+            name,
+            options,
+        })?;
+        self.next = next;
+        Ok(id)
+    }
+
+    /// Removes the keyspace of this id, where it lives. Its id is not given out again.
+    pub fn remove_keyspace(&mut self, id: u64)
+        ensures { self.new ≡ without_keyspace id self.old }
+    {
+        self.living.retain(|keyspace| keyspace.id != id);
+    }
+
+    /// What is stored for an option of the keyspace of this id, where it lives. It allocates, and fails
+    /// where memory is used up.
+    pub fn get_kv_for_config(
+        &self,
+        alloc: Global,
+        id: u64,
+        option: StoredOption,
+    ) -> Result<Option<UserValue>>
+        ensures ok { IfOk result (λ value. value ≡ option_map (λ k. value_at option k.options) (keyspace_at id self.now.living)) }
+        ensures only { IfErr result (λ e. e ≡ OutOfMemory) }
+    {
+        let Some(keyspace) = self.get(id) else {
+            return Ok(None);
+        };
+        Ok(Some(value_of(alloc, keyspace, option)?))
+    }
+
+    /// All pairs of the meta keyspace, each under the number of its keyspace's creation, by key
+    /// ascending. It allocates, and fails where memory is used up.
+    pub fn entries(&self, alloc: Global) -> Result<Vec<MetaEntry>>
+        ensures ok { IfOk result (λ entries. entries.items ≡ entries_of self.now.living) }
+        ensures ascending { IfOk result (λ entries. IsAscending entries.items) }
+        ensures only { IfErr result (λ e. e ≡ OutOfMemory) }
+    {
+        let mut entries = Vec::with_capacity(alloc, self.len())?;
+        put_all_options(alloc, &self.living, &mut entries)?;
+        put_all_names(alloc, &self.living, &mut entries)?;
+        Ok(entries)
     }
 }
