@@ -2,3 +2,5 @@ pub mod Options
 pub mod Changes
 pub mod Rising
 pub mod Orders
+pub mod Faults
+pub mod Entries

@@ -1,2 +1,3 @@
 pub mod Keyspaces
 pub mod Entries
+pub mod Reading

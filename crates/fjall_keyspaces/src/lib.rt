@@ -6,6 +6,7 @@ mod entry;
 mod living;
 mod meta_keyspace;
 mod name;
+mod reading;
 #[cfg(test)]
 mod tests;
 

@@ -207,4 +207,45 @@ impl MetaKeyspace {
         put_all_names(alloc, &self.living, &mut entries)?;
         Ok(entries)
     }
+
+    /// Puts back a keyspace that was stored, and says whether it may follow: its id is the next one or
+    /// above, its name is valid and that of no other.
+    pub(crate) fn restore(
+        &mut self,
+        id: u64,
+        number: u64,
+        name: Slice,
+        options: KeyspaceCreateOptions,
+    ) -> Result<bool>
+        ensures only { IfErr result (λ e. e ≡ OutOfMemory) }
+    {
+        if id < self.next || !is_name(&name) {
+            return Ok(false);
+        }
+        if self.keyspace_exists(&name) {
+            return Ok(false);
+        }
+        let Some(next) = id.checked_add(1) else {
+            return Ok(false);
+        };
+        self.living.push(LivingKeyspace {
+            id,
+            number,
+            name,
+            options,
+        })?;
+        self.next = next;
+        Ok(true)
+    }
+
+    /// The same keyspaces with this next id, where it isn't below the one that they have.
+    pub(crate) fn with_next(mut self, next_id: u64) -> Option<MetaKeyspace>
+        ensures { IfSome result (λ m. m ≡ record { living = self.living; next = next_id }) }
+    {
+        if next_id < self.next {
+            return None;
+        }
+        self.next = next_id;
+        Some(self)
+    }
 }

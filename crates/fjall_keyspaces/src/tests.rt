@@ -1,7 +1,7 @@
 //! Worked rows of the meta keyspace, and calls of each public function.
 
 use super::*;
-use fjall_base::{Error, Result, Slice};
+use fjall_base::{Error, Result, Slice, StorageError};
 use fjall_meta::{KeyspaceCreateOptions, STORED_OPTIONS, StoredOption, encode_config_key};
 use std::alloc::Global;
 use std::test::Fail;
@@ -142,5 +142,64 @@ fn single_options(rt: HostRuntime) -> std::result::Result<(), Fail> {
         keyspaces.get_kv_for_config(alloc, 3, StoredOption::Version)?,
         None
     );
+    Ok(())
+}
+
+/// Why these entries can't be read back, where 3 is the next id.
+fn refusal(alloc: Global, entries: &[MetaEntry]) -> Option<Error> {
+    MetaKeyspace::from_entries(alloc, entries, 3).err()
+}
+
+#[test]
+fn entries_read_back(rt: HostRuntime) -> std::result::Result<(), Fail> {
+    let alloc = rt.alloc();
+    let entries = two(alloc)?.entries(alloc)?;
+    let back = MetaKeyspace::from_entries(alloc, &entries, 7)?;
+    assert!(rt; back.entries(alloc)? == entries);
+    assert_eq!(rt; back.next_id(), 7);
+    assert_eq!(rt; back.resolve_id(b"a"), Some(2));
+    assert_eq!(rt;
+        MetaKeyspace::from_entries(alloc, &[], 1)?.keyspace_count(),
+        0
+    );
+    Ok(())
+}
+
+#[test]
+fn missing_pairs(rt: HostRuntime) -> std::result::Result<(), Fail> {
+    let alloc = rt.alloc();
+    let missing = Some(Error::Storage(StorageError::OptionMissing));
+    for at in 0..42 {
+        let mut entries = two(alloc)?.entries(alloc)?;
+        entries.remove(at);
+        assert_eq!(rt; refusal(alloc, &entries), missing, "at {at}");
+    }
+    Ok(())
+}
+
+#[test]
+fn pairs_of_no_keyspaces(rt: HostRuntime) -> std::result::Result<(), Fail> {
+    let alloc = rt.alloc();
+    let invalid = Some(Error::Storage(StorageError::OptionInvalid));
+    let mut entries = two(alloc)?.entries(alloc)?;
+    assert_eq!(rt; refusal(alloc, &entries), None);
+    assert_eq!(rt;
+        MetaKeyspace::from_entries(alloc, &entries, 2).err(),
+        invalid
+    );
+    entries[41].number = 6;
+    assert_eq!(rt; refusal(alloc, &entries), invalid);
+    entries[41].number = 5;
+    entries[41].value = Slice::empty();
+    assert_eq!(rt; refusal(alloc, &entries), invalid);
+    entries[41].value = entries[40].value.clone()?;
+    assert_eq!(rt; refusal(alloc, &entries), invalid);
+    entries[41].value = Slice::new(alloc, b"a")?;
+    entries.swap(0, 1);
+    assert_eq!(rt; refusal(alloc, &entries), invalid);
+    entries.swap(0, 1);
+    entries[0].value = Slice::new(alloc, b"Fifo")?;
+    entries.truncate(41);
+    assert_eq!(rt; refusal(alloc, &entries), invalid);
     Ok(())
 }

@@ -1,0 +1,194 @@
+//! Keyspaces read back from the pairs that store them.
+
+ghost use Rattle.std.specs.Prelude.{◌≡◌, ◌↔◌, filter_map, IsTrue, IfOk, IfErr, IfSome, OnOk, MatchOption, None, Some};
+ghost use Rattle.fjall_base.specs.declared.error.Error.TheVariants.{OutOfMemory};
+ghost use Rattle.fjall_meta.specs.Options.{Reads, value_of};
+ghost use Rattle.fjall_keyspaces.specs.Reading.{key_id, AreIds, pairs_of, stored_name, stored_keyspace, first_fault, IsFirstFault, IsReadingRefusal};
+ghost use Rattle.fjall_keyspaces.specs.Entries.{entries_of};
+
+use crate::entry::MetaEntry;
+use crate::living::LivingKeyspace;
+use crate::meta_keyspace::MetaKeyspace;
+use crate::name::is_name;
+use byteorder::{BigEndian, ByteOrder};
+use fjall_base::{Error, KvPair, Result, Slice, StorageError};
+use fjall_meta::{KeyspaceCreateOptions, encode_name_key};
+use std::alloc::Global;
+
+/// The id in a key of the meta keyspace.
+fn key_id(key: &[u8]) -> Option<u64>
+    ensures { result ≡ key_id key.now }
+{
+    if key.len() >= 9 && (key[0] == b'n' || key[0] == b'c') {
+        Some(BigEndian::read_u64(&key[1..]))
+    } else {
+        None
+    }
+}
+
+/// The ids in the keys of the entries.
+fn ids_in_keys(alloc: Global, entries: &[MetaEntry]) -> Result<Vec<u64>>
+    ensures ok { IfOk result (λ ids. ids.items ≡ filter_map (λ e. key_id e.key) entries.now) }
+    ensures only { IfErr result (λ e. e ≡ OutOfMemory) }
+{
+    let ids = entries
+        .iter()
+        .filter_map(|entry| key_id(&entry.key))
+        .collect(alloc)?;
+    Ok(ids)
+}
+
+/// The ids of the keyspaces that the entries are of, ascending, each once.
+fn ids_of(alloc: Global, entries: &[MetaEntry]) -> Result<Vec<u64>>
+    ensures ok { IfOk result (λ ids. AreIds ids.items entries.now) }
+    ensures only { IfErr result (λ e. e ≡ OutOfMemory) }
+{
+    let mut ids = ids_in_keys(alloc, entries)?;
+    ids.sort()?;
+    ids.dedup();
+    Ok(ids)
+}
+
+/// The keys and values of the entries.
+fn pairs_of(alloc: Global, entries: &[MetaEntry]) -> Result<Vec<KvPair>>
+    ensures ok { IfOk result (λ pairs. pairs.items ≡ pairs_of entries.now) }
+    ensures only { IfErr result (λ e. e ≡ OutOfMemory) }
+{
+    let mut pairs = Vec::with_capacity(alloc, entries.len())?;
+    for entry in entries {
+        pairs.push((entry.key.clone()?, entry.value.clone()?))?;
+    }
+    Ok(pairs)
+}
+
+/// The value of the first pair that has this key.
+fn find<'a>(pairs: &'a [KvPair], key: &[u8]) -> Option<&'a Slice>
+    ensures { MatchOption result (value_of key.now pairs.now ≡ None) (λ value. value_of key.now pairs.now ≡ Some value.now) }
+{
+    for (stored, value) in pairs {
+        if stored.as_slice() == key {
+            return Some(value);
+        }
+    }
+    None
+}
+
+/// The name that the pairs give to a keyspace.
+fn stored_name(alloc: Global, id: u64, pairs: &[KvPair]) -> Result<Slice>
+    ensures { Reads result (stored_name id pairs.now) }
+{
+    let key = encode_name_key(alloc, id)?;
+    let Some(name) = find(pairs, &key) else {
+        return Err(Error::Storage(StorageError::OptionMissing));
+    };
+    if !is_name(name) {
+        return Err(Error::Storage(StorageError::OptionInvalid));
+    }
+    Ok(Slice::new(alloc, name)?)
+}
+
+/// The name and the options that the pairs give to a keyspace.
+fn stored_keyspace(
+    alloc: Global,
+    id: u64,
+    pairs: &[KvPair],
+) -> Result<(Slice, KeyspaceCreateOptions)>
+    ensures { Reads result (stored_keyspace id pairs.now) }
+{
+    let name = stored_name(alloc, id, pairs)?;
+    let options = KeyspaceCreateOptions::from_kvs(alloc, id, pairs)?;
+    Ok((name, options))
+}
+
+/// The number under which an entry of the keyspace stands, 0 where none does.
+fn number_of(entries: &[MetaEntry], id: u64) -> u64 {
+    for entry in entries {
+        if key_id(&entry.key) == Some(id) {
+            return entry.number;
+        }
+    }
+    0
+}
+
+/// The keyspaces of these ids, as the entries store them. Refuses for the first fault.
+fn keyspaces_of(
+    alloc: Global,
+    ids: &[u64],
+    entries: &[MetaEntry],
+    pairs: &[KvPair],
+) -> Result<Vec<LivingKeyspace>>
+    ensures whole { OnOk result (first_fault ids.now pairs.now ≡ None) }
+    ensures cause { IfErr result (IsFirstFault ids.now pairs.now) }
+{
+    let mut living = Vec::new(alloc);
+    for id in ids {
+        let (name, options) = stored_keyspace(alloc, *id, pairs)?;
+        living.push(LivingKeyspace {
+            id: *id,
+            number: number_of(entries, *id),
+            name,
+            options,
+        })?;
+    }
+    Ok(living)
+}
+
+/// The keyspaces, where their ids ascend up to the next one and their names differ.
+fn assembled(
+    alloc: Global,
+    living: Vec<LivingKeyspace>,
+    next_id: u64,
+) -> Result<Option<MetaKeyspace>>
+    ensures next { IfOk result (λ found. IfSome found (λ m. m.next ≡ next_id)) }
+    ensures only { IfErr result (λ e. e ≡ OutOfMemory) }
+{
+    let mut keyspaces = MetaKeyspace::new(alloc);
+    for LivingKeyspace {
+        id,
+        number,
+        name,
+        options,
+    } in living {
+        if !keyspaces.restore(id, number, name, options)? {
+            return Ok(None);
+        }
+    }
+    Ok(keyspaces.with_next(next_id))
+}
+
+/// Whether these entries are those.
+fn are_equal(entries: &[MetaEntry], others: &[MetaEntry]) -> bool
+    ensures { IsTrue result ↔ (entries.now ≡ others.now) }
+{
+    entries == others
+}
+
+impl MetaKeyspace {
+    /// The keyspaces whose entries these are, so that `entries` gives them again; the next keyspace gets
+    /// this id.
+    ///
+    /// A keyspace lives where some key has its id, so one with some of its 21 pairs but not all is
+    /// refused. By id ascending, the name first and then the options in their order: the first pair that
+    /// is missing refuses with `Storage(OptionMissing)`, the first value that isn't valid with
+    /// `Storage(OptionInvalid)`. Where each keyspace is whole, `Storage(OptionInvalid)` refuses what no
+    /// keyspaces store: another pair, another order or number, two keyspaces of one name, id 0, or an id
+    /// that isn't below the next one. It allocates in proportion to the entries, and fails where memory
+    /// is used up.
+    pub fn from_entries(alloc: Global, entries: &[MetaEntry], next_id: u64) -> Result<MetaKeyspace>
+        ensures ok { IfOk result (λ keyspaces. entries_of keyspaces.living ≡ entries.now) }
+        ensures next { IfOk result (λ keyspaces. keyspaces.next ≡ next_id) }
+        ensures cause { IfErr result (IsReadingRefusal entries.now) }
+    {
+        let ids = ids_of(alloc, entries)?;
+        let pairs = pairs_of(alloc, entries)?;
+        let living = keyspaces_of(alloc, &ids, entries, &pairs)?;
+        let Some(keyspaces) = assembled(alloc, living, next_id)? else {
+            return Err(Error::Storage(StorageError::OptionInvalid));
+        };
+        let again = keyspaces.entries(alloc)?;
+        if !are_equal(&again, entries) {
+            return Err(Error::Storage(StorageError::OptionInvalid));
+        }
+        Ok(keyspaces)
+    }
+}
