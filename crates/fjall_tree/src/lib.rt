@@ -19,9 +19,9 @@ mod lookup;
 mod open_block;
 mod record;
 mod table;
-mod table_writer;
 #[cfg(test)]
 mod table_tests;
+mod table_writer;
 #[cfg(test)]
 mod tests;
 mod version;
