@@ -3,21 +3,23 @@ use Rattle.std.specs.Prelude.{◌≡◌, ◌≢◌, ℕ, ◌<◌, ◌^◌, List,
 use Rattle.std.specs.Char.{to_ascii_lowercase}
 use Rattle.fjall_base.specs.Disk.{Name}
 
--- an id in decimal, and ".jnl"
+-- a journal's file: its id in decimal, and ".jnl"
 abbrev pub journal_name : ℕ → Name
 journal_name id = decimal id ++ codes ".jnl"
 
+-- a keyspace's folder: its id in decimal, in "keyspaces"
 abbrev pub keyspace_folder : ℕ → Name
 keyspace_folder id = codes "keyspaces/" ++ decimal id
 
--- the file of a keyspace's records
+-- the file of a keyspace's records, in its folder
 abbrev pub current_name : ℕ → Name
 current_name id = keyspace_folder id ++ codes "/current"
 
--- a table's file in the folder of its keyspace
+-- a table's file in this folder: its id in decimal, and ".table"
 abbrev pub name_in : Name → ℕ → Name
 name_in folder table = folder ++ codes "/" ++ decimal table ++ codes ".table"
 
+-- a table's file in the folder of its keyspace
 abbrev pub table_name : ℕ → ℕ → Name
 table_name id table = name_in (keyspace_folder id) table
 
@@ -25,6 +27,7 @@ table_name id table = name_in (keyspace_folder id) table
 abbrev pub IsNameOf : (ℕ → Name) → Name → ℕ → Type 0
 IsNameOf name_of name id = (id < 2 ^ 64) × (name ≡ name_of id)
 
+-- the name of the journal of this id
 abbrev pub IsJournalName : Name → ℕ → Type 0
 IsJournalName = IsNameOf journal_name
 
@@ -53,6 +56,7 @@ pub data Kept : Type 0 where
   Current : ℕ → Kept
   Table : ℕ → ℕ → Kept
 
+-- the name of each, from the root on
 abbrev pub name_of : Kept → Name
 name_of Lock = codes "lock"
 name_of Version = codes "version"
