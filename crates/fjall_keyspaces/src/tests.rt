@@ -165,41 +165,57 @@ fn entries_read_back(rt: HostRuntime) -> std::result::Result<(), Fail> {
     Ok(())
 }
 
+/// The entries of the two keyspaces but for the one at this place.
+fn without(alloc: Global, at: usize) -> Result<Vec<MetaEntry>> {
+    let mut entries = Vec::new(alloc);
+    for (place, entry) in two(alloc)?.entries(alloc)?.iter().enumerate() {
+        if place != at {
+            entries.push(entry.clone()?)?;
+        }
+    }
+    Ok(entries)
+}
+
 #[test]
 fn missing_pairs(rt: HostRuntime) -> std::result::Result<(), Fail> {
-    let alloc = rt.alloc();
     let missing = Some(Error::Storage(StorageError::OptionMissing));
     for at in 0..42 {
-        let mut entries = two(alloc)?.entries(alloc)?;
-        entries.remove(at);
-        assert_eq!(rt; refusal(alloc, &entries), missing, "at {at}");
+        let entries = without(rt.alloc(), at)?;
+        assert_eq!(rt; refusal(rt.alloc(), &entries), missing, "at {at}");
     }
     Ok(())
+}
+
+/// The entries of the two keyspaces with another value and number at this place.
+fn changed(alloc: Global, at: usize, value: &[u8], number: u64) -> Result<Vec<MetaEntry>> {
+    let mut entries = Vec::new(alloc);
+    for (place, entry) in two(alloc)?.entries(alloc)?.iter().enumerate() {
+        if place == at {
+            let key = entry.key.clone()?;
+            let value = Slice::new(alloc, value)?;
+            entries.push(MetaEntry { key, value, number })?;
+        } else {
+            entries.push(entry.clone()?)?;
+        }
+    }
+    Ok(entries)
 }
 
 #[test]
 fn pairs_of_no_keyspaces(rt: HostRuntime) -> std::result::Result<(), Fail> {
     let alloc = rt.alloc();
     let invalid = Some(Error::Storage(StorageError::OptionInvalid));
+    assert_eq!(rt; refusal(alloc, &changed(alloc, 41, b"a", 5)?), None);
+    assert_eq!(rt; refusal(alloc, &changed(alloc, 41, b"a", 6)?), invalid);
+    assert_eq!(rt; refusal(alloc, &changed(alloc, 41, b"b", 5)?), invalid);
+    assert_eq!(rt; refusal(alloc, &changed(alloc, 41, b"", 5)?), invalid);
+    assert_eq!(rt; refusal(alloc, &changed(alloc, 0, b"Fifo", 4)?), invalid);
     let mut entries = two(alloc)?.entries(alloc)?;
-    assert_eq!(rt; refusal(alloc, &entries), None);
     assert_eq!(rt;
         MetaKeyspace::from_entries(alloc, &entries, 2).err(),
         invalid
     );
-    entries[41].number = 6;
-    assert_eq!(rt; refusal(alloc, &entries), invalid);
-    entries[41].number = 5;
-    entries[41].value = Slice::empty();
-    assert_eq!(rt; refusal(alloc, &entries), invalid);
-    entries[41].value = entries[40].value.clone()?;
-    assert_eq!(rt; refusal(alloc, &entries), invalid);
-    entries[41].value = Slice::new(alloc, b"a")?;
-    entries.swap(0, 1);
-    assert_eq!(rt; refusal(alloc, &entries), invalid);
-    entries.swap(0, 1);
-    entries[0].value = Slice::new(alloc, b"Fifo")?;
-    entries.truncate(41);
+    entries.reverse();
     assert_eq!(rt; refusal(alloc, &entries), invalid);
     Ok(())
 }
