@@ -1,0 +1,6 @@
+use Rattle.std.proofs.Common.{drop}
+use Rattle.fjall_versions.proofs.Gathering.{Gathers}
+use Rattle.fjall_versions.proofs.pages.newest_between.Given as goal
+
+abbrev pub invariant-loop-version : goal.invariant-loop-version
+invariant-loop-version l = Gathers l.range l.id l.pairs l.versions (drop l.version-index l.versions)
