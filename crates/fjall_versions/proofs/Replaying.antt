@@ -37,7 +37,7 @@ clears_at (id ∷ ids) t q =
     ∙ merged (id == q) later (Some empty) (get t.maps q)
 
 -- an id that is among those that pass a test passes it
-among : (p : ℕ → Bool) (ids : List ℕ) (q : ℕ) → list_any (λ id. id == q) (filter p ids) ≡ (p q && list_any (λ id. id == q) ids)
+pub among : (p : ℕ → Bool) (ids : List ℕ) (q : ℕ) → list_any (λ id. id == q) (filter p ids) ≡ (p q && list_any (λ id. id == q) ids)
 among p ids q = any-filter_same (λ id. id == q) p (p q) (λ k e. ap p (grind (arith, nat_tests))) ids
 
 both_true : (a b : Bool) → (a && b) ≡ true → a ≡ true

@@ -1,11 +1,16 @@
 //! Versions in memory, as plain lists: what the batches of journals make of them, and what reads find.
 #![tactic(auto)]
 
+mod laws;
 mod pages;
 mod recovery;
 mod sound;
 mod version;
 
+pub use laws::{
+    a_key_reads, a_keyspace_reads, creation_is_a_command, deletion_is_a_command, nothing_to_keep,
+    one_item_is_a_write, one_more_batch, one_more_version, replay_makes_the_store,
+};
 pub use pages::{KeyRange, page};
 pub use recovery::replay;
 pub use sound::check_batches;

@@ -1,0 +1,146 @@
+-- What is kept of a store: a deletion, and where there is nothing to drop.
+use Rattle.std.proofs.Common.{◌≡◌, ℕ, ◌==◌, Bool, true, false, cond, List, [], get_or, Option, None, Some, refl, sym, ◌∙◌, ap}
+use Rattle.std.proofs.lemmas.Bool.{true≢false}
+use Rattle.std.specs.Option.{option_map, is_some}
+use Rattle.std.specs.Ordering.{nat_cmp}
+use Rattle.std.specs.Cmp.{nat_cmp_total}
+use Rattle.std.specs.FinMap.{FinMap, empty, get, remove, retain_keys, contains_key, get-remove, get-retain_keys, nat_cmp-IsAntisymmetric}
+use Rattle.fjall_base.specs.Store.{Store, Delete, apply, kept}
+use Rattle.fjall_journal.specs.Batches.{Shown}
+use Rattle.fjall_keyspaces.specs.declared.living.LivingKeyspace.{LivingKeyspace}
+use Rattle.fjall_keyspaces.specs.Keyspaces.{Keyspaces, keyspace_at, without_keyspace}
+use Rattle.fjall_versions.specs.declared.version.Version.{Version}
+use Rattle.fjall_versions.specs.Replays.{option_pairs, by_id, bare, counts, store_in}
+use Rattle.fjall_versions.specs.Versions.{store_of, versions_behind}
+use Rattle.fjall_versions.proofs.Slots.{ties, same_maps, writes_maps, slot_after, slot_at}
+use Rattle.fjall_versions.proofs.Living.{get_by_id, counts_of, found_without}
+use Rattle.fjall_versions.proofs.Behind.{same_behind, none_behind, stored_at, batches_change_maps}
+
+-- ---- maps by id that are kept
+
+at_retained : {X : Type 0} (p : ℕ → Bool) (m : FinMap nat_cmp X) (q : ℕ) → get (retain_keys m p) q ≡ cond (p q) (get m q) None
+at_retained p m q = get-retain_keys m p q (λ x e. ap p (sym (nat_cmp-IsAntisymmetric q x e)))
+
+by_test : {X : Type 0} (b : Bool) (x y : Option X) → (b ≡ true → x ≡ y) → cond b x None ≡ cond b y None
+by_test true x y same = same refl
+by_test false x y same = refl
+
+all_kept : {X : Type 0} (b : Bool) (x : Option X) → (b ≡ false → x ≡ None) → cond b x None ≡ x
+all_kept true x none = refl
+all_kept false x none = sym (none refl)
+
+same_retained : {X : Type 0} (p : ℕ → Bool) (m n : FinMap nat_cmp X) → ((q : ℕ) → p q ≡ true → get m q ≡ get n q) → retain_keys m p ≡ retain_keys n p
+same_retained p m n same = same_maps _ _ (λ q. at_retained p m q ∙ by_test (p q) (get m q) (get n q) (same q) ∙ sym (at_retained p n q))
+
+whole : {X : Type 0} (p : ℕ → Bool) (m : FinMap nat_cmp X) → ((q : ℕ) → p q ≡ false → get m q ≡ None) → retain_keys m p ≡ m
+whole p m none = same_maps _ _ (λ q. at_retained p m q ∙ all_kept (p q) (get m q) (none q))
+
+-- stores that agree at each living keyspace keep the same
+pub same_kept : (a b : Store) → a.names ≡ b.names → ((q : ℕ) → contains_key b.names q ≡ true → get a.maps q ≡ get b.maps q) → ((q : ℕ) → contains_key b.names q ≡ true → get a.options q ≡ get b.options q) → a.next ≡ b.next → kept a ≡ kept b
+same_kept a b names maps options next =
+    let p = contains_key b.names in
+    let kept_maps : retain_keys a.maps (contains_key a.names) ≡ retain_keys b.maps p = ap (λ n. retain_keys a.maps (contains_key n)) names ∙ same_retained p a.maps b.maps maps in
+    let kept_options : retain_keys a.options (contains_key a.names) ≡ retain_keys b.options p = ap (λ n. retain_keys a.options (contains_key n)) names ∙ same_retained p a.options b.options options in
+    λ i. record { names = names i; maps = kept_maps i; options = kept_options i; next = next i }
+
+-- a store without maps and options of others keeps all
+pub all_are_kept : (a : Store) → ((q : ℕ) → contains_key a.names q ≡ false → get a.maps q ≡ None) → ((q : ℕ) → contains_key a.names q ≡ false → get a.options q ≡ None) → kept a ≡ a
+all_are_kept a maps options =
+    let p = contains_key a.names in
+    let kept_maps = whole p a.maps maps in
+    let kept_options = whole p a.options options in
+    λ i. record { names = a.names; maps = kept_maps i; options = kept_options i; next = a.next }
+
+-- ---- what lives
+
+some_of : {X : Type 0} (has : LivingKeyspace → X) (found : Option LivingKeyspace) → is_some (option_map has found) ≡ is_some found
+some_of has None = refl
+some_of has (Some k) = refl
+
+none_of : {X : Type 0} (has : LivingKeyspace → X) (found : Option LivingKeyspace) → is_some found ≡ false → option_map has found ≡ None
+none_of has None none = refl
+none_of has (Some k) none = absurd (true≢false none)
+
+-- a name stands where a keyspace lives
+pub lives : (s : Keyspaces) (id : ℕ) → contains_key (bare s).names id ≡ is_some (keyspace_at id s.living)
+lives s id = ap is_some (get_by_id (λ k. k.name) s.living id) ∙ some_of (λ k. k.name) (keyspace_at id s.living)
+
+nothing_at : {X : Type 0} (has : LivingKeyspace → X) (s : Keyspaces) (id : ℕ) → contains_key (bare s).names id ≡ false → get (by_id has s.living) id ≡ None
+nothing_at has s id none = get_by_id has s.living id ∙ none_of has (keyspace_at id s.living) (sym (lives s id) ∙ none)
+
+never_counts : (n : ℕ) (found : Option LivingKeyspace) → is_some found ≡ false → counts_of n found ≡ false
+never_counts n None none = refl
+never_counts n (Some k) none = absurd (true≢false none)
+
+-- the store of batches has nothing that isn't a living keyspace's
+pub nothing_to_keep : (s : Keyspaces) (batches : List Shown) → kept (store_in s batches) ≡ store_in s batches
+nothing_to_keep s batches =
+    let rest = batches_change_maps s batches in
+    let dead = λ (q : ℕ) (none : contains_key (store_in s batches).names q ≡ false). ap (λ n. contains_key n q) (sym rest.0) ∙ none in
+    all_are_kept (store_in s batches)
+    (λ q none.
+    let start : get (bare s).maps q ≡ None = nothing_at (λ k. empty) s q (dead q none) in
+    stored_at s batches q
+    ∙ none_behind s (get (bare s).maps q) q batches (λ i d within. never_counts (get_or batches i d).number (keyspace_at q s.living) (sym (lives s q) ∙ dead q none)) [] refl ∙ start)
+    (λ q none. ap (λ o. get o q) rest.1 ∙ nothing_at (λ k. option_pairs k.options) s q (dead q none))
+
+-- ---- one keyspace less
+
+module _ (id : ℕ) (s : Keyspaces) where
+  abbrev less : Keyspaces
+  less = without_keyspace id s
+
+  by_id_without : {X : Type 0} (has : LivingKeyspace → X) (q : ℕ) → get (by_id has less.living) q ≡ cond (q == id) None (get (by_id has s.living) q)
+  by_id_without has q =
+      get_by_id has less.living q ∙ ap (option_map has) (found_without s.living id q) ∙ inside (q == id) (keyspace_at q s.living) ∙ ap (λ o. cond (q == id) None o) (sym (get_by_id has s.living q))
+    where
+      inside : (b : Bool) (found : Option LivingKeyspace) → option_map has (cond b None found) ≡ cond b None (option_map has found)
+      inside true found = refl
+      inside false found = refl
+
+  -- its name is removed
+  names_without : (bare less).names ≡ remove (bare s).names id
+  names_without =
+      same_maps _ _ (λ q. by_id_without (λ k. k.name) q ∙ ap (λ b. cond b None (get (bare s).names q)) (sym (ties q id)) ∙ sym (get-remove nat_cmp_total (bare s).names id q))
+
+  -- whoever still lives is another
+  another : (q : ℕ) → contains_key (remove (bare s).names id) q ≡ true → (q == id) ≡ false
+  another q alive = either (q == id) refl
+    where
+      either : (b : Bool) → (q == id) ≡ b → (q == id) ≡ false
+      either true e = absurd (true≢false (sym alive ∙ ap is_some (get-remove nat_cmp_total (bare s).names id q ∙ ap (λ b. cond b None (get (bare s).names q)) (ties q id ∙ e))))
+      either false e = e
+
+  -- stores of these keyspaces that agree at each other keyspace
+  deleted : (a b : Store) → a.names ≡ (bare less).names → a.options ≡ (bare less).options → a.next ≡ s.next → b.names ≡ (bare s).names → b.options ≡ (bare s).options → b.next ≡ s.next
+      → ((q : ℕ) → (q == id) ≡ false → get a.maps q ≡ get b.maps q) → kept a ≡ kept (apply b (Delete id))
+  deleted a b a_names a_options a_next b_names b_options b_next maps =
+      let names : a.names ≡ remove b.names id = a_names ∙ names_without ∙ ap (λ n. remove n id) (sym b_names) in
+      let other = λ (q : ℕ) (alive : contains_key (remove b.names id) q ≡ true). another q (ap (λ n. contains_key (remove n id) q) (sym b_names) ∙ alive) in
+      same_kept a (apply b (Delete id)) names (λ q alive. maps q (other q alive))
+      (λ q alive.
+      ap (λ o. get o q) a_options ∙ by_id_without (λ k. option_pairs k.options) q ∙ ap (λ c. cond c None (get (bare s).options q)) (other q alive) ∙ ap (λ o. get o q) (sym b_options))
+      (a_next ∙ sym b_next)
+
+  map_left : (q : ℕ) → (q == id) ≡ false → get (bare less).maps q ≡ get (bare s).maps q
+  map_left q other = by_id_without (λ k. empty) q ∙ ap (λ b. cond b None (get (bare s).maps q)) other
+
+  others_count : (n q : ℕ) → (q == id) ≡ false → counts less n q ≡ counts s n q
+  others_count n q other = ap (counts_of n) (found_without s.living id q ∙ ap (λ b. cond b None (keyspace_at q s.living)) other)
+
+  pub deletion_of_batches : (batches : List Shown) → store_in less batches ≡ kept (apply (store_in s batches) (Delete id))
+  deletion_of_batches batches =
+      let was = batches_change_maps s batches in
+      let is = batches_change_maps less batches in
+      sym (nothing_to_keep less batches)
+      ∙ deleted (store_in less batches) (store_in s batches) is.0 is.1 is.2 was.0 was.1 was.2
+      (λ q other.
+      stored_at less batches q ∙ same_behind less s (get (bare less).maps q) q batches (λ i d within. others_count (get_or batches i d).number q other) [] [] refl
+      ∙ ap (λ slot. slot_after slot q (versions_behind s [] batches)) (map_left q other) ∙ sym (stored_at s batches q))
+
+  pub deletion_of_versions : (versions : List Version) → kept (store_of less versions) ≡ kept (apply (store_of s versions) (Delete id))
+  deletion_of_versions versions =
+      let was = writes_maps versions (bare s) in
+      let is = writes_maps versions (bare less) in
+      deleted (store_of less versions) (store_of s versions) is.0 is.1 is.2 was.0 was.1 was.2
+      (λ q other. slot_at versions (bare less) q ∙ ap (λ slot. slot_after slot q versions) (map_left q other) ∙ sym (slot_at versions (bare s) q))

@@ -1,0 +1,64 @@
+//! What holds of the definitions.
+
+ghost use Rattle.std.specs.Prelude.{◌≡◌, ◌<◌, ◌∷◌, [], ◌++◌, ◌↔◌, true, ℕ, List, length, map, All, Some, is_some};
+ghost use Rattle.std.specs.Option.{option_map};
+ghost use Rattle.std.specs.FinMap.{contains_key, get, len, values};
+ghost use Rattle.fjall_base.specs.Pairs.{Bytes, lookup};
+ghost use Rattle.fjall_base.specs.Store.{Create, Delete, Write, apply, fold, kept, map_at};
+ghost use Rattle.fjall_journal.specs.Batches.{Shown, of_item, shown};
+ghost use Rattle.fjall_journal.specs.declared.entry.ValueType.{ValueType};
+ghost use Rattle.fjall_keyspaces.specs.Keyspaces.{AreKeyspaces, Keyspaces, id_of, keyspace_at, with_keyspace, without_keyspace};
+ghost use Rattle.fjall_versions.specs.declared.version.Version.{Version};
+ghost use Rattle.fjall_versions.specs.Replays.{bare, commands_of, counts, option_pairs, store_in, value_of};
+ghost use Rattle.fjall_versions.specs.Versions.{command_of, newest, pairs_in, store_of, versions_behind};
+
+/// The versions that batches make stand for the store that the batches stand for.
+pub fn replay_makes_the_store()
+    ensures { (s : Keyspaces) (batches : List Shown) → store_in s batches ≡ store_of s (versions_behind s [] batches) }
+{}
+
+/// One version more is one command more.
+pub fn one_more_version()
+    ensures { (s : Keyspaces) (versions : List Version) (version : Version) → store_of s (versions ++ version ∷ []) ≡ apply (store_of s versions) (command_of version) }
+{}
+
+/// What versions make of a keyspace is its map in the store that they stand for.
+pub fn a_keyspace_reads()
+    ensures { (s : Keyspaces) (versions : List Version) (id : ℕ) → map_at (store_of s versions).maps id ≡ pairs_in id versions }
+{}
+
+/// What the newest version of a key says is what the map has there.
+pub fn a_key_reads()
+    ensures { (id : ℕ) (versions : List Version) (key : Bytes) → lookup (pairs_in id versions) key ≡ newest versions id key }
+{}
+
+/// One batch more is its commands more.
+pub fn one_more_batch()
+    ensures { (s : Keyspaces) (batches : List Shown) (batch : Shown) → store_in s (batches ++ batch ∷ []) ≡ fold (store_in s batches) (commands_of s batch) }
+{}
+
+/// The batch of one item that counts commands one write.
+pub fn one_item_is_a_write()
+    ensures { (s : Keyspaces) (id : ℕ) (key value : Bytes) (kind : ValueType) (number : ℕ) → counts s number id ≡ true
+        → commands_of s (shown (of_item id key value kind number)) ≡ Write (record { id = id; key = key; value = value_of kind value } ∷ []) ∷ [] }
+{}
+
+/// A keyspace more, made under a greater number than those of the batches, is a creation: none of what the
+/// batches and the versions before it say is of its id.
+pub fn creation_is_a_command()
+    ensures batches { (name : List ℕ) (options : List (List ℕ)) (number : ℕ) (s : Keyspaces) → AreKeyspaces s → (batches : List Shown) → All (λ b. b.number < number) batches
+        → store_in (with_keyspace name options number s) batches ≡ apply (store_in s batches) (Create name (option_pairs options)) }
+    ensures versions { (name : List ℕ) (options : List (List ℕ)) (number : ℕ) (s : Keyspaces) → AreKeyspaces s → (versions : List Version) → All (λ v. v.keyspace_id < s.next) versions
+        → store_of (with_keyspace name options number s) versions ≡ apply (store_of s versions) (Create name (option_pairs options)) }
+{}
+
+/// A keyspace less is a deletion, what deleted keyspaces hold aside.
+pub fn deletion_is_a_command()
+    ensures batches { (id : ℕ) (s : Keyspaces) (batches : List Shown) → store_in (without_keyspace id s) batches ≡ kept (apply (store_in s batches) (Delete id)) }
+    ensures versions { (id : ℕ) (s : Keyspaces) (versions : List Version) → kept (store_of (without_keyspace id s) versions) ≡ kept (apply (store_of s versions) (Delete id)) }
+{}
+
+/// The store of batches holds nothing of deleted keyspaces.
+pub fn nothing_to_keep()
+    ensures { (s : Keyspaces) (batches : List Shown) → kept (store_in s batches) ≡ store_in s batches }
+{}
