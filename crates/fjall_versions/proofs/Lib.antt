@@ -5,5 +5,7 @@ pub mod Newest
 pub mod Behind
 pub mod Creating
 pub mod Keeping
+pub mod Found
+pub mod Naming
 mod Taking
 mod Gathering

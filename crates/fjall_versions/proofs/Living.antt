@@ -14,6 +14,7 @@ use Rattle.fjall_base.specs.Pairs.{Pairs}
 use Rattle.fjall_keyspaces.specs.declared.living.LivingKeyspace.{LivingKeyspace}
 use Rattle.fjall_keyspaces.specs.Keyspaces.{Keyspaces, keyspace_at}
 use Rattle.fjall_versions.specs.Replays.{by_id, bare, counts}
+use Rattle.fjall_versions.proofs.Slots.{either_way}
 
 turned_ties : (q k : ℕ) → eq_by_cmp nat_cmp q k ≡ (k == q)
 turned_ties q k = grind (arith, nat_tests)
@@ -90,10 +91,6 @@ without_step k rest living id q true false false e f g ih = ih ∙ ap (λ b. con
 without_step k rest living id q false true true e f g ih = absurd (grind (arith, nat_tests))
 without_step k rest living id q false true false e f g ih = ap (λ b. cond b (Some k) (keyspace_at q rest)) f
 without_step k rest living id q false false wanted e f g ih = ap (λ b. cond b (Some k) (keyspace_at q rest)) f ∙ ih ∙ ap (λ b. cond b None (keyspace_at q living)) g
-
-either_way : {X : Type 0} (b : Bool) (x : X) → x ≡ cond b x x
-either_way true x = refl
-either_way false x = refl
 
 pub found_without : (living : List LivingKeyspace) (id q : ℕ) → keyspace_at q (filter (λ k. not (k.id == id)) living) ≡ cond (q == id) None (keyspace_at q living)
 found_without [] id q = either_way (q == id) None

@@ -86,7 +86,7 @@ filter_step v rest versions slot id false false wanted e same ih =
     let next = Some (altered (unwrap_or slot empty) v.key v.value) in
     ih slot ∙ ap (λ b. cond wanted (slot_after (cond b next slot) id versions) slot) (sym e)
 
-either_way : {X : Type 0} (b : Bool) (x : X) → x ≡ cond b x x
+pub either_way : {X : Type 0} (b : Bool) (x : X) → x ≡ cond b x x
 either_way true x = refl
 either_way false x = refl
 

@@ -62,3 +62,29 @@ pub fn deletion_is_a_command()
 pub fn nothing_to_keep()
     ensures { (s : Keyspaces) (batches : List Shown) → kept (store_in s batches) ≡ store_in s batches }
 {}
+
+/// Versions leave names, settings and the next id as they are without them.
+pub fn versions_change_maps_alone()
+    ensures names { (s : Keyspaces) (versions : List Version) → (store_of s versions).names ≡ (bare s).names }
+    ensures options { (s : Keyspaces) (versions : List Version) → (store_of s versions).options ≡ (bare s).options }
+    ensures next { (s : Keyspaces) (versions : List Version) → (store_of s versions).next ≡ s.next }
+{}
+
+/// By its id a store has the name and the settings of each living keyspace, and of no other. A name stands at
+/// the id that the keyspaces resolve it to.
+pub fn the_living_have_names()
+    ensures living { (s : Keyspaces) (versions : List Version) (id : ℕ) → contains_key (store_of s versions).names id ≡ is_some (keyspace_at id s.living) }
+    ensures settings { (s : Keyspaces) (versions : List Version) (id : ℕ) → get (store_of s versions).options id ≡ option_map (λ k. option_pairs k.options) (keyspace_at id s.living) }
+    ensures resolved { (s : Keyspaces) → AreKeyspaces s → (versions : List Version) (id : ℕ) (name : Bytes) → (id_of name s.living ≡ Some id) ↔ (get (store_of s versions).names id ≡ Some name) }
+{}
+
+/// The names of a store by id are those of the living keyspaces in their order.
+pub fn names_stand_in_order()
+    ensures listed { (s : Keyspaces) → AreKeyspaces s → values (bare s).names ≡ map (λ k. k.name) s.living }
+    ensures counted { (s : Keyspaces) → AreKeyspaces s → len (bare s).names ≡ length s.living }
+{}
+
+/// What batches make is of keyspaces whose ids were given out.
+pub fn replayed_ids_were_given()
+    ensures { (s : Keyspaces) → AreKeyspaces s → (batches : List Shown) (versions : List Version) → All (λ v. v.keyspace_id < s.next) versions → All (λ v. v.keyspace_id < s.next) (versions_behind s versions batches) }
+{}
