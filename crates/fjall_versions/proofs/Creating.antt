@@ -12,7 +12,7 @@ use Rattle.fjall_versions.specs.declared.version.Version.{Version}
 use Rattle.fjall_versions.specs.Replays.{option_pairs, bare, counts, store_in}
 use Rattle.fjall_versions.specs.Versions.{store_of, versions_behind}
 use Rattle.fjall_versions.proofs.Slots.{same_id, get_put, same_store, writes_maps, slot_after, slot_at}
-use Rattle.fjall_versions.proofs.Living.{none_found, counts_of, by_id-push, found_other, found_new}
+use Rattle.fjall_versions.proofs.Living.{none_found, no_pairs, counts_of, by_id-push, found_other, found_new}
 use Rattle.fjall_versions.proofs.Behind.{same_behind, none_behind, stored_at, batches_change_maps}
 
 -- versions of lesser ids say nothing of this one
@@ -38,7 +38,7 @@ module _ (name : List ℕ) (options : List (List ℕ)) (number : ℕ) (s : Keysp
   bare_created : bare more ≡ apply (bare s) (Create name (option_pairs options))
   bare_created =
       let names = by_id-push (λ k. k.name) s.living new fresh in
-      let maps = by_id-push (λ k. let m : Pairs = empty in m) s.living new fresh in
+      let maps = by_id-push no_pairs s.living new fresh in
       let settings = by_id-push (λ k. option_pairs k.options) s.living new fresh in
       λ i. record { names = names i; maps = maps i; options = settings i; next = s.next + 1 }
 

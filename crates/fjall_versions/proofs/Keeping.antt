@@ -1,10 +1,9 @@
--- What is kept of a store: a deletion, and where there is nothing to drop.
+-- What is kept of stores of living keyspaces: a deletion, and that there is nothing to drop.
 use Rattle.std.proofs.Common.{◌≡◌, ℕ, ◌==◌, Bool, true, false, cond, List, [], get_or, Option, None, Some, refl, sym, ◌∙◌, ap}
 use Rattle.std.proofs.lemmas.Bool.{true≢false}
 use Rattle.std.specs.Option.{option_map, is_some}
-use Rattle.std.specs.Ordering.{nat_cmp}
 use Rattle.std.specs.Cmp.{nat_cmp_total}
-use Rattle.std.specs.FinMap.{FinMap, empty, get, remove, retain_keys, contains_key, get-remove, get-retain_keys, nat_cmp-IsAntisymmetric}
+use Rattle.std.specs.FinMap.{empty, get, remove, contains_key, get-remove}
 use Rattle.fjall_base.specs.Store.{Store, Delete, apply, kept}
 use Rattle.fjall_journal.specs.Batches.{Shown}
 use Rattle.fjall_keyspaces.specs.declared.living.LivingKeyspace.{LivingKeyspace}
@@ -13,43 +12,9 @@ use Rattle.fjall_versions.specs.declared.version.Version.{Version}
 use Rattle.fjall_versions.specs.Replays.{option_pairs, by_id, bare, counts, store_in}
 use Rattle.fjall_versions.specs.Versions.{store_of, versions_behind}
 use Rattle.fjall_versions.proofs.Slots.{ties, same_maps, writes_maps, slot_after, slot_at}
+use Rattle.fjall_versions.proofs.Kept.{same_kept, all_are_kept}
 use Rattle.fjall_versions.proofs.Living.{get_by_id, counts_of, found_without}
 use Rattle.fjall_versions.proofs.Behind.{same_behind, none_behind, stored_at, batches_change_maps}
-
--- ---- maps by id that are kept
-
-at_retained : {X : Type 0} (p : ℕ → Bool) (m : FinMap nat_cmp X) (q : ℕ) → get (retain_keys m p) q ≡ cond (p q) (get m q) None
-at_retained p m q = get-retain_keys m p q (λ x e. ap p (sym (nat_cmp-IsAntisymmetric q x e)))
-
-by_test : {X : Type 0} (b : Bool) (x y : Option X) → (b ≡ true → x ≡ y) → cond b x None ≡ cond b y None
-by_test true x y same = same refl
-by_test false x y same = refl
-
-all_kept : {X : Type 0} (b : Bool) (x : Option X) → (b ≡ false → x ≡ None) → cond b x None ≡ x
-all_kept true x none = refl
-all_kept false x none = sym (none refl)
-
-same_retained : {X : Type 0} (p : ℕ → Bool) (m n : FinMap nat_cmp X) → ((q : ℕ) → p q ≡ true → get m q ≡ get n q) → retain_keys m p ≡ retain_keys n p
-same_retained p m n same = same_maps _ _ (λ q. at_retained p m q ∙ by_test (p q) (get m q) (get n q) (same q) ∙ sym (at_retained p n q))
-
-whole : {X : Type 0} (p : ℕ → Bool) (m : FinMap nat_cmp X) → ((q : ℕ) → p q ≡ false → get m q ≡ None) → retain_keys m p ≡ m
-whole p m none = same_maps _ _ (λ q. at_retained p m q ∙ all_kept (p q) (get m q) (none q))
-
--- stores that agree at each living keyspace keep the same
-pub same_kept : (a b : Store) → a.names ≡ b.names → ((q : ℕ) → contains_key b.names q ≡ true → get a.maps q ≡ get b.maps q) → ((q : ℕ) → contains_key b.names q ≡ true → get a.options q ≡ get b.options q) → a.next ≡ b.next → kept a ≡ kept b
-same_kept a b names maps options next =
-    let p = contains_key b.names in
-    let kept_maps : retain_keys a.maps (contains_key a.names) ≡ retain_keys b.maps p = ap (λ n. retain_keys a.maps (contains_key n)) names ∙ same_retained p a.maps b.maps maps in
-    let kept_options : retain_keys a.options (contains_key a.names) ≡ retain_keys b.options p = ap (λ n. retain_keys a.options (contains_key n)) names ∙ same_retained p a.options b.options options in
-    λ i. record { names = names i; maps = kept_maps i; options = kept_options i; next = next i }
-
--- a store without maps and options of others keeps all
-pub all_are_kept : (a : Store) → ((q : ℕ) → contains_key a.names q ≡ false → get a.maps q ≡ None) → ((q : ℕ) → contains_key a.names q ≡ false → get a.options q ≡ None) → kept a ≡ a
-all_are_kept a maps options =
-    let p = contains_key a.names in
-    let kept_maps = whole p a.maps maps in
-    let kept_options = whole p a.options options in
-    λ i. record { names = a.names; maps = kept_maps i; options = kept_options i; next = a.next }
 
 -- ---- what lives
 

@@ -1,9 +1,11 @@
+pub mod Faults
 pub mod Slots
 pub mod Living
 pub mod Replaying
 pub mod Newest
 pub mod Behind
 pub mod Creating
+pub mod Kept
 pub mod Keeping
 pub mod Found
 pub mod Naming

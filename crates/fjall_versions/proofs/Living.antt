@@ -43,6 +43,10 @@ none_found (k ∷ living) next id given le =
 
 -- ---- what counts
 
+-- the map of a keyspace with nothing in it
+abbrev pub no_pairs : LivingKeyspace → Pairs
+no_pairs k = empty
+
 -- the test of a keyspace that was found
 abbrev pub counts_of : ℕ → Option LivingKeyspace → Bool
 counts_of number found = unwrap_or (option_map (λ (k : LivingKeyspace). nat_lt k.number number) found) false
@@ -51,7 +55,7 @@ counts_of number found = unwrap_or (option_map (λ (k : LivingKeyspace). nat_lt 
 pub counted_map : (s : Keyspaces) (number id : ℕ) → counts s number id ≡ true → get (bare s).maps id ≡ Some empty
 counted_map s number id e = get_by_id (λ k. empty) s.living id ∙ lives (keyspace_at id s.living) e
   where
-    lives : (found : Option LivingKeyspace) → counts_of number found ≡ true → option_map (λ (k : LivingKeyspace). let m : Pairs = empty in m) found ≡ Some empty
+    lives : (found : Option LivingKeyspace) → counts_of number found ≡ true → option_map no_pairs found ≡ Some empty
     lives None counted = absurd (true≢false (sym counted))
     lives (Some k) counted = refl
 

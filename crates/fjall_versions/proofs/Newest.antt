@@ -13,7 +13,7 @@ use Rattle.fjall_versions.specs.declared.version.Version.{Version}
 use Rattle.fjall_versions.specs.Replays.{bare}
 use Rattle.fjall_versions.specs.Versions.{store_of, pairs_after, pairs_in, newest_after, newest}
 use Rattle.fjall_versions.proofs.Slots.{slot_after, slot_at}
-use Rattle.fjall_versions.proofs.Living.{get_by_id}
+use Rattle.fjall_versions.proofs.Living.{get_by_id, no_pairs}
 
 -- ---- a keyspace
 
@@ -27,7 +27,7 @@ pairs_at (v ∷ versions) slot id =
     let next = altered (unwrap_or slot empty) v.key v.value in
     pairs_at versions (cond (id == v.keyspace_id) (Some next) slot) id ∙ ap (λ pairs. pairs_after pairs id versions) (slot_pairs (id == v.keyspace_id) next slot)
 
-nothing_in : (found : Option LivingKeyspace) → unwrap_or (option_map (λ (k : LivingKeyspace). let m : Pairs = empty in m) found) empty ≡ empty
+nothing_in : (found : Option LivingKeyspace) → unwrap_or (option_map no_pairs found) empty ≡ empty
 nothing_in None = refl
 nothing_in (Some k) = refl
 
@@ -35,7 +35,7 @@ nothing_in (Some k) = refl
 pub a_keyspace_reads : (s : Keyspaces) (versions : List Version) (id : ℕ) → map_at (store_of s versions).maps id ≡ pairs_in id versions
 a_keyspace_reads s versions id =
     ap (λ slot. unwrap_or slot empty) (slot_at versions (bare s) id) ∙ pairs_at versions (get (bare s).maps id) id
-    ∙ ap (λ pairs. pairs_after pairs id versions) (ap (λ slot. unwrap_or slot empty) (get_by_id (λ k. let m : Pairs = empty in m) s.living id) ∙ nothing_in (keyspace_at id s.living))
+    ∙ ap (λ pairs. pairs_after pairs id versions) (ap (λ slot. unwrap_or slot empty) (get_by_id no_pairs s.living id) ∙ nothing_in (keyspace_at id s.living))
 
 -- ---- a key
 

@@ -1,15 +1,15 @@
 //! What holds of the definitions.
 
 ghost use Rattle.std.specs.Prelude.{◌≡◌, ◌<◌, ◌∷◌, [], ◌++◌, ◌↔◌, true, ℕ, List, length, map, All, Some, is_some};
-ghost use Rattle.std.specs.Option.{option_map};
+ghost use Rattle.std.specs.Option.{option_map, option_or};
 ghost use Rattle.std.specs.FinMap.{contains_key, get, len, values};
 ghost use Rattle.fjall_base.specs.Pairs.{Bytes, lookup};
-ghost use Rattle.fjall_base.specs.Store.{Create, Delete, Write, apply, fold, kept, map_at};
+ghost use Rattle.fjall_base.specs.Store.{Command, Create, Delete, Store, Write, apply, fold, kept, map_at};
 ghost use Rattle.fjall_journal.specs.Batches.{Shown, of_item, shown};
 ghost use Rattle.fjall_journal.specs.declared.entry.ValueType.{ValueType};
 ghost use Rattle.fjall_keyspaces.specs.Keyspaces.{AreKeyspaces, Keyspaces, id_of, keyspace_at, with_keyspace, without_keyspace};
 ghost use Rattle.fjall_versions.specs.declared.version.Version.{Version};
-ghost use Rattle.fjall_versions.specs.Replays.{bare, commands_of, counts, option_pairs, store_in, value_of};
+ghost use Rattle.fjall_versions.specs.Replays.{bare, commands_of, counts, first_fault, journal_commands, least_after, option_pairs, store_in, value_of};
 ghost use Rattle.fjall_versions.specs.Versions.{command_of, newest, pairs_in, store_of, versions_behind};
 
 /// The versions that batches make stand for the store that the batches stand for.
@@ -30,6 +30,14 @@ pub fn a_keyspace_reads()
 /// What the newest version of a key says is what the map has there.
 pub fn a_key_reads()
     ensures { (id : ℕ) (versions : List Version) (key : Bytes) → lookup (pairs_in id versions) key ≡ newest versions id key }
+{}
+
+/// Batches behind others, as those of the next journal, are looked at and replayed from where the others end.
+pub fn batches_follow_one_another()
+    ensures least { (least : ℕ) (front behind : List Shown) → least_after least (front ++ behind) ≡ least_after (least_after least front) behind }
+    ensures faults { (least : ℕ) (front behind : List Shown) → first_fault least (front ++ behind) ≡ option_or (first_fault least front) (first_fault (least_after least front) behind) }
+    ensures versions { (s : Keyspaces) (versions : List Version) (front behind : List Shown) → versions_behind s versions (front ++ behind) ≡ versions_behind s (versions_behind s versions front) behind }
+    ensures stores { (s : Keyspaces) (front behind : List Shown) → store_in s (front ++ behind) ≡ fold (store_in s front) (journal_commands s behind) }
 {}
 
 /// One batch more is its commands more.
@@ -61,6 +69,14 @@ pub fn deletion_is_a_command()
 /// The store of batches holds nothing of deleted keyspaces.
 pub fn nothing_to_keep()
     ensures { (s : Keyspaces) (batches : List Shown) → kept (store_in s batches) ≡ store_in s batches }
+{}
+
+/// What is dropped with deleted keyspaces never comes back: stores that keep the same go on keeping the same. Of
+/// a keyspace that lives the whole map is kept.
+pub fn what_is_kept_goes_on()
+    ensures along { (s t : Store) (commands : List Command) → kept s ≡ kept t → kept (fold s commands) ≡ kept (fold t commands) }
+    ensures twice { (s : Store) → kept (kept s) ≡ kept s }
+    ensures maps { (s : Store) (id : ℕ) → contains_key s.names id ≡ true → map_at (kept s).maps id ≡ map_at s.maps id }
 {}
 
 /// Versions leave names, settings and the next id as they are without them.

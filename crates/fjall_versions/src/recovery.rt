@@ -98,7 +98,7 @@ fn take(
 /// id counts only where its keyspace lives and was made under a lesser number, and a clear takes away the
 /// versions that its keyspace has so far.
 ///
-/// Refuses for want of memory alone; the versions then hold what some of the items make.
+/// Refuses for want of memory alone, and then doesn't tell what the versions hold.
 pub fn replay(
     keyspaces: &MetaKeyspace,
     batches: Vec<Batch>,
