@@ -4,3 +4,5 @@ pub mod Rising
 pub mod Orders
 pub mod Faults
 pub mod Entries
+pub mod Keys
+pub mod Alike

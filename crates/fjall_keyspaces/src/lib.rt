@@ -3,6 +3,7 @@
 #![tactic(auto)]
 
 mod entry;
+mod laws;
 mod living;
 mod meta_keyspace;
 mod name;
@@ -11,6 +12,7 @@ mod reading;
 mod tests;
 
 pub use entry::MetaEntry;
+pub use laws::one_list_of_keyspaces;
 pub use living::LivingKeyspace;
 pub use meta_keyspace::MetaKeyspace;
 pub use name::is_valid_keyspace_name;
