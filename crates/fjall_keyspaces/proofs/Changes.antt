@@ -1,6 +1,6 @@
 -- What a creation and a removal leave are keyspaces.
 use Rattle.std.proofs.Common.{◌≡◌, ◌≢◌, ℕ, ◌+◌, ◌<◌, ◌≤◌, ◌^◌, Bool, true, false, cond, List, [], ◌∷◌, ◌++◌, All, Option, None, Some, find, filter, refl, arith}
-use Rattle.std.specs.Option.{option_map, is_some}
+use Rattle.std.specs.Option.{option_map}
 use Rattle.std.specs.Str.{bytes_eq}
 use Rattle.std.proofs.lemmas.Slice.Eq.{bytes_eq-Decides}
 use Rattle.std.proofs.lemmas.List.Elements.{All-nil, All-cons, All-filter, All-push, All-weaker}
@@ -50,20 +50,3 @@ none_named name [] e = All-nil (λ k. k.name ≢ name)
 none_named name (k ∷ living) e =
     let h = passed (bytes_eq k.name name) k (find (λ (j : LivingKeyspace). bytes_eq j.name name) living) e in
     All-cons (λ j. j.name ≢ name) k living (other k.name name h.0) (none_named name living h.1)
-
-pub none_from : (o : Option ℕ) → is_some o ≡ false → o ≡ None
-none_from None e = refl
-none_from (Some id) e = absurd cc
-
--- a later id may come next
-pub later : (living : List LivingKeyspace) (next id : ℕ) → AreKeyspaces (record { living = living; next = next }) → next ≤ id → id < 2 ^ 64 → AreKeyspaces (record { living = living; next = id })
-later living next id all le fits = record {
-  begun = let begun = all.begun in omega arith;
-  fits = fits;
-  ids = all.ids;
-  given = All-weaker (λ k. k.id < next) (λ k. k.id < id) (λ k h. omega arith) living all.given;
-  ascending = all.ascending;
-  names = all.names;
-  distinct = all.distinct;
-  options = all.options;
-}

@@ -6,3 +6,7 @@ pub mod Faults
 pub mod Entries
 pub mod Keys
 pub mod Alike
+pub mod Grouping
+pub mod States
+pub mod Distinct
+pub mod Back

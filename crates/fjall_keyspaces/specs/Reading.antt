@@ -1,6 +1,10 @@
 -- What pairs of the meta keyspace say of the keyspaces that they store.
-use Rattle.std.specs.Prelude.{◌≡◌, ⊤, ℕ, ◌==◌, ◌&&◌, ◌||◌, nat_le, if◌then◌else◌, List, [], ◌∷◌, length, map, filter_map, drop, slice_index, Contains, ◌↔◌, Option, Some, None, unwrap_or, Result, Ok, Err}
+use Rattle.std.specs.Prelude.{◌≡◌, ⊤, ℕ, ◌==◌, ◌&&◌, ◌||◌, nat_le, Bool, false, if◌then◌else◌, List, [], ◌∷◌, length, map, filter_map, drop, slice_index, filter, Contains, ◌↔◌, Option, Some, None, unwrap_or, Result, Ok, Err}
 use Rattle.std.specs.List.Sorted.{IsStrictlyIncreasing}
+use Rattle.std.specs.BTreeMap.{BTreeMap, get}
+use Rattle.std.specs.Option.{option_map_or}
+use Rattle.std.specs.Ordering.{nat_cmp}
+use Rattle.std.specs.Global.{Vec}
 use Rattle.byteorder.specs.Endian.{big_number}
 use Rattle.fjall_base.specs.declared.error.Error.{Error}
 use Rattle.fjall_base.specs.declared.error.Error.TheVariants as errors
@@ -9,6 +13,7 @@ use Rattle.fjall_base.specs.declared.error.StorageError.TheVariants.{OptionMissi
 use Rattle.fjall_meta.specs.Options.{name_key, value_of, stored_options, stored_values}
 use Rattle.fjall_meta.specs.Reading.{◌>>=◌}
 use Rattle.fjall_keyspaces.specs.declared.entry.MetaEntry.{MetaEntry}
+use Rattle.fjall_keyspaces.specs.declared.living.LivingKeyspace.{LivingKeyspace}
 use Rattle.fjall_keyspaces.specs.Keyspaces.{is_name}
 
 -- the id in a key: eight bytes, the highest first, behind an 'n' or a 'c'
@@ -59,3 +64,27 @@ abbrev pub IsReadingRefusal : List MetaEntry → Error → Type 0
 IsReadingRefusal entries errors.OutOfMemory = ⊤
 IsReadingRefusal entries (errors.Storage cause) = (ids : List ℕ) × AreIds ids entries × (cause ≡ unwrap_or (first_fault ids (pairs_of entries)) OptionInvalid)
 IsReadingRefusal entries error = ⊥
+
+-- ---- the pairs of one keyspace
+
+abbrev pub is_that : ℕ → Option ℕ → Bool
+is_that id None = false
+is_that id (Some found) = found == id
+
+-- the entries in whose keys this id stands, in their order
+abbrev pub own_entries : ℕ → List MetaEntry → List MetaEntry
+own_entries id entries = filter (λ e. is_that id (key_id e.key)) entries
+
+-- the entries that a map has at this id
+abbrev pub entries_at : ℕ → BTreeMap ℕ (Vec MetaEntry) → List MetaEntry
+entries_at id groups = option_map_or (λ own. own.items) (get nat_cmp groups id) []
+
+-- the number of the first entry, 0 where there is none
+abbrev pub number_in : List MetaEntry → ℕ
+number_in [] = 0
+number_in (e ∷ entries) = e.number
+
+-- The entries store this keyspace: it has the name and the options that they give to its id, and the number of its first entry.
+pub record IsStored (entries : List MetaEntry) (k : LivingKeyspace) : Type 0 where
+  pub given : stored_keyspace k.id (pairs_of entries) ≡ Ok (k.name, k.options)
+  pub number : k.number ≡ number_in (own_entries k.id entries)

@@ -1,11 +1,11 @@
 //! The keyspaces that live.
 
-ghost use Rattle.std.specs.Prelude.{◌≡◌, ◌*◌, ◌^◌, ◌-◌, ◌<◌, min, map, length, Ok, Some, is_some, IfOk, IfErr, IfSome, OnErr, IsPermutation, IsSorted};
+ghost use Rattle.std.specs.Prelude.{◌≡◌, ◌≢◌, ◌↔◌, ◌*◌, ◌^◌, ◌-◌, ◌<◌, true, min, All, AllPairs, IsTrue, MatchOption, map, length, Ok, Some, is_some, IfOk, IfErr, OnErr, IsPermutation, IsSorted};
 ghost use Rattle.fjall_base.specs.Pairs.{byte_order};
 ghost use Rattle.fjall_base.specs.declared.error.Error.TheVariants.{OutOfMemory};
-ghost use Rattle.fjall_meta.specs.Options.{value_at};
+ghost use Rattle.fjall_meta.specs.Options.{value_at, AreOptions};
 ghost use Rattle.std.specs.Option.{option_map, option_copied};
-ghost use Rattle.fjall_keyspaces.specs.Keyspaces.{no_keyspaces, keyspace_at, id_of, creation, IsCreationRefusal, without_keyspace};
+ghost use Rattle.fjall_keyspaces.specs.Keyspaces.{AreKeyspaces, is_name, no_keyspaces, keyspace_at, id_of, creation, IsCreationRefusal, without_keyspace};
 ghost use Rattle.fjall_keyspaces.specs.Entries.{entries_of, IsAscending};
 
 use crate::entry::{MetaEntry, put_all_names, put_all_options, value_of};
@@ -14,6 +14,7 @@ use crate::name::is_name;
 use fjall_base::{Error, Result, Slice, UserValue};
 use fjall_meta::{KeyspaceCreateOptions, StoredOption};
 use std::alloc::Global;
+use std::collections::BTreeSet;
 use std::marker::Model;
 
 /// How many pairs the meta keyspace holds for each keyspace: its name and its 20 options.
@@ -36,6 +37,27 @@ impl Model for MetaKeyspace {
     ghost view = { λ m. record { living = m.living.items; next = m.next } };
 
     ghost invariant = { λ m. AreKeyspaces (record { living = m.living.items; next = m.next }) };
+}
+
+/// Whether each of these ids is at least 1 and below the next one.
+fn are_given(living: &[LivingKeyspace], next_id: u64) -> bool
+    ensures { IsTrue result ↔ All (λ k. (0 < k.id) × (k.id < next_id)) living.now }
+{
+    living
+        .iter()
+        .all(|keyspace| 0 < keyspace.id && keyspace.id < next_id)
+}
+
+/// Whether no two of these keyspaces have one name.
+fn names_differ(alloc: Global, living: &[LivingKeyspace]) -> Result<bool>
+    ensures ok { IfOk result (λ differ. IsTrue differ ↔ AllPairs (λ j k. j.name ≢ k.name) living.now) }
+    ensures only { IfErr result (λ e. e ≡ OutOfMemory) }
+{
+    let mut names = BTreeSet::new(alloc);
+    for keyspace in living {
+        names.insert(keyspace.name.clone()?)?;
+    }
+    Ok(names.len() == living.len())
 }
 
 impl MetaKeyspace {
@@ -208,44 +230,28 @@ impl MetaKeyspace {
         Ok(entries)
     }
 
-    /// Puts back a keyspace that was stored, and says whether it may follow: its id is the next one or
-    /// above, its name is valid and that of no other.
-    pub(crate) fn restore(
-        &mut self,
-        id: u64,
-        number: u64,
-        name: Slice,
-        options: KeyspaceCreateOptions,
-    ) -> Result<bool>
+    /// These keyspaces with this next id, where each of their ids is at least 1 and below it and no two
+    /// have one name.
+    pub(crate) fn restored(
+        alloc: Global,
+        living: Vec<LivingKeyspace>,
+        next_id: u64,
+    ) -> Result<Option<MetaKeyspace>>
+        requires ascending { AllPairs (λ j k. j.id < k.id) living.items }
+        requires names { All (λ k. is_name k.name ≡ true) living.items }
+        requires options { All (λ k. AreOptions k.options) living.items }
+        ensures ok { IfOk result (λ found. MatchOption found (AreKeyspaces (record { living = living.items; next = next_id }) → ⊥) (λ m. m ≡ record { living = living.items; next = next_id })) }
         ensures only { IfErr result (λ e. e ≡ OutOfMemory) }
     {
-        if id < self.next || !is_name(&name) {
-            return Ok(false);
+        if next_id == 0 || !are_given(&living, next_id) {
+            return Ok(None);
         }
-        if self.keyspace_exists(&name) {
-            return Ok(false);
+        if !names_differ(alloc, &living)? {
+            return Ok(None);
         }
-        let Some(next) = id.checked_add(1) else {
-            return Ok(false);
-        };
-        self.living.push(LivingKeyspace {
-            id,
-            number,
-            name,
-            options,
-        })?;
-        self.next = next;
-        Ok(true)
-    }
-
-    /// The same keyspaces with this next id, where it isn't below the one that they have.
-    pub(crate) fn with_next(mut self, next_id: u64) -> Option<MetaKeyspace>
-        ensures { IfSome result (λ m. m ≡ record { living = self.living; next = next_id }) }
-    {
-        if next_id < self.next {
-            return None;
-        }
-        self.next = next_id;
-        Some(self)
+        Ok(Some(MetaKeyspace {
+            living,
+            next: next_id,
+        }))
     }
 }

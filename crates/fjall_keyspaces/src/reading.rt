@@ -1,9 +1,10 @@
 //! Keyspaces read back from the pairs that store them.
 
-ghost use Rattle.std.specs.Prelude.{◌≡◌, ◌↔◌, filter_map, IsTrue, IfOk, IfErr, IfSome, OnOk, MatchOption, None, Some};
+ghost use Rattle.std.specs.Prelude.{◌≡◌, ◌↔◌, ℕ, ◌==◌, if◌then◌else◌, ◌∷◌, [], ◌++◌, map, filter_map, All, IsTrue, IfOk, IfErr, OnOk, MatchOption, MatchResult, None, Some, Ok};
 ghost use Rattle.fjall_base.specs.declared.error.Error.TheVariants.{OutOfMemory};
-ghost use Rattle.fjall_meta.specs.Options.{Reads, value_of};
-ghost use Rattle.fjall_keyspaces.specs.Reading.{key_id, AreIds, pairs_of, stored_name, stored_keyspace, first_fault, IsFirstFault, IsReadingRefusal};
+ghost use Rattle.fjall_meta.specs.Options.{Reads, Refuses, value_of};
+ghost use Rattle.fjall_keyspaces.specs.Reading.{key_id, AreIds, pairs_of, stored_name, stored_keyspace, first_fault, IsFirstFault, IsReadingRefusal, own_entries, number_in, entries_at, IsStored};
+ghost use Rattle.fjall_keyspaces.specs.Keyspaces.{Keyspaces, AreKeyspaces};
 ghost use Rattle.fjall_keyspaces.specs.Entries.{entries_of};
 
 use crate::entry::MetaEntry;
@@ -14,6 +15,10 @@ use byteorder::{BigEndian, ByteOrder};
 use fjall_base::{Error, KvPair, Result, Slice, StorageError};
 use fjall_meta::{KeyspaceCreateOptions, encode_name_key};
 use std::alloc::Global;
+use std::collections::BTreeMap;
+
+/// The entries of each id in their keys.
+type Groups = BTreeMap<u64, Vec<MetaEntry>>;
 
 /// The id in a key of the meta keyspace.
 fn key_id(key: &[u8]) -> Option<u64>
@@ -100,60 +105,85 @@ fn stored_keyspace(
     Ok((name, options))
 }
 
-/// The number under which an entry of the keyspace stands, 0 where none does.
-fn number_of(entries: &[MetaEntry], id: u64) -> u64 {
+/// The number of the first of these entries, 0 where there is none.
+fn number_of(entries: &[MetaEntry]) -> u64
+    ensures { result ≡ number_in entries.now }
+{
+    match entries {
+        [] => 0,
+        [entry, ..] => entry.number,
+    }
+}
+
+/// The keyspace of this id, as its entries store it.
+fn keyspace_of(alloc: Global, id: u64, own: &[MetaEntry]) -> Result<LivingKeyspace>
+    ensures id { IfOk result (λ k. k.id ≡ id) }
+    ensures given { IfOk result (λ k. stored_keyspace id (pairs_of own.now) ≡ Ok (k.name, k.options)) }
+    ensures number { IfOk result (λ k. k.number ≡ number_in own.now) }
+    ensures cause { IfErr result (λ e. Refuses e (stored_keyspace id (pairs_of own.now))) }
+{
+    let pairs = pairs_of(alloc, own)?;
+    let (name, options) = stored_keyspace(alloc, id, &pairs)?;
+    Ok(LivingKeyspace {
+        id,
+        number: number_of(own),
+        name,
+        options,
+    })
+}
+
+/// Puts an entry behind those of its keyspace.
+fn put_entry(groups: &mut Groups, id: u64, entry: &MetaEntry) -> Result<()>
+    ensures ok { OnOk result ((q : ℕ) → entries_at q groups.new ≡ (if id == q then entries_at q groups.old ++ entry.now ∷ [] else entries_at q groups.old)) }
+    ensures only { IfErr result (λ e. e ≡ OutOfMemory) }
+{
+    let copy = MetaEntry {
+        key: entry.key.clone()?,
+        value: entry.value.clone()?,
+        number: entry.number,
+    };
+    groups.entry(id)?.or_default().push(copy)?;
+    Ok(())
+}
+
+/// The entries of each id in their keys, in their order.
+fn groups_of(alloc: Global, entries: &[MetaEntry]) -> Result<Groups>
+    ensures ok { IfOk result (λ groups. (id : ℕ) → entries_at id groups ≡ own_entries id entries.now) }
+    ensures only { IfErr result (λ e. e ≡ OutOfMemory) }
+{
+    let mut groups = BTreeMap::new(alloc);
     for entry in entries {
-        if key_id(&entry.key) == Some(id) {
-            return entry.number;
+        if let Some(id) = key_id(&entry.key) {
+            put_entry(&mut groups, id, entry)?;
         }
     }
-    0
+    Ok(groups)
+}
+
+/// The entries of this id.
+fn own(groups: &Groups, id: u64) -> &[MetaEntry]
+    ensures { result.now ≡ entries_at id groups.now }
+{
+    match groups.get(&id) {
+        Some(own) => own,
+        None => &[],
+    }
 }
 
 /// The keyspaces of these ids, as the entries store them. Refuses for the first fault.
-fn keyspaces_of(
-    alloc: Global,
-    ids: &[u64],
-    entries: &[MetaEntry],
-    pairs: &[KvPair],
-) -> Result<Vec<LivingKeyspace>>
-    ensures whole { OnOk result (first_fault ids.now pairs.now ≡ None) }
-    ensures cause { IfErr result (IsFirstFault ids.now pairs.now) }
+fn keyspaces_of(alloc: Global, ids: &[u64], entries: &[MetaEntry]) -> Result<Vec<LivingKeyspace>>
+    ensures ids { IfOk result (λ living. map (λ k. k.id) living.items ≡ ids.now) }
+    ensures stored { IfOk result (λ living. All (IsStored entries.now) living.items) }
+    ensures whole { OnOk result (first_fault ids.now (pairs_of entries.now) ≡ None) }
+    ensures cause { IfErr result (IsFirstFault ids.now (pairs_of entries.now)) }
 {
-    let mut living = Vec::new(alloc);
+    let groups = groups_of(alloc, entries)?;
+    let mut living = Vec::with_capacity(alloc, ids.len())?;
     for id in ids {
-        let (name, options) = stored_keyspace(alloc, *id, pairs)?;
-        living.push(LivingKeyspace {
-            id: *id,
-            number: number_of(entries, *id),
-            name,
-            options,
-        })?;
+        let keyspace = keyspace_of(alloc, *id, own(&groups, *id))?;
+        living.push(keyspace)?;
     }
     Ok(living)
-}
-
-/// The keyspaces, where their ids ascend up to the next one and their names differ.
-fn assembled(
-    alloc: Global,
-    living: Vec<LivingKeyspace>,
-    next_id: u64,
-) -> Result<Option<MetaKeyspace>>
-    ensures next { IfOk result (λ found. IfSome found (λ m. m.next ≡ next_id)) }
-    ensures only { IfErr result (λ e. e ≡ OutOfMemory) }
-{
-    let mut keyspaces = MetaKeyspace::new(alloc);
-    for LivingKeyspace {
-        id,
-        number,
-        name,
-        options,
-    } in living {
-        if !keyspaces.restore(id, number, name, options)? {
-            return Ok(None);
-        }
-    }
-    Ok(keyspaces.with_next(next_id))
 }
 
 /// Whether these entries are those.
@@ -177,12 +207,12 @@ impl MetaKeyspace {
     pub fn from_entries(alloc: Global, entries: &[MetaEntry], next_id: u64) -> Result<MetaKeyspace>
         ensures ok { IfOk result (λ keyspaces. entries_of keyspaces.living ≡ entries.now) }
         ensures next { IfOk result (λ keyspaces. keyspaces.next ≡ next_id) }
+        ensures whole { (s : Keyspaces) → AreKeyspaces s → s.next ≡ next_id → entries_of s.living ≡ entries.now → MatchResult result (λ m. m ≡ s) (λ e. e ≡ OutOfMemory) }
         ensures cause { IfErr result (IsReadingRefusal entries.now) }
     {
         let ids = ids_of(alloc, entries)?;
-        let pairs = pairs_of(alloc, entries)?;
-        let living = keyspaces_of(alloc, &ids, entries, &pairs)?;
-        let Some(keyspaces) = assembled(alloc, living, next_id)? else {
+        let living = keyspaces_of(alloc, &ids, entries)?;
+        let Some(keyspaces) = MetaKeyspace::restored(alloc, living, next_id)? else {
             return Err(Error::Storage(StorageError::OptionInvalid));
         };
         let again = keyspaces.entries(alloc)?;

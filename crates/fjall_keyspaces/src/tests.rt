@@ -165,6 +165,22 @@ fn entries_read_back(rt: HostRuntime) -> std::result::Result<(), Fail> {
     Ok(())
 }
 
+#[test]
+fn many_keyspaces_read_back(rt: HostRuntime) -> std::result::Result<(), Fail> {
+    let alloc = rt.alloc();
+    let mut keyspaces = MetaKeyspace::new(alloc);
+    for number in 0u64..200 {
+        let name = format!(in alloc; "keyspace {number}")?;
+        create(alloc, &mut keyspaces, name.as_bytes(), number)?;
+    }
+    let entries = keyspaces.entries(alloc)?;
+    let back = MetaKeyspace::from_entries(alloc, &entries, keyspaces.next_id())?;
+    assert_eq!(rt; back.keyspace_count(), 200);
+    assert!(rt; back.entries(alloc)? == entries);
+    assert_eq!(rt; back.get(150).map(|keyspace| keyspace.number), Some(149));
+    Ok(())
+}
+
 /// The entries of the two keyspaces but for the one at this place.
 fn without(alloc: Global, at: usize) -> Result<Vec<MetaEntry>> {
     let mut entries = Vec::new(alloc);
