@@ -10,3 +10,4 @@ pub mod Grouping
 pub mod States
 pub mod Distinct
 pub mod Back
+pub mod Searches

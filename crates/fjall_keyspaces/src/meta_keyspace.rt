@@ -105,7 +105,13 @@ impl MetaKeyspace {
     pub fn get(&self, id: u64) -> Option<&LivingKeyspace>
         ensures { option_copied result ≡ keyspace_at id self.now.living }
     {
-        self.living.iter().find(|keyspace| keyspace.id == id)
+        match self
+            .living
+            .binary_search_by_key(&id, |keyspace| keyspace.id)
+        {
+            Ok(place) => Some(&self.living[place]),
+            Err(_) => None,
+        }
     }
 
     /// The id of the keyspace that has this name.

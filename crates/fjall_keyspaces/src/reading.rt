@@ -137,12 +137,7 @@ fn put_entry(groups: &mut Groups, id: u64, entry: &MetaEntry) -> Result<()>
     ensures ok { OnOk result ((q : ℕ) → entries_at q groups.new ≡ (if id == q then entries_at q groups.old ++ entry.now ∷ [] else entries_at q groups.old)) }
     ensures only { IfErr result (λ e. e ≡ OutOfMemory) }
 {
-    let copy = MetaEntry {
-        key: entry.key.clone()?,
-        value: entry.value.clone()?,
-        number: entry.number,
-    };
-    groups.entry(id)?.or_default().push(copy)?;
+    groups.entry(id)?.or_default().push(entry.clone()?)?;
     Ok(())
 }
 
@@ -202,8 +197,11 @@ impl MetaKeyspace {
     /// is missing refuses with `Storage(OptionMissing)`, the first value that isn't valid with
     /// `Storage(OptionInvalid)`. Where each keyspace is whole, `Storage(OptionInvalid)` refuses what no
     /// keyspaces store: another pair, another order or number, two keyspaces of one name, id 0, or an id
-    /// that isn't below the next one. It allocates in proportion to the entries, and fails where memory
-    /// is used up.
+    /// that isn't below the next one. The entries that `entries` gave are read back, with the next id that
+    /// the keyspaces had or a later one.
+    ///
+    /// Its time and memory are in proportion to the entries, but for a logarithm. It fails where memory is
+    /// used up.
     pub fn from_entries(alloc: Global, entries: &[MetaEntry], next_id: u64) -> Result<MetaKeyspace>
         ensures ok { IfOk result (λ keyspaces. entries_of keyspaces.living ≡ entries.now) }
         ensures next { IfOk result (λ keyspaces. keyspaces.next ≡ next_id) }
