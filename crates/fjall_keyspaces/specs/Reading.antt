@@ -67,6 +67,7 @@ IsReadingRefusal entries error = ⊥
 
 -- ---- the pairs of one keyspace
 
+-- whether an id was found, and is this one
 abbrev pub is_that : ℕ → Option ℕ → Bool
 is_that id None = false
 is_that id (Some found) = found == id

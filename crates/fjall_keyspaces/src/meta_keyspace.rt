@@ -1,6 +1,6 @@
 //! The keyspaces that live.
 
-ghost use Rattle.std.specs.Prelude.{◌≡◌, ◌≢◌, ◌↔◌, ◌*◌, ◌^◌, ◌-◌, ◌<◌, true, min, All, AllPairs, IsTrue, MatchOption, map, length, Ok, Some, is_some, IfOk, IfErr, OnErr, IsPermutation, IsSorted};
+ghost use Rattle.std.specs.Prelude.{◌≡◌, ◌≢◌, ◌↔◌, ◌*◌, ◌^◌, ◌-◌, ◌<◌, true, min, All, AllPairs, IsTrue, MatchOption, map, length, Ok, Some, is_some, IfOk, IfErr, OnOk, OnErr, IsPermutation, IsSorted};
 ghost use Rattle.fjall_base.specs.Pairs.{byte_order};
 ghost use Rattle.fjall_base.specs.declared.error.Error.TheVariants.{OutOfMemory};
 ghost use Rattle.fjall_meta.specs.Options.{value_at, AreOptions};
@@ -82,6 +82,7 @@ impl MetaKeyspace {
     pub fn next_id(&self) -> u64
         ensures value { result ≡ self.now.next }
         ensures begun { 0 < result }
+        ensures lawful { AreKeyspaces self.now }
     {
         self.next
     }
@@ -228,6 +229,7 @@ impl MetaKeyspace {
     pub fn entries(&self, alloc: Global) -> Result<Vec<MetaEntry>>
         ensures ok { IfOk result (λ entries. entries.items ≡ entries_of self.now.living) }
         ensures ascending { IfOk result (λ entries. IsAscending entries.items) }
+        ensures lawful { OnOk result (AreKeyspaces self.now) }
         ensures only { IfErr result (λ e. e ≡ OutOfMemory) }
     {
         let mut entries = Vec::with_capacity(alloc, self.len())?;

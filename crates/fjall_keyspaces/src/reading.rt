@@ -205,6 +205,7 @@ impl MetaKeyspace {
     pub fn from_entries(alloc: Global, entries: &[MetaEntry], next_id: u64) -> Result<MetaKeyspace>
         ensures ok { IfOk result (λ keyspaces. entries_of keyspaces.living ≡ entries.now) }
         ensures next { IfOk result (λ keyspaces. keyspaces.next ≡ next_id) }
+        ensures lawful { IfOk result AreKeyspaces }
         ensures whole { (s : Keyspaces) → AreKeyspaces s → s.next ≡ next_id → entries_of s.living ≡ entries.now → MatchResult result (λ m. m ≡ s) (λ e. e ≡ OutOfMemory) }
         ensures cause { IfErr result (IsReadingRefusal entries.now) }
     {
