@@ -54,7 +54,7 @@ same_id j k first second h =
     let is = sym (id_of_name_key j.id first) ∙ ap (λ (key : List ℕ). key_id key) h ∙ id_of_name_key k.id second in
     cc
 
-same_parts : (id other number another : ℕ) (name word : List ℕ) (options values : List (List ℕ)) → id ≡ other → number ≡ another → name ≡ word → options ≡ values
+pub same_parts : (id other number another : ℕ) (name word : List ℕ) (options values : List (List ℕ)) → id ≡ other → number ≡ another → name ≡ word → options ≡ values
     → (let j : LivingKeyspace = record { id = id; number = number; name = name; options = options } in let k : LivingKeyspace = record { id = other; number = another; name = word; options = values } in j ≡ k)
 same_parts id other number another name word options values a b c d = rw (a, b, c, d) refl
 
@@ -67,7 +67,7 @@ apart : {X : Type 0} (a b x y : List X) → length a ≡ length b → a ++ x ≡
 apart a b x y long h =
     (sym (take-append_seam a x) ∙ ap (λ l. take (length a) l) h ∙ ap (λ n. take n (b ++ y)) long ∙ take-append_seam b y, sym (drop-append_seam a x) ∙ ap (λ l. drop (length a) l) h ∙ ap (λ n. drop n (b ++ y)) long ∙ drop-append_seam b y)
 
-many_options : (k : LivingKeyspace) → length (option_entries k) ≡ 20
+pub many_options : (k : LivingKeyspace) → length (option_entries k) ≡ 20
 unfolding option_entries
 many_options k = refl
 

@@ -14,7 +14,7 @@ use Rattle.fjall_keyspaces.proofs.Keys.{id_of_config_key, id_of_name_key}
 abbrev Pairs : Type 0
 Pairs = List (List ℕ × List ℕ)
 
-cases : (b : Bool) → (b ≡ true) ⊎ (b ≡ false)
+pub cases : (b : Bool) → (b ≡ true) ⊎ (b ≡ false)
 cases true = inl refl
 cases false = inr refl
 

@@ -18,17 +18,13 @@ use Rattle.fjall_keyspaces.specs.declared.entry.MetaEntry.{MetaEntry}
 use Rattle.fjall_keyspaces.specs.Entries.{options_by_name, option_entry, option_entries, name_entry, entries_of}
 use Rattle.fjall_keyspaces.specs.Keyspaces.{Keyspaces, AreKeyspaces, is_name}
 use Rattle.fjall_keyspaces.specs.Reading.{key_id, is_that, own_entries, number_in, pairs_of, stored_keyspace, first_fault, AreIds, IsStored}
-use Rattle.fjall_keyspaces.proofs.Alike.{is_by_name, entry_by_name, all_values, low_ids}
-use Rattle.fjall_keyspaces.proofs.Grouping.{own_value}
+use Rattle.fjall_keyspaces.proofs.Alike.{is_by_name, entry_by_name, all_values, low_ids, many_options, same_parts}
+use Rattle.fjall_keyspaces.proofs.Grouping.{cases, own_value}
 use Rattle.fjall_keyspaces.proofs.Keys.{id_of_config_key, id_of_name_key}
 use Rattle.fjall_keyspaces.proofs.Orders.{entries_ascend}
 use Rattle.fjall_keyspaces.proofs.Rising.{Rises, from_pairs, mapped}
 
 -- ---- each key is that of one pair
-
-cases : (b : Bool) → (b ≡ true) ⊎ (b ≡ false)
-cases true = inl refl
-cases false = inr refl
 
 not_below_itself : (key : List ℕ) → byte_order key key ≡ Less → ⊥
 not_below_itself key h = let other = nat_list_cmp_total.antisymm key key in absurd cc
@@ -63,10 +59,6 @@ of_each : {X Y : Type 0} (P : Y → Type 0) (f : X → Y) (xs : List X) → All 
 of_each P f xs all = λ i d within.
     let long = length-map xs f in
     subst P (get_or-map f xs i d (f d) within) (all i (f d) (omega arith))
-
-many_options : (k : LivingKeyspace) → length (option_entries k) ≡ 20
-unfolding option_entries
-many_options k = refl
 
 option_there : (k : LivingKeyspace) (o : StoredOption) (e : MetaEntry) → get_or (option_entries k) (is_by_name o).0 e ≡ option_entry k o
 unfolding option_entries
@@ -280,10 +272,6 @@ all_ids s found are those =
     let from : Within (ids s.living) found =
     λ x has. (those.each x).1 (subst (λ (ns : List ℕ). Contains ns x) (sym parts) (Contains-append_right (ids_in (flat_map option_entries s.living)) (ids s.living) x has)) in
     same_members found (ids s.living) rise theirs to from
-
-same_parts : (id other number another : ℕ) (name word : List ℕ) (options values : List (List ℕ)) → id ≡ other → number ≡ another → name ≡ word → options ≡ values
-    → (let j : LivingKeyspace = record { id = id; number = number; name = name; options = options } in let k : LivingKeyspace = record { id = other; number = another; name = word; options = values } in j ≡ k)
-same_parts id other number another name word options values a b c d = rw (a, b, c, d) refl
 
 ok_same : {A E : Type 0} (x y : A) (r : Result A E) → r ≡ Ok x → r ≡ Ok y → x ≡ y
 ok_same x y r a b = cc
