@@ -1,4 +1,5 @@
 mod Comparisons
+pub mod Trimmed
 pub mod Under
 pub mod Changes
 pub mod Parts

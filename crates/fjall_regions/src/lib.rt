@@ -5,6 +5,8 @@ mod home;
 mod laws;
 #[cfg(test)]
 mod tests;
+mod trim;
 
 pub use home::{append_synced, make_file, make_home, put_file, remove_home};
 pub use laws::{crashes_see_a_region, elsewhere_stays};
+pub use trim::end_file;

@@ -1,6 +1,6 @@
 //! Each moment of a folder that is made and removed, on a disk in memory.
 
-use crate::{append_synced, make_file, make_home, put_file, remove_home};
+use crate::{append_synced, end_file, make_file, make_home, put_file, remove_home};
 use fjall_base::{Disk, Error, MemoryDisk};
 use std::alloc::Global;
 use std::test::Fail;
@@ -65,5 +65,24 @@ fn a_home_is_removed(rt: HostRuntime) -> Result<(), Fail> {
     remove_home(&mut disk, HOME, files.as_slice())?;
     remove_home(&mut disk, HOME, files.as_slice())?;
     assert!(rt; disk.list(alloc, "keyspaces")?.is_empty());
+    Ok(())
+}
+
+#[test]
+fn a_file_is_ended(rt: HostRuntime) -> Result<(), Fail> {
+    let alloc = rt.alloc();
+    for cut in [false, true] {
+        let mut disk = prepared(alloc)?;
+        make_home(&mut disk, HOME, CURRENT, b"first")?;
+        disk.sync_folder("keyspaces")?;
+        disk.sync_folder(HOME)?;
+        disk.append(CURRENT, b" second")?;
+        end_file(&mut disk, CURRENT, cut, 5)?;
+        let mut left = disk.crash(0)?;
+        let found = left.read(alloc, CURRENT)?;
+        let len = found.map(|bytes| bytes.len());
+        assert_eq!(rt; len, Some(if cut { 5 } else { 12 }));
+        assert!(rt; end_file(&mut left, TABLE, cut, 0).is_err());
+    }
     Ok(())
 }

@@ -1,0 +1,20 @@
+use Rattle.fjall_regions.proofs.Trimmed.{any_cut, any_sync, cut_place_as, sync_place_as, after_cut, after_sync}
+use Rattle.fjall_regions.proofs.trim.end_file.Goals as goal
+
+pub returns-then-cut-clause-ended : goal.returns-then-cut-clause-ended
+returns-then-cut-clause-ended g c honest = cut_place_as _ _ c.args.file.now c.args.len c.args.cut c.if-cut.true c.cut_sync.result (c.cut_sync.ensures.ok honest)
+
+pub returns-then-cut-clause-elsewhere : goal.returns-then-cut-clause-elsewhere
+returns-then-cut-clause-elsewhere g c honest = after_cut _ _ c.args.file.now c.args.len c.cut_sync.result (c.cut_sync.ensures.ok honest) (c.cut_sync.ensures.err honest)
+
+pub returns-then-cut-clause-any_moment : goal.returns-then-cut-clause-any_moment
+returns-then-cut-clause-any_moment g c honest = any_cut _ _ c.args.file.now c.args.len c.cut_sync.result (c.cut_sync.ensures.ok honest) (c.cut_sync.ensures.err honest)
+
+pub returns-else-cut-clause-ended : goal.returns-else-cut-clause-ended
+returns-else-cut-clause-ended g c honest = sync_place_as _ _ c.args.file.now c.args.len c.args.cut c.if-cut.false c.sync.result (c.sync.ensures.ok honest)
+
+pub returns-else-cut-clause-elsewhere : goal.returns-else-cut-clause-elsewhere
+returns-else-cut-clause-elsewhere g c honest = after_sync _ _ c.args.file.now c.args.len c.sync.result (c.sync.ensures.ok honest) (c.sync.ensures.err honest)
+
+pub returns-else-cut-clause-any_moment : goal.returns-else-cut-clause-any_moment
+returns-else-cut-clause-any_moment g c honest = any_sync _ _ c.args.file.now c.args.len c.sync.result (c.sync.ensures.ok honest) (c.sync.ensures.err honest)
