@@ -1,0 +1,11 @@
+pub mod Naming
+pub mod Resting
+pub mod Runs
+pub mod Commits
+pub mod Shapes
+pub mod Meanings
+pub mod Pairs
+pub mod Keys
+pub mod Preparing
+pub mod Lasts
+pub mod Readings

@@ -1,0 +1,93 @@
+-- Pairs of the meta keyspace as entries of a table.
+use Rattle.std.proofs.Common.{◌≡◌, ℕ, zero, suc, ◌<◌, List, [], ◌∷◌, length, map, take, get_or, Some, refl, sym, ◌∙◌, ap, subst, arith, length-append}
+use Rattle.std.specs.List.{AllByRecursion}
+use Rattle.std.proofs.lemmas.List.Concat.{flat_map-cons}
+use Rattle.std.specs.declared.cmp.Ordering.TheVariants.{Less}
+use Rattle.fjall_base.specs.Pairs.{byte_order}
+use Rattle.fjall_tree.specs.declared.version.Version.{Version}
+use Rattle.fjall_tree.specs.Blocks as blocks
+use Rattle.fjall_tree.specs.Blocks.{seen}
+use Rattle.fjall_tree.specs.Records.{last_of}
+use Rattle.fjall_tree.specs.Tables as tables
+use Rattle.fjall_tree.specs.Tables.{IsTable}
+use Rattle.fjall_tree.specs.Writing.{Follows}
+use Rattle.fjall_tree.specs.declared.level.Level.TheVariants.{L1}
+use Rattle.fjall_tree.specs.declared.record.TableInfo.{TableInfo}
+use Rattle.fjall_tree.specs.TableReading.{HasNoIndex, IsNoTable}
+use Rattle.fjall_tree.proofs.TableBlocks.{one_index}
+use Rattle.fjall_tree.proofs.TableLaws.{one_list_of_entries, tables_have_an_index}
+use Rattle.std.proofs.lemmas.List.{length-map}
+use Rattle.fjall_keyspaces.specs.declared.entry.MetaEntry.{MetaEntry}
+use Rattle.fjall_keyspaces.specs.Entries.{IsAscending}
+use Rattle.fjall_catalog.specs.Catalog.{IsTableOf, table_entry}
+
+-- ---- written
+
+last_taken : (xs : List MetaEntry) (i : ℕ) (d : MetaEntry) → i < length xs → last_of (map table_entry (take (suc i) xs)) ≡ Some (table_entry (get_or xs i d))
+last_taken [] i d lt = absurd (omega (arith, lt))
+last_taken (x ∷ xs) zero d lt = refl
+last_taken (x ∷ []) (suc i) d lt = absurd (omega (arith, lt))
+last_taken (x ∷ y ∷ xs) (suc i) d lt = last_taken (y ∷ xs) i d (omega (arith, lt))
+
+before : (a b : MetaEntry) → byte_order a.key b.key ≡ Less → blocks.IsBefore (table_entry a) (table_entry b)
+before a b less = rw less tt
+
+-- each stands behind those before it
+pub follows_at : (xs : List MetaEntry) (i : ℕ) (e : MetaEntry) → IsAscending xs → i < length xs → e ≡ get_or xs i e → Follows (map table_entry (take i xs)) (table_entry e)
+follows_at xs zero e ascending lt at = tt
+follows_at xs (suc i) e ascending lt at =
+    let less : byte_order (get_or xs i e).key e.key ≡ Less = ap (λ (b : MetaEntry). byte_order (get_or xs i e).key b.key) at ∙ ascending i (suc i) e (omega arith) lt in
+    rw (last_taken xs i e (omega (arith, lt))) (before (get_or xs i e) e less)
+
+-- ---- read
+
+-- where an entry is no pair's, the entries are those of no pairs
+pub no_pairs : (vs : List Version) (i : ℕ) (d : Version) → i < length vs → ((e : MetaEntry) → table_entry e ≡ seen (get_or vs i d) → ⊥) → (es : List MetaEntry) → map table_entry es ≡ map seen vs → ⊥
+no_pairs [] i d lt none es same = omega (arith, lt)
+no_pairs (v ∷ vs) i d lt none [] same = let no : [] ≡ seen v ∷ map seen vs = same in cc
+no_pairs (v ∷ vs) zero d lt none (e ∷ es) same = none e cc
+no_pairs (v ∷ vs) (suc i) d lt none (e ∷ es) same = let tail : map table_entry es ≡ map seen vs = cc in no_pairs vs i d (omega (arith, lt)) none es tail
+
+-- ---- how many
+
+-- a table has an entry
+pub table_some : (bytes : List ℕ) (es : List blocks.Entry) → IsTable bytes es → 0 < length es
+table_some bytes es is = omega (arith, ap length is.all, some is.blocks is.are.some is.are.each)
+  where
+    some : (bs : List (List blocks.Entry)) → 0 < length bs → AllByRecursion blocks.IsBlock bs → 0 < length (tables.entries_of bs)
+    some [] none each = absurd (omega (arith, none))
+    some (b ∷ bs) many each =
+        let first = each.0.some in
+        omega (arith, first, ap length (flat_map-cons (λ (block : List blocks.Entry). block) b bs), length-append b (tables.entries_of bs))
+
+pub pairs_some : (bytes : List ℕ) (es : List MetaEntry) → IsTable bytes (map table_entry es) → 0 < length es
+pairs_some bytes [] is = absurd (omega (arith, table_some bytes [] is))
+pairs_some bytes (e ∷ es) is = omega arith
+
+-- ---- which table
+
+pairs_count : (entries : List MetaEntry) → length (map table_entry entries) ≡ length entries
+pairs_count entries = simp length-map
+
+pub table_of : (t : TableInfo) (bytes : List ℕ) (handles : List tables.Handle) (es : List blocks.Entry) (entries : List MetaEntry) → t.level ≡ L1 → length bytes ≡ t.file_len → tables.HasIndex bytes handles t.entry_count → IsTable bytes es → map table_entry entries ≡ es → IsTableOf t bytes entries
+table_of t bytes handles es entries level len index is same =
+    let own = tables_have_an_index bytes es is in
+    let count : t.entry_count ≡ length es = (one_index bytes handles (tables.handles_of 0 own.0) t.entry_count (length es) index own.3).1 in
+    record {
+      level = level;
+      len = len;
+      table = subst (λ (l : List blocks.Entry). IsTable bytes l) (sym same) is;
+      count = count ∙ ap length (sym same) ∙ pairs_count entries;
+    }
+
+pub no_index_of : (t : TableInfo) (bytes : List ℕ) → HasNoIndex bytes t → (entries : List MetaEntry) → IsTableOf t bytes entries → ⊥
+no_index_of t bytes none entries is =
+    let own = tables_have_an_index bytes (map table_entry entries) is.table in
+    let count : length (map table_entry entries) ≡ t.entry_count = pairs_count entries ∙ sym is.count in
+    none (tables.handles_of 0 own.0) is.len (subst (λ (n : ℕ). tables.HasIndex bytes (tables.handles_of 0 own.0) n) count own.3)
+
+pub no_table_of : (t : TableInfo) (bytes : List ℕ) → IsNoTable bytes → (entries : List MetaEntry) → IsTableOf t bytes entries → ⊥
+no_table_of t bytes none entries is = none (map table_entry entries) is.table
+
+pub no_pairs_of : (t : TableInfo) (bytes : List ℕ) (es : List blocks.Entry) → IsTable bytes es → ((entries : List MetaEntry) → map table_entry entries ≡ es → ⊥) → (entries : List MetaEntry) → IsTableOf t bytes entries → ⊥
+no_pairs_of t bytes es table none entries is = none entries (one_list_of_entries bytes (map table_entry entries) es is.table table)

@@ -1,0 +1,7 @@
+use Rattle.fjall_catalog.proofs.Pairs.{pairs_some}
+use Rattle.fjall_catalog.proofs.update.new_table.Goals as goal
+
+pub returns-then-id-eq18446744073709551615-clause-cause : goal.returns-then-id-eq18446744073709551615-clause-cause
+returns-then-id-eq18446744073709551615-clause-cause c =
+    let table = c.in_ok-bytes.ensures.table in
+    (pairs_some c.in-Some.bytes.items c.args.entries.now (rw c.in-Some.is at table), c.if-id-eq18446744073709551615.true)

@@ -1,0 +1,41 @@
+use Rattle.std.proofs.Common.{◌≡◌, Some, true, ap, sym, ◌∙◌, string_bytes}
+use Rattle.std.specs.Option.{option_map}
+use Rattle.fjall_base.specs.Disk.{Meaning, Name}
+use Rattle.fjall_regions.specs.Regions.{is_under}
+use Rattle.fjall_regions.proofs.Made.{removed_within}
+use Rattle.fjall_recovery.specs.Names.{keyspace_folder}
+use Rattle.fjall_keyspaces.specs.Entries.{entries_of}
+use Rattle.fjall_catalog.proofs.Naming.{table_under}
+use Rattle.fjall_catalog.proofs.Runs as Runs
+use Rattle.fjall_catalog.proofs.writing.remove_old.Goals as goal
+
+pub returns-in_default-clause-any_moment : goal.returns-in_default-clause-any_moment
+returns-in_default-clause-any_moment g c honest records old t number update is ready = (Runs.start records c.args.update.now.catalog t (g.D.Disk.meaning c.args.disk.now) ready.rests).run
+
+pub returns-clause-within : goal.returns-clause-within
+returns-clause-within g c honest old t number update =
+    let m : _ → Meaning = g.D.Disk.meaning in
+    let u = c.args.update.now in
+    let file = Runs.old_file old _ c.as_str.result.now (ap (λ n. option_map string_bytes n) c.in-Some.is ∙ ap (λ l. Some l) (sym c.as_str.ensures.value)) update.old_table in
+    let under : is_under (keyspace_folder 0) c.as_str.result.now ≡ true = ap (λ (n : Name). is_under (keyspace_folder 0) n) file.name_is ∙ table_under file.t.id in
+    Runs.removed_there (keyspace_folder 0) c.as_str.result.now (m c.args.disk.now) (m c.remove.new.self) c.remove.result under (c.remove.ensures.ok honest) (c.remove.ensures.err honest)
+
+pub returns-clause-any_moment : goal.returns-clause-any_moment
+returns-clause-any_moment g c honest records old t number update is ready =
+    let m : _ → Meaning = g.D.Disk.meaning in
+    let u = c.args.update.now in
+    let file = Runs.old_file old _ c.as_str.result.now (ap (λ n. option_map string_bytes n) c.in-Some.is ∙ ap (λ l. Some l) (sym c.as_str.ensures.value)) update.old_table in
+    let small = Runs.table_small old file.t file.named_is is in
+    let apart = Runs.new_apart old.next_table_id u.catalog.next_table_id file.t.id (entries_of t.living) u.catalog.table u.table update.table small.1 in
+    (Runs.removed_still records u.catalog t c.as_str.result.now file.t.id file.name_is small.0 apart.0 apart.1 (m c.args.disk.now) (m c.remove.new.self) ready.rests
+    (removed_within c.as_str.result.now (m c.args.disk.now) (m c.remove.new.self) c.remove.result (c.remove.ensures.ok honest) (c.remove.ensures.err honest))).run
+
+pub returns-clause-ready : goal.returns-clause-ready
+returns-clause-ready g c honest records old t number update is ready =
+    let m : _ → Meaning = g.D.Disk.meaning in
+    let u = c.args.update.now in
+    let file = Runs.old_file old _ c.as_str.result.now (ap (λ n. option_map string_bytes n) c.in-Some.is ∙ ap (λ l. Some l) (sym c.as_str.ensures.value)) update.old_table in
+    let small = Runs.table_small old file.t file.named_is is in
+    let apart = Runs.new_apart old.next_table_id u.catalog.next_table_id file.t.id (entries_of t.living) u.catalog.table u.table update.table small.1 in
+    Runs.removed_ready records u.catalog t c.as_str.result.now file.t.id file.name_is small.0 apart.0 apart.1 (m c.args.disk.now) (m c.remove.new.self) ready
+    (removed_within c.as_str.result.now (m c.args.disk.now) (m c.remove.new.self) c.remove.result (c.remove.ensures.ok honest) (c.remove.ensures.err honest))

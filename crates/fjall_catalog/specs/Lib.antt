@@ -1,0 +1,3 @@
+pub mod Catalog
+pub mod Updates
+pub mod Refusals
