@@ -185,7 +185,7 @@ fn damaged_tables(rt: HostRuntime) -> std::result::Result<(), Fail> {
     change(&mut disk, &update)?;
     let name = "keyspaces/0/1.table";
     let table = disk.read(alloc, name)?.ok_or("missing")?;
-    for at in [0, 100, table.len() / 2, table.len() - 1] {
+    for at in [0, 100, table.len() / 2, table.len().saturating_sub(1)] {
         disk.remove(name)?;
         make_file(&mut disk, name, &changed(alloc, &table, at)?)?;
         assert_eq!(rt; read_catalog(alloc, &mut disk).err(), refused);
