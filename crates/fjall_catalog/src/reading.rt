@@ -6,7 +6,7 @@ ghost use Rattle.fjall_base.specs.Errors.{IsFaultOrMemory};
 ghost use Rattle.fjall_base.specs.Disk.{Took, standing, state_in};
 ghost use Rattle.fjall_tree.specs.Reading.{DamagedWhere};
 ghost use Rattle.fjall_tree.specs.Records.{Fields, IsRecords};
-ghost use Rattle.fjall_keyspaces.specs.Keyspaces.{AreKeyspaces, Keyspaces};
+ghost use Rattle.fjall_keyspaces.specs.Keyspaces.{Keyspaces};
 ghost use Rattle.fjall_catalog.specs.Catalog.{records_in, HoldsEntries, Says, IsAtLevel1};
 ghost use Rattle.fjall_catalog.specs.Refusals.{HasLast, HasNoLast, IsRefusal, IsTableRefused, IsFaultIfIo};
 
@@ -90,7 +90,7 @@ fn read_entries<D: Disk>(
 /// `Storage(OptionInvalid)` as `MetaKeyspace::from_entries`; with `OutOfMemory`; and with `Io` for a fault of the disk.
 pub fn read_catalog<D: Disk>(alloc: Global, disk: &mut D) -> Result<Found>
     // What it answers is what the disk says.
-    ensures says { IsTrue D.honest → IfOk result (λ found. AreKeyspaces found.keyspaces → (records : List Fields) × Says (standing (state_in (D.meaning disk.old))) records found.catalog found.keyspaces) }
+    ensures says { IsTrue D.honest → IfOk result (λ found. (records : List Fields) × Says (standing (state_in (D.meaning disk.old))) records found.catalog found.keyspaces) }
     // What the disk says is answered, unless the disk fails or memory runs out.
     ensures all { IsTrue D.honest → (records : List Fields) (last : Catalog) (s : Keyspaces) → Says (standing (state_in (D.meaning disk.old))) records last s
         → MatchResult result (λ found. (found.catalog ≡ last) × (found.keyspaces ≡ s)) (IsFaultOrMemory (D.meaning disk.old).faults (D.meaning disk.new).faults) }

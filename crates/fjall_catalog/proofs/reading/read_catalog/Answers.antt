@@ -102,7 +102,7 @@ returns-clause-all g c honest records last s says =
     (same, c.in_ok-keyspaces.ensures.whole s says.are (says.next ∙ ap (λ (e : Catalog). e.next_keyspace_id) (sym same)) pairs)
 
 pub returns-clause-says : goal.returns-clause-says
-returns-clause-says g c honest are =
+returns-clause-says g c honest =
     let m : _ → Meaning = g.D.Disk.meaning in
     let image : Image = standing (state_in (m c.args.disk.now)) in
     let d : Catalog = c.in_ok-catalog.field-0.catalog in
@@ -110,7 +110,7 @@ returns-clause-says g c honest are =
     let has : HasLast (records_in image) d = subst (λ (l : List ℕ). HasLast l d) (c.deref.ensures.value ∙ read.is) c.in_ok-catalog.ensures.last in
     let holds : HoldsEntries image d.table c.in_ok-entries.entries.items = subst (λ (state : State). HoldsEntries (standing state) d.table c.in_ok-entries.entries.items) (c.in_ok-bytes.ensures.same honest).state (c.in_ok-entries.ensures.ok honest) in
     let pairs : c.in_ok-entries.entries.items ≡ entries_of c.in_ok-keyspaces.keyspaces.living = sym c.deref-2.ensures.value ∙ sym c.in_ok-keyspaces.ensures.ok in
-    (has.records, Readings.said image d c.in_ok-keyspaces.keyspaces read.file has (subst (λ (l : List MetaEntry). HoldsEntries image d.table l) pairs holds) c.in_ok-keyspaces.ensures.next are)
+    (has.records, Readings.said image d c.in_ok-keyspaces.keyspaces read.file has (subst (λ (l : List MetaEntry). HoldsEntries image d.table l) pairs holds) c.in_ok-keyspaces.ensures.next c.in_ok-keyspaces.ensures.lawful)
 
 pub returns-clause-end : goal.returns-clause-end
 returns-clause-end g c honest =
