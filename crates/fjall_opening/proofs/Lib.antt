@@ -1,0 +1,6 @@
+pub mod Listed
+pub mod Gathering
+pub mod Homing
+pub mod Alone
+pub mod Finishing
+pub mod Beginnings

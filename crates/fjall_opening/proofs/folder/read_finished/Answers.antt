@@ -1,0 +1,57 @@
+use Rattle.std.proofs.Common.{◌≡◌, ◌∙◌, ap, subst, sym}
+use Rattle.std.proofs.lemmas.Result.{err_from_is_err_and}
+use Rattle.fjall_base.specs.Disk.{Folder, Image, standing, state_in}
+use Rattle.fjall_recovery.specs.Names.{keyspace_folder}
+use Rattle.fjall_catalog.specs.Catalog.{Says}
+use Rattle.fjall_opening.specs.Journals.{AreJournalIds}
+use Rattle.fjall_opening.specs.Naming.{AreFolderIds, KeyspacesAreNamed}
+use Rattle.fjall_opening.proofs.Finishing.{holds_journals, names_refuse, tree_refuses, homes_refuse, folders_along, finished_of}
+use Rattle.fjall_opening.proofs.folder.read_finished.Goals as goal
+
+pub returns-in_err-folder_ids-clause-cause : goal.returns-in_err-folder_ids-clause-cause
+returns-in_err-folder_ids-clause-cause g c honest ids =
+    let p = err_from_is_err_and c.from_residual-in_err-folder_ids.result c.from_residual-in_err-folder_ids.ensures.1 in
+    let image : Image = standing (state_in (g.D.Disk.meaning c.args.disk.now)) in
+    let holds = holds_journals image c.deref.result.now _ _ _ _ (subst (AreJournalIds image) (sym c.deref.ensures.value) ids) (c.in_ok-journals.ensures.found honest) in
+    rw (p.1, p.2) (names_refuse image _ c.in_err-folder_ids.field-0.0 (ap standing (c.in_ok-journals.ensures.same honest).state) holds (c.in_err-folder_ids.ensures.cause honest))
+
+pub returns-in_err-catalog-clause-cause : goal.returns-in_err-catalog-clause-cause
+returns-in_err-catalog-clause-cause g c honest ids =
+    let p = err_from_is_err_and c.from_residual-in_err-catalog.result c.from_residual-in_err-catalog.ensures.1 in
+    let image : Image = standing (state_in (g.D.Disk.meaning c.args.disk.now)) in
+    let holds = holds_journals image c.deref.result.now _ _ _ _ (subst (AreJournalIds image) (sym c.deref.ensures.value) ids) (c.in_ok-journals.ensures.found honest) in
+    let one = ap standing (c.in_ok-journals.ensures.same honest).state in
+    let step = ap standing (c.in_ok-folder_ids.ensures.same honest).state in
+    let folders = folders_along _ _ _ _ (sym step) c.deref-2.ensures.value (c.in_ok-folder_ids.ensures.ids honest) in
+    rw (p.1, p.2)
+    (tree_refuses image _ c.in_err-catalog.field-0.0 (step ∙ one) holds (subst KeyspacesAreNamed one (c.in_ok-folder_ids.ensures.named honest)) (c.in_err-catalog.ensures.cause honest folders))
+
+pub returns-in_err-homes-clause-cause : goal.returns-in_err-homes-clause-cause
+returns-in_err-homes-clause-cause g c honest ids =
+    let p = err_from_is_err_and c.from_residual-in_err-homes.result c.from_residual-in_err-homes.ensures.1 in
+    let image : Image = standing (state_in (g.D.Disk.meaning c.args.disk.now)) in
+    let holds = holds_journals image c.deref.result.now _ _ _ _ (subst (AreJournalIds image) (sym c.deref.ensures.value) ids) (c.in_ok-journals.ensures.found honest) in
+    let one = ap standing (c.in_ok-journals.ensures.same honest).state in
+    let step = ap standing (c.in_ok-folder_ids.ensures.same honest).state in
+    let next = ap standing (c.in_ok-catalog.ensures.same honest).state in
+    let two = step ∙ one in
+    let folders = folders_along _ _ _ _ (sym step) c.deref-2.ensures.value (c.in_ok-folder_ids.ensures.ids honest) in
+    let later = folders_along _ _ _ _ (sym (next ∙ step)) c.deref-3.ensures.value (c.in_ok-folder_ids.ensures.ids honest) in
+    let says = c.in_ok-catalog.ensures.says honest in
+    let last = c.in_ok-catalog.catalog.catalog in
+    let s = c.in_ok-catalog.catalog.keyspaces in
+    rw (p.1, p.2)
+    (homes_refuse image _ says.0 last s _ c.in_err-homes.field-0.0 (next ∙ two) holds (subst KeyspacesAreNamed one (c.in_ok-folder_ids.ensures.named honest))
+    (subst (λ (i : Image). i (keyspace_folder 0) ≡ Folder) two (c.in_ok-catalog.ensures.folder honest folders)) (subst (λ i. Says i says.0 last s) two says.1) c.in_ok-catalog.ensures.made
+    c.living.ensures (c.in_err-homes.ensures.cause honest later))
+
+pub returns-clause-found : goal.returns-clause-found
+returns-clause-found g c honest ids =
+    let image : Image = standing (state_in (g.D.Disk.meaning c.args.disk.now)) in
+    let one = ap standing (c.in_ok-journals.ensures.same honest).state in
+    let step = ap standing (c.in_ok-folder_ids.ensures.same honest).state in
+    let next = ap standing (c.in_ok-catalog.ensures.same honest).state in
+    let folders = folders_along _ _ _ _ (sym step) c.deref-2.ensures.value (c.in_ok-folder_ids.ensures.ids honest) in
+    let later = folders_along _ _ _ _ (sym (next ∙ step)) c.deref-3.ensures.value (c.in_ok-folder_ids.ensures.ids honest) in
+    finished_of image _ _ _ _ c.deref.result.now _ one (step ∙ one) (next ∙ (step ∙ one)) c.deref.ensures.value ids (c.in_ok-journals.ensures.found honest) (c.in_ok-folder_ids.ensures.ids honest) (c.in_ok-folder_ids.ensures.named honest)
+    (c.in_ok-catalog.ensures.folder honest folders) (c.in_ok-catalog.ensures.says honest) c.in_ok-catalog.ensures.made c.living.ensures (c.in_ok-homes.ensures.read honest later)

@@ -1,0 +1,53 @@
+use Rattle.std.proofs.Common.{Ok, ◌∙◌, ap, subst, sym}
+use Rattle.std.proofs.lemmas.Result.{err_from_is_err_and}
+use Rattle.fjall_base.specs.Disk.{Image, standing, state_in}
+use Rattle.fjall_opening.specs.Journals.{AreJournalIds}
+use Rattle.fjall_opening.specs.Naming.{JournalsAreNamed}
+use Rattle.fjall_opening.proofs.Finishing.{journals_along, names_of_folder, finished_refuses, unfinished_refuses, reads_finished, reads_unfinished}
+use Rattle.fjall_opening.proofs.folder.read_folder.Goals as goal
+
+pub returns-in_err-journal_ids-clause-cause : goal.returns-in_err-journal_ids-clause-cause
+returns-in_err-journal_ids-clause-cause g c honest =
+    let p = err_from_is_err_and c.from_residual-in_err-journal_ids.result c.from_residual-in_err-journal_ids.ensures.1 in
+    let image : Image = standing (state_in (g.D.Disk.meaning c.args.disk.now)) in
+    rw (p.1, p.2) (names_of_folder image _ _ c.in_err-journal_ids.field-0.0 (ap standing (c.in_ok-marker.ensures.same honest).state) (c.in_ok-marker.ensures.tells honest) (c.in_err-journal_ids.ensures.cause honest))
+
+pub returns-in_err-read_finished-in-Whole-clause-cause : goal.returns-in_err-read_finished-in-Whole-clause-cause
+returns-in_err-read_finished-in-Whole-clause-cause g c honest =
+    let p = err_from_is_err_and c.from_residual-in_err-read_finished-in-Whole.result c.from_residual-in_err-read_finished-in-Whole.ensures.1 in
+    let image : Image = standing (state_in (g.D.Disk.meaning c.args.disk.now)) in
+    let one = ap standing (c.in_ok-marker.ensures.same honest).state in
+    let step = ap standing (c.in_ok-journal_ids.ensures.same honest).state in
+    let ids = subst (λ i. AreJournalIds i c.in_ok-journal_ids.journal_ids.items) (sym step) (c.in_ok-journal_ids.ensures.ids honest) in
+    rw (p.1, p.2)
+    (finished_refuses image _ c.in_err-read_finished-in-Whole.field-0.0 (step ∙ one) (c.in_ok-marker.ensures.tells honest ∙ ap Ok c.in-Whole.is) (subst JournalsAreNamed one (c.in_ok-journal_ids.ensures.named honest))
+    (c.in_err-read_finished-in-Whole.ensures.cause honest ids))
+
+pub returns-in_err-check_unfinished-in-Unfinished-clause-cause : goal.returns-in_err-check_unfinished-in-Unfinished-clause-cause
+returns-in_err-check_unfinished-in-Unfinished-clause-cause g c honest =
+    let p = err_from_is_err_and c.from_residual-in_err-check_unfinished-in-Unfinished.result c.from_residual-in_err-check_unfinished-in-Unfinished.ensures.1 in
+    let image : Image = standing (state_in (g.D.Disk.meaning c.args.disk.now)) in
+    let one = ap standing (c.in_ok-marker.ensures.same honest).state in
+    let step = ap standing (c.in_ok-journal_ids.ensures.same honest).state in
+    let ids = journals_along _ _ _ _ (sym step) c.deref.ensures.value (c.in_ok-journal_ids.ensures.ids honest) in
+    rw (p.1, p.2)
+    (unfinished_refuses image _ c.in_err-check_unfinished-in-Unfinished.field-0.0 (step ∙ one) (c.in_ok-marker.ensures.tells honest ∙ ap Ok c.in-Unfinished.is) (subst JournalsAreNamed one (c.in_ok-journal_ids.ensures.named honest))
+    (c.in_err-check_unfinished-in-Unfinished.ensures.cause honest ids))
+
+pub returns-in_ok-read_finished-in-Whole-clause-found : goal.returns-in_ok-read_finished-in-Whole-clause-found
+returns-in_ok-read_finished-in-Whole-clause-found g c honest =
+    let image : Image = standing (state_in (g.D.Disk.meaning c.args.disk.now)) in
+    let one = ap standing (c.in_ok-marker.ensures.same honest).state in
+    let step = ap standing (c.in_ok-journal_ids.ensures.same honest).state in
+    let ids = subst (λ i. AreJournalIds i c.in_ok-journal_ids.journal_ids.items) (sym step) (c.in_ok-journal_ids.ensures.ids honest) in
+    reads_finished image _ c.in_ok-read_finished-in-Whole.field-0 (step ∙ one) (c.in_ok-marker.ensures.tells honest ∙ ap Ok c.in-Whole.is) (subst JournalsAreNamed one (c.in_ok-journal_ids.ensures.named honest))
+    (c.in_ok-read_finished-in-Whole.ensures.found honest ids)
+
+pub returns-in_ok-check_unfinished-in-Unfinished-clause-found : goal.returns-in_ok-check_unfinished-in-Unfinished-clause-found
+returns-in_ok-check_unfinished-in-Unfinished-clause-found g c honest =
+    let image : Image = standing (state_in (g.D.Disk.meaning c.args.disk.now)) in
+    let one = ap standing (c.in_ok-marker.ensures.same honest).state in
+    let step = ap standing (c.in_ok-journal_ids.ensures.same honest).state in
+    let ids = journals_along _ _ _ _ (sym step) c.deref.ensures.value (c.in_ok-journal_ids.ensures.ids honest) in
+    let checked = c.in_ok-check_unfinished-in-Unfinished.ensures in
+    reads_unfinished image _ (step ∙ one) (c.in_ok-marker.ensures.tells honest ∙ ap Ok c.in-Unfinished.is) (subst JournalsAreNamed one (c.in_ok-journal_ids.ensures.named honest)) (checked.empty honest ids) (checked.named honest) (checked.begun honest)

@@ -1,0 +1,95 @@
+-- The journals of a folder, as they are read one after another.
+use Rattle.std.specs.Prelude.{◌≡◌, ◌⊎◌, ◌↔◌, ℕ, ◌<◌, ◌^◌, Bool, true, false, List, [], ◌∷◌, ◌++◌, map, drop, Contains, None}
+use Rattle.std.specs.List.{flat_map, AllByRecursion}
+use Rattle.std.specs.List.Sorted.{IsStrictlyIncreasing}
+use Rattle.fjall_base.specs.Disk.{Entry, File, Image, IsFile}
+use Rattle.fjall_journal.specs.declared.batch.Tail.{Tail}
+use Rattle.fjall_journal.specs.declared.batch.Tail.TheVariants.{Clean, Torn}
+use Rattle.fjall_journal.specs.Batches.{Written, Shown, IsWhole, IsTail, shown}
+use Rattle.fjall_versions.specs.Replays.{first_fault, least_after}
+use Rattle.fjall_recovery.specs.Names.{journal_name}
+
+-- the bytes of a file, and none where there is no file
+abbrev pub text_in : Entry → List ℕ
+text_in (File synced unsynced) = synced ++ unsynced
+text_in entry = []
+
+-- the bytes of the journal of that id in an image
+abbrev pub journal_text : Image → ℕ → List ℕ
+journal_text image id = text_in (image (journal_name id))
+
+-- a journal's id, and its whole batches
+pub record Journal : Type 0 where
+  pub id : ℕ
+  pub batches : List Written
+
+-- These batches stand whole at the front of the bytes, and behind them stands this tail.
+pub record ReadsAs (text : List ℕ) (batches : List Written) (tail : Tail) : Type 0 where
+  pub end : ℕ
+  pub whole : IsWhole text batches end
+  pub behind : IsTail (drop end text) tail
+
+-- Each journal but the last is sealed, and whole to its end. The last one is active: a crash may have torn it.
+abbrev pub AreRead : Image → List Journal → Type 0
+AreRead image [] = Unit {0}
+AreRead image (j ∷ []) = ReadsAs (journal_text image j.id) j.batches Clean ⊎ ReadsAs (journal_text image j.id) j.batches Torn
+AreRead image (j ∷ k ∷ journals) = ReadsAs (journal_text image j.id) j.batches Clean × AreRead image (k ∷ journals)
+
+-- the ids of all journals in the root, ascending
+pub record AreJournalIds (image : Image) (ids : List ℕ) : Type 0 where
+  pub ascending : IsStrictlyIncreasing ids
+  pub each : (id : ℕ) → Contains ids id ↔ (id < 2 ^ 64) × IsFile (image (journal_name id))
+
+-- the batches of all journals, in order
+abbrev pub batches_in : List Journal → List Written
+batches_in journals = flat_map (λ j. j.batches) journals
+
+-- These are the journals of the image, and none of their batches has a fault: numbers ascend over all of them.
+pub record HoldsJournals (image : Image) (journals : List Journal) : Type 0 where
+  pub ids : AreJournalIds image (map (λ j. j.id) journals)
+  pub read : AreRead image journals
+  pub sound : first_fault 0 (map shown (batches_in journals)) ≡ None
+
+-- a journal that is whole to its end
+abbrev pub IsSealed : Image → Journal → Type 0
+IsSealed image j = ReadsAs (journal_text image j.id) j.batches Clean
+
+-- the tail of a journal that was torn, or wasn't
+abbrev pub tail_of : Bool → Tail
+tail_of true = Torn
+tail_of false = Clean
+
+-- The whole batches of the last of these journals end there, and its tail is torn or isn't; 0 where there is no journal.
+abbrev pub EndsAt : Image → List Journal → ℕ → Bool → Type 0
+EndsAt image [] end torn = (end ≡ 0) × (torn ≡ false)
+EndsAt image (j ∷ []) end torn = IsWhole (journal_text image j.id) j.batches end × IsTail (drop end (journal_text image j.id)) (tail_of torn)
+EndsAt image (j ∷ k ∷ journals) end torn = EndsAt image (k ∷ journals) end torn
+
+-- What was gathered of journals: their batches in order, which have no fault, and the least number that a next batch may
+-- have.
+pub record Gathers (journals : List Journal) (batches : List Shown) (least : ℕ) : Type 0 where
+  pub sound : first_fault 0 (map shown (batches_in journals)) ≡ None
+  pub all : batches ≡ map shown (batches_in journals)
+  pub next : least ≡ least_after 0 (map shown (batches_in journals))
+
+-- What was read of the sealed journals of these ids.
+pub record AreSealed (image : Image) (ids : List ℕ) (batches : List Shown) (least : ℕ) : Type 0 where
+  pub journals : List Journal
+  pub named : map (λ j. j.id) journals ≡ ids
+  pub sealed : AllByRecursion (IsSealed image) journals
+  pub gathers : Gathers journals batches least
+
+-- What was read of the journals of these ids, of which the last is active.
+pub record AreFound (image : Image) (ids : List ℕ) (batches : List Shown) (least end : ℕ) (torn : Bool) : Type 0 where
+  pub journals : List Journal
+  pub named : map (λ j. j.id) journals ≡ ids
+  pub read : AreRead image journals
+  pub gathers : Gathers journals batches least
+  pub ends : EndsAt image journals end torn
+
+-- One journal as it was read: its batches, and where they end before which tail.
+pub record IsReadAs (text : List ℕ) (batches : List Shown) (end : ℕ) (tail : Tail) : Type 0 where
+  pub written : List Written
+  pub shows : batches ≡ map shown written
+  pub whole : IsWhole text written end
+  pub behind : IsTail (drop end text) tail

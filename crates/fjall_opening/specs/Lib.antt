@@ -1,0 +1,5 @@
+pub mod Naming
+pub mod Journals
+pub mod Homes
+pub mod Folders
+pub mod Refusals

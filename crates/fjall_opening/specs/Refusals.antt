@@ -1,0 +1,117 @@
+-- Why a folder is refused: the first fault in the order in which it is read.
+use Rattle.std.specs.Prelude.{◌≡◌, ◌≢◌, ◌⊎◌, ℕ, Bool, true, false, List, [], ◌∷◌, map, None, Ok, Err}
+use Rattle.fjall_base.specs.Disk.{Folder, Image}
+use Rattle.fjall_base.specs.Errors.{Rose}
+use Rattle.fjall_base.specs.declared.error.Error.{Error}
+use Rattle.fjall_base.specs.declared.error.Error.TheVariants.{Io, JournalRecovery, OutOfMemory, Storage, Unrecoverable}
+use Rattle.fjall_base.specs.declared.error.StorageError.TheVariants.{RecordDamaged, TableDamaged}
+use Rattle.fjall_journal.specs.declared.batch.Tail.{Tail}
+use Rattle.fjall_journal.specs.declared.batch.Tail.TheVariants.{Clean, Torn, Damaged}
+use Rattle.fjall_journal.specs.Batches.{Written, shown}
+use Rattle.fjall_versions.specs.Replays.{first_fault, least_after, NamesFault}
+use Rattle.fjall_tree.specs.Records.{Fields, HasContradiction}
+use Rattle.fjall_keyspaces.specs.Keyspaces.{Keyspaces}
+use Rattle.fjall_keyspaces.specs.declared.living.LivingKeyspace.{LivingKeyspace}
+use Rattle.fjall_base.specs.declared.error.JournalRecoveryError.TheVariants.{InvalidFileName}
+use Rattle.fjall_recovery.specs.declared.marker.Marker.{Marker}
+use Rattle.fjall_recovery.specs.declared.marker.Marker.TheVariants.{Whole, Unfinished}
+use Rattle.fjall_recovery.specs.Marker.{marker_tells}
+use Rattle.fjall_recovery.specs.Names.{keyspace_folder}
+use Rattle.fjall_catalog.specs.declared.catalog.Catalog.{Catalog}
+use Rattle.fjall_catalog.specs.Catalog.{Says, records_in}
+use Rattle.fjall_catalog.specs.Refusals.{IsDamage}
+use Rattle.fjall_opening.specs.Folders.{AreEmpty, AreMade, IsBegun, marker_bytes}
+use Rattle.fjall_opening.specs.Homes.{HasHome, HasNoRecord, records_text}
+use Rattle.fjall_opening.specs.Journals.{Journal, ReadsAs, AreJournalIds, HoldsJournals, journal_text}
+use Rattle.fjall_opening.specs.Naming.{JournalsAreNamed, KeyspacesAreNamed}
+
+-- `Io` is answered only where the count of faults rose
+abbrev pub HasRisen : ℕ → ℕ → Error → Type 0
+HasRisen old new (Io kind) = Rose old new
+HasRisen old new error = Unit {0}
+
+-- over a disk that returns what it holds: memory ran out, the disk failed, or this is the cause
+abbrev pub IsDue : (Error → Type 0) → Error → Type 0
+IsDue Cause OutOfMemory = Unit {0}
+IsDue Cause (Io kind) = Unit {0}
+IsDue Cause error = Cause error
+
+-- no journal stands behind this one
+abbrev pub is_last : List ℕ → Bool
+is_last [] = true
+is_last (id ∷ ids) = false
+
+-- A tail refuses its journal: a damage by its name, and a torn one where another journal stands behind.
+abbrev pub TailRefuses : Bool → Tail → Error → Type 0
+TailRefuses last (Damaged damage) (JournalRecovery told) = told ≡ damage
+TailRefuses false Torn Unrecoverable = Unit {0}
+TailRefuses last tail error = ⊥
+
+-- Why these journals are refused, where the first batch may have that number or a greater one: of each journal the
+-- batches are looked at in order, and then the tail; the journals before it are sealed and have no fault.
+abbrev pub JournalsRefuse : Image → ℕ → List ℕ → Error → Type 0
+JournalsRefuse image least [] error = ⊥
+JournalsRefuse image least (id ∷ ids) error =
+    (batches : List Written) × (tail : Tail) × ReadsAs (journal_text image id) batches tail
+    × (NamesFault (first_fault least (map shown batches)) error
+    ⊎ ((first_fault least (map shown batches) ≡ None)
+    × (TailRefuses (is_last ids) tail error ⊎ ((tail ≡ Clean) × JournalsRefuse image (least_after least (map shown batches)) ids error))))
+
+-- Why a keyspace that lives is refused: it has no folder, or no such records are in it.
+abbrev pub HomeRefuses : Image → ℕ → Error → Type 0
+HomeRefuses image id Unrecoverable = image (keyspace_folder id) ≢ Folder
+HomeRefuses image id (Storage RecordDamaged) = (image (keyspace_folder id) ≡ Folder) × HasNoRecord (records_text image id)
+HomeRefuses image id error = ⊥
+
+-- the first of these keyspaces that is refused, where those before it aren't
+abbrev pub HomesRefuse : Image → List LivingKeyspace → Error → Type 0
+HomesRefuse image [] error = ⊥
+HomesRefuse image (k ∷ living) error = HomeRefuses image k.id error ⊎ (((last : Fields) × HasHome image k.id last) × HomesRefuse image living error)
+
+-- why the catalog or a keyspace that it names is refused
+abbrev pub CatalogRefuses : Image → Error → Type 0
+CatalogRefuses image (Storage cause) =
+    IsDamage image cause
+    ⊎ ((records : List Fields) × (last : Catalog) × (s : Keyspaces) × Says image records last s
+    × (((cause ≡ TableDamaged) × (AreMade last s → ⊥)) ⊎ (AreMade last s × HomesRefuse image s.living (Storage cause))))
+CatalogRefuses image error =
+    (records : List Fields) × (last : Catalog) × (s : Keyspaces) × Says image records last s × AreMade last s × HomesRefuse image s.living error
+
+-- the folder of tree 0, and what it says
+abbrev pub TreeRefuses : Image → Error → Type 0
+TreeRefuses image error =
+    ((error ≡ Unrecoverable) × (image (keyspace_folder 0) ≢ Folder))
+    ⊎ ((image (keyspace_folder 0) ≡ Folder) × CatalogRefuses image error)
+
+-- the names in `keyspaces`, and then what stands there
+abbrev pub KeyspacesRefuse : Image → Error → Type 0
+KeyspacesRefuse image error = ((error ≡ Unrecoverable) × (KeyspacesAreNamed image → ⊥)) ⊎ (KeyspacesAreNamed image × TreeRefuses image error)
+
+-- Why a folder that was made to its end is refused: the journals are read first, and then the keyspaces.
+abbrev pub FinishedRefuses : Image → Error → Type 0
+FinishedRefuses image error =
+    ((ids : List ℕ) × AreJournalIds image ids × JournalsRefuse image 0 ids error)
+    ⊎ (((journals : List Journal) × HoldsJournals image journals) × KeyspacesRefuse image error)
+
+-- why what there is of tree 0 refuses to be gone on with
+abbrev pub BegunRefuses : List ℕ → Error → Type 0
+BegunRefuses text (Storage RecordDamaged) = HasContradiction text
+BegunRefuses text Unrecoverable = IsBegun text → ⊥
+BegunRefuses text error = ⊥
+
+-- Why a folder whose making was cut short is refused: something was written into it.
+abbrev pub UnfinishedRefuses : Image → Error → Type 0
+UnfinishedRefuses image error =
+    ((error ≡ Unrecoverable) × (AreEmpty image → ⊥))
+    ⊎ (AreEmpty image × (((error ≡ Unrecoverable) × (KeyspacesAreNamed image → ⊥)) ⊎ (KeyspacesAreNamed image × BegunRefuses (records_in image) error)))
+
+abbrev pub PartsRefuse : Marker → Image → Error → Type 0
+PartsRefuse Whole image error = FinishedRefuses image error
+PartsRefuse Unfinished image error = UnfinishedRefuses image error
+
+-- Why a folder is refused: its marker is looked at first, then the names in the root, and then its parts.
+abbrev pub FolderRefuses : Image → Error → Type 0
+FolderRefuses image error =
+    (marker_tells (marker_bytes image) ≡ Err error)
+    ⊎ ((marker : Marker) × (marker_tells (marker_bytes image) ≡ Ok marker)
+    × (((error ≡ JournalRecovery InvalidFileName) × (JournalsAreNamed image → ⊥)) ⊎ (JournalsAreNamed image × PartsRefuse marker image error)))

@@ -1,0 +1,126 @@
+//! A folder, read whole.
+
+ghost use Rattle.std.specs.Prelude.{◌≡◌, ◌<◌, ◌≤◌, ◌↔◌, [], All, IsTrue, IfErr, IfOk, OnOk, List, Ok, Err};
+ghost use Rattle.fjall_base.specs.Disk.{Folder, Took, standing, state_in};
+ghost use Rattle.fjall_recovery.specs.Marker.{marker_tells};
+ghost use Rattle.fjall_recovery.specs.Names.{keyspace_folder};
+ghost use Rattle.fjall_tree.specs.Records.{Fields};
+ghost use Rattle.fjall_catalog.specs.Catalog.{Says, fields};
+ghost use Rattle.fjall_opening.specs.Folders.{AreMade, IsFinished, ReadsFolder, marker_bytes, past_record};
+ghost use Rattle.fjall_opening.specs.Journals.{AreJournalIds};
+ghost use Rattle.fjall_opening.specs.Naming.{AreFolderIds};
+ghost use Rattle.fjall_opening.specs.Refusals.{FinishedRefuses, FolderRefuses, HasRisen, IsDue, TreeRefuses};
+
+use crate::homes::{Home, read_homes};
+use crate::journals::{Journals, read_journals};
+use crate::listing::{list_journals, list_keyspaces};
+use crate::unfinished::check_unfinished;
+use fjall_base::{Disk, Error, Result, StorageError};
+use fjall_catalog::{Catalog, Found, read_catalog};
+use fjall_keyspaces::LivingKeyspace;
+use fjall_recovery::{Marker, read_marker};
+use std::alloc::Global;
+
+/// What a folder holds that was made to its end.
+#[derive(Debug, Drop)]
+pub struct Finished {
+    /// The ids of the journals, ascending.
+    pub journal_ids: Vec<u64>,
+    pub journals: Journals,
+    /// The ids of the keyspaces that have a folder, ascending; 0 is that of tree 0.
+    pub folder_ids: Vec<u64>,
+    /// What tree 0 says.
+    pub catalog: Found,
+    /// The records of the keyspaces that live, by id ascending.
+    pub homes: Vec<Home>,
+}
+
+/// Whether these keyspaces were made under numbers that the record knows.
+fn are_made(last: &Catalog, living: &[LivingKeyspace]) -> bool
+    ensures { IsTrue result ↔ All (λ k. k.number < past_record (fields last.now)) living.now }
+{
+    let greatest = last.persisted.max(last.highest);
+    living
+        .iter()
+        .all(|keyspace| Some(keyspace.number) <= greatest)
+}
+
+/// Reads tree 0, where it has its folder. Each keyspace must be made under a number that its last record knows.
+fn read_tree<D: Disk>(alloc: Global, disk: &mut D, folder_ids: &[u64]) -> Result<Found>
+    ensures says { IsTrue D.honest → IfOk result (λ found. (records : List Fields) × Says (standing (state_in (D.meaning disk.old))) records found.catalog found.keyspaces) }
+    ensures made { IfOk result (λ found. AreMade found.catalog found.keyspaces) }
+    ensures folder { IsTrue D.honest → AreFolderIds (standing (state_in (D.meaning disk.old))) folder_ids.now → OnOk result (standing (state_in (D.meaning disk.old)) (keyspace_folder 0) ≡ Folder) }
+    ensures same { IsTrue D.honest → Took (D.meaning disk.old) (D.meaning disk.new) [] }
+    ensures later { (D.meaning disk.old).faults ≤ (D.meaning disk.new).faults }
+    ensures risen { IfErr result (HasRisen (D.meaning disk.old).faults (D.meaning disk.new).faults) }
+    ensures cause { IsTrue D.honest → AreFolderIds (standing (state_in (D.meaning disk.old))) folder_ids.now → IfErr result (IsDue (TreeRefuses (standing (state_in (D.meaning disk.old))))) }
+{
+    if !folder_ids.contains(&0) {
+        return Err(Error::Unrecoverable);
+    }
+    let found = read_catalog(alloc, disk)?;
+    if !are_made(&found.catalog, found.keyspaces.living()) {
+        return Err(Error::Storage(StorageError::TableDamaged));
+    }
+    Ok(found)
+}
+
+/// Reads a folder that was made to its end: the journals of these ids, and then tree 0 and the keyspaces that it names.
+fn read_finished<D: Disk>(alloc: Global, disk: &mut D, journal_ids: Vec<u64>) -> Result<Finished>
+    ensures found { IsTrue D.honest → AreJournalIds (standing (state_in (D.meaning disk.old))) journal_ids.items → IfOk result (IsFinished (standing (state_in (D.meaning disk.old)))) }
+    ensures same { IsTrue D.honest → Took (D.meaning disk.old) (D.meaning disk.new) [] }
+    ensures later { (D.meaning disk.old).faults ≤ (D.meaning disk.new).faults }
+    ensures risen { IfErr result (HasRisen (D.meaning disk.old).faults (D.meaning disk.new).faults) }
+    ensures cause { IsTrue D.honest → AreJournalIds (standing (state_in (D.meaning disk.old))) journal_ids.items → IfErr result (IsDue (FinishedRefuses (standing (state_in (D.meaning disk.old))))) }
+{
+    let journals = read_journals(alloc, disk, &journal_ids)?;
+    let folder_ids = list_keyspaces(alloc, disk)?;
+    let catalog = read_tree(alloc, disk, &folder_ids)?;
+    let homes = read_homes(alloc, disk, &folder_ids, catalog.keyspaces.living())?;
+    Ok(Finished {
+        journal_ids,
+        journals,
+        folder_ids,
+        catalog,
+        homes,
+    })
+}
+
+/// What the marker of the folder tells.
+fn read_version<D: Disk>(alloc: Global, disk: &mut D) -> Result<Marker>
+    ensures tells { IsTrue D.honest → IfOk result (λ marker. marker_tells (marker_bytes (standing (state_in (D.meaning disk.old)))) ≡ Ok marker) }
+    ensures same { IsTrue D.honest → Took (D.meaning disk.old) (D.meaning disk.new) [] }
+    ensures later { (D.meaning disk.old).faults ≤ (D.meaning disk.new).faults }
+    ensures risen { IfErr result (HasRisen (D.meaning disk.old).faults (D.meaning disk.new).faults) }
+    ensures cause { IsTrue D.honest → IfErr result (IsDue (λ error. marker_tells (marker_bytes (standing (state_in (D.meaning disk.old)))) ≡ Err error)) }
+{
+    match disk.read(alloc, "version")? {
+        Some(bytes) => read_marker(Some(bytes.as_slice())),
+        None => read_marker(None),
+    }
+}
+
+/// Reads a folder whole, and answers what it holds, or `None` where its making was cut short, so that it stands for no
+/// keyspaces. Nothing of the disk changes.
+///
+/// The first fault in the order of reading refuses, as the formats page says: the marker (`InvalidVersion`), the names of
+/// journals (`InvalidFileName`), the journals one after another, the names in `keyspaces` (`Unrecoverable`), tree 0 with
+/// the names and options that it stores, and each keyspace by its id. A folder without its marker into which something was
+/// written is `Unrecoverable`. `OutOfMemory` and `Io` come as ever.
+pub fn read_folder<D: Disk>(alloc: Global, disk: &mut D) -> Result<Option<Finished>>
+    ensures found { IsTrue D.honest → IfOk result (λ folder. ReadsFolder (standing (state_in (D.meaning disk.old))) folder) }
+    ensures same { IsTrue D.honest → Took (D.meaning disk.old) (D.meaning disk.new) [] }
+    ensures later { (D.meaning disk.old).faults ≤ (D.meaning disk.new).faults }
+    ensures risen { IfErr result (HasRisen (D.meaning disk.old).faults (D.meaning disk.new).faults) }
+    ensures cause { IsTrue D.honest → IfErr result (IsDue (FolderRefuses (standing (state_in (D.meaning disk.old))))) }
+{
+    let marker = read_version(alloc, disk)?;
+    let journal_ids = list_journals(alloc, disk)?;
+    match marker {
+        Marker::Whole => Ok(Some(read_finished(alloc, disk, journal_ids)?)),
+        Marker::Unfinished => {
+            check_unfinished(alloc, disk, &journal_ids)?;
+            Ok(None)
+        }
+    }
+}
