@@ -1,16 +1,24 @@
 -- An image holds one list of journals, and each keyspace's folder one last record.
-use Rattle.std.proofs.Common.{◌≡◌, ◌≢◌, ◌⊎◌, inl, inr, ⊎_elim, ℕ, zero, suc, ◌+◌, ◌<◌, List, [], ◌∷◌, ◌++◌, length, get_or, map, All, Option, None, Some, refl, sym, ◌∙◌, ap, subst, arith}
+use Rattle.std.proofs.Common.{◌≡◌, ◌≢◌, ◌⊎◌, inl, inr, ⊎_elim, ℕ, zero, suc, ◌+◌, ◌<◌, List, [], ◌∷◌, ◌++◌, length, get_or, map, All, Option, None, Some, Result, Ok, refl, sym, ◌∙◌, ap, subst, arith}
 use Rattle.std.specs.Prelude.{◌↔◌, Contains}
 use Rattle.std.specs.List.Sorted.{IsStrictlyIncreasing}
 use Rattle.std.proofs.lemmas.List.Kept.{AllPairs-from_increasing}
+use Rattle.fjall_base.specs.declared.error.Error.{Error}
+use Rattle.fjall_base.specs.Store.{Store}
 use Rattle.fjall_base.specs.Disk.{Image}
 use Rattle.fjall_journal.specs.declared.batch.Tail.TheVariants.{Clean, Torn}
 use Rattle.fjall_journal.specs.Batches.{Written, IsWhole}
 use Rattle.fjall_journal.proofs.Wholes as Wholes
 use Rattle.fjall_tree.specs.Records.{Fields, last_of}
 use Rattle.fjall_tree.proofs.Currents as Currents
+use Rattle.fjall_keyspaces.specs.Keyspaces.{Keyspaces}
 use Rattle.fjall_keyspaces.specs.declared.living.LivingKeyspace.{LivingKeyspace}
 use Rattle.fjall_keyspaces.proofs.Rising.{Rises, from_pairs}
+use Rattle.fjall_recovery.specs.declared.marker.Marker.{Marker}
+use Rattle.fjall_recovery.specs.declared.marker.Marker.TheVariants.{Whole, Unfinished}
+use Rattle.fjall_recovery.specs.Marker.{marker_tells}
+use Rattle.fjall_catalog.proofs.Meanings.{one_catalog}
+use Rattle.fjall_opening.specs.Folders.{Contents, IsSound, StandsFor, marker_bytes, store_of}
 use Rattle.fjall_opening.specs.Homes.{HasLast, HaveHomes}
 use Rattle.fjall_opening.specs.Journals.{Journal, ReadsAs, AreRead, AreJournalIds, HoldsJournals, journal_text}
 
@@ -94,3 +102,27 @@ one_list_of_homes image (k ∷ living) [] others a b = absurd a
 one_list_of_homes image (k ∷ living) (x ∷ homes) [] a b = absurd b
 one_list_of_homes image (k ∷ living) (x ∷ homes) (y ∷ others) a b =
     ap (λ z. z ∷ homes) (one_last _ x y a.0.last_is b.0.last_is) ∙ ap (λ (l : List Fields). y ∷ l) (one_list_of_homes image living homes others a.1 b.1)
+
+-- ---- the whole folder
+
+same_contents : (c d : Contents) → c.journals ≡ d.journals → c.keyspaces ≡ d.keyspaces → c.last ≡ d.last → c.homes ≡ d.homes → c ≡ d
+same_contents c d journals keyspaces last homes =
+    ap (λ x. let r : Contents = record { journals = x; keyspaces = c.keyspaces; last = c.last; homes = c.homes } in r) journals
+    ∙ ap (λ x. let r : Contents = record { journals = d.journals; keyspaces = x; last = c.last; homes = c.homes } in r) keyspaces
+    ∙ ap (λ x. let r : Contents = record { journals = d.journals; keyspaces = d.keyspaces; last = x; homes = c.homes } in r) last
+    ∙ ap (λ x. let r : Contents = record { journals = d.journals; keyspaces = d.keyspaces; last = d.last; homes = x } in r) homes
+
+pub one_contents : (image : Image) (c d : Contents) → IsSound image c → IsSound image d → c ≡ d
+one_contents image c d a b =
+    let catalog = one_catalog image a.records b.records c.last d.last c.keyspaces d.keyspaces a.catalog b.catalog in
+    let homes = one_list_of_homes image d.keyspaces.living c.homes d.homes (subst (λ (s : Keyspaces). HaveHomes image s.living c.homes) catalog.2 a.homes) b.homes in
+    same_contents c d (one_list_of_journals image c.journals d.journals a.journals b.journals) catalog.2 catalog.1 homes
+
+not_both : (told : Result Marker Error) → told ≡ Ok Whole → told ≡ Ok Unfinished → ⊥
+not_both told whole unfinished = let no = sym whole ∙ unfinished in cc
+
+pub one_store : (image : Image) (s t : Store) → StandsFor image s → StandsFor image t → s ≡ t
+one_store image s t (inl (c, sound, is)) (inl (d, other, at)) = is ∙ ap store_of (one_contents image c d sound other) ∙ sym at
+one_store image s t (inl (c, sound, is)) (inr (begun, at)) = absurd (not_both (marker_tells (marker_bytes image)) sound.marker begun.marker)
+one_store image s t (inr (begun, is)) (inl (c, sound, at)) = absurd (not_both (marker_tells (marker_bytes image)) sound.marker begun.marker)
+one_store image s t (inr (begun, is)) (inr (other, at)) = is ∙ sym at

@@ -2,9 +2,21 @@
 
 ghost use Rattle.std.specs.Prelude.{◌≡◌, List};
 ghost use Rattle.fjall_base.specs.Disk.{Image};
+ghost use Rattle.fjall_base.specs.Store.{Store};
+ghost use Rattle.fjall_opening.specs.Folders.{Contents, IsSound, StandsFor};
 ghost use Rattle.fjall_opening.specs.Journals.{Journal, HoldsJournals};
 
 /// An image holds one list of journals.
 pub fn one_list_of_journals()
     ensures { (image : Image) (journals others : List Journal) → HoldsJournals image journals → HoldsJournals image others → journals ≡ others }
+{}
+
+/// A sound folder holds one thing.
+pub fn one_contents()
+    ensures { (image : Image) (c d : Contents) → IsSound image c → IsSound image d → c ≡ d }
+{}
+
+/// An image of a folder stands for one store at most.
+pub fn one_store()
+    ensures { (image : Image) (s t : Store) → StandsFor image s → StandsFor image t → s ≡ t }
 {}
