@@ -36,7 +36,8 @@ fn create(alloc: Global, disk: &mut MemoryDisk, name: &[u8], number: u64) -> Res
         .create_keyspace(Slice::new(alloc, name)?, options, number)?;
     let home = format!(in alloc; "keyspaces/{id}")?;
     let current = format!(in alloc; "keyspaces/{id}/current")?;
-    make_home(disk, &home, &current, &first_record_of(alloc, number)?)?;
+    disk.make_folder(&home)?;
+    make_file(disk, &current, &first_record_of(alloc, number)?)?;
     let update = prepare(alloc, &found.catalog, &found.keyspaces, number)?;
     write_table(disk, &update)?;
     commit(disk, &update)
