@@ -1,3 +1,4 @@
 pub mod Named
 pub mod Seen
 pub mod Trees
+pub mod Roots

@@ -1,5 +1,5 @@
 -- Which names are in `keyspaces`, and which are not.
-use Rattle.std.proofs.Common.{◌≡◌, ◌⊎◌, inl, inr, ℕ, ◌<◌, ◌^◌, Bool, true, false, ◌||◌, ◌==◌, List, [], ◌∷◌, ◌++◌, codes, decimal, refl, sym, ◌∙◌, ap, subst, arith}
+use Rattle.std.proofs.Common.{◌≡◌, ◌⊎◌, inl, inr, ℕ, ◌<◌, ◌^◌, Bool, true, false, ◌||◌, ◌==◌, List, [], ◌∷◌, ◌++◌, codes, decimal, refl, sym, ◌∙◌, ap}
 use Rattle.std.specs.Prelude.{not}
 use Rattle.std.specs.Str.{bytes_eq}
 use Rattle.std.specs.List.{list_any}
@@ -9,7 +9,7 @@ use Rattle.std.proofs.lemmas.Slice.Eq.{bytes_eq-Decides}
 use Rattle.fjall_base.specs.Disk.{Name, folder_of}
 use Rattle.fjall_regions.specs.Regions.{is_under}
 use Rattle.fjall_regions.proofs.Under.{in_folder, under_front, under_inner}
-use Rattle.fjall_recovery.specs.Names.{IsMisnamed, LooksLikeJournal, journal_name, keyspace_folder, current_name}
+use Rattle.fjall_recovery.specs.Names.{IsMisnamed, journal_name, keyspace_folder, current_name}
 use Rattle.fjall_catalog.specs.Catalog.{is_counted}
 use Rattle.fjall_opening.proofs.Listed.{in_root}
 use Rattle.fjall_places.specs.Halves.{is_of_keyspaces, is_of_root}

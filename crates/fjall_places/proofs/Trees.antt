@@ -1,22 +1,21 @@
 -- The keyspaces of an image: what a crash leaves of them, and what stands.
-use Rattle.std.proofs.Common.{◌≡◌, ◌⊎◌, inl, inr, ℕ, ◌<◌, ◌^◌, Bool, true, false, ◌&&◌, List, [], ◌∷◌, ◌++◌, take, codes, All, Option, None, Some, IfSome, refl, sym, ◌∙◌, ap, subst, arith}
+use Rattle.std.proofs.Common.{◌≡◌, inl, inr, ℕ, ◌<◌, ◌^◌, Bool, true, false, ◌&&◌, List, [], ◌∷◌, codes, Option, None, Some, IfSome, refl, sym, ◌∙◌, ap, subst, arith}
 use Rattle.std.specs.List.{AllByRecursion}
 use Rattle.std.proofs.lemmas.List.{append-nil}
 use Rattle.std.proofs.lemmas.List.Elements.{recursion_from_All}
 use Rattle.fjall_base.specs.Disk.{Name, Entry, Missing, File, Folder, Place, State, Image, Survives, IsThere, folder_of, standing}
-use Rattle.fjall_regions.specs.Regions.{IsImageIn, join}
+use Rattle.fjall_regions.specs.Regions.{IsImageIn}
 use Rattle.fjall_regions.proofs.Under.{folder_of-join}
 use Rattle.fjall_tree.specs.declared.record.TableInfo.{TableInfo}
 use Rattle.fjall_tree.specs.Records.{Fields}
-use Rattle.fjall_recovery.specs.Names.{IsNameOf, keyspace_folder, current_name, table_name}
+use Rattle.fjall_recovery.specs.Names.{keyspace_folder, current_name, table_name}
 use Rattle.fjall_keyspaces.specs.declared.living.LivingKeyspace.{LivingKeyspace}
-use Rattle.fjall_keyspaces.specs.declared.entry.MetaEntry.{MetaEntry}
 use Rattle.fjall_keyspaces.specs.Keyspaces.{Keyspaces, AreKeyspaces}
 use Rattle.fjall_keyspaces.specs.Entries.{entries_of}
 use Rattle.fjall_catalog.specs.declared.catalog.Catalog.{Catalog}
 use Rattle.fjall_catalog.specs.Catalog.{AreSafe, Rests, Says, only}
 use Rattle.fjall_catalog.proofs.Naming.{folder_of-folder, folder_of-current, folder_of-table}
-use Rattle.fjall_catalog.proofs.Resting.{At, last_record, table_id, says_in}
+use Rattle.fjall_catalog.proofs.Resting.{last_record, table_id, says_in}
 use Rattle.fjall_catalog.proofs.Meanings as Meanings
 use Rattle.fjall_opening.specs.Homes.{HasHome, HasLast, HaveHomes, records_text}
 use Rattle.fjall_opening.specs.Journals.{text_in}

@@ -1,5 +1,5 @@
 -- What a disk holds, whatever a crash leaves of it.
-use Rattle.std.specs.Prelude.{◌≡◌, ℕ, Option, Some, None}
+use Rattle.std.specs.Prelude.{ℕ, Option, Some, None}
 use Rattle.fjall_base.specs.Store.{Store}
 use Rattle.fjall_base.specs.Disk.{State, Image, IsImage, standing}
 use Rattle.fjall_keyspaces.specs.Keyspaces.{no_keyspaces}
