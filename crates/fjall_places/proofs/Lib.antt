@@ -2,3 +2,4 @@ pub mod Named
 pub mod Seen
 pub mod Trees
 pub mod Roots
+pub mod Holding
