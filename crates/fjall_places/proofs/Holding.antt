@@ -9,7 +9,7 @@ use Rattle.fjall_tree.specs.Records.{Fields}
 use Rattle.fjall_opening.specs.Folders.{Contents, IsSound, StandsFor}
 use Rattle.fjall_places.specs.Halves.{HasRoot, HasTree, Tree, is_of_keyspaces, is_of_root}
 use Rattle.fjall_places.specs.Held.{Holds, IsFolder, store_held}
-use Rattle.fjall_places.specs.Places.{Journaling, LiesInRoot, RestsInTree, contents_with, journals_with}
+use Rattle.fjall_places.specs.Places.{Journaling, LiesInRoot, RestsInTree, contents_with}
 use Rattle.fjall_places.proofs.Roots.{HasSomeRoot, crashes_leave_the_root, standing_root}
 use Rattle.fjall_places.proofs.Trees.{crashes_leave_the_tree, standing_tree}
 
@@ -125,21 +125,37 @@ a_crash_holds state steps image folder leaves is = record {
   crash = λ other other_is. subst (λ (i : Image). IsFolder i folder) (sym (same_image image other (crash_left state steps image leaves) other_is)) is;
 }
 
+-- ---- a disk on which both halves lie
+
+-- the image is sound, with some of the later batches
+abbrev pub IsSomeSound : Image → Journaling → Tree → Type 0
+IsSomeSound image j t = (behind rest : List Written) × (behind ++ rest ≡ j.later) × IsSound image (contents_with j t behind)
+
+pub some_sound : (image : Image) (j : Journaling) (t : Tree) → HasSomeRoot image j → HasTree image t → IsSomeSound image j t
+some_sound image j t some tree = (some.0, some.1, some.2, made image (contents_with j t some.0) some.3 tree)
+
+-- whatever a crash leaves of it is sound
+pub crash_sound : (state : State) (image : Image) (j : Journaling) (records : List Fields) (t : Tree) → LiesInRoot state j → RestsInTree state records t → IsImage state image → IsSomeSound image j t
+crash_sound state image j records t lies rests is =
+    some_sound image j t (crashes_leave_the_root state image j lies (in_region is_of_root state image is)) (crashes_leave_the_tree state image records t rests (in_region is_of_keyspaces state image is))
+
+-- and so is what stands
+pub standing_sound : (state : State) (j : Journaling) (records : List Fields) (t : Tree) → LiesInRoot state j → RestsInTree state records t → IsSomeSound (standing state) j t
+standing_sound state j records t lies rests = some_sound (standing state) j t (standing_root state j lies) (standing_tree state records t rests)
+
 -- ---- a disk that rests
 
 none_behind : (behind rest : List Written) → behind ++ rest ≡ [] → behind ≡ []
 none_behind [] rest is = refl
 none_behind (b ∷ behind) rest is = cc
 
--- without later batches there is one root
-pub rested_root : (image : Image) (j : Journaling) → j.later ≡ [] → HasSomeRoot image j → HasRoot image (journals_with j [])
-rested_root image j none some =
-    subst (λ (l : List Written). HasRoot image (journals_with j l)) (none_behind some.0 some.1 (some.2 ∙ none)) some.3
+-- without later batches there is one reading
+pub one_sound : (image : Image) (j : Journaling) (t : Tree) → j.later ≡ [] → IsSomeSound image j t → IsSound image (contents_with j t [])
+one_sound image j t none some =
+    subst (λ (l : List Written). IsSound image (contents_with j t l)) (none_behind some.0 some.1 (some.2 ∙ none)) some.3
 
 pub a_rest_holds : (state : State) (j : Journaling) (records : List Fields) (t : Tree) → j.later ≡ [] → LiesInRoot state j → RestsInTree state records t → Holds state (Some (contents_with j t []))
 a_rest_holds state j records t none lies rests = record {
-  now = made (standing state) (contents_with j t []) (rested_root (standing state) j none (standing_root state j lies)) (standing_tree state records t rests);
-  crash = λ image is. made image (contents_with j t [])
-      (rested_root image j none (crashes_leave_the_root state image j lies (in_region is_of_root state image is)))
-      (crashes_leave_the_tree state image records t rests (in_region is_of_keyspaces state image is));
+  now = one_sound (standing state) j t none (standing_sound state j records t lies rests);
+  crash = λ image is. one_sound image j t none (crash_sound state image j records t lies rests is);
 }
