@@ -11,3 +11,4 @@ pub mod States
 pub mod Distinct
 pub mod Back
 pub mod Searches
+pub mod Without

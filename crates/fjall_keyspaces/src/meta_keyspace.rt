@@ -1,11 +1,11 @@
 //! The keyspaces that live.
 
-ghost use Rattle.std.specs.Prelude.{◌≡◌, ◌≢◌, ◌↔◌, ◌*◌, ◌^◌, ◌-◌, ◌<◌, true, min, All, AllPairs, IsTrue, MatchOption, map, length, Ok, Some, is_some, IfOk, IfErr, OnOk, OnErr, IsPermutation, IsSorted};
+ghost use Rattle.std.specs.Prelude.{◌≡◌, ◌≢◌, ◌↔◌, ◌*◌, ◌^◌, ◌-◌, ◌<◌, ◌+◌, ◌++◌, ◌==◌, ℕ, List, true, min, position, take, drop, All, AllPairs, IsTrue, MatchOption, map, length, Ok, Some, is_some, IfOk, IfErr, OnOk, OnErr, IfSome, IfNone, IsPermutation, IsSorted};
 ghost use Rattle.fjall_base.specs.Pairs.{byte_order};
 ghost use Rattle.fjall_base.specs.declared.error.Error.TheVariants.{OutOfMemory};
 ghost use Rattle.fjall_meta.specs.Options.{value_at, AreOptions};
 ghost use Rattle.std.specs.Option.{option_map, option_copied};
-ghost use Rattle.fjall_keyspaces.specs.Keyspaces.{AreKeyspaces, is_name, no_keyspaces, keyspace_at, id_of, creation, IsCreationRefusal, without_keyspace};
+ghost use Rattle.fjall_keyspaces.specs.Keyspaces.{AreKeyspaces, is_name, no_keyspaces, keyspace_at, id_of, creation, IsCreationRefusal, Keyspaces, with_keyspace, without_keyspace};
 ghost use Rattle.fjall_keyspaces.specs.Entries.{entries_of, IsAscending};
 
 use crate::entry::{MetaEntry, put_all_names, put_all_options, value_of};
@@ -58,6 +58,13 @@ fn names_differ(alloc: Global, living: &[LivingKeyspace]) -> Result<bool>
         names.insert(keyspace.name.clone()?)?;
     }
     Ok(names.len() == living.len())
+}
+
+/// The place of the keyspace of this id.
+fn place_of(living: &[LivingKeyspace], id: u64) -> Option<usize>
+    ensures { result ≡ position (λ k. k.id == id) living.now }
+{
+    living.iter().position(|keyspace| keyspace.id == id)
 }
 
 impl MetaKeyspace {
@@ -200,6 +207,16 @@ impl MetaKeyspace {
         Ok(id)
     }
 
+    /// Takes the keyspace that was made last back, where its creation was the last change: its id is free
+    /// again.
+    pub fn take_back(&mut self)
+        ensures { (s : Keyspaces) (name : List ℕ) (options : List (List ℕ)) (number : ℕ) → AreKeyspaces s → self.old ≡ with_keyspace name options number s → self.new ≡ s }
+    {
+        if let Some(keyspace) = self.living.pop() {
+            self.next = keyspace.id;
+        }
+    }
+
     /// Removes the keyspace of this id, where it lives. Its id is not given out again.
     pub fn remove_keyspace(&mut self, id: u64)
         ensures { self.new ≡ without_keyspace id self.old }
@@ -236,6 +253,35 @@ impl MetaKeyspace {
         put_all_options(alloc, &self.living, &mut entries)?;
         put_all_names(alloc, &self.living, &mut entries)?;
         Ok(entries)
+    }
+
+    /// The pairs of the meta keyspace without those of the keyspace of this id, by key ascending. It
+    /// allocates, and fails where memory is used up.
+    pub fn entries_without(&self, alloc: Global, id: u64) -> Result<Vec<MetaEntry>>
+        ensures ok { IfOk result (λ entries. entries.items ≡ entries_of (without_keyspace id self.now).living) }
+        ensures ascending { IfOk result (λ entries. IsAscending entries.items) }
+        ensures lawful { OnOk result (AreKeyspaces (without_keyspace id self.now)) }
+        ensures only { IfErr result (λ e. e ≡ OutOfMemory) }
+    {
+        let Some(place) = self.place(id) else {
+            return self.entries(alloc);
+        };
+        let (front, behind) = (&self.living[..place], &self.living[place + 1..]);
+        let mut entries = Vec::with_capacity(alloc, self.len())?;
+        put_all_options(alloc, front, &mut entries)?;
+        put_all_options(alloc, behind, &mut entries)?;
+        put_all_names(alloc, front, &mut entries)?;
+        put_all_names(alloc, behind, &mut entries)?;
+        Ok(entries)
+    }
+
+    /// The place of the keyspace of this id, where it lives.
+    fn place(&self, id: u64) -> Option<usize>
+        ensures within { IfSome result (λ place. place < length self.now.living) }
+        ensures left { IfSome result (λ place. (without_keyspace id self.now).living ≡ take place self.now.living ++ drop (place + 1) self.now.living) }
+        ensures none { IfNone result ((without_keyspace id self.now).living ≡ self.now.living) }
+    {
+        place_of(&self.living, id)
     }
 
     /// These keyspaces with this next id, where each of their ids is at least 1 and below it and no two

@@ -76,6 +76,30 @@ fn ids_are_never_used_again(rt: HostRuntime) -> std::result::Result<(), Fail> {
 }
 
 #[test]
+fn the_last_one_taken_back(rt: HostRuntime) -> std::result::Result<(), Fail> {
+    let alloc = rt.alloc();
+    let mut keyspaces = two(alloc)?;
+    keyspaces.take_back();
+    assert_eq!(rt; keyspaces.keyspace_count(), 1);
+    assert_eq!(rt; keyspaces.next_id(), 2);
+    assert_eq!(rt; create(alloc, &mut keyspaces, b"c", 5)?, 2);
+    Ok(())
+}
+
+#[test]
+fn pairs_of_the_others(rt: HostRuntime) -> std::result::Result<(), Fail> {
+    let alloc = rt.alloc();
+    let mut keyspaces = two(alloc)?;
+    create(alloc, &mut keyspaces, b"c", 6)?;
+    let others = keyspaces.entries_without(alloc, 2)?;
+    assert!(rt; keyspaces.entries_without(alloc, 4)? == keyspaces.entries(alloc)?);
+    keyspaces.remove_keyspace(2);
+    assert_eq!(rt; others.len(), 42);
+    assert!(rt; others == keyspaces.entries(alloc)?);
+    Ok(())
+}
+
+#[test]
 fn lengths_of_names(rt: HostRuntime) -> std::result::Result<(), Fail> {
     let alloc = rt.alloc();
     let mut keyspaces = MetaKeyspace::new(alloc);
