@@ -184,6 +184,7 @@ impl MetaKeyspace {
         number: u64,
     ) -> Result<u64>
         ensures ok { IfOk result (λ id. creation name options number self.old ≡ Ok (id, self.new)) }
+        ensures lawful { OnOk result (AreKeyspaces self.new) }
         ensures unchanged { OnErr result (self.new ≡ self.old) }
         ensures cause { IfErr result (IsCreationRefusal name options number self.old) }
     {

@@ -12,3 +12,12 @@ invariant_of-self-2 c =
     let named : is_name c.args.name ≡ true = rw (← c.deref.ensures) (sym c.is_name.ensures ∙ c.if-not-is_name.false) in
     let none : id_of c.args.name living ≡ None = rw (at, ← c.deref-2.ensures) (sym c.resolve_id.ensures ∙ c.in_default.is) in
     rw (c.in_ok-push.ensures.items, c.in-Some-checked_add.ensures.1) (one_more_are living k c.self.invariant c.in-Some-checked_add.ensures.0 named (none_named c.args.name living none) (rw c.options.view_is at c.options.invariant))
+
+pub returns-clause-lawful : goal.returns-clause-lawful
+returns-clause-lawful c =
+    let living = c.self.inside.living.items in
+    let k : LivingKeyspace = record { id = c.self.inside.next; number = c.args.number; name = c.args.name; options = c.args.options } in
+    let at : living ≡ c.args.self.now.living = ap (λ (s : Keyspaces). s.living) c.self.view_is in
+    let named : is_name c.args.name ≡ true = rw (← c.deref.ensures) (sym c.is_name.ensures ∙ c.if-not-is_name.false) in
+    let none : id_of c.args.name living ≡ None = rw (at, ← c.deref-2.ensures) (sym c.resolve_id.ensures ∙ c.in_default.is) in
+    rw (c.in_ok-push.ensures.items, c.in-Some-checked_add.ensures.1) (one_more_are living k c.self.invariant c.in-Some-checked_add.ensures.0 named (none_named c.args.name living none) (rw c.options.view_is at c.options.invariant))
