@@ -3,7 +3,8 @@
 ghost use Rattle.std.specs.Prelude.{◌≡◌, ◌<◌, ◌^◌, ◌+◌, [], IfOk, IfErr, IsOkUnless, MatchOption, All, length, string_bytes};
 ghost use Rattle.std.specs.Option.{option_map};
 ghost use Rattle.fjall_recovery.specs.Names.{table_name};
-ghost use Rattle.fjall_keyspaces.specs.Entries.{IsAscending};
+ghost use Rattle.fjall_keyspaces.specs.Keyspaces.{Keyspaces, without_keyspace};
+ghost use Rattle.fjall_keyspaces.specs.Entries.{IsAscending, entries_of};
 ghost use Rattle.fjall_catalog.specs.Catalog.{IsTableOf};
 ghost use Rattle.fjall_catalog.specs.Updates.{HasKey, IsTableWritten, IsTableRefusal, IsUpdate, IsPreparingRefusal};
 
@@ -77,6 +78,44 @@ fn name_of_table(alloc: Global, catalog: &Catalog) -> Result<Option<String>>
     Ok(Some(table_name(alloc, 0, table.id)?))
 }
 
+/// The change of this number from a catalog to one of keyspaces that have these pairs and this next id.
+fn prepare_entries(
+    alloc: Global,
+    catalog: &Catalog,
+    entries: &[MetaEntry],
+    next_id: u64,
+    number: u64,
+) -> Result<Update>
+    requires keys { All HasKey entries.now }
+    requires ascending { IsAscending entries.now }
+    ensures ok { (s : Keyspaces) → entries.now ≡ entries_of s.living → next_id ≡ s.next → IfOk result (IsUpdate catalog.now s number) }
+    ensures cause { (s : Keyspaces) → entries.now ≡ entries_of s.living → IfErr result (IsPreparingRefusal catalog.now s number) }
+{
+    if number >= NUMBER_LIMIT {
+        return Err(Error::NumbersUsedUp);
+    }
+    let old_table = name_of_table(alloc, catalog)?;
+    let mut next = Catalog {
+        persisted: Some(number),
+        highest: Some(number),
+        next_table_id: catalog.next_table_id,
+        next_keyspace_id: next_id,
+        table: None,
+    };
+    let mut table = None;
+    if let Some((info, file)) = new_table(alloc, catalog.next_table_id, entries)? {
+        next.next_table_id = info.id + 1;
+        next.table = Some(info);
+        table = Some(file);
+    }
+    Ok(Update {
+        catalog: next,
+        table,
+        record_text: next.encode(alloc)?,
+        old_table,
+    })
+}
+
 /// Prepares the change of this number from a catalog to one of these keyspaces: a table of the pairs of all of them,
 /// under the next id, where any lives, and the record that names it. It changes nothing on the disk, and takes all the
 /// memory that the change needs.
@@ -92,28 +131,22 @@ pub fn prepare(
     ensures ok { IfOk result (IsUpdate catalog.now keyspaces.now number) }
     ensures cause { IfErr result (IsPreparingRefusal catalog.now keyspaces.now number) }
 {
-    if number >= NUMBER_LIMIT {
-        return Err(Error::NumbersUsedUp);
-    }
     let entries = keyspaces.entries(alloc)?;
-    let old_table = name_of_table(alloc, catalog)?;
-    let mut next = Catalog {
-        persisted: Some(number),
-        highest: Some(number),
-        next_table_id: catalog.next_table_id,
-        next_keyspace_id: keyspaces.next_id(),
-        table: None,
-    };
-    let mut table = None;
-    if let Some((info, file)) = new_table(alloc, catalog.next_table_id, &entries)? {
-        next.next_table_id = info.id + 1;
-        next.table = Some(info);
-        table = Some(file);
-    }
-    Ok(Update {
-        catalog: next,
-        table,
-        record_text: next.encode(alloc)?,
-        old_table,
-    })
+    prepare_entries(alloc, catalog, &entries, keyspaces.next_id(), number)
+}
+
+/// Prepares the change of this number from a catalog to one of these keyspaces without that of this id, as [`prepare`]
+/// does.
+pub fn prepare_deletion(
+    alloc: Global,
+    catalog: &Catalog,
+    keyspaces: &MetaKeyspace,
+    id: u64,
+    number: u64,
+) -> Result<Update>
+    ensures ok { IfOk result (IsUpdate catalog.now (without_keyspace id keyspaces.now) number) }
+    ensures cause { IfErr result (IsPreparingRefusal catalog.now (without_keyspace id keyspaces.now) number) }
+{
+    let entries = keyspaces.entries_without(alloc, id)?;
+    prepare_entries(alloc, catalog, &entries, keyspaces.next_id(), number)
 }
