@@ -4,3 +4,5 @@ pub mod Homing
 pub mod Alone
 pub mod Finishing
 pub mod Beginnings
+pub mod Opened
+pub mod Kept

@@ -2,11 +2,14 @@
 
 ghost use Rattle.std.specs.Prelude.{◌≡◌, ◌<◌, ◌≤◌, ◌↔◌, [], All, IsTrue, IfErr, IfOk, OnOk, List, Ok, Err};
 ghost use Rattle.fjall_base.specs.Disk.{Folder, Took, standing, state_in};
+ghost use Rattle.fjall_base.specs.Store.{Store};
 ghost use Rattle.fjall_recovery.specs.Marker.{marker_tells};
 ghost use Rattle.fjall_recovery.specs.Names.{keyspace_folder};
 ghost use Rattle.fjall_tree.specs.Records.{Fields};
+ghost use Rattle.fjall_keyspaces.specs.Keyspaces.{Keyspaces};
+ghost use Rattle.fjall_catalog.specs.declared.catalog.Catalog.{Catalog};
 ghost use Rattle.fjall_catalog.specs.Catalog.{Says, fields};
-ghost use Rattle.fjall_opening.specs.Folders.{AreMade, IsFinished, ReadsFolder, marker_bytes, past_record};
+ghost use Rattle.fjall_opening.specs.Folders.{AreMade, Contents, IsFinished, IsSound, ReadsFolder, StandsFor, marker_bytes, past_record};
 ghost use Rattle.fjall_opening.specs.Journals.{AreJournalIds};
 ghost use Rattle.fjall_opening.specs.Naming.{AreFolderIds};
 ghost use Rattle.fjall_opening.specs.Refusals.{FinishedRefuses, FolderRefuses, HasRisen, IsDue, TreeRefuses};
@@ -54,6 +57,9 @@ fn read_tree<D: Disk>(alloc: Global, disk: &mut D, folder_ids: &[u64]) -> Result
     ensures later { (D.meaning disk.old).faults ≤ (D.meaning disk.new).faults }
     ensures risen { IfErr result (HasRisen (D.meaning disk.old).faults (D.meaning disk.new).faults) }
     ensures cause { IsTrue D.honest → AreFolderIds (standing (state_in (D.meaning disk.old))) folder_ids.now → IfErr result (IsDue (TreeRefuses (standing (state_in (D.meaning disk.old))))) }
+    // Where the folder is there, and what it says is made, it is read.
+    ensures sound { IsTrue D.honest → AreFolderIds (standing (state_in (D.meaning disk.old))) folder_ids.now → (records : List Fields) (last : Catalog) (s : Keyspaces) → Says (standing (state_in (D.meaning disk.old))) records last s
+        → AreMade last s → standing (state_in (D.meaning disk.old)) (keyspace_folder 0) ≡ Folder → IfErr result (IsDue (λ error. ⊥)) }
 {
     if !folder_ids.contains(&0) {
         return Err(Error::Unrecoverable);
@@ -72,6 +78,8 @@ fn read_finished<D: Disk>(alloc: Global, disk: &mut D, journal_ids: Vec<u64>) ->
     ensures later { (D.meaning disk.old).faults ≤ (D.meaning disk.new).faults }
     ensures risen { IfErr result (HasRisen (D.meaning disk.old).faults (D.meaning disk.new).faults) }
     ensures cause { IsTrue D.honest → AreJournalIds (standing (state_in (D.meaning disk.old))) journal_ids.items → IfErr result (IsDue (FinishedRefuses (standing (state_in (D.meaning disk.old))))) }
+    // A sound folder is read.
+    ensures sound { IsTrue D.honest → AreJournalIds (standing (state_in (D.meaning disk.old))) journal_ids.items → (c : Contents) → IsSound (standing (state_in (D.meaning disk.old))) c → IfErr result (IsDue (λ error. ⊥)) }
 {
     let journals = read_journals(alloc, disk, &journal_ids)?;
     let folder_ids = list_keyspaces(alloc, disk)?;
@@ -113,6 +121,8 @@ pub fn read_folder<D: Disk>(alloc: Global, disk: &mut D) -> Result<Option<Finish
     ensures later { (D.meaning disk.old).faults ≤ (D.meaning disk.new).faults }
     ensures risen { IfErr result (HasRisen (D.meaning disk.old).faults (D.meaning disk.new).faults) }
     ensures cause { IsTrue D.honest → IfErr result (IsDue (FolderRefuses (standing (state_in (D.meaning disk.old))))) }
+    // A folder that stands for a store is read, unless memory runs out or the disk fails.
+    ensures sound { IsTrue D.honest → (store : Store) → StandsFor (standing (state_in (D.meaning disk.old))) store → IfErr result (IsDue (λ error. ⊥)) }
 {
     let marker = read_version(alloc, disk)?;
     let journal_ids = list_journals(alloc, disk)?;

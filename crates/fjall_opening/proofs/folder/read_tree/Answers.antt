@@ -1,9 +1,13 @@
 use Rattle.std.proofs.Common.{inl, inr, ◌<◌, All, List, refl, subst, sym}
 use Rattle.std.proofs.lemmas.Bool.{true≢false}
+use Rattle.std.proofs.lemmas.Result.{err_from_is_err_and}
+use Rattle.fjall_keyspaces.specs.Keyspaces.{Keyspaces}
 use Rattle.fjall_keyspaces.specs.declared.living.LivingKeyspace.{LivingKeyspace}
+use Rattle.fjall_catalog.specs.declared.catalog.Catalog.{Catalog}
 use Rattle.fjall_catalog.specs.Catalog.{fields}
-use Rattle.fjall_opening.specs.Folders.{past_record}
+use Rattle.fjall_opening.specs.Folders.{AreMade, past_record}
 use Rattle.fjall_opening.proofs.Homing.{same_id}
+use Rattle.fjall_opening.proofs.Kept.{fault_spared}
 use Rattle.fjall_opening.proofs.folder.read_tree.Goals as goal
 
 pub returns-then-not-are_made-clause-cause : goal.returns-then-not-are_made-clause-cause
@@ -25,3 +29,15 @@ returns-then-not-are_made-clause-cause g c honest folders =
         ),
       ),
     )
+
+pub returns-in_err-found-clause-sound : goal.returns-in_err-found-clause-sound
+returns-in_err-found-clause-sound g c honest folders records last s says made folder =
+    let p = err_from_is_err_and c.from_residual.result c.from_residual.ensures.1 in
+    rw (p.1, p.2) (fault_spared _ _ c.in_err-found.field-0.0 (c.in_err-found.ensures.all honest records last s says))
+
+pub returns-then-not-are_made-clause-sound : goal.returns-then-not-are_made-clause-sound
+returns-then-not-are_made-clause-sound g c honest folders records last s says made folder =
+    let found = c.in_ok-found.found in
+    let same = c.in_ok-found.ensures.all honest records last s says in
+    let here : AreMade found.catalog found.keyspaces = subst (λ (t : Keyspaces). AreMade found.catalog t) (sym same.1) (subst (λ (d : Catalog). AreMade d s) (sym same.0) made) in
+    true≢false (sym (c.if-not-are_made.ensures.1 (subst (λ (l : List LivingKeyspace). All (λ k. k.number < past_record (fields found.catalog)) l) (sym c.living.ensures) here)))
