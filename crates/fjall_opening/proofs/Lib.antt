@@ -6,3 +6,4 @@ pub mod Finishing
 pub mod Beginnings
 pub mod Opened
 pub mod Kept
+pub mod Numbers

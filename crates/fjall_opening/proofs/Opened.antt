@@ -66,7 +66,7 @@ active_is_kept text batches others tail error (inr a) b refused = torn_is_kept (
 
 -- ---- batches
 
-none_of_two : (a b : Option Fault) → option_or a b ≡ None → (a ≡ None) × (b ≡ None)
+pub none_of_two : (a b : Option Fault) → option_or a b ≡ None → (a ≡ None) × (b ≡ None)
 none_of_two None b e = (refl, e)
 none_of_two (Some fault) b e = let no : ⊥ = cc in absurd no
 

@@ -1,15 +1,15 @@
 //! A folder, read whole.
 
-ghost use Rattle.std.specs.Prelude.{◌≡◌, ◌<◌, ◌≤◌, ◌↔◌, [], All, IsTrue, IfErr, IfOk, OnOk, List, Ok, Err};
-ghost use Rattle.fjall_base.specs.Disk.{Folder, Took, standing, state_in};
+ghost use Rattle.std.specs.Prelude.{◌≡◌, ◌<◌, ◌≤◌, ◌↔◌, [], ◌^◌, map, All, IsTrue, IfErr, IfOk, OnOk, List, Ok, Err};
+ghost use Rattle.fjall_base.specs.Disk.{Folder, Image, Took, standing, state_in};
 ghost use Rattle.fjall_base.specs.Store.{Store};
 ghost use Rattle.fjall_recovery.specs.Marker.{marker_tells};
 ghost use Rattle.fjall_recovery.specs.Names.{keyspace_folder};
-ghost use Rattle.fjall_tree.specs.Records.{Fields};
+ghost use Rattle.fjall_tree.specs.Records.{Fields, view};
 ghost use Rattle.fjall_keyspaces.specs.Keyspaces.{Keyspaces};
 ghost use Rattle.fjall_catalog.specs.declared.catalog.Catalog.{Catalog};
 ghost use Rattle.fjall_catalog.specs.Catalog.{Says, fields};
-ghost use Rattle.fjall_opening.specs.Folders.{AreMade, Contents, IsFinished, IsSound, ReadsFolder, StandsFor, marker_bytes, past_record};
+ghost use Rattle.fjall_opening.specs.Folders.{AreMade, Contents, IsFinished, IsSound, ReadsFolder, Shows, StandsFor, marker_bytes, number_of, past, past_record, past_records};
 ghost use Rattle.fjall_opening.specs.Journals.{AreJournalIds};
 ghost use Rattle.fjall_opening.specs.Naming.{AreFolderIds};
 ghost use Rattle.fjall_opening.specs.Refusals.{FinishedRefuses, FolderRefuses, HasRisen, IsDue, TreeRefuses};
@@ -36,6 +36,40 @@ pub struct Finished {
     pub catalog: Found,
     /// The records of the keyspaces that live, by id ascending.
     pub homes: Vec<Home>,
+}
+
+/// One past the number, and 0 where there is none.
+fn past(number: Option<u64>) -> u64
+    ensures { past number < 2 ^ 64 → result ≡ past number }
+{
+    match number {
+        Some(number) => number.saturating_add(1),
+        None => 0,
+    }
+}
+
+/// The greatest number that these records tell.
+fn greatest(homes: &[Home]) -> Option<u64>
+    ensures { past result ≡ past_records (map (λ home. view home.record) homes.now) }
+{
+    let mut greatest = None;
+    for home in homes {
+        greatest = greatest.max(home.record.persisted).max(home.record.highest);
+    }
+    greatest
+}
+
+impl Finished {
+    /// The least number that a next change may have: one past the greatest one that stands in the folder, and 0 where
+    /// none does. In a sound folder it is 2^63 at most.
+    pub fn number(&self) -> u64
+        ensures number { (c : Contents) → Shows self.now c → number_of c < 2 ^ 64 → result ≡ number_of c }
+        ensures sound { (image : Image) (c : Contents) → IsSound image c → Shows self.now c → (result ≡ number_of c) × (result ≤ 2 ^ 63) }
+    {
+        let last = self.catalog.catalog;
+        let known = greatest(&self.homes).max(last.persisted).max(last.highest);
+        self.journals.least.max(past(known))
+    }
 }
 
 /// Whether these keyspaces were made under numbers that the record knows.

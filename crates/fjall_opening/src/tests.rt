@@ -87,6 +87,25 @@ fn a_sound_folder(rt: HostRuntime) -> std::result::Result<(), Fail> {
     Ok(())
 }
 
+/// The number that a next change of this folder may have.
+fn number(alloc: Global, disk: &mut MemoryDisk) -> Result<Option<u64>> {
+    Ok(read_folder(alloc, disk)?.map(|folder| folder.number()))
+}
+
+#[test]
+fn numbers(rt: HostRuntime) -> std::result::Result<(), Fail> {
+    let alloc = rt.alloc();
+    let mut disk = folder(alloc, MARKER)?;
+    assert_eq!(rt; number(alloc, &mut disk)?, Some(0));
+    create(alloc, &mut disk, b"items", 7)?;
+    assert_eq!(rt; number(alloc, &mut disk)?, Some(8));
+    insert(alloc, &mut disk, "0.jnl", 9)?;
+    assert_eq!(rt; number(alloc, &mut disk)?, Some(10));
+    create(alloc, &mut disk, b"more", 20)?;
+    assert_eq!(rt; number(alloc, &mut disk)?, Some(21));
+    Ok(())
+}
+
 #[test]
 fn markers(rt: HostRuntime) -> std::result::Result<(), Fail> {
     let alloc = rt.alloc();
