@@ -1,0 +1,6 @@
+pub mod Apart
+pub mod Homes
+pub mod Beside
+pub mod Changed
+pub mod Nexts
+pub mod Building

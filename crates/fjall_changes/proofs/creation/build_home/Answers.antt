@@ -1,0 +1,71 @@
+use Rattle.std.proofs.Common.{[], ◌∷◌, ◌∙◌, subst}
+use Rattle.fjall_base.specs.Disk.{Meaning, Name, SyncFolder, Took, state_in}
+use Rattle.fjall_changes.proofs.Apart.{within_keyspaces}
+use Rattle.fjall_changes.proofs.Building as Building
+use Rattle.fjall_changes.proofs.creation.build_home.Goals as goal
+
+-- ---- the folder or its file wasn't written
+
+pub returns-in_err-write_home-clause-within : goal.returns-in_err-write_home-clause-within
+returns-in_err-write_home-clause-within g c honest old s id number is =
+    within_keyspaces id _ _ (Building.within_as id c.as_str-folder.result.now c.as_str.result.now (c.as_str-folder.ensures.value ∙ is.folder) (c.as_str.ensures.value ∙ is.current) _ _ (c.in_err-write_home.ensures.within honest))
+
+pub returns-in_err-write_home-clause-any_moment : goal.returns-in_err-write_home-clause-any_moment
+returns-in_err-write_home-clause-any_moment g c honest records t old s id number lies unused is =
+    let run = Building.within_as id c.as_str-folder.result.now c.as_str.result.now (c.as_str-folder.ensures.value ∙ is.folder) (c.as_str.ensures.value ∙ is.current) _ _ (c.in_err-write_home.ensures.within honest) in
+    (Building.first_on id records t unused _ _ lies run).run
+
+pub returns-in_err-write_home-clause-lies : goal.returns-in_err-write_home-clause-lies
+returns-in_err-write_home-clause-lies g c honest records t old s id number lies unused is =
+    let run = Building.within_as id c.as_str-folder.result.now c.as_str.result.now (c.as_str-folder.ensures.value ∙ is.folder) (c.as_str.ensures.value ∙ is.current) _ _ (c.in_err-write_home.ensures.within honest) in
+    (Building.first_on id records t unused _ _ lies run).lies
+
+-- ---- the folder wasn't synced
+
+pub returns-in_err-sync_folder-clause-within : goal.returns-in_err-sync_folder-clause-within
+returns-in_err-sync_folder-clause-within g c honest old s id number is =
+    let run = Building.within_as id c.as_str-folder.result.now c.as_str.result.now (c.as_str-folder.ensures.value ∙ is.folder) (c.as_str.ensures.value ∙ is.current) _ _ (c.in_ok-write_home.ensures.within honest) in
+    Building.stopped_within id _ _ _ run (c.in_err-sync_folder.ensures.err honest)
+
+pub returns-in_err-sync_folder-clause-any_moment : goal.returns-in_err-sync_folder-clause-any_moment
+returns-in_err-sync_folder-clause-any_moment g c honest records t old s id number lies unused is =
+    let run = Building.within_as id c.as_str-folder.result.now c.as_str.result.now (c.as_str-folder.ensures.value ∙ is.folder) (c.as_str.ensures.value ∙ is.current) _ _ (c.in_ok-write_home.ensures.within honest) in
+    (Building.stopped id records t unused _ _ _ lies run (c.in_err-sync_folder.ensures.err honest)).run
+
+pub returns-in_err-sync_folder-clause-lies : goal.returns-in_err-sync_folder-clause-lies
+returns-in_err-sync_folder-clause-lies g c honest records t old s id number lies unused is =
+    let run = Building.within_as id c.as_str-folder.result.now c.as_str.result.now (c.as_str-folder.ensures.value ∙ is.folder) (c.as_str.ensures.value ∙ is.current) _ _ (c.in_ok-write_home.ensures.within honest) in
+    (Building.stopped id records t unused _ _ _ lies run (c.in_err-sync_folder.ensures.err honest)).lies
+
+-- ---- the whole call
+
+pub returns-clause-within : goal.returns-clause-within
+returns-clause-within g c honest old s id number is =
+    let at = c.as_str-folder.ensures.value ∙ is.folder in
+    let run = Building.within_as id c.as_str-folder.result.now c.as_str.result.now at (c.as_str.ensures.value ∙ is.current) _ _ (c.in_ok-write_home.ensures.within honest) in
+    let synced = Building.synced_as id c.as_str-folder.result.now at _ _ (c.in_ok-sync_folder.ensures.ok honest) in
+    Building.ended_within id _ _ _ _ c.sync_folder-2.result run synced (c.sync_folder-2.ensures.ok honest) (c.sync_folder-2.ensures.err honest)
+
+pub returns-clause-any_moment : goal.returns-clause-any_moment
+returns-clause-any_moment g c honest records t old s id number lies unused is =
+    let at = c.as_str-folder.ensures.value ∙ is.folder in
+    let run = Building.within_as id c.as_str-folder.result.now c.as_str.result.now at (c.as_str.ensures.value ∙ is.current) _ _ (c.in_ok-write_home.ensures.within honest) in
+    let synced = Building.synced_as id c.as_str-folder.result.now at _ _ (c.in_ok-sync_folder.ensures.ok honest) in
+    (Building.ended id records t unused _ _ _ _ c.sync_folder-2.result lies run synced (c.sync_folder-2.ensures.ok honest) (c.sync_folder-2.ensures.err honest)).run
+
+pub returns-clause-lies : goal.returns-clause-lies
+returns-clause-lies g c honest records t old s id number lies unused is =
+    let at = c.as_str-folder.ensures.value ∙ is.folder in
+    let run = Building.within_as id c.as_str-folder.result.now c.as_str.result.now at (c.as_str.ensures.value ∙ is.current) _ _ (c.in_ok-write_home.ensures.within honest) in
+    let synced = Building.synced_as id c.as_str-folder.result.now at _ _ (c.in_ok-sync_folder.ensures.ok honest) in
+    (Building.ended id records t unused _ _ _ _ c.sync_folder-2.result lies run synced (c.sync_folder-2.ensures.ok honest) (c.sync_folder-2.ensures.err honest)).lies
+
+pub returns-clause-home : goal.returns-clause-home
+returns-clause-home g c honest old s id number small is =
+    let m : _ → Meaning = g.D.Disk.meaning in
+    let folder = c.as_str-folder.result.now in
+    let at = c.as_str-folder.ensures.value ∙ is.folder in
+    let made = Building.made_as id folder c.as_str.result.now at (c.as_str.ensures.value ∙ is.current) (state_in (m c.write_home.new.disk)) c.deref.result.now (c.in_ok-write_home.ensures.made honest) in
+    Building.home_safe id number (m c.write_home.new.disk) (m c.sync_folder.new.self) (m c.sync_folder-2.new.self) c.deref.result.now c.sync_folder-2.result small
+    (Building.number_small old s number c.args.creation.now.update is.update) (c.deref.ensures.value ∙ is.record_text) made
+    (subst (λ (n : Name). Took (m c.write_home.new.disk) (m c.sync_folder.new.self) (SyncFolder n ∷ [])) at (c.in_ok-sync_folder.ensures.ok honest)) (c.sync_folder-2.ensures.ok honest)

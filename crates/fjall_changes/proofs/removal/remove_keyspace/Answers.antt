@@ -1,0 +1,66 @@
+use Rattle.std.proofs.Common.{map, ◌∙◌, ap, string_bytes}
+use Rattle.fjall_recovery.specs.Names.{keyspace_folder}
+use Rattle.fjall_changes.proofs.Apart.{within_keyspaces}
+use Rattle.fjall_changes.proofs.Building as Building
+use Rattle.fjall_changes.proofs.removal.remove_keyspace.Goals as goal
+
+-- ---- a file wasn't removed
+
+pub returns-in_err-remove_files-clause-within : goal.returns-in_err-remove_files-clause-within
+returns-in_err-remove_files-clause-within g c honest id is =
+    within_keyspaces id _ _ (c.in_err-remove_files.ensures.within honest (keyspace_folder id) (Building.files_under id _ (ap (λ l. map string_bytes l) c.deref.ensures.value ∙ is.files)))
+
+pub returns-in_err-remove_files-clause-any_moment : goal.returns-in_err-remove_files-clause-any_moment
+returns-in_err-remove_files-clause-any_moment g c honest records t id is unused lies =
+    let run = c.in_err-remove_files.ensures.within honest (keyspace_folder id) (Building.files_under id _ (ap (λ l. map string_bytes l) c.deref.ensures.value ∙ is.files)) in
+    (Building.first_on id records t unused _ _ lies run).run
+
+pub returns-in_err-remove_files-clause-lies : goal.returns-in_err-remove_files-clause-lies
+returns-in_err-remove_files-clause-lies g c honest records t id is unused lies =
+    let run = c.in_err-remove_files.ensures.within honest (keyspace_folder id) (Building.files_under id _ (ap (λ l. map string_bytes l) c.deref.ensures.value ∙ is.files)) in
+    (Building.first_on id records t unused _ _ lies run).lies
+
+-- ---- the folder wasn't removed
+
+pub returns-in_err-remove_folder-clause-within : goal.returns-in_err-remove_folder-clause-within
+returns-in_err-remove_folder-clause-within g c honest id is =
+    let run = c.in_ok-remove_files.ensures.within honest (keyspace_folder id) (Building.files_under id _ (ap (λ l. map string_bytes l) c.deref.ensures.value ∙ is.files)) in
+    Building.stopped_within id _ _ _ run (c.in_err-remove_folder.ensures.err honest)
+
+pub returns-in_err-remove_folder-clause-any_moment : goal.returns-in_err-remove_folder-clause-any_moment
+returns-in_err-remove_folder-clause-any_moment g c honest records t id is unused lies =
+    let run = c.in_ok-remove_files.ensures.within honest (keyspace_folder id) (Building.files_under id _ (ap (λ l. map string_bytes l) c.deref.ensures.value ∙ is.files)) in
+    (Building.stopped id records t unused _ _ _ lies run (c.in_err-remove_folder.ensures.err honest)).run
+
+pub returns-in_err-remove_folder-clause-lies : goal.returns-in_err-remove_folder-clause-lies
+returns-in_err-remove_folder-clause-lies g c honest records t id is unused lies =
+    let run = c.in_ok-remove_files.ensures.within honest (keyspace_folder id) (Building.files_under id _ (ap (λ l. map string_bytes l) c.deref.ensures.value ∙ is.files)) in
+    (Building.stopped id records t unused _ _ _ lies run (c.in_err-remove_folder.ensures.err honest)).lies
+
+-- ---- the whole call
+
+pub returns-clause-within : goal.returns-clause-within
+returns-clause-within g c honest id is =
+    let run = c.in_ok-remove_files.ensures.within honest (keyspace_folder id) (Building.files_under id _ (ap (λ l. map string_bytes l) c.deref.ensures.value ∙ is.files)) in
+    let removed = Building.removed_as id c.as_str.result.now (c.as_str.ensures.value ∙ is.folder) _ _ (c.in_ok-remove_folder.ensures.ok honest) in
+    Building.ended_within id _ _ _ _ c.sync_folder.result run removed (c.sync_folder.ensures.ok honest) (c.sync_folder.ensures.err honest)
+
+pub returns-clause-any_moment : goal.returns-clause-any_moment
+returns-clause-any_moment g c honest records t id is unused lies =
+    let run = c.in_ok-remove_files.ensures.within honest (keyspace_folder id) (Building.files_under id _ (ap (λ l. map string_bytes l) c.deref.ensures.value ∙ is.files)) in
+    let removed = Building.removed_as id c.as_str.result.now (c.as_str.ensures.value ∙ is.folder) _ _ (c.in_ok-remove_folder.ensures.ok honest) in
+    (Building.ended id records t unused _ _ _ _ c.sync_folder.result lies run removed (c.sync_folder.ensures.ok honest) (c.sync_folder.ensures.err honest)).run
+
+pub returns-clause-lies : goal.returns-clause-lies
+returns-clause-lies g c honest records t id is unused lies =
+    let run = c.in_ok-remove_files.ensures.within honest (keyspace_folder id) (Building.files_under id _ (ap (λ l. map string_bytes l) c.deref.ensures.value ∙ is.files)) in
+    let removed = Building.removed_as id c.as_str.result.now (c.as_str.ensures.value ∙ is.folder) _ _ (c.in_ok-remove_folder.ensures.ok honest) in
+    (Building.ended id records t unused _ _ _ _ c.sync_folder.result lies run removed (c.sync_folder.ensures.ok honest) (c.sync_folder.ensures.err honest)).lies
+
+pub returns-clause-gone : goal.returns-clause-gone
+returns-clause-gone g c honest id is = Building.gone_as id c.as_str.result.now (c.as_str.ensures.value ∙ is.folder) _ _ _ c.sync_folder.result (c.in_ok-remove_folder.ensures.ok honest) (c.sync_folder.ensures.ok honest)
+
+pub returns-clause-stays_gone : goal.returns-clause-stays_gone
+returns-clause-stays_gone g c honest id small is =
+    Building.stays_gone_as id small _ _ c.sync_folder.result (c.sync_folder.ensures.ok honest)
+    (Building.gone_as id c.as_str.result.now (c.as_str.ensures.value ∙ is.folder) _ _ _ c.sync_folder.result (c.in_ok-remove_folder.ensures.ok honest) (c.sync_folder.ensures.ok honest))

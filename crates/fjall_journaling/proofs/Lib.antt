@@ -1,0 +1,6 @@
+pub mod Batches
+pub mod Changes
+pub mod Lying
+pub mod Leaving
+pub mod Writing
+pub mod Results

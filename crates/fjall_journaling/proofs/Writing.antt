@@ -1,0 +1,90 @@
+-- One batch more goes out, behind what waits.
+use Rattle.std.proofs.Common.{◌≡◌, ◌==◌, inl, inr, nat_le, ℕ, ◌^◌, ◌<◌, Bool, true, false, cond, if◌then◌else◌, List, [], ◌∷◌, ◌++◌, length, None, Some, refl, sym, subst, arith}
+use Rattle.std.proofs.lemmas.List.{append-nil}
+use Rattle.std.proofs.lemmas.Bool.Decides.{nat_tests}
+use Rattle.std.specs.List.{AllByRecursion}
+use Rattle.fjall_base.specs.Disk.{Append, Meaning, Took, TookPart, LeavesOnly, state_in}
+use Rattle.fjall_base.specs.declared.error.Error.{Error}
+use Rattle.fjall_journal.specs.declared.entry.ValueType.{ValueType}
+use Rattle.fjall_journal.specs.declared.persist_mode.PersistMode.TheVariants.{Buffer}
+use Rattle.fjall_journal.specs.Batches.{Written, IsWritten, batch_text, of_item}
+use Rattle.fjall_journal.specs.Spelling.{item_refusal}
+use Rattle.fjall_journal.specs.Writer.{Journal, after_write, appending, filled, persist_steps, write_steps, written_out, PersistTook}
+use Rattle.fjall_places.specs.Places.{Journaling, texts_of}
+use Rattle.fjall_journaling.specs.Journaling.{CanFollow, IsWriting, LeavesRoot, with_batch}
+use Rattle.fjall_journaling.proofs.Batches.{batch_sound}
+use Rattle.fjall_journaling.proofs.Changes.{appending_is, took_on}
+use Rattle.fjall_journaling.proofs.Leaving.{appended_all, leaves_part}
+
+-- ---- a write and the persist behind it
+
+pub after_name : (full : Bool) (writer : Journal) (text : List ℕ) → (cond full (written_out (filled writer text)) (filled writer text)).name ≡ writer.name
+after_name true writer text = refl
+after_name false writer text = refl
+
+long : (n : ℕ) → nat_le 8192 n ≡ true → 0 < n
+long n test = grind (arith, nat_tests)
+
+whole_by : (full : Bool) (writer : Journal) (text : List ℕ) (old mid new : Meaning) → (full ≡ true → 0 < length (writer.buffer ++ text)) → Took old mid (cond full (Append writer.name (writer.buffer ++ text) ∷ []) [])
+    → Took mid new (persist_steps (cond full (written_out (filled writer text)) (filled writer text)) Buffer) → Took old new (appending writer.name (writer.buffer ++ text))
+whole_by true writer text old mid new some first next = subst (Took old new) (appending_is writer.name (writer.buffer ++ text) (some refl)) (took_on old mid new (Append writer.name (writer.buffer ++ text) ∷ []) [] first next)
+whole_by false writer text old mid new some first next = subst (Took old new) (append-nil (appending writer.name (writer.buffer ++ text))) (took_on old mid new [] (appending writer.name (writer.buffer ++ text) ++ []) first next)
+
+-- all went out
+pub whole_written : (writer : Journal) (text : List ℕ) (old mid new : Meaning) → Took old mid (write_steps writer text) → Took mid new (persist_steps (after_write writer text) Buffer) → Took old new (appending writer.name (writer.buffer ++ text))
+whole_written writer text old mid new = whole_by (nat_le 8192 (length (writer.buffer ++ text))) writer text old mid new (long (length (writer.buffer ++ text)))
+
+part_by : (full : Bool) (writer now : Journal) (text : List ℕ) (old mid new : Meaning) → Took old mid (cond full (Append writer.name (writer.buffer ++ text) ∷ []) [])
+    → ((cond full (written_out (filled writer text)) (filled writer text)).buffer ≡ [] → ⊥) → PersistTook (cond full (written_out (filled writer text)) (filled writer text)) now Buffer mid new → TookPart old new writer.name (writer.buffer ++ text)
+part_by true writer now text old mid new first some failed = absurd (some refl)
+part_by false writer now text old mid new first some (inl (same, inl none)) = inl (took_on old mid new [] [] first none)
+part_by false writer now text old mid new first some (inl (same, inr (n, took))) = inr (n, took_on old mid new [] _ first took)
+part_by false writer now text old mid new first some (inr (out, other, rest)) = absurd (other refl)
+
+-- where the second half failed, some beginning went out at most
+pub half_written : (writer now : Journal) (text : List ℕ) (old mid new : Meaning) → Took old mid (write_steps writer text) → ((after_write writer text).buffer ≡ [] → ⊥) → PersistTook (after_write writer text) now Buffer mid new → TookPart old new writer.name (writer.buffer ++ text)
+half_written writer now text old mid new = part_by (nat_le 8192 (length (writer.buffer ++ text))) writer now text old mid new
+
+-- ---- an item that isn't refused
+
+three_tests : (a b c : Bool) (x y z : Error) → (if a then Some x else (if b then Some y else (if c then Some z else None))) ≡ None → (a ≡ false) × (b ≡ false) × (c ≡ false)
+three_tests true b c x y z none = cc
+three_tests false true c x y z none = cc
+three_tests false false true x y z none = cc
+three_tests false false false x y z none = (refl, refl, refl)
+
+some_bytes : (n : ℕ) → (n == 0) ≡ false → 0 < n
+some_bytes n test = grind (arith, nat_tests)
+
+below : (limit n : ℕ) → nat_le limit n ≡ false → n < limit
+below limit n test = grind (arith, nat_tests)
+
+pub item_written : (id : ℕ) (key value : List ℕ) (kind : ValueType) (seqno : ℕ) → item_refusal key value ≡ None → id < 2 ^ 64 → seqno < 2 ^ 63 → IsWritten (of_item id key value kind seqno)
+item_written id key value kind seqno none small room =
+    let tests = three_tests (length key == 0) (nat_le (2 ^ 16) (length key)) (nat_le (2 ^ 32) (length value)) _ _ _ none in
+    record {
+      number = omega arith;
+      count = omega arith;
+      each = ((small, some_bytes (length key) tests.0, below (2 ^ 16) (length key) tests.1, below (2 ^ 32) (length value) tests.2), tt);
+    }
+
+module _ (old new : Meaning) (writer : Journal) (j : Journaling) (id : ℕ) (key value : List ℕ) (kind : ValueType) (seqno : ℕ) (writing : IsWriting (state_in old) writer j) (can : CanFollow j seqno kind)
+    (none : item_refusal key value ≡ None) (small : id < 2 ^ 64) where
+  abbrev batch : Written
+  batch = of_item id key value kind seqno
+
+  each : AllByRecursion IsWritten (batch ∷ [])
+  each = (item_written id key value kind seqno none small can.room, tt)
+
+  one_text : texts_of (batch ∷ []) ≡ batch_text batch
+  one_text = append-nil (batch_text batch)
+
+  pub batch_leaves : TookPart old new writer.name (writer.buffer ++ batch_text batch) → LeavesOnly old new (LeavesRoot (state_in old) j (j.later ++ batch ∷ []))
+  batch_leaves part =
+      leaves_part old new writer j (batch ∷ []) writing each (batch_sound j id key value kind seqno can writing.root.sound)
+      (subst (λ (l : List ℕ). TookPart old new writer.name (writer.buffer ++ l)) (sym one_text) part)
+
+  pub batch_out : (now : Journal) → Took old new (appending writer.name (writer.buffer ++ batch_text batch)) → now.name ≡ writer.name → now.buffer ≡ [] → IsWriting (state_in new) now (with_batch j batch)
+  batch_out now took =
+      appended_all old new writer j (batch ∷ []) writing each (batch_sound j id key value kind seqno can writing.root.sound) now
+      (subst (λ (l : List ℕ). Took old new (appending writer.name (writer.buffer ++ l))) (sym one_text) took)

@@ -1,0 +1,58 @@
+-- The active journal of a database as it is written: batches go out behind those that stand, and are synced.
+use Rattle.std.specs.Prelude.{◌≡◌, ℕ, ◌<◌, ◌≤◌, ◌^◌, false, List, [], ◌∷◌, ◌++◌, length, map, take}
+use Rattle.fjall_base.specs.Disk.{State, Image, Survives}
+use Rattle.fjall_regions.specs.Regions.{IsImageIn}
+use Rattle.fjall_journal.specs.declared.entry.ValueType.{ValueType}
+use Rattle.fjall_journal.specs.declared.persist_mode.PersistMode.{PersistMode}
+use Rattle.fjall_journal.specs.declared.persist_mode.PersistMode.TheVariants.{Buffer, SyncData, SyncAll}
+use Rattle.fjall_journal.specs.Batches.{Written, shown}
+use Rattle.fjall_journal.specs.Writer.{Journal}
+use Rattle.fjall_recovery.specs.Names.{journal_name}
+use Rattle.fjall_versions.specs.Replays.{is_indirection, least_after}
+use Rattle.fjall_opening.specs.Journals.{batches_in}
+use Rattle.fjall_places.specs.Halves.{HasRoot, is_of_keyspaces}
+use Rattle.fjall_places.specs.Places.{Journaling, LiesInRoot, journals_with, texts_of}
+
+-- The writer goes on where the active journal ends: what waits in its buffer follows what stands in the file.
+pub record IsWriting (state : State) (writer : Journal) (j : Journaling) : Type 0 where
+  pub root : LiesInRoot state j
+  pub name : writer.name ≡ journal_name j.active
+  pub exact : take j.cut (texts_of j.later) ++ writer.buffer ≡ texts_of j.later
+
+-- all of the texts are in the file
+abbrev pub handed : Journaling → Journaling
+handed j = record j { cut = length (texts_of j.later) }
+
+-- one batch more, whose text is in the file with all before it
+abbrev pub with_batch : Journaling → Written → Journaling
+with_batch j batch = handed (record j { later = j.later ++ batch ∷ [] })
+
+-- all of the batches are synced
+abbrev pub synced : Journaling → Journaling
+synced j = record j { whole = j.whole ++ j.later; later = []; cut = 0 }
+
+-- the journals once all was handed over in that mode
+abbrev pub after_persist : PersistMode → Journaling → Journaling
+after_persist Buffer j = handed j
+after_persist SyncData j = synced j
+after_persist SyncAll j = synced j
+
+-- the least number that a batch behind all of these may have
+abbrev pub next_number : Journaling → ℕ
+next_number j = least_after 0 (map shown (batches_in (journals_with j j.later)))
+
+-- A batch of this number, with one item of this kind, may follow: its number is above all others' and below 2^63, and its
+-- value stands in the journal itself.
+pub record CanFollow (j : Journaling) (seqno : ℕ) (kind : ValueType) : Type 0 where
+  pub above : next_number j ≤ seqno
+  pub room : seqno < 2 ^ 63
+  pub direct : is_indirection kind ≡ false
+
+-- The image's root is sound, and holds the synced batches and a beginning of these.
+abbrev pub HasSome : Journaling → List Written → Image → Type 0
+HasSome j batches image = (behind rest : List Written) × (behind ++ rest ≡ batches) × HasRoot image (journals_with j behind)
+
+-- The same, and in `keyspaces` the image has what a crash of that state may leave there.
+pub record LeavesRoot (state : State) (j : Journaling) (batches : List Written) (image : Image) : Type 0 where
+  pub some : HasSome j batches image
+  pub elsewhere : IsImageIn Survives is_of_keyspaces state image

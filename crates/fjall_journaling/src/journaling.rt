@@ -1,0 +1,62 @@
+//! Batches on their way into the active journal: what a crash leaves is a beginning of them, behind all that was synced.
+
+ghost use Rattle.std.specs.Prelude.{◌≡◌, ◌⊎◌, ◌++◌, [], ◌∷◌, true, IsTrue, OnOk, OnErr, IsErrOf, IsOk, None};
+ghost use Rattle.fjall_base.specs.Disk.{HasCause, LeavesOnly, Name, OnlyFaults, Took, TookPart, state_in};
+ghost use Rattle.fjall_journal.specs.Batches.{batch_text, of_item};
+ghost use Rattle.fjall_journal.specs.Spelling.{item_refusal};
+ghost use Rattle.fjall_journal.specs.Writer.{PersistTook, appending, filled, persist_steps, written_out};
+ghost use Rattle.fjall_places.specs.Halves.{is_of_keyspaces};
+ghost use Rattle.fjall_places.specs.Places.{Journaling};
+ghost use Rattle.fjall_journaling.specs.Journaling.{CanFollow, IsWriting, LeavesRoot, after_persist, with_batch};
+
+use fjall_base::{Disk, Error, Result};
+use fjall_journal::{PersistMode, ValueType, Writer};
+
+/// Writes one item as a batch of its own behind what waits, and hands all to the disk.
+///
+/// The item is one that a batch may have: neither its key nor its value is refused. Want of memory changes nothing. Where
+/// the disk fails, some beginning of the bytes may be in the file, and the writer must not be used again.
+pub fn write_through<D: Disk>(
+    journal: &mut Writer,
+    disk: &mut D,
+    keyspace_id: u64,
+    key: &[u8],
+    value: &[u8],
+    value_type: ValueType,
+    seqno: u64,
+) -> Result<()>
+    requires { item_refusal key.now value.now ≡ None }
+    ensures ok { OnOk result (journal.new ≡ written_out (filled journal.old (batch_text (of_item keyspace_id key.now value.now value_type seqno)))) }
+    ensures memory { IsErrOf result Error.OutOfMemory → journal.new ≡ journal.old }
+    ensures untouched { IsErrOf result Error.OutOfMemory → D.meaning disk.new ≡ D.meaning disk.old }
+    ensures cause { HasCause (D.meaning disk.old) (D.meaning disk.new) result }
+    ensures took { IsTrue D.honest → OnOk result (Took (D.meaning disk.old) (D.meaning disk.new) (appending journal.old.name (journal.old.buffer ++ batch_text (of_item keyspace_id key.now value.now value_type seqno)))) }
+    ensures part { IsTrue D.honest → OnErr result (TookPart (D.meaning disk.old) (D.meaning disk.new) journal.old.name (journal.old.buffer ++ batch_text (of_item keyspace_id key.now value.now value_type seqno))) }
+    ensures any_moment { IsTrue D.honest → (j : Journaling) → IsWriting (state_in (D.meaning disk.old)) journal.old j → CanFollow j seqno value_type
+        → LeavesOnly (D.meaning disk.old) (D.meaning disk.new) (LeavesRoot (state_in (D.meaning disk.old)) j (j.later ++ of_item keyspace_id key.now value.now value_type seqno ∷ [])) }
+    ensures lies { IsTrue D.honest → (j : Journaling) → IsWriting (state_in (D.meaning disk.old)) journal.old j → CanFollow j seqno value_type
+        → OnOk result (IsWriting (state_in (D.meaning disk.new)) journal.new (with_batch j (of_item keyspace_id key.now value.now value_type seqno))) }
+    ensures elsewhere { IsTrue D.honest → (j : Journaling) → IsWriting (state_in (D.meaning disk.old)) journal.old j → (q : Name) → is_of_keyspaces q ≡ true → state_in (D.meaning disk.new) q ≡ state_in (D.meaning disk.old) q }
+{
+    journal.write_raw(disk, keyspace_id, key, value, value_type, seqno)?;
+    journal.persist(disk, PersistMode::Buffer)
+}
+
+/// Hands what waits to the disk and, in the two sync modes, syncs the journal: then no crash loses any of it.
+///
+/// A refusal is a fault of the disk. Then some beginning of what waited, or all of it, may be in the file, and the writer
+/// must not be used again.
+pub fn hand_over<D: Disk>(journal: &mut Writer, disk: &mut D, mode: PersistMode) -> Result<()>
+    ensures ok { OnOk result (journal.new ≡ written_out journal.old) }
+    ensures part { OnErr result ((journal.new ≡ journal.old) ⊎ (journal.new ≡ written_out journal.old)) }
+    ensures took { IsTrue D.honest → OnOk result (Took (D.meaning disk.old) (D.meaning disk.new) (persist_steps journal.old mode)) }
+    ensures left { IsTrue D.honest → OnErr result (PersistTook journal.old journal.new mode (D.meaning disk.old) (D.meaning disk.new)) }
+    ensures succeeds { mode ≡ PersistMode.Buffer → journal.old.buffer ≡ [] → IsOk result }
+    ensures cause { OnlyFaults (D.meaning disk.old) (D.meaning disk.new) result }
+    ensures any_moment { IsTrue D.honest → (j : Journaling) → IsWriting (state_in (D.meaning disk.old)) journal.old j
+        → LeavesOnly (D.meaning disk.old) (D.meaning disk.new) (LeavesRoot (state_in (D.meaning disk.old)) j j.later) }
+    ensures lies { IsTrue D.honest → (j : Journaling) → IsWriting (state_in (D.meaning disk.old)) journal.old j → OnOk result (IsWriting (state_in (D.meaning disk.new)) journal.new (after_persist mode j)) }
+    ensures elsewhere { IsTrue D.honest → (j : Journaling) → IsWriting (state_in (D.meaning disk.old)) journal.old j → (q : Name) → is_of_keyspaces q ≡ true → state_in (D.meaning disk.new) q ≡ state_in (D.meaning disk.old) q }
+{
+    journal.persist(disk, mode)
+}
