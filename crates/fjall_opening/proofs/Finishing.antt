@@ -1,5 +1,5 @@
 -- A folder that was made to its end, read part by part.
-use Rattle.std.proofs.Common.{◌≡◌, ◌⊎◌, inl, inr, ℕ, Bool, List, [], ◌∷◌, ◌++◌, map, Option, Some, None, Result, Ok, Err, refl, sym, ◌∙◌, ap, subst}
+use Rattle.std.proofs.Common.{◌≡◌, inl, inr, ℕ, Bool, List, [], ◌∷◌, ◌++◌, map, Option, Some, None, Result, Ok, Err, refl, sym, ◌∙◌, ap, subst}
 use Rattle.std.proofs.lemmas.Bool.{true≢false}
 use Rattle.std.specs.Prelude.{Vec, IfErr, OnOk, IsSomeAnd, IsNone}
 use Rattle.std.specs.declared.alloc.Global.{Global}
@@ -7,7 +7,7 @@ use Rattle.fjall_base.specs.declared.error.Error.{Error}
 use Rattle.fjall_base.specs.declared.error.Error.TheVariants.{Io, JournalRecovery, OutOfMemory, Storage, Unrecoverable}
 use Rattle.fjall_base.specs.declared.error.JournalRecoveryError.TheVariants.{InvalidFileName}
 use Rattle.fjall_base.specs.Disk.{Entry, Missing, File, Folder, Image, Reads}
-use Rattle.fjall_journal.specs.Batches.{Shown, shown, view}
+use Rattle.fjall_journal.specs.Batches.{Shown, view}
 use Rattle.fjall_tree.specs.Records.{Fields}
 use Rattle.fjall_tree.specs.Records as records
 use Rattle.fjall_keyspaces.specs.Keyspaces.{Keyspaces}
@@ -18,13 +18,15 @@ use Rattle.fjall_recovery.specs.Marker.{marker_tells}
 use Rattle.fjall_recovery.specs.Names.{keyspace_folder}
 use Rattle.fjall_catalog.specs.declared.catalog.Catalog.{Catalog}
 use Rattle.fjall_catalog.specs.Catalog.{Says, records_in}
+use Rattle.fjall_catalog.specs.Refusals.{IsRefusal}
+use Rattle.fjall_base.specs.Errors.{IsFaultOrMemory}
 use Rattle.fjall_opening.specs.declared.folder.Finished.{Finished}
 use Rattle.fjall_opening.specs.declared.homes.Home.{Home}
-use Rattle.fjall_opening.specs.Folders.{AreEmpty, AreMade, Contents, IsBegun, IsFinished, IsSound, IsUnfinished, ReadsFolder, Shows, file_bytes, marker_bytes}
-use Rattle.fjall_opening.specs.Homes.{AreHomesRead, HasHome, HaveHomes}
+use Rattle.fjall_opening.specs.Folders.{AreEmpty, AreMade, Contents, IsBegun, IsFinished, IsSound, ReadsFolder, Shows, file_bytes, marker_bytes}
+use Rattle.fjall_opening.specs.Homes.{AreHomesRead, HaveHomes}
 use Rattle.fjall_opening.specs.Journals.{Journal, AreFound, AreJournalIds, HoldsJournals}
 use Rattle.fjall_opening.specs.Naming.{AreFolderIds, JournalsAreNamed, KeyspacesAreNamed}
-use Rattle.fjall_opening.specs.Refusals.{BegunRefuses, CatalogRefuses, FinishedRefuses, FolderRefuses, HomesRefuse, IsDue, JournalsRefuse, KeyspacesRefuse, TreeRefuses, UnfinishedRefuses}
+use Rattle.fjall_opening.specs.Refusals.{BegunRefuses, CatalogRefuses, FinishedRefuses, FolderRefuses, HomesRefuse, IsDue, JournalsRefuse, TreeRefuses, UnfinishedRefuses}
 use Rattle.fjall_opening.proofs.Gathering.{due}
 
 -- ---- causes
@@ -58,6 +60,14 @@ pub homes_refuse : (image other : Image) (records : List Fields) (last : Catalog
 homes_refuse image other records last s living error same holds named folder says made is due =
     due_as (HomesRefuse other living) (FinishedRefuses image) error
     (λ e refused. inr (holds, inr (named, inr (folder, homes_in image records last s e says made (subst (λ (l : List LivingKeyspace). HomesRefuse image l e) is (subst (λ i. HomesRefuse i living e) same refused)))))) due
+
+-- what the catalog is refused for is damage, and where that is nothing is said
+pub catalog_refuses : (image : Image) (old new : ℕ) (error : Error) → image (keyspace_folder 0) ≡ Folder → IsRefusal image old new error
+    → ((records : List Fields) (last : Catalog) (s : Keyspaces) → Says image records last s → IsFaultOrMemory old new error) → IsDue (TreeRefuses image) error
+catalog_refuses image old new OutOfMemory folder is all = tt
+catalog_refuses image old new (Io kind) folder is all = tt
+catalog_refuses image old new (Storage cause) folder is all = inr (folder, inl (is, all))
+catalog_refuses image old new error folder is all = absurd is
 
 -- ---- what the folder holds
 

@@ -1,29 +1,22 @@
--- What tree 0 says, and with it all of a folder that stands for a store, is refused for no cause that its parts could have.
-use Rattle.std.proofs.Common.{◌≡◌, inl, inr, ℕ, List, Option, None, Result, Ok, Err, refl, sym, ◌∙◌, ap, subst}
-use Rattle.std.specs.Prelude.{IfErr, MatchResult, unwrap_or}
+-- What tree 0 says, and with it all of a folder that stands for a store, is refused for no cause.
+use Rattle.std.proofs.Common.{◌≡◌, inl, inr, ℕ, List, Result, Ok, Err, sym, ◌∙◌, subst}
+use Rattle.std.specs.Prelude.{IfErr, MatchResult}
 use Rattle.fjall_base.specs.Disk.{Image}
 use Rattle.fjall_base.specs.Store.{Store}
 use Rattle.fjall_base.specs.Errors.{IsFaultOrMemory}
 use Rattle.fjall_base.specs.declared.error.Error.{Error}
 use Rattle.fjall_base.specs.declared.error.Error.TheVariants.{Io, OutOfMemory, Storage, Unrecoverable}
-use Rattle.fjall_base.specs.declared.error.StorageError.{StorageError}
-use Rattle.fjall_base.specs.declared.error.StorageError.TheVariants.{RecordDamaged, TableDamaged, OptionMissing, OptionInvalid}
+use Rattle.fjall_base.specs.declared.error.StorageError.TheVariants.{RecordDamaged}
 use Rattle.fjall_tree.specs.Records.{Fields}
 use Rattle.fjall_tree.proofs.Currents.{contradiction_has_no_reading}
-use Rattle.fjall_keyspaces.specs.declared.entry.MetaEntry.{MetaEntry}
 use Rattle.fjall_keyspaces.specs.declared.living.LivingKeyspace.{LivingKeyspace}
-use Rattle.fjall_keyspaces.specs.Entries.{entries_of}
-use Rattle.fjall_keyspaces.specs.Keyspaces.{Keyspaces, AreKeyspaces}
-use Rattle.fjall_keyspaces.specs.Reading.{AreIds, IsReadingRefusal, first_fault, pairs_of}
-use Rattle.fjall_keyspaces.proofs.States.{no_fault}
+use Rattle.fjall_keyspaces.specs.Keyspaces.{Keyspaces}
 use Rattle.fjall_recovery.specs.declared.marker.Marker.{Marker}
 use Rattle.fjall_recovery.specs.declared.marker.Marker.TheVariants.{Whole, Unfinished}
 use Rattle.fjall_recovery.specs.Marker.{marker_tells}
 use Rattle.fjall_catalog.specs.declared.catalog.Catalog.{Catalog}
-use Rattle.fjall_catalog.specs.Catalog.{HoldsEntries, Says}
-use Rattle.fjall_catalog.specs.Refusals.{IsDamage}
+use Rattle.fjall_catalog.specs.Catalog.{Says}
 use Rattle.fjall_catalog.proofs.Meanings.{one_catalog}
-use Rattle.fjall_catalog.proofs.Readings.{same_catalog, same_pairs, says_last}
 use Rattle.fjall_opening.specs.Folders.{AreMade, Contents, IsBegun, IsSound, IsUnfinished, StandsFor, marker_bytes}
 use Rattle.fjall_opening.specs.Journals.{AreJournalIds}
 use Rattle.fjall_opening.specs.Naming.{JournalsAreNamed}
@@ -31,29 +24,7 @@ use Rattle.fjall_opening.specs.Refusals.{BegunRefuses, CatalogRefuses, FinishedR
 use Rattle.fjall_opening.proofs.Finishing.{due_as}
 use Rattle.fjall_opening.proofs.Opened.{held_journals_are_kept, homes_are_kept}
 
--- the refusal that no folder is spared
-abbrev pub IsUnspared : Error → Type 0
-IsUnspared error = error ≡ Storage OptionInvalid
-
 -- ---- tree 0
-
--- pairs that keyspaces store have no fault
-none_missing : (s : Keyspaces) (entries : List MetaEntry) → AreKeyspaces s → entries_of s.living ≡ entries → IsReadingRefusal entries (Storage OptionMissing) → ⊥
-none_missing s entries are same (ids, those, cause) =
-    let theirs : AreIds ids (entries_of s.living) = subst (AreIds ids) (sym same) those in
-    let none : first_fault ids (pairs_of entries) ≡ None = ap (λ (es : List MetaEntry). first_fault ids (pairs_of es)) (sym same) ∙ no_fault s ids are theirs in
-    let told : OptionMissing ≡ OptionInvalid = cause ∙ ap (λ (fault : Option StorageError). unwrap_or fault OptionInvalid) none in
-    cc
-
-damage_is_kept : (image : Image) (records : List Fields) (last : Catalog) (s : Keyspaces) (cause : StorageError) → Says image records last s → IsDamage image cause → IsUnspared (Storage cause)
-damage_is_kept image records last s RecordDamaged says bad = absurd (bad last (says_last image records last s says))
-damage_is_kept image records last s TableDamaged says bad =
-    let same : bad.last ≡ last = same_catalog image records bad.last last s bad.has says in
-    absurd (bad.none (entries_of s.living) (subst (λ (c : Catalog). HoldsEntries image c.table (entries_of s.living)) (sym same) says.entries))
-damage_is_kept image records last s OptionMissing says bad =
-    let same : bad.last ≡ last = same_catalog image records bad.last last s bad.has says in
-    absurd (none_missing s bad.entries says.are (same_pairs image records bad.last last s bad.entries same bad.holds says) bad.refused)
-damage_is_kept image records last s OptionInvalid says bad = refl
 
 -- the catalog that is told is the one that is said
 module _ (image : Image) (c : Contents) (sound : IsSound image c) where
@@ -67,22 +38,22 @@ module _ (image : Image) (c : Contents) (sound : IsSound image c) where
       let same = one_catalog image records sound.records last c.last s c.keyspaces says sound.catalog in
       none (subst (λ (t : Keyspaces). AreMade last t) (sym same.2) (subst (λ (d : Catalog). AreMade d c.keyspaces) (sym same.1) sound.made))
 
-  catalog_is_kept : (error : Error) → CatalogRefuses image error → IsUnspared error
-  catalog_is_kept (Storage cause) (inl bad) = damage_is_kept image sound.records c.last c.keyspaces cause sound.catalog bad
-  catalog_is_kept (Storage cause) (inr (records, last, s, says, inl (is, none))) = absurd (made_told records last s says none)
-  catalog_is_kept (Storage cause) (inr (records, last, s, says, inr (made, refused))) = absurd (homes_told records last s (Storage cause) says refused)
-  catalog_is_kept error refused = absurd (homes_told refused.0 refused.1 refused.2 error refused.3 refused.5)
+  catalog_is_kept : (error : Error) → CatalogRefuses image error → ⊥
+  catalog_is_kept (Storage cause) (inl (bad, silent)) = silent sound.records c.last c.keyspaces sound.catalog
+  catalog_is_kept (Storage cause) (inr (records, last, s, says, inl (is, none))) = made_told records last s says none
+  catalog_is_kept (Storage cause) (inr (records, last, s, says, inr (made, refused))) = homes_told records last s (Storage cause) says refused
+  catalog_is_kept error refused = homes_told refused.0 refused.1 refused.2 error refused.3 refused.5
 
-  tree_is_kept : (error : Error) → TreeRefuses image error → IsUnspared error
-  tree_is_kept error (inl none) = absurd (none.1 sound.folder)
+  tree_is_kept : (error : Error) → TreeRefuses image error → ⊥
+  tree_is_kept error (inl none) = none.1 sound.folder
   tree_is_kept error (inr refused) = catalog_is_kept error refused.1
 
-  keyspaces_are_kept : (error : Error) → KeyspacesRefuse image error → IsUnspared error
-  keyspaces_are_kept error (inl misnamed) = absurd (misnamed.1 sound.keyspaces_named)
+  keyspaces_are_kept : (error : Error) → KeyspacesRefuse image error → ⊥
+  keyspaces_are_kept error (inl misnamed) = misnamed.1 sound.keyspaces_named
   keyspaces_are_kept error (inr refused) = tree_is_kept error refused.1
 
-  finished_is_kept : (error : Error) → FinishedRefuses image error → IsUnspared error
-  finished_is_kept error (inl (ids, are, refused)) = absurd (held_journals_are_kept image c.journals ids error sound.journals are refused)
+  finished_is_kept : (error : Error) → FinishedRefuses image error → ⊥
+  finished_is_kept error (inl (ids, are, refused)) = held_journals_are_kept image c.journals ids error sound.journals are refused
   finished_is_kept error (inr refused) = keyspaces_are_kept error refused.1
 
 -- ---- a folder whose making was cut short
@@ -109,9 +80,9 @@ one_marker told marker other is at = let same = sym is ∙ at in cc
 parts_along : (image : Image) (marker other : Marker) (error : Error) → marker_tells (marker_bytes image) ≡ Ok marker → marker_tells (marker_bytes image) ≡ Ok other → PartsRefuse marker image error → PartsRefuse other image error
 parts_along image marker other error is at refused = subst (λ (m : Marker). PartsRefuse m image error) (one_marker (marker_tells (marker_bytes image)) marker other is at) refused
 
-sound_is_kept : (image : Image) (c : Contents) (error : Error) → IsSound image c → FolderRefuses image error → IsUnspared error
-sound_is_kept image c error sound (inl refused) = absurd (marker_is_kept (marker_tells (marker_bytes image)) Whole error sound.marker refused)
-sound_is_kept image c error sound (inr (marker, tells, inl misnamed)) = absurd (misnamed.1 sound.journals_named)
+sound_is_kept : (image : Image) (c : Contents) (error : Error) → IsSound image c → FolderRefuses image error → ⊥
+sound_is_kept image c error sound (inl refused) = marker_is_kept (marker_tells (marker_bytes image)) Whole error sound.marker refused
+sound_is_kept image c error sound (inr (marker, tells, inl misnamed)) = misnamed.1 sound.journals_named
 sound_is_kept image c error sound (inr (marker, tells, inr (named, refused))) = finished_is_kept image c sound error (parts_along image marker Whole error tells sound.marker refused)
 
 begun_folder_is_kept : (image : Image) (error : Error) → IsUnfinished image → FolderRefuses image error → ⊥
@@ -119,9 +90,9 @@ begun_folder_is_kept image error is (inl refused) = marker_is_kept (marker_tells
 begun_folder_is_kept image error is (inr (marker, tells, inl misnamed)) = misnamed.1 is.journals_named
 begun_folder_is_kept image error is (inr (marker, tells, inr (named, refused))) = unfinished_is_kept image error is (parts_along image marker Unfinished error tells is.marker refused)
 
-pub folder_is_kept : (image : Image) (store : Store) (error : Error) → StandsFor image store → FolderRefuses image error → IsUnspared error
+pub folder_is_kept : (image : Image) (store : Store) (error : Error) → StandsFor image store → FolderRefuses image error → ⊥
 folder_is_kept image store error (inl (c, sound, is)) refused = sound_is_kept image c error sound refused
-folder_is_kept image store error (inr (begun, is)) refused = absurd (begun_folder_is_kept image error begun refused)
+folder_is_kept image store error (inr (begun, is)) refused = begun_folder_is_kept image error begun refused
 
 -- ---- as it is read
 

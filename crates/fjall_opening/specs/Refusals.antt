@@ -68,10 +68,14 @@ abbrev pub HomesRefuse : Image → List LivingKeyspace → Error → Type 0
 HomesRefuse image [] error = ⊥
 HomesRefuse image (k ∷ living) error = HomeRefuses image k.id error ⊎ (((last : Fields) × HasHome image k.id last) × HomesRefuse image living error)
 
+-- the image says of no keyspaces that they live
+abbrev pub SaysNothing : Image → Type 0
+SaysNothing image = (records : List Fields) (last : Catalog) (s : Keyspaces) → Says image records last s → ⊥
+
 -- why the catalog or a keyspace that it names is refused
 abbrev pub CatalogRefuses : Image → Error → Type 0
 CatalogRefuses image (Storage cause) =
-    IsDamage image cause
+    (IsDamage image cause × SaysNothing image)
     ⊎ ((records : List Fields) × (last : Catalog) × (s : Keyspaces) × Says image records last s
     × (((cause ≡ TableDamaged) × (AreMade last s → ⊥)) ⊎ (AreMade last s × HomesRefuse image s.living (Storage cause))))
 CatalogRefuses image error =

@@ -2,9 +2,11 @@
 
 ghost use Rattle.std.specs.Prelude.{◌≡◌, List};
 ghost use Rattle.fjall_base.specs.Disk.{Image};
+ghost use Rattle.fjall_base.specs.declared.error.Error.{Error};
 ghost use Rattle.fjall_base.specs.Store.{Store};
 ghost use Rattle.fjall_opening.specs.Folders.{Contents, IsSound, StandsFor};
 ghost use Rattle.fjall_opening.specs.Journals.{Journal, HoldsJournals};
+ghost use Rattle.fjall_opening.specs.Refusals.{FolderRefuses};
 
 /// An image holds one list of journals.
 pub fn one_list_of_journals()
@@ -19,4 +21,9 @@ pub fn one_contents()
 /// An image of a folder stands for one store at most.
 pub fn one_store()
     ensures { (image : Image) (s t : Store) → StandsFor image s → StandsFor image t → s ≡ t }
+{}
+
+/// No folder that stands for a store is refused: only want of memory or a fault of the disk can keep it from being read.
+pub fn sound_folders_are_read()
+    ensures { (image : Image) (store : Store) (error : Error) → StandsFor image store → FolderRefuses image error → ⊥ }
 {}

@@ -7,6 +7,7 @@ use Rattle.fjall_catalog.specs.declared.catalog.Catalog.{Catalog}
 use Rattle.fjall_catalog.specs.Catalog.{fields}
 use Rattle.fjall_opening.specs.Folders.{AreMade, past_record}
 use Rattle.fjall_opening.proofs.Homing.{same_id}
+use Rattle.fjall_opening.proofs.Finishing.{catalog_refuses}
 use Rattle.fjall_opening.proofs.Kept.{fault_spared}
 use Rattle.fjall_opening.proofs.folder.read_tree.Goals as goal
 
@@ -29,6 +30,14 @@ returns-then-not-are_made-clause-cause g c honest folders =
         ),
       ),
     )
+
+pub returns-in_err-found-clause-cause : goal.returns-in_err-found-clause-cause
+returns-in_err-found-clause-cause g c honest folders =
+    let p = err_from_is_err_and c.from_residual.result c.from_residual.ensures.1 in
+    let has = c.if-not-contains.ensures.cases in
+    let there = (folders.each 0).0 (has.0, has.1, same_id _ _ (has.2 0)) in
+    let failed = c.in_err-found.ensures in
+    rw (p.1, p.2) (catalog_refuses _ _ _ c.in_err-found.field-0.0 there.1 (failed.refused honest) (failed.all honest))
 
 pub returns-in_err-found-clause-sound : goal.returns-in_err-found-clause-sound
 returns-in_err-found-clause-sound g c honest folders records last s says made folder =
