@@ -1,0 +1,12 @@
+pub mod Fronts
+pub mod Standing
+pub mod Moments
+pub mod Filled
+pub mod Named
+pub mod Holding
+pub mod Trees
+pub mod Emptying
+pub mod Plannings
+pub mod Awaiting
+pub mod Marking
+pub mod Beginning

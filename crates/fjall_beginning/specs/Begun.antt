@@ -1,0 +1,22 @@
+-- What was begun: a database without keyspaces, whose journals hold nothing, and which of them is active.
+use Rattle.std.specs.Prelude.{◌≡◌, ◌⊎◌, ℕ, ◌<◌, ◌≤◌, ◌^◌, [], ◌∷◌}
+use Rattle.fjall_base.specs.Disk.{Image, State, IsFile}
+use Rattle.fjall_recovery.specs.Names.{journal_name}
+use Rattle.fjall_keyspaces.specs.Keyspaces.{no_keyspaces}
+use Rattle.fjall_catalog.specs.Catalog.{fields, first_catalog}
+use Rattle.fjall_opening.specs.Journals.{batches_in}
+use Rattle.fjall_places.specs.Places.{Journaling, LiesInRoot, RestsInTree, journals_with}
+
+-- A database without keyspaces rests on the disk: its journals hold nothing, and this is the id of the active one.
+pub record IsBegunOn (state : State) (active : ℕ) : Type 0 where
+  pub j : Journaling
+  pub root : LiesInRoot state j
+  pub active_is : j.active ≡ active
+  pub later : j.later ≡ []
+  pub batches : batches_in (journals_with j []) ≡ []
+  pub tree : RestsInTree state (fields first_catalog ∷ []) (record { last = first_catalog; keyspaces = no_keyspaces; homes = [] })
+
+-- The active journal of a folder whose making goes on: the greatest of those that are there, or 0 where none is.
+pub record IsActive (image : Image) (id : ℕ) : Type 0 where
+  pub greatest : (other : ℕ) → other < 2 ^ 64 → IsFile (image (journal_name other)) → other ≤ id
+  pub there : IsFile (image (journal_name id)) ⊎ (id ≡ 0)

@@ -1,0 +1,31 @@
+//! The marker, with which a database is made.
+
+ghost use Rattle.std.specs.Prelude.{◌≡◌, ℕ, true, codes, IsTrue, List, OnOk};
+ghost use Rattle.fjall_base.specs.declared.error.FormatVersion.TheVariants.{V3};
+ghost use Rattle.fjall_base.specs.Disk.{LeavesOnly, OnlyFaults, standing, state_in};
+ghost use Rattle.fjall_keyspaces.specs.Keyspaces.{no_keyspaces};
+ghost use Rattle.fjall_recovery.specs.Marker.{header as header_of};
+ghost use Rattle.fjall_versions.specs.Replays.{bare};
+ghost use Rattle.fjall_opening.specs.Folders.{StandsFor};
+ghost use Rattle.fjall_opening.specs.Journals.{text_in};
+ghost use Rattle.fjall_beginning.specs.Begun.{IsBegunOn};
+ghost use Rattle.fjall_beginning.specs.Making.{IsKept, KeepsTables};
+ghost use Rattle.fjall_beginning.specs.Plans.{AwaitsMarker, IsFound};
+
+use crate::file::complete_file;
+use crate::plan::{Found, MARKER};
+use fjall_base::{Disk, Result};
+
+/// Writes the marker, of which this was found, where nothing else is to be done.
+pub(crate) fn mark<D: Disk>(disk: &mut D, found: Found, header: &[u8]) -> Result<()>
+    ensures any_moment { IsTrue D.honest → header.now ≡ header_of V3 → IsFound found (header_of V3) (text_in (standing (state_in (D.meaning disk.old)) (codes "version"))) → IsKept true (state_in (D.meaning disk.old))
+        → (sealed : List ℕ) (active : ℕ) → AwaitsMarker (state_in (D.meaning disk.old)) sealed active
+        → LeavesOnly (D.meaning disk.old) (D.meaning disk.new) (λ image. StandsFor image (bare no_keyspaces)) }
+    ensures tables { IsTrue D.honest → KeepsTables (state_in (D.meaning disk.old)) (state_in (D.meaning disk.new)) }
+    ensures begun { IsTrue D.honest → header.now ≡ header_of V3 → IsFound found (header_of V3) (text_in (standing (state_in (D.meaning disk.old)) (codes "version")))
+        → (sealed : List ℕ) (active : ℕ) → AwaitsMarker (state_in (D.meaning disk.old)) sealed active → OnOk result (IsBegunOn (state_in (D.meaning disk.new)) active) }
+    ensures cause { OnlyFaults (D.meaning disk.old) (D.meaning disk.new) result }
+{
+    complete_file(disk, MARKER, found, header)?;
+    disk.sync_folder("")
+}

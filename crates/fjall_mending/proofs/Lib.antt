@@ -1,0 +1,15 @@
+pub mod Naming
+pub mod Halving
+pub mod Cutting
+pub mod Trimming
+pub mod Items
+pub mod Ending
+pub mod Turns
+pub mod Narrowing
+pub mod Opened
+pub mod Crashing
+pub mod Rested
+pub mod Mended
+pub mod Carrying
+pub mod Suiting
+pub mod Mending

@@ -1,0 +1,13 @@
+use Rattle.std.proofs.Common.{◌≡◌, ◌≤◌, [], All, take, string_bytes}
+use Rattle.std.specs.Prelude.{IsTrue}
+use Rattle.fjall_base.specs.Disk.{IsImage, LeavesOnly, Name, folder_of, state_in}
+use Rattle.fjall_mending.proofs.steps.sync_folders.Given as goal
+
+abbrev pub invariant-loop-folder : goal.invariant-loop-folder
+invariant-loop-folder g l = record {
+  moments : IsTrue g.D.Disk.honest → LeavesOnly (g.D.Disk.meaning l.fn.disk) (g.D.Disk.meaning l.disk) (IsImage (state_in (g.D.Disk.meaning l.fn.disk)));
+  same : IsTrue g.D.Disk.honest → (q : Name) → (state_in (g.D.Disk.meaning l.disk) q).now ≡ (state_in (g.D.Disk.meaning l.fn.disk) q).now;
+  still : IsTrue g.D.Disk.honest → (q : Name) → (state_in (g.D.Disk.meaning l.fn.disk) q).older ≡ [] → (state_in (g.D.Disk.meaning l.disk) q).older ≡ [];
+  settled : IsTrue g.D.Disk.honest → All (λ folder. (q : Name) → folder_of q ≡ string_bytes folder → (state_in (g.D.Disk.meaning l.disk) q).older ≡ []) (take l.folder-index l.folders);
+  later : (g.D.Disk.meaning l.fn.disk).faults ≤ (g.D.Disk.meaning l.disk).faults;
+}

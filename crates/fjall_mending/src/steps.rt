@@ -1,0 +1,89 @@
+//! The steps of mending: a crash at any of their moments leaves the same store.
+
+ghost use Rattle.std.specs.Prelude.{◌≡◌, ◌≢◌, [], All, IsTrue, OnOk, map, string_bytes, Some};
+ghost use Rattle.fjall_base.specs.Disk.{Image, IsImage, LeavesOnly, Name, OnlyFaults, folder_of, standing, state_in};
+ghost use Rattle.fjall_recovery.specs.Names.{journal_name};
+ghost use Rattle.fjall_opening.specs.Folders.{Contents, IsSound, StandsFor, store_of};
+ghost use Rattle.fjall_places.specs.Held.{Holds};
+ghost use Rattle.fjall_mending.specs.Steps.{IsEnded, IsOpened, IsRested, IsRightEnd, IsSame, IsSynced, Stays, Suits, active_of, end_of, with_active};
+
+use crate::plan::{FileEnd, Plan};
+use fjall_base::{Disk, Result};
+use fjall_regions::end_file;
+
+/// Makes the active journal where it is missing, and syncs the names in the root.
+fn settle_root<D: Disk>(disk: &mut D, active: &str) -> Result<()>
+    ensures any_moment { IsTrue D.honest → (c : Contents) → Holds (state_in (D.meaning disk.old)) (Some c) → active.now ≡ journal_name (active_of (map (λ j. j.id) c.journals))
+        → LeavesOnly (D.meaning disk.old) (D.meaning disk.new) (λ image. StandsFor image (store_of c)) }
+    ensures sound { IsTrue D.honest → (c : Contents) → Holds (state_in (D.meaning disk.old)) (Some c) → active.now ≡ journal_name (active_of (map (λ j. j.id) c.journals))
+        → OnOk result ((image : Image) → IsImage (state_in (D.meaning disk.new)) image → IsSound image (with_active c)) }
+    ensures opened { IsTrue D.honest → OnOk result (IsOpened (standing (state_in (D.meaning disk.old))) (standing (state_in (D.meaning disk.new))) active.now) }
+    ensures settled { IsTrue D.honest → OnOk result ((q : Name) → folder_of q ≡ [] → (state_in (D.meaning disk.new) q).older ≡ []) }
+    ensures elsewhere { IsTrue D.honest → (q : Name) → q ≢ active.now → (state_in (D.meaning disk.new) q).now ≡ (state_in (D.meaning disk.old) q).now }
+    ensures cause { OnlyFaults (D.meaning disk.old) (D.meaning disk.new) result }
+{
+    disk.create(active)?;
+    disk.sync_folder("")
+}
+
+/// Syncs the names in folders.
+fn sync_folders<D: Disk>(disk: &mut D, folders: &[String]) -> Result<()>
+    ensures any_moment { IsTrue D.honest → LeavesOnly (D.meaning disk.old) (D.meaning disk.new) (IsImage (state_in (D.meaning disk.old))) }
+    ensures same { IsTrue D.honest → (q : Name) → (state_in (D.meaning disk.new) q).now ≡ (state_in (D.meaning disk.old) q).now }
+    ensures still { IsTrue D.honest → (q : Name) → (state_in (D.meaning disk.old) q).older ≡ [] → (state_in (D.meaning disk.new) q).older ≡ [] }
+    ensures settled { IsTrue D.honest → OnOk result (All (λ folder. (q : Name) → folder_of q ≡ string_bytes folder → (state_in (D.meaning disk.new) q).older ≡ []) folders.now) }
+    ensures cause { OnlyFaults (D.meaning disk.old) (D.meaning disk.new) result }
+{
+    for folder in folders {
+        disk.sync_folder(folder.as_str())?;
+    }
+    Ok(())
+}
+
+/// Syncs files.
+fn sync_files<D: Disk>(disk: &mut D, files: &[String]) -> Result<()>
+    ensures any_moment { IsTrue D.honest → LeavesOnly (D.meaning disk.old) (D.meaning disk.new) (IsImage (state_in (D.meaning disk.old))) }
+    ensures elsewhere { IsTrue D.honest → (q : Name) → All (λ file. q ≢ string_bytes file) files.now → state_in (D.meaning disk.new) q ≡ state_in (D.meaning disk.old) q }
+    ensures same { IsTrue D.honest → (q : Name) → IsSame (state_in (D.meaning disk.old) q) (state_in (D.meaning disk.new) q) }
+    ensures synced { IsTrue D.honest → OnOk result (All (λ file. IsSynced (state_in (D.meaning disk.new) (string_bytes file)).now) files.now) }
+    ensures cause { OnlyFaults (D.meaning disk.old) (D.meaning disk.new) result }
+{
+    for file in files {
+        disk.sync(file.as_str())?;
+    }
+    Ok(())
+}
+
+/// Ends files where all that counts in them ends.
+fn end_files<D: Disk>(disk: &mut D, ends: &[FileEnd]) -> Result<()>
+    ensures any_moment { IsTrue D.honest → (c : Contents) → All (λ e. IsRightEnd (standing (state_in (D.meaning disk.old))) c (end_of e)) ends.now → All (λ e. (state_in (D.meaning disk.old) (string_bytes e.name)).older ≡ []) ends.now
+        → ((image : Image) → IsImage (state_in (D.meaning disk.old)) image → Stays (state_in (D.meaning disk.old)) c image)
+        → LeavesOnly (D.meaning disk.old) (D.meaning disk.new) (Stays (state_in (D.meaning disk.old)) c) }
+    ensures ended { IsTrue D.honest → (c : Contents) → All (λ e. IsRightEnd (standing (state_in (D.meaning disk.old))) c (end_of e)) ends.now
+        → OnOk result (All (λ e. IsEnded (state_in (D.meaning disk.old)) (state_in (D.meaning disk.new)) (end_of e)) ends.now) }
+    ensures synced { IsTrue D.honest → OnOk result ((q : Name) → IsSynced (state_in (D.meaning disk.old) q).now → IsSynced (state_in (D.meaning disk.new) q).now) }
+    ensures older { IsTrue D.honest → OnOk result ((q : Name) → (state_in (D.meaning disk.new) q).older ≡ (state_in (D.meaning disk.old) q).older) }
+    ensures elsewhere { IsTrue D.honest → (q : Name) → All (λ e. q ≢ string_bytes e.name) ends.now → state_in (D.meaning disk.new) q ≡ state_in (D.meaning disk.old) q }
+    ensures cause { OnlyFaults (D.meaning disk.old) (D.meaning disk.new) result }
+{
+    for end in ends {
+        end_file(disk, end.name.as_str(), end.cut, end.len)?;
+    }
+    Ok(())
+}
+
+/// Takes all steps of a plan. The names come first, so that of each file that is cut one text alone may be left.
+pub(crate) fn carry_out<D: Disk>(disk: &mut D, plan: &Plan) -> Result<()>
+    ensures any_moment { IsTrue D.honest → (c : Contents) → Holds (state_in (D.meaning disk.old)) (Some c) → Suits (standing (state_in (D.meaning disk.old))) c plan.now
+        → LeavesOnly (D.meaning disk.old) (D.meaning disk.new) (λ image. StandsFor image (store_of c)) }
+    ensures rested { IsTrue D.honest → (c : Contents) → Holds (state_in (D.meaning disk.old)) (Some c) → Suits (standing (state_in (D.meaning disk.old))) c plan.now
+        → OnOk result (IsRested (state_in (D.meaning disk.new)) (with_active c)) }
+    ensures elsewhere { IsTrue D.honest → (q : Name) → q ≢ string_bytes plan.now.active → All (λ file. q ≢ string_bytes file) plan.now.whole.items → All (λ e. q ≢ string_bytes e.name) plan.now.ends.items
+        → (state_in (D.meaning disk.new) q).now ≡ (state_in (D.meaning disk.old) q).now }
+    ensures cause { OnlyFaults (D.meaning disk.old) (D.meaning disk.new) result }
+{
+    settle_root(disk, plan.active.as_str())?;
+    sync_folders(disk, &plan.folders)?;
+    sync_files(disk, &plan.whole)?;
+    end_files(disk, &plan.ends)
+}

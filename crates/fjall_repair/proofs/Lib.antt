@@ -1,0 +1,10 @@
+pub mod Apart
+pub mod Removals
+pub mod Spared
+pub mod Planned
+pub mod Tables
+pub mod Listings
+pub mod Rooted
+pub mod Repairing
+pub mod Numbering
+pub mod Openings

@@ -1,0 +1,153 @@
+-- What was opened, and the disk until then.
+use Rattle.std.proofs.Common.{◌≡◌, ℕ, ◌<◌, max, List, [], ◌∷◌, map, All, Option, None, Some, Result, Ok, Err, refl, sym, ◌∙◌, ap, subst, arith}
+use Rattle.std.specs.List.{AllByRecursion}
+use Rattle.std.proofs.lemmas.List.Elements.{All-from_recursion}
+use Rattle.std.specs.Prelude.{IfOk, IfErr}
+use Rattle.fjall_base.specs.Disk.{Name, State, Image, Survives, LeavesBy, LeavesOnly, Meaning, Took, standing, state_in}
+use Rattle.fjall_base.specs.declared.error.Error.{Error}
+use Rattle.fjall_base.specs.declared.error.Error.TheVariants.{Io, OutOfMemory}
+use Rattle.fjall_base.proofs.Moments.{started}
+use Rattle.fjall_regions.proofs.Made.{took_both}
+use Rattle.fjall_journal.specs.Batches.{Written, shown, view}
+use Rattle.fjall_versions.specs.Replays.{store_in, least_after}
+use Rattle.fjall_tree.specs.Records.{Fields, IsRecord, last_of}
+use Rattle.fjall_tree.specs.Records as records
+use Rattle.fjall_keyspaces.specs.declared.living.LivingKeyspace.{LivingKeyspace}
+use Rattle.fjall_catalog.specs.Catalog.{fields}
+use Rattle.fjall_catalog.proofs.Resting.{last_has}
+use Rattle.fjall_opening.specs.Folders.{Contents, IsFinished, IsSound, IsUnfinished, Shows, StandsFor, number_of, past_record, past_records, store_of}
+use Rattle.fjall_opening.specs.declared.folder.Finished.{Finished}
+use Rattle.fjall_opening.specs.declared.homes.Home.{Home}
+use Rattle.fjall_opening.specs.Homes.{AreHomesRead}
+use Rattle.fjall_opening.specs.Refusals.{FolderRefuses, IsDue}
+use Rattle.fjall_opening.proofs.Alone.{one_contents}
+use Rattle.fjall_journal.proofs.Writing.{took_none}
+use Rattle.fjall_recovery.specs.declared.marker.Marker.TheVariants.{Whole, Unfinished}
+use Rattle.fjall_opening.specs.Journals.{batches_in}
+use Rattle.fjall_places.specs.Held.{Holds, IsFolder, number_held, store_held}
+use Rattle.fjall_places.specs.Places.{contents_with}
+use Rattle.fjall_places.proofs.Holding.{folder_stands, tree_of}
+use Rattle.fjall_beginning.proofs.Beginning as Beginning
+use Rattle.fjall_repair.specs.declared.opening.Opened.{Opened}
+use Rattle.fjall_repair.specs.Sweeps.{IsSwept}
+use Rattle.fjall_repair.specs.Opened.{ComesBack, HasNumbers, IsHeldUp, IsOpenedFrom, IsRepaired, IsUnopened, Opens, records_of}
+
+-- ---- before the first change
+
+module _ (old mid : Meaning) (same : Took old mid []) where
+  pub holds_on : (folder : Option Contents) → Holds (state_in old) folder → Holds (state_in mid) folder
+  holds_on folder holds = subst (λ (s : State). Holds s folder) (sym same.state) holds
+
+  -- a run that begins there begins before
+  pub run_on : (new : Meaning) (P : Image → Type 0) → LeavesOnly mid new P → LeavesOnly old new P
+  run_on new P run = record {
+    added = run.added;
+    took = took_both old mid new [] run.added same run.took;
+    each = λ image left. run.each image (subst (λ (s : State). LeavesBy Survives s run.added image) (sym same.state) left);
+  }
+
+-- what holds stands for its store
+pub stands_now : (old : Meaning) (folder : Option Contents) → Holds (state_in old) folder → LeavesOnly old old (λ image. StandsFor image (store_held folder))
+stands_now old folder holds = started old (λ image. StandsFor image (store_held folder)) (λ image is. folder_stands image folder (holds.crash image is))
+
+-- ---- what was opened
+
+module _ (state : State) (contents : Contents) (active end : ℕ) (is : IsRepaired state contents active end) where
+  same_store : store_of (contents_with is.j (tree_of contents) []) ≡ store_of contents
+  same_store = ap (λ (b : List Written). store_in contents.keyspaces (map shown b)) is.batches
+
+  same_number : number_of (contents_with is.j (tree_of contents) []) ≡ number_of contents
+  same_number = ap (λ (b : List Written). max (least_after 0 (map shown b)) (past_records (fields contents.last ∷ contents.homes))) is.batches
+
+  pub opens_of : (folder : Option Contents) (o : Opened) → active ≡ o.active → end ≡ o.end → contents.last ≡ o.catalog → contents.keyspaces ≡ o.keyspaces → map view o.batches.items ≡ map shown (batches_in contents.journals)
+      → store_of contents ≡ store_held folder → o.number ≡ number_of contents → number_of contents ≡ number_held folder → Opens state folder o
+  opens_of folder o active_is end_is last keyspaces batches store number held = record {
+    j = is.j;
+    records = is.records;
+    t = tree_of contents;
+    root = is.root;
+    tree = is.tree;
+    later = is.later;
+    active = is.active_is ∙ active_is;
+    end = is.end_is ∙ end_is;
+    last = last;
+    keyspaces = keyspaces;
+    batches = batches ∙ ap (λ (b : List Written). map shown b) (sym is.batches);
+    store = same_store ∙ store;
+    number = number ∙ sym same_number;
+    same = number ∙ held;
+  }
+
+-- ---- the numbers of a folder that was read
+
+record_numbers : (records : List Fields) (r : Fields) → AllByRecursion IsRecord records → last_of records ≡ Some r → HasNumbers r
+record_numbers records r each last = let is = last_has IsRecord records r each last in (is.consistent.persisted, is.consistent.highest)
+
+home_numbers : (image : Image) (living : List LivingKeyspace) (homes : List Home) → AreHomesRead image living homes → AllByRecursion HasNumbers (map (λ h. records.view h.record) homes)
+home_numbers image [] [] read = tt
+home_numbers image [] (home ∷ homes) read = absurd read
+home_numbers image (k ∷ living) [] read = absurd read
+home_numbers image (k ∷ living) (home ∷ homes) read =
+    let has = read.0.read.has in (record_numbers has.records (records.view home.record) has.whole.each has.is, home_numbers image living homes read.1)
+
+module _ (image : Image) (found : Finished) (read : IsFinished image found) where
+  pub numbers : All HasNumbers (records_of found)
+  numbers = All-from_recursion HasNumbers (records_of found)
+      (record_numbers read.records (fields found.catalog.catalog) read.catalog.whole.each read.catalog.last_is, home_numbers image found.catalog.keyspaces.living found.homes.items read.homes)
+
+  -- each keyspace was made before
+  pub made_before : (number : ℕ) (living : List LivingKeyspace) → number ≡ max found.journals.least (past_records (records_of found)) → living ≡ found.catalog.keyspaces.living → All (λ k. k.number < number) living
+  made_before number living is same k d lt =
+      let made = (subst (λ l. All (λ k. k.number < past_record (fields found.catalog.catalog)) l) (sym same) read.made) k d lt in
+      let rest = past_records (map (λ h. records.view h.record) found.homes.items) in
+      let first = past_record (fields found.catalog.catalog) in
+      let all : number ≡ max found.journals.least (max first rest) = is in
+      omega (arith, made, all)
+
+  pub number_is : (contents : Contents) (number : ℕ) → Shows found contents → number ≡ max found.journals.least (past_records (records_of found)) → number ≡ number_of contents
+  number_is contents number shows is =
+      is ∙ ap (λ n. max n (past_records (records_of found))) shows.least
+      ∙ ap (λ n. max (least_after 0 (map shown (batches_in contents.journals))) n) (ap (λ last. past_records (fields last ∷ map (λ h. records.view h.record) found.homes.items)) shows.last ∙ ap (λ homes. past_records (fields contents.last ∷ homes)) shows.homes)
+
+-- ---- which folder it is
+
+pub finished_is : (image : Image) (contents : Contents) (folder : Option Contents) → IsSound image contents → IsFolder image folder → folder ≡ Some contents
+finished_is image contents None sound begun = let no : Ok Whole ≡ Ok Unfinished = sym sound.marker ∙ begun.marker in absurd (let bad : ⊥ = cc in bad)
+finished_is image contents (Some other) sound is = ap Some (one_contents image other contents is sound)
+
+pub unfinished_is : (image : Image) (folder : Option Contents) → IsUnfinished image → IsFolder image folder → folder ≡ None
+unfinished_is image None begun is = refl
+unfinished_is image (Some contents) begun is = let no : Ok Whole ≡ Ok Unfinished = sym is.marker ∙ begun.marker in absurd (let bad : ⊥ = cc in bad)
+
+pub opened_from : (image : Image) (folder : Option Contents) (result : Result Opened Error) → IsFolder image folder → IfOk result (λ o. store_in o.keyspaces (map view o.batches.items) ≡ store_held folder)
+    → IfOk result (λ o. o.number ≡ number_held folder) → IfOk result (IsOpenedFrom image)
+opened_from image folder (Ok o) is store number = (folder, is, store, number)
+opened_from image folder (Err e) is store number = tt
+
+-- what is swept after a step that changed nothing
+pub swept_on : (old mid new : State) (result : Result Opened Error) → mid ≡ old → IfOk result (λ o. IsSwept mid new o.keyspaces.living) → IfOk result (λ o. IsSwept old new o.keyspaces.living)
+swept_on old mid new (Ok o) same swept = subst (λ (s : State). IsSwept s new o.keyspaces.living) same swept
+swept_on old mid new (Err e) same swept = tt
+
+-- ---- why it isn't opened
+
+pub unopened : (old new : Meaning) (error : Error) → IsDue (FolderRefuses (standing (state_in old))) error → Took old new [] → IsUnopened old new error
+unopened old new (Io kind) due took = tt
+unopened old new error due took = (due, took)
+
+pub held_up : {X : Type 0} (old mid new : Meaning) (result : Result X Error) → Took old mid [] → IfErr result (IsHeldUp mid new) → IfErr result (IsUnopened old new)
+held_up old mid new (Ok x) took held = tt
+held_up old mid new (Err (Io kind)) took held = tt
+held_up old mid new (Err OutOfMemory) took held = (tt, took_none old mid new [] took held)
+held_up old mid new (Err error) took held = absurd held
+
+pub held_on : (old mid new : Meaning) (error : Error) → Took old mid [] → IsHeldUp mid new error → IsHeldUp old new error
+held_on old mid new (Io kind) took held = tt
+held_on old mid new OutOfMemory took held = took_none old mid new [] took held
+held_on old mid new error took held = absurd held
+
+-- ---- what may come back
+
+pub settled_comes_back : (state : State) (folder : Option Contents) → ((name : Name) → (state name).older ≡ []) → IsFolder (standing state) folder → ComesBack state folder
+settled_comes_back state None settled is = Beginning.settled_comes_back state settled is
+settled_comes_back state (Some contents) settled is = tt

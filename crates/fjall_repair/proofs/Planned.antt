@@ -1,0 +1,227 @@
+-- What a plan has is spared.
+use Rattle.std.proofs.Common.{◌≡◌, ◌≢◌, ◌⊎◌, inl, inr, ⊎_elim, ℕ, ◌<◌, ◌^◌, true, List, [], ◌∷◌, map, get_or, codes, All, Any, Option, None, Some, Result, Ok, Err, OnOk, refl, sym, ◌∙◌, ap, subst, arith}
+use Rattle.std.specs.Prelude.{IfSome, string_bytes}
+use Rattle.std.specs.List.{AllByRecursion, Contains, flat_map}
+use Rattle.std.specs.Option.{option_map}
+use Rattle.std.proofs.lemmas.List.{get_or-map}
+use Rattle.std.proofs.lemmas.List.Elements.{All-append, All-contains, All-from_recursion, All-map, Contains-append_left, Contains-append_right, Contains-push, recursion_from_All}
+use Rattle.std.proofs.lemmas.List.Concat.{flat_map-cons}
+use Rattle.fjall_base.specs.declared.error.Error.{Error}
+use Rattle.fjall_base.specs.Disk.{Name, Entry, Missing, File, Folder, State, Meaning, folder_of, standing, state_in}
+use Rattle.fjall_regions.specs.Regions.{is_under, Within}
+use Rattle.fjall_regions.proofs.Under.{in_folder}
+use Rattle.fjall_tree.specs.declared.record.TableInfo.{TableInfo}
+use Rattle.fjall_tree.specs.Records.{Fields}
+use Rattle.fjall_recovery.specs.Names.{keyspace_folder, current_name, table_name}
+use Rattle.fjall_keyspaces.specs.declared.living.LivingKeyspace.{LivingKeyspace}
+use Rattle.fjall_keyspaces.specs.Keyspaces.{AreKeyspaces}
+use Rattle.fjall_catalog.specs.Catalog.{IsFree}
+use Rattle.fjall_catalog.proofs.Naming.{folder_of-current}
+use Rattle.fjall_catalog.proofs.Resting.{last_record, table_id}
+use Rattle.fjall_catalog.proofs.Runs.{given}
+use Rattle.fjall_opening.proofs.Listed.{in_keyspaces}
+use Rattle.fjall_places.specs.Halves.{Tree}
+use Rattle.fjall_places.specs.Places.{LiesInTree, RestsInTree}
+use Rattle.fjall_places.proofs.Named.{under_within}
+use Rattle.fjall_places.proofs.Trees.{folder_of-home}
+use Rattle.fjall_repair.specs.declared.plan.Sweep.{Sweep}
+use Rattle.fjall_repair.specs.declared.plan.UnnamedHome.{UnnamedHome}
+use Rattle.fjall_opening.specs.Naming.{AreFolderIds}
+use Rattle.fjall_repair.specs.Sweeps.{AreGone, FindsAll, FindsTables, IsHomeFound, IsSwept, IsPlan, IsUnnamedHome, IsUnnamedTable, Lives, Removes, home_names, named_in, planned}
+use Rattle.fjall_repair.proofs.Apart as Apart
+use Rattle.fjall_repair.proofs.Removals as Removals
+use Rattle.fjall_repair.proofs.Spared.{AtHome, IsSpare, spared}
+
+-- ---- of living keyspaces
+
+-- what holds of each keyspace, given its id is that of one
+each_living : (living : List LivingKeyspace) (P : LivingKeyspace → Type 0) → ((k : LivingKeyspace) → Lives living k.id → k.id < 2 ^ 64 → P k) → All (λ k. k.id < 2 ^ 64) living → AllByRecursion P living
+each_living living P to small = recursion_from_All P living (λ i d lt.
+    let at = get_or-map (λ (k : LivingKeyspace). k.id) living i d 0 lt in
+    to _ (Removals.contains_map (λ (k : LivingKeyspace). k.id) living i d lt) (small i d lt))
+
+module _ (t : Tree) (are : AreKeyspaces t.keyspaces) where
+  small_ids : All (λ k. k.id < 2 ^ 64) t.keyspaces.living
+  small_ids i d lt = let below = are.given i d lt in omega (arith, below, are.fits)
+
+  -- an id that lives isn't tree 0's
+  living_some : (id : ℕ) → Lives t.keyspaces.living id → id ≢ 0
+  living_some id lives none =
+      let some : All (λ n. 0 < n) (map (λ (k : LivingKeyspace). k.id) t.keyspaces.living) = All-map (λ (n : ℕ). 0 < n) (λ (k : LivingKeyspace). k.id) t.keyspaces.living are.ids in
+      let more : 0 < id = All-contains (λ (n : ℕ). 0 < n) (map (λ (k : LivingKeyspace). k.id) t.keyspaces.living) id some lives in
+      omega (arith, more, none)
+
+  module _ (small : IfSome t.last.table (λ table. table.id < 2 ^ 64)) where
+    -- a table that is unnamed
+    table_spare : (name : Name) → IsUnnamedTable (named_in t) t.keyspaces.living name → IsSpare t name
+    table_spare name un = subst (IsSpare t) (sym un.name_is) (record {
+      catalog = record {
+        keyspaces_folder = λ e. let no : [] ≡ keyspace_folder un.id = inside (codes "keyspaces") e in cc;
+        folder = λ e. folders 0 (omega arith) e;
+        current = λ e. Apart.not_current un.id 0 un.table un.table_fits e;
+        table = named_apart t.last.table refl small;
+      };
+      homes = each_living t.keyspaces.living (AtHome (λ q. q ≢ table_name un.id un.table)) (λ k lives fits. (folders k.id fits, λ e. Apart.not_current un.id k.id un.table un.table_fits e)) small_ids;
+      strays = λ q in_all stray e. Apart.not_all un.id (sym in_all ∙ inside q e);
+    })
+      where
+        inside : (q : Name) → q ≡ table_name un.id un.table → folder_of q ≡ keyspace_folder un.id
+        inside q e = ap (λ (n : Name). folder_of n) e ∙ Apart.in_folder un.id un.table un.table_fits
+
+        folders : (id : ℕ) → id < 2 ^ 64 → keyspace_folder id ≢ table_name un.id un.table
+        folders id fits e = Apart.not_all un.id (sym (in_keyspaces id fits) ∙ inside (keyspace_folder id) e)
+
+        named_apart : (table : Option TableInfo) → t.last.table ≡ table → IfSome table (λ i. i.id < 2 ^ 64) → IfSome table (λ i. table_name 0 i.id ≢ table_name un.id un.table)
+        named_apart None is fits = tt
+        named_apart (Some i) is fits = λ e.
+            let same = Apart.same_table un.id un.table i.id un.id_fits un.table_fits fits e in
+            ⊎_elim (λ (tree : (un.id ≡ 0) × (named_in t ≢ Some un.table)). tree.1 (ap (λ o. option_map (λ (i : TableInfo). i.id) o) is ∙ ap (λ (n : ℕ). Some n) same.1))
+            (λ lives. living_some un.id lives same.0) un.unnamed
+
+    module _ (home : UnnamedHome) (un : IsUnnamedHome t.keyspaces.living home) where
+      other_id : (id : ℕ) → Lives t.keyspaces.living id → id ≢ un.id
+      other_id id lives e = un.dead (subst (Lives t.keyspaces.living) e lives)
+
+      table_of : (P : Name → Type 0) (table : Option TableInfo) → IfSome table (λ i. i.id < 2 ^ 64) → ((n : ℕ) → n < 2 ^ 64 → P (table_name 0 n)) → IfSome table (λ i. P (table_name 0 i.id))
+      table_of P None fits to = tt
+      table_of P (Some i) fits to = to i.id fits
+
+      -- its folder
+      folder_spare : IsSpare t (string_bytes home.folder)
+      folder_spare = subst (IsSpare t) (sym un.folder_is) (record {
+        catalog = record {
+          keyspaces_folder = Apart.not_all un.id;
+          folder = λ e. un.some (sym (Apart.folders_apart 0 un.id (omega arith) un.fits e));
+          current = λ e. currents 0 (omega arith) e;
+          table = table_of (λ q. q ≢ keyspace_folder un.id) t.last.table small (λ n fits e. Apart.not_all 0 (sym (in_keyspaces un.id un.fits) ∙ ap (λ (n : Name). folder_of n) (sym e) ∙ Apart.in_folder 0 n fits));
+        };
+        homes = each_living t.keyspaces.living (AtHome (λ q. q ≢ keyspace_folder un.id)) (λ k lives fits. (λ e. other_id k.id lives (Apart.folders_apart k.id un.id fits un.fits e), currents k.id fits)) small_ids;
+        strays = λ q in_all stray e. stray un.id (un.fits, e);
+      })
+        where
+          currents : (id : ℕ) → id < 2 ^ 64 → current_name id ≢ keyspace_folder un.id
+          currents id fits e = Apart.not_all id (sym (in_keyspaces un.id un.fits) ∙ ap (λ (n : Name). folder_of n) (sym e) ∙ folder_of-home id)
+
+      -- what is in it
+      inner_spare : (file : Name) → folder_of file ≡ keyspace_folder un.id → IsSpare t file
+      inner_spare file inside = record {
+        catalog = record {
+          keyspaces_folder = λ e. let no : [] ≡ keyspace_folder un.id = at (codes "keyspaces") e in cc;
+          folder = λ e. Apart.not_all un.id (sym (in_keyspaces 0 (omega arith)) ∙ at (keyspace_folder 0) e);
+          current = λ e. un.some (sym (Apart.folders_apart 0 un.id (omega arith) un.fits (sym folder_of-current ∙ at (current_name 0) e)));
+          table = table_of (λ q. q ≢ file) t.last.table small (λ n fits e. un.some (sym (Apart.folders_apart 0 un.id (omega arith) un.fits (sym (Apart.in_folder 0 n fits) ∙ at (table_name 0 n) e))));
+        };
+        homes = each_living t.keyspaces.living (AtHome (λ q. q ≢ file)) (λ k lives fits. (
+          (λ e. Apart.not_all un.id (sym (in_keyspaces k.id fits) ∙ at (keyspace_folder k.id) e)),
+          (λ e. other_id k.id lives (Apart.folders_apart k.id un.id fits un.fits (sym (folder_of-home k.id) ∙ at (current_name k.id) e))),
+        )) small_ids;
+        strays = λ q in_all stray e. Apart.not_all un.id (sym in_all ∙ at q e);
+      }
+        where
+          at : (q : Name) → q ≡ file → folder_of q ≡ keyspace_folder un.id
+          at q e = ap (λ (n : Name). folder_of n) e ∙ inside
+
+-- ---- all that a plan has
+
+flat_all : (P : Name → Type 0) (homes : List UnnamedHome) → AllByRecursion (λ home. AllByRecursion P (home_names home)) homes → AllByRecursion P (flat_map home_names homes)
+flat_all P [] all = tt
+flat_all P (home ∷ homes) all = subst (AllByRecursion P) (sym (flat_map-cons home_names home homes)) (Removals.all_both P (home_names home) (flat_map home_names homes) all.0 (flat_all P homes all.1))
+
+pub planned_all : (P : Name → Type 0) (plan : Sweep) → All (λ table. P (string_bytes table)) plan.tables.items → All (λ home. P (string_bytes home.folder) × All (λ file. P (string_bytes file)) home.files.items) plan.homes.items → All P (planned plan)
+planned_all P plan tables homes =
+    All-append P (map string_bytes plan.tables.items) (flat_map home_names plan.homes.items) (All-map P string_bytes plan.tables.items tables)
+    (All-from_recursion P (flat_map home_names plan.homes.items) (flat_all P plan.homes.items (recursion_from_All (λ (home : UnnamedHome). AllByRecursion P (home_names home)) plan.homes.items (λ i d lt.
+    let both = homes i d lt in
+    Removals.all_both P _ _ (recursion_from_All P _ (All-map P string_bytes _ both.1)) (both.0, tt)))))
+
+inner_within : (id : ℕ) (file : Name) → folder_of file ≡ keyspace_folder id → is_under (codes "keyspaces") file ≡ true
+inner_within id file inside = under_within id file (in_folder (keyspace_folder id) file (λ none. cc) inside)
+
+-- its names are in `keyspaces`
+pub planned_within : (named : Option ℕ) (living : List LivingKeyspace) (plan : Sweep) → IsPlan named living plan → All (λ name. is_under (codes "keyspaces") name ≡ true) (planned plan)
+planned_within named living plan is = planned_all (λ name. is_under (codes "keyspaces") name ≡ true) plan
+    (λ i d lt. let un = is.tables i d lt in subst (λ (n : Name). is_under (codes "keyspaces") n ≡ true) (sym un.name_is) (Apart.table_within un.id un.table))
+    (λ i d lt. let un = is.homes i d lt in (
+      subst (λ (n : Name). is_under (codes "keyspaces") n ≡ true) (sym un.folder_is) (Apart.home_within un.id),
+      λ j e less. inner_within un.id (string_bytes (get_or (get_or plan.homes.items i d).files.items j e)) (un.inside j e less),
+    ))
+
+module _ (state : State) (records : List Fields) (t : Tree) (rests : RestsInTree state records t) where
+  small_table : IfSome t.last.table (λ table. table.id < 2 ^ 64)
+  small_table = table_id t.last (last_record state records t.last t.keyspaces rests.catalog)
+
+  -- keyspaces that rest don't rest on any of them
+  pub planned_spare : (plan : Sweep) → IsPlan (named_in t) t.keyspaces.living plan → All (IsSpare t) (planned plan)
+  planned_spare plan is = planned_all (IsSpare t) plan
+      (λ i d lt. table_spare t rests.catalog.are small_table _ (is.tables i d lt))
+      (λ i d lt. let un = is.homes i d lt in (
+        folder_spare t rests.catalog.are small_table _ un,
+        λ j e less. inner_spare t rests.catalog.are small_table _ un _ (un.inside j e less),
+      ))
+
+  pub spare_run : (plan : Sweep) (old new : Meaning) → IsPlan (named_in t) t.keyspaces.living plan → Removes (Contains (planned plan)) old new → Removes (IsSpare t) old new
+  spare_run plan old new is run = Removals.weaker (Contains (planned plan)) (IsSpare t) old new (λ name has. All-contains (IsSpare t) (planned plan) name (planned_spare plan is) has) run
+
+pub within_run : (named : Option ℕ) (living : List LivingKeyspace) (plan : Sweep) (old new : Meaning) → IsPlan named living plan → Removes (Contains (planned plan)) old new → Within (codes "keyspaces") old new
+within_run named living plan old new is run =
+    Removals.within (Contains (planned plan)) (codes "keyspaces") old new (λ name has. All-contains (λ n. is_under (codes "keyspaces") n ≡ true) (planned plan) name (planned_within named living plan is) has) run
+
+-- ---- the ids that are free
+
+missing_or_not : (entry : Entry) → (entry ≡ Missing) ⊎ (entry ≢ Missing)
+missing_or_not Missing = inl refl
+missing_or_not (File synced unsynced) = inr (λ e. let no : File synced unsynced ≡ Missing = e in cc)
+missing_or_not Folder = inr (λ e. let no : Folder ≡ Missing = e in cc)
+
+-- the table that is named has an id below the next one
+named_below : (t : Tree) (id : ℕ) → IfSome t.last.table (λ i. i.id < t.last.next_table_id) → named_in t ≡ Some id → id < t.last.next_table_id
+named_below t id below named = of t.last.table below named
+  where
+    of : (table : Option TableInfo) → IfSome table (λ i. i.id < t.last.next_table_id) → option_map (λ (i : TableInfo). i.id) table ≡ Some id → id < t.last.next_table_id
+    of None below named = let no : None ≡ Some id = named in cc
+    of (Some i) below named = let same : i.id ≡ id = cc in subst (λ (n : ℕ). n < t.last.next_table_id) same below
+
+pub tables_free : (old new : Meaning) (records : List Fields) (t : Tree) (plan : Sweep) → RestsInTree (state_in old) records t → FindsTables (state_in old) (named_in t) (map string_bytes plan.tables.items)
+    → Removes (Contains (planned plan)) old new → AreGone (state_in new) (planned plan) → IsFree (state_in new) t.last.next_table_id
+tables_free old new records t plan rests finds run gone id least small = elim (missing_or_not (state_in old (table_name 0 id)).now) [
+  | inl none ↦ Removals.stays_missing (Contains (planned plan)) old new (table_name 0 id) run none
+  | inr some ↦ ⊎_elim
+      (λ named. let below = named_below t id (given t.last (last_record (state_in old) records t.last t.keyspaces rests.catalog)) named in absurd (omega (arith, least, below)))
+      (λ has. All-contains (λ (n : Name). (state_in new n).now ≡ Missing) (planned plan) (table_name 0 id) (All-from_recursion (λ (n : Name). (state_in new n).now ≡ Missing) (planned plan) gone)
+      (Contains-append_left (map string_bytes plan.tables.items) (flat_map home_names plan.homes.items) (table_name 0 id) has))
+      (finds id small some)
+]
+
+pub swept : (old new : Meaning) (records : List Fields) (t : Tree) (plan : Sweep) (r : Result Unit Error) → RestsInTree (state_in old) records t → FindsTables (state_in old) (named_in t) (map string_bytes plan.tables.items)
+    → IsPlan (named_in t) t.keyspaces.living plan → Removes (Contains (planned plan)) old new → OnOk r (AreGone (state_in new) (planned plan)) → OnOk r (LiesInTree (state_in new) records t)
+swept old new records t plan (Ok done) rests finds is run gone = record {
+  rests = spared records t old new (spare_run (state_in old) records t rests plan old new is run) rests;
+  free = tables_free old new records t plan rests finds run gone;
+}
+swept old new records t plan (Err e) rests finds is run gone = tt
+
+-- ---- what is left
+
+module _ (old new : State) (named : Option ℕ) (living : List LivingKeyspace) (ids : List ℕ) (plan : Sweep) (finds : FindsAll old named living ids plan) (are : AreFolderIds (standing old) ids) (gone : AreGone new (planned plan)) where
+  at_planned : (name : Name) → Contains (planned plan) name → (new name).now ≡ Missing
+  at_planned name has = All-contains (λ (n : Name). (new n).now ≡ Missing) (planned plan) name (All-from_recursion (λ (n : Name). (new n).now ≡ Missing) (planned plan) gone) has
+
+  found : (id : ℕ) → id < 2 ^ 64 → id ≢ 0 → (Lives living id → ⊥) → (old (keyspace_folder id)).now ≡ Folder → Any (IsHomeFound old id) plan.homes.items
+  found id fits some dead stands = finds.homes id ((are.each id).1 (fits, stands)) some dead
+
+  -- a name of a home that is planned
+  home_name : (id : ℕ) (some : Any (IsHomeFound old id) plan.homes.items) (name : Name) → Contains (home_names some.1) name → (new name).now ≡ Missing
+  home_name id (k, home, lt, at, is) name has =
+      at_planned name (Contains-append_right (map string_bytes plan.tables.items) (flat_map home_names plan.homes.items) name (Removals.within_all home_names plan.homes.items k home home (sym at) lt name has))
+
+  pub is_swept : IsSwept old new living
+  is_swept = record {
+    homes = λ id fits some dead stands.
+        let home = found id fits some dead stands in
+        home_name id home (keyspace_folder id) (subst (λ (n : Name). Contains (home_names home.1) n) home.4.folder_is (Contains-push (map string_bytes home.1.files.items) (string_bytes home.1.folder)));
+    files = λ id name fits some dead stands inside there.
+        let home = found id fits some dead stands in
+        home_name id home name (Contains-append_left (map string_bytes home.1.files.items) (string_bytes home.1.folder ∷ []) name (home.4.whole name inside there));
+    tables = λ id n small lives there.
+        at_planned (table_name id n) (Contains-append_left (map string_bytes plan.tables.items) (flat_map home_names plan.homes.items) (table_name id n) (finds.tables_of id n lives small there));
+  }

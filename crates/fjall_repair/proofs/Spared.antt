@@ -1,0 +1,80 @@
+-- The names that keyspaces rest on, and names whose removal leaves them.
+use Rattle.std.proofs.Common.{◌≡◌, ◌≢◌, inl, inr, ℕ, List, [], ◌∷◌, codes, sym, ◌∙◌, subst}
+use Rattle.std.specs.List.{AllByRecursion}
+use Rattle.fjall_base.specs.Disk.{Name, Missing, State, Image, Meaning, Survives, LeavesBy, LeavesOnly, after, folder_of, put, state_in}
+use Rattle.fjall_base.proofs.States.{differs, put-other}
+use Rattle.fjall_regions.proofs.Parts.{in_region}
+use Rattle.fjall_tree.specs.Records.{Fields}
+use Rattle.fjall_recovery.specs.Names.{IsNameOf, keyspace_folder, current_name}
+use Rattle.fjall_keyspaces.specs.declared.living.LivingKeyspace.{LivingKeyspace}
+use Rattle.fjall_catalog.proofs.Resting.{At, rests_along}
+use Rattle.fjall_catalog.proofs.Runs.{at_more}
+use Rattle.fjall_places.specs.Halves.{HasTree, Tree, is_of_keyspaces}
+use Rattle.fjall_places.specs.Places.{HaveSafeHomes, IsNeverFolder, RestsInTree}
+use Rattle.fjall_places.proofs.Trees.{crashes_leave_the_tree}
+use Rattle.fjall_repair.specs.Sweeps.{Removes, removals}
+
+-- what holds at the folder and the records of a keyspace
+abbrev pub AtHome : (Name → Type 0) → LivingKeyspace → Type 0
+AtHome P k = P (keyspace_folder k.id) × P (current_name k.id)
+
+-- what holds at each name that keyspaces rest on
+pub record AtTree (t : Tree) (P : Name → Type 0) : Type 0 where
+  pub catalog : At t.last P
+  pub homes : AllByRecursion (AtHome P) t.keyspaces.living
+  pub strays : (name : Name) → folder_of name ≡ codes "keyspaces" → ((id : ℕ) → IsNameOf keyspace_folder name id → ⊥) → P name
+
+pub tree_more : (t : Tree) (P Q : Name → Type 0) → ((q : Name) → P q → Q q) → AtTree t P → AtTree t Q
+tree_more t P Q to at = record {
+  catalog = at_more t.last P Q to at.catalog;
+  homes = each t.keyspaces.living at.homes;
+  strays = λ name inside stray. to name (at.strays name inside stray);
+}
+  where
+    each : (living : List LivingKeyspace) → AllByRecursion (AtHome P) living → AllByRecursion (AtHome Q) living
+    each [] all = tt
+    each (k ∷ living) all = ((to _ all.0.0, to _ all.0.1), each living all.1)
+
+-- what stands at those names is all that matters
+homes_along : (old new : State) (living : List LivingKeyspace) (homes : List Fields) → AllByRecursion (AtHome (λ q. new q ≡ old q)) living → HaveSafeHomes old living homes → HaveSafeHomes new living homes
+homes_along old new [] [] at have = tt
+homes_along old new [] (last ∷ homes) at have = absurd have
+homes_along old new (k ∷ living) [] at have = absurd have
+homes_along old new (k ∷ living) (last ∷ homes) at have = (
+  record { folder = at.0.0 ∙ have.0.folder; text = have.0.text; current = at.0.1 ∙ have.0.current; last_is = have.0.last_is },
+  homes_along old new living homes at.1 have.1,
+)
+
+pub tree_along : (old new : State) (records : List Fields) (t : Tree) → AtTree t (λ q. new q ≡ old q) → RestsInTree old records t → RestsInTree new records t
+tree_along old new records t at rests = record {
+  named = λ name inside stray. subst IsNeverFolder (sym (at.strays name inside stray)) (rests.named name inside stray);
+  catalog = rests_along old new records t.last t.keyspaces at.catalog rests.catalog;
+  made = rests.made;
+  homes = homes_along old new t.keyspaces.living t.homes at.homes rests.homes;
+}
+
+-- keyspaces don't rest on this name
+abbrev pub IsSpare : Tree → Name → Type 0
+IsSpare t name = AtTree t (λ q. q ≢ name)
+
+one_spared : (state : State) (records : List Fields) (t : Tree) (name : Name) → IsSpare t name → RestsInTree state records t → RestsInTree (put state name Missing) records t
+one_spared state records t name spare rests =
+    tree_along state (put state name Missing) records t (tree_more t (λ q. q ≢ name) (λ q. put state name Missing q ≡ state q) (λ q other. put-other state name Missing q (differs q name other)) spare) rests
+
+all_spared : (state : State) (records : List Fields) (t : Tree) (names : List Name) → AllByRecursion (IsSpare t) names → RestsInTree state records t → RestsInTree (after state (removals names)) records t
+all_spared state records t [] spare rests = rests
+all_spared state records t (name ∷ names) spare rests = all_spared (put state name Missing) records t names spare.1 (one_spared state records t name spare.0 rests)
+
+pub moments : (state : State) (records : List Fields) (t : Tree) (names : List Name) (image : Image) → AllByRecursion (IsSpare t) names → RestsInTree state records t → LeavesBy Survives state (removals names) image → HasTree image t
+moments state records t [] image spare rests left = crashes_leave_the_tree state image records t rests (in_region is_of_keyspaces state image left)
+moments state records t (name ∷ names) image spare rests (inl now) = crashes_leave_the_tree state image records t rests (in_region is_of_keyspaces state image now)
+moments state records t (name ∷ names) image spare rests (inr later) = moments (put state name Missing) records t names image spare.1 (one_spared state records t name spare.0 rests) later
+
+module _ (records : List Fields) (t : Tree) (old new : Meaning) (run : Removes (IsSpare t) old new) (rests : RestsInTree (state_in old) records t) where
+  -- the keyspaces rest as before
+  pub spared : RestsInTree (state_in new) records t
+  spared = subst (λ (state : State). RestsInTree state records t) (sym run.took.state) (all_spared (state_in old) records t run.names run.each rests)
+
+  -- and at each moment they are left
+  pub spared_run : LeavesOnly old new (λ image. HasTree image t)
+  spared_run = record { added = removals run.names; took = run.took; each = λ image left. moments (state_in old) records t run.names image run.each rests left }

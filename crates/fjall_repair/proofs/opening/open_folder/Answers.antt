@@ -1,0 +1,116 @@
+use Rattle.std.proofs.Common.{None, Some, Option, sym, subst}
+use Rattle.std.specs.Prelude.{IfOk}
+use Rattle.std.proofs.lemmas.Result.{err_from_is_err_and}
+use Rattle.fjall_base.specs.Disk.{Image, LeavesOnly, Meaning, State, standing, state_in}
+use Rattle.fjall_base.proofs.Moments.{stays}
+use Rattle.fjall_opening.specs.Folders.{Contents, IsFinished, ReadsFolder, StandsFor}
+use Rattle.fjall_places.specs.Held.{Holds, store_held}
+use Rattle.fjall_beginning.specs.Making.{ComesBackUnfinished}
+use Rattle.fjall_repair.specs.Opened.{ComesBack, Opens}
+use Rattle.fjall_repair.proofs.Openings.{finished_is, held_up, holds_on, opened_from, run_on, stands_now, swept_on, unfinished_is, unopened}
+use Rattle.fjall_repair.proofs.opening.open_folder.Goals as goal
+
+pub returns-in_err-found-clause-any_moment : goal.returns-in_err-found-clause-any_moment
+returns-in_err-found-clause-any_moment g c honest folder holds back =
+    let m : _ → Meaning = g.D.Disk.meaning in
+    stays (m c.args.disk.now) (m c.args.disk.now) (m c.read_folder.new.disk) _ (stands_now (m c.args.disk.now) folder holds) (c.in_err-found.ensures.same honest)
+
+pub returns-in_err-found-clause-due : goal.returns-in_err-found-clause-due
+returns-in_err-found-clause-due g c honest =
+    let m : _ → Meaning = g.D.Disk.meaning in
+    let p = err_from_is_err_and c.from_residual.result c.from_residual.ensures.1 in
+    rw (p.1, p.2) (unopened (m c.args.disk.now) (m c.read_folder.new.disk) c.in_err-found.field-0.0 (c.in_err-found.ensures.cause honest) (c.in_err-found.ensures.same honest))
+
+pub returns-in-Some-clause-opened : goal.returns-in-Some-clause-opened
+returns-in-Some-clause-opened g c honest folder holds =
+    let m : _ → Meaning = g.D.Disk.meaning in
+    let image : Image = standing (state_in (m c.args.disk.now)) in
+    let read : ReadsFolder image (Some c.in-Some.found) = subst (ReadsFolder image) c.in-Some.is (c.in_ok-found.ensures.found honest) in
+    let same = c.in_ok-found.ensures.same honest in
+    let is = finished_is image read.1.0 folder read.1.1 holds.now in
+    subst (λ (f : Option Contents). IfOk c.open_finished.result (Opens (state_in (m c.open_finished.new.disk)) f)) (sym is)
+    (c.open_finished.ensures.opened honest read.1.0 (subst (λ (s : State). IsFinished (standing s) c.in-Some.found) (sym same.state) read.0) read.1.2
+    (holds_on (m c.args.disk.now) (m c.read_folder.new.disk) same (Some read.1.0) (subst (λ (f : Option Contents). Holds (state_in (m c.args.disk.now)) f) is holds)))
+
+pub returns-in-Some-clause-found : goal.returns-in-Some-clause-found
+returns-in-Some-clause-found g c honest =
+    let m : _ → Meaning = g.D.Disk.meaning in
+    let image : Image = standing (state_in (m c.args.disk.now)) in
+    let read : ReadsFolder image (Some c.in-Some.found) = subst (ReadsFolder image) c.in-Some.is (c.in_ok-found.ensures.found honest) in
+    let same = c.in_ok-found.ensures.same honest in
+    opened_from image (Some read.1.0) c.open_finished.result read.1.1 (c.open_finished.ensures.store read.1.0 read.1.2)
+    (c.open_finished.ensures.number honest read.1.0 (subst (λ (s : State). IsFinished (standing s) c.in-Some.found) (sym same.state) read.0) read.1.2)
+
+pub returns-in-Some-clause-any_moment : goal.returns-in-Some-clause-any_moment
+returns-in-Some-clause-any_moment g c honest folder holds back =
+    let m : _ → Meaning = g.D.Disk.meaning in
+    let image : Image = standing (state_in (m c.args.disk.now)) in
+    let read : ReadsFolder image (Some c.in-Some.found) = subst (ReadsFolder image) c.in-Some.is (c.in_ok-found.ensures.found honest) in
+    let same = c.in_ok-found.ensures.same honest in
+    let is = finished_is image read.1.0 folder read.1.1 holds.now in
+    subst (λ (f : Option Contents). LeavesOnly (m c.args.disk.now) (m c.open_finished.new.disk) (λ image. StandsFor image (store_held f))) (sym is)
+    (run_on (m c.args.disk.now) (m c.read_folder.new.disk) same (m c.open_finished.new.disk) _
+    (c.open_finished.ensures.any_moment honest read.1.0 (subst (λ (s : State). IsFinished (standing s) c.in-Some.found) (sym same.state) read.0) read.1.2
+    (holds_on (m c.args.disk.now) (m c.read_folder.new.disk) same (Some read.1.0) (subst (λ (f : Option Contents). Holds (state_in (m c.args.disk.now)) f) is holds))))
+
+pub returns-in-Some-clause-due : goal.returns-in-Some-clause-due
+returns-in-Some-clause-due g c honest =
+    let m : _ → Meaning = g.D.Disk.meaning in
+    let image : Image = standing (state_in (m c.args.disk.now)) in
+    let read : ReadsFolder image (Some c.in-Some.found) = subst (ReadsFolder image) c.in-Some.is (c.in_ok-found.ensures.found honest) in
+    let same = c.in_ok-found.ensures.same honest in
+    held_up (m c.args.disk.now) (m c.read_folder.new.disk) (m c.open_finished.new.disk) c.open_finished.result same
+    (c.open_finished.ensures.due honest read.1.0 (subst (λ (s : State). IsFinished (standing s) c.in-Some.found) (sym same.state) read.0) read.1.2)
+
+pub returns-in-None-clause-opened : goal.returns-in-None-clause-opened
+returns-in-None-clause-opened g c honest folder holds =
+    let m : _ → Meaning = g.D.Disk.meaning in
+    let image : Image = standing (state_in (m c.args.disk.now)) in
+    let read : ReadsFolder image None = subst (ReadsFolder image) c.in-None.is (c.in_ok-found.ensures.found honest) in
+    let same = c.in_ok-found.ensures.same honest in
+    let is = unfinished_is image folder read holds.now in
+    subst (λ (f : Option Contents). IfOk c.open_unfinished.result (Opens (state_in (m c.open_unfinished.new.disk)) f)) (sym is)
+    (c.open_unfinished.ensures.opened honest (holds_on (m c.args.disk.now) (m c.read_folder.new.disk) same None (subst (λ (f : Option Contents). Holds (state_in (m c.args.disk.now)) f) is holds)))
+
+pub returns-in-None-clause-found : goal.returns-in-None-clause-found
+returns-in-None-clause-found g c honest =
+    let m : _ → Meaning = g.D.Disk.meaning in
+    let image : Image = standing (state_in (m c.args.disk.now)) in
+    let read : ReadsFolder image None = subst (ReadsFolder image) c.in-None.is (c.in_ok-found.ensures.found honest) in
+    opened_from image None c.open_unfinished.result read c.open_unfinished.ensures.store c.open_unfinished.ensures.number
+
+pub returns-in-None-clause-any_moment : goal.returns-in-None-clause-any_moment
+returns-in-None-clause-any_moment g c honest folder holds back =
+    let m : _ → Meaning = g.D.Disk.meaning in
+    let image : Image = standing (state_in (m c.args.disk.now)) in
+    let read : ReadsFolder image None = subst (ReadsFolder image) c.in-None.is (c.in_ok-found.ensures.found honest) in
+    let same = c.in_ok-found.ensures.same honest in
+    let is = unfinished_is image folder read holds.now in
+    let comes : ComesBackUnfinished (state_in (m c.args.disk.now)) = subst (λ (f : Option Contents). ComesBack (state_in (m c.args.disk.now)) f) is back in
+    subst (λ (f : Option Contents). LeavesOnly (m c.args.disk.now) (m c.open_unfinished.new.disk) (λ image. StandsFor image (store_held f))) (sym is)
+    (run_on (m c.args.disk.now) (m c.read_folder.new.disk) same (m c.open_unfinished.new.disk) _
+    (c.open_unfinished.ensures.any_moment honest (holds_on (m c.args.disk.now) (m c.read_folder.new.disk) same None (subst (λ (f : Option Contents). Holds (state_in (m c.args.disk.now)) f) is holds))
+    (subst (λ (s : State). ComesBackUnfinished s) (sym same.state) comes)))
+
+pub returns-in-None-clause-due : goal.returns-in-None-clause-due
+returns-in-None-clause-due g c honest =
+    let m : _ → Meaning = g.D.Disk.meaning in
+    let image : Image = standing (state_in (m c.args.disk.now)) in
+    let read : ReadsFolder image None = subst (ReadsFolder image) c.in-None.is (c.in_ok-found.ensures.found honest) in
+    let same = c.in_ok-found.ensures.same honest in
+    held_up (m c.args.disk.now) (m c.read_folder.new.disk) (m c.open_unfinished.new.disk) c.open_unfinished.result same
+    (c.open_unfinished.ensures.due honest (subst (λ (s : State). ReadsFolder (standing s) None) (sym same.state) read))
+
+pub returns-in-Some-clause-swept : goal.returns-in-Some-clause-swept
+returns-in-Some-clause-swept g c honest =
+    let m : _ → Meaning = g.D.Disk.meaning in
+    let image : Image = standing (state_in (m c.args.disk.now)) in
+    let read : ReadsFolder image (Some c.in-Some.found) = subst (ReadsFolder image) c.in-Some.is (c.in_ok-found.ensures.found honest) in
+    let same = c.in_ok-found.ensures.same honest in
+    swept_on (state_in (m c.args.disk.now)) (state_in (m c.read_folder.new.disk)) (state_in (m c.open_finished.new.disk)) c.open_finished.result same.state
+    (c.open_finished.ensures.swept honest (subst (λ (s : State). IsFinished (standing s) c.in-Some.found) (sym same.state) read.0))
+
+pub returns-in-None-clause-swept : goal.returns-in-None-clause-swept
+returns-in-None-clause-swept g c honest =
+    let m : _ → Meaning = g.D.Disk.meaning in
+    swept_on (state_in (m c.args.disk.now)) (state_in (m c.read_folder.new.disk)) (state_in (m c.open_unfinished.new.disk)) c.open_unfinished.result (c.in_ok-found.ensures.same honest).state (c.open_unfinished.ensures.swept honest)

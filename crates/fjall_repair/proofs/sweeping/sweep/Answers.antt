@@ -1,0 +1,59 @@
+use Rattle.std.proofs.Common.{OnOk, map, subst}
+use Rattle.std.specs.List.{Contains, flat_map}
+use Rattle.std.specs.Prelude.{string_bytes}
+use Rattle.fjall_base.specs.Disk.{Meaning, state_in}
+use Rattle.fjall_repair.specs.Sweeps.{AreGone, Removes, home_names}
+use Rattle.fjall_repair.proofs.Planned.{spare_run, swept, within_run}
+use Rattle.fjall_repair.proofs.Removals as Removals
+use Rattle.fjall_repair.proofs.Spared.{spared, spared_run}
+use Rattle.fjall_repair.proofs.sweeping.sweep.Goals as goal
+
+pub returns-in_err-remove_all-clause-removes : goal.returns-in_err-remove_all-clause-removes
+returns-in_err-remove_all-clause-removes g c honest =
+    let m : _ → Meaning = g.D.Disk.meaning in
+    let plan = c.args.plan.now in
+    Removals.removes_first (map string_bytes plan.tables.items) (flat_map home_names plan.homes.items) (m c.args.disk.now) (m c.remove_all.new.disk) (m c.remove_all.new.disk)
+    (subst (λ l. Removes (Contains (map string_bytes l)) (m c.args.disk.now) (m c.remove_all.new.disk)) c.deref.ensures.value (c.in_err-remove_all.ensures.removes honest))
+
+pub returns-in_err-remove_all-clause-within : goal.returns-in_err-remove_all-clause-within
+returns-in_err-remove_all-clause-within g c honest t is = within_run _ _ c.args.plan.now _ _ is (returns-in_err-remove_all-clause-removes g c honest)
+
+pub returns-in_err-remove_all-clause-any_moment : goal.returns-in_err-remove_all-clause-any_moment
+returns-in_err-remove_all-clause-any_moment g c honest records t is rests =
+    spared_run records t _ _ (spare_run _ records t rests c.args.plan.now _ _ is (returns-in_err-remove_all-clause-removes g c honest)) rests
+
+pub returns-in_err-remove_all-clause-rests : goal.returns-in_err-remove_all-clause-rests
+returns-in_err-remove_all-clause-rests g c honest records t is rests =
+    spared records t _ _ (spare_run _ records t rests c.args.plan.now _ _ is (returns-in_err-remove_all-clause-removes g c honest)) rests
+
+pub returns-clause-removes : goal.returns-clause-removes
+returns-clause-removes g c honest =
+    let m : _ → Meaning = g.D.Disk.meaning in
+    let plan = c.args.plan.now in
+    Removals.removes_both (map string_bytes plan.tables.items) (flat_map home_names plan.homes.items) (m c.args.disk.now) (m c.remove_all.new.disk) (m c.remove_homes.new.disk)
+    (subst (λ l. Removes (Contains (map string_bytes l)) (m c.args.disk.now) (m c.remove_all.new.disk)) c.deref.ensures.value (c.in_ok-remove_all.ensures.removes honest))
+    (subst (λ l. Removes (Contains (flat_map home_names l)) (m c.remove_all.new.disk) (m c.remove_homes.new.disk)) c.deref-2.ensures.value (c.remove_homes.ensures.removes honest))
+
+pub returns-clause-gone : goal.returns-clause-gone
+returns-clause-gone g c honest =
+    let m : _ → Meaning = g.D.Disk.meaning in
+    let plan = c.args.plan.now in
+    Removals.gone_both (map string_bytes plan.tables.items) (flat_map home_names plan.homes.items) (m c.args.disk.now) (m c.remove_all.new.disk) (m c.remove_homes.new.disk) c.remove_homes.result
+    (subst (λ l. AreGone (state_in (m c.remove_all.new.disk)) (map string_bytes l)) c.deref.ensures.value (c.in_ok-remove_all.ensures.gone honest))
+    (subst (λ l. Removes (Contains (flat_map home_names l)) (m c.remove_all.new.disk) (m c.remove_homes.new.disk)) c.deref-2.ensures.value (c.remove_homes.ensures.removes honest))
+    (subst (λ l. OnOk c.remove_homes.result (AreGone (state_in (m c.remove_homes.new.disk)) (flat_map home_names l))) c.deref-2.ensures.value (c.remove_homes.ensures.gone honest))
+
+pub returns-clause-within : goal.returns-clause-within
+returns-clause-within g c honest t is = within_run _ _ c.args.plan.now _ _ is (returns-clause-removes g c honest)
+
+pub returns-clause-any_moment : goal.returns-clause-any_moment
+returns-clause-any_moment g c honest records t is rests =
+    spared_run records t _ _ (spare_run _ records t rests c.args.plan.now _ _ is (returns-clause-removes g c honest)) rests
+
+pub returns-clause-rests : goal.returns-clause-rests
+returns-clause-rests g c honest records t is rests =
+    spared records t _ _ (spare_run _ records t rests c.args.plan.now _ _ is (returns-clause-removes g c honest)) rests
+
+pub returns-clause-ok : goal.returns-clause-ok
+returns-clause-ok g c honest records t is rests finds =
+    swept _ _ records t c.args.plan.now c.remove_homes.result rests finds is (returns-clause-removes g c honest) (returns-clause-gone g c honest)

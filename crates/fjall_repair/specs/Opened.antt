@@ -1,0 +1,88 @@
+-- A database that was opened.
+use Rattle.std.specs.Prelude.{◌≡◌, ℕ, ◌<◌, ◌^◌, IfSome, List, [], ◌∷◌, length, map, Option, None, Some}
+use Rattle.fjall_base.specs.Disk.{Image, Meaning, State, Took, standing, state_in}
+use Rattle.fjall_base.specs.declared.error.Error.{Error}
+use Rattle.fjall_base.specs.declared.error.Error.TheVariants.{Io, OutOfMemory}
+use Rattle.fjall_journal.specs.Batches.{shown, view}
+use Rattle.fjall_tree.specs.Records.{Fields}
+use Rattle.fjall_tree.specs.Records as records
+use Rattle.fjall_keyspaces.specs.Keyspaces.{no_keyspaces}
+use Rattle.fjall_catalog.specs.Catalog.{fields, first_catalog}
+use Rattle.fjall_versions.specs.Replays.{store_in}
+use Rattle.fjall_opening.specs.declared.folder.Finished.{Finished}
+use Rattle.fjall_opening.specs.Folders.{Contents, number_of, store_of}
+use Rattle.fjall_opening.specs.Journals.{batches_in}
+use Rattle.fjall_opening.specs.Refusals.{FolderRefuses, IsDue}
+use Rattle.fjall_places.specs.Halves.{Tree}
+use Rattle.fjall_places.specs.Held.{IsFolder, number_held, store_held}
+use Rattle.fjall_places.specs.Places.{Journaling, LiesInRoot, LiesInTree, contents_with, journals_with, texts_of}
+use Rattle.fjall_beginning.specs.Making.{ComesBackUnfinished}
+use Rattle.fjall_repair.specs.declared.opening.Opened.{Opened}
+
+-- ---- what was opened
+
+-- The database lies on the disk, all of it synced, and is what was opened; it stands for the store that the folder stood for.
+pub record Opens (state : State) (folder : Option Contents) (o : Opened) : Type 0 where
+  pub j : Journaling
+  pub records : List Fields
+  pub t : Tree
+  pub root : LiesInRoot state j
+  pub tree : LiesInTree state records t
+  pub later : j.later ≡ []
+  pub active : j.active ≡ o.active
+  pub end : length (texts_of j.whole) ≡ o.end
+  pub last : t.last ≡ o.catalog
+  pub keyspaces : t.keyspaces ≡ o.keyspaces
+  pub batches : map view o.batches.items ≡ map shown (batches_in (journals_with j []))
+  pub store : store_of (contents_with j t []) ≡ store_held folder
+  pub number : o.number ≡ number_of (contents_with j t [])
+  pub same : o.number ≡ number_held folder
+
+-- what was opened is what the image holds: its store, and one past the greatest number in it
+abbrev pub IsOpenedFrom : Image → Opened → Type 0
+IsOpenedFrom image o = (folder : Option Contents) × IsFolder image folder × (store_in o.keyspaces (map view o.batches.items) ≡ store_held folder) × (o.number ≡ number_held folder)
+
+-- Where a folder's making was cut short, whatever may come back in folders that are made anew is such a folder too.
+abbrev pub ComesBack : State → Option Contents → Type 0
+ComesBack state None = ComesBackUnfinished state
+ComesBack state (Some contents) = Unit {0}
+
+-- ---- the repair
+
+-- these contents lie on the disk, all of them synced, and this is the id of the active journal and where it ends
+pub record IsRepaired (state : State) (contents : Contents) (active end : ℕ) : Type 0 where
+  pub j : Journaling
+  pub records : List Fields
+  pub root : LiesInRoot state j
+  pub tree : LiesInTree state records (record { last = contents.last; keyspaces = contents.keyspaces; homes = contents.homes })
+  pub later : j.later ≡ []
+  pub active_is : j.active ≡ active
+  pub end_is : length (texts_of j.whole) ≡ end
+  pub batches : batches_in (journals_with j []) ≡ batches_in contents.journals
+
+-- a database without keyspaces, that nothing was written into
+abbrev pub nothing : Contents
+nothing = record { journals = []; keyspaces = no_keyspaces; last = first_catalog; homes = [] }
+
+-- ---- numbers
+
+-- the numbers of a record end before the greatest
+abbrev pub HasNumbers : Fields → Type 0
+HasNumbers r = IfSome r.persisted (λ n. n < 2 ^ 63) × IfSome r.highest (λ n. n < 2 ^ 63)
+
+-- the last records of tree 0 and of each keyspace, as they were read
+abbrev pub records_of : Finished → List Fields
+records_of f = fields f.catalog.catalog ∷ map (λ h. records.view h.record) f.homes.items
+
+-- ---- why it isn't opened
+
+-- the disk failed, or memory ran out before anything was changed
+abbrev pub IsHeldUp : Meaning → Meaning → Error → Type 0
+IsHeldUp old new (Io kind) = Unit {0}
+IsHeldUp old new OutOfMemory = Took old new []
+IsHeldUp old new error = ⊥
+
+-- the disk failed, or memory ran out or the folder is refused, before anything was changed
+abbrev pub IsUnopened : Meaning → Meaning → Error → Type 0
+IsUnopened old new (Io kind) = Unit {0}
+IsUnopened old new error = IsDue (FolderRefuses (standing (state_in old))) error × Took old new []

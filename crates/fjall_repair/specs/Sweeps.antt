@@ -1,0 +1,102 @@
+-- What no record names, and what its removal leaves.
+use Rattle.std.specs.Prelude.{◌≡◌, ◌≢◌, ◌⊎◌, ℕ, ◌<◌, ◌^◌, List, [], ◌∷◌, ◌++◌, map, All, Any, Contains, Option, Some, string_bytes}
+use Rattle.std.specs.List.{flat_map, AllByRecursion}
+use Rattle.std.specs.Option.{option_map}
+use Rattle.fjall_base.specs.Disk.{Name, Missing, Folder, State, Step, Put, Meaning, Took, folder_of}
+use Rattle.fjall_recovery.specs.Names.{keyspace_folder, table_name}
+use Rattle.fjall_keyspaces.specs.declared.living.LivingKeyspace.{LivingKeyspace}
+use Rattle.fjall_places.specs.Halves.{Tree}
+use Rattle.fjall_repair.specs.declared.plan.Sweep.{Sweep}
+use Rattle.fjall_repair.specs.declared.plan.UnnamedHome.{UnnamedHome}
+
+-- ---- what is named
+
+-- the keyspace of this id lives
+abbrev pub Lives : List LivingKeyspace → ℕ → Type 0
+Lives living id = Contains (map (λ k. k.id) living) id
+
+-- the id of the table that tree 0's last record names
+abbrev pub named_in : Tree → Option ℕ
+named_in t = option_map (λ table. table.id) t.last.table
+
+-- ---- what is not
+
+-- A table's name that no record has: in tree 0's folder another than the one that is named, and any in the folder of a
+-- keyspace that lives, since no record names a table there.
+pub record IsUnnamedTable (named : Option ℕ) (living : List LivingKeyspace) (name : Name) : Type 0 where
+  pub id : ℕ
+  pub table : ℕ
+  pub id_fits : id < 2 ^ 64
+  pub table_fits : table < 2 ^ 64
+  pub name_is : name ≡ table_name id table
+  pub unnamed : ((id ≡ 0) × (named ≢ Some table)) ⊎ Lives living id
+
+-- The folder of a keyspace that doesn't live, and names that are right in it.
+pub record IsUnnamedHome (living : List LivingKeyspace) (home : UnnamedHome) : Type 0 where
+  pub id : ℕ
+  pub fits : id < 2 ^ 64
+  pub some : id ≢ 0
+  pub dead : Lives living id → ⊥
+  pub folder_is : string_bytes home.folder ≡ keyspace_folder id
+  pub inside : All (λ file. folder_of (string_bytes file) ≡ keyspace_folder id) home.files.items
+
+-- a plan of what no record names, where tree 0's names this table and these keyspaces live
+pub record IsPlan (named : Option ℕ) (living : List LivingKeyspace) (plan : Sweep) : Type 0 where
+  pub tables : All (λ table. IsUnnamedTable named living (string_bytes table)) plan.tables.items
+  pub homes : All (IsUnnamedHome living) plan.homes.items
+
+-- ---- all of it
+
+-- each table that stands in tree 0's folder is the one that is named, or has one of these names
+abbrev pub FindsTables : State → Option ℕ → List Name → Type 0
+FindsTables state named names = (n : ℕ) → n < 2 ^ 64 → (state (table_name 0 n)).now ≢ Missing → (named ≡ Some n) ⊎ Contains names (table_name 0 n)
+
+-- each table that stands in the folder of one of these keyspaces has one of these names
+abbrev pub FindsTablesOf : State → List LivingKeyspace → List Name → Type 0
+FindsTablesOf state living names = (id n : ℕ) → Lives living id → n < 2 ^ 64 → (state (table_name id n)).now ≢ Missing → Contains names (table_name id n)
+
+-- the folder of this id, and the names of all that stands in it
+pub record IsHomeFound (state : State) (id : ℕ) (home : UnnamedHome) : Type 0 where
+  pub folder_is : string_bytes home.folder ≡ keyspace_folder id
+  pub whole : (name : Name) → folder_of name ≡ keyspace_folder id → (state name).now ≢ Missing → Contains (map string_bytes home.files.items) name
+
+-- each folder of these ids is one of these homes, unless it is tree 0's or its keyspace lives
+abbrev pub FindsHomes : State → List LivingKeyspace → List ℕ → List UnnamedHome → Type 0
+FindsHomes state living ids homes = (id : ℕ) → Contains ids id → id ≢ 0 → (Lives living id → ⊥) → Any (IsHomeFound state id) homes
+
+-- the plan has all that no record names, of what stands in the folders of the keyspaces that live and in those of these ids
+pub record FindsAll (state : State) (named : Option ℕ) (living : List LivingKeyspace) (ids : List ℕ) (plan : Sweep) : Type 0 where
+  pub tables : FindsTables state named (map string_bytes plan.tables.items)
+  pub tables_of : FindsTablesOf state living (map string_bytes plan.tables.items)
+  pub homes : FindsHomes state living ids plan.homes.items
+
+-- ---- its removal
+
+-- the names of a home: what is in it, and its own
+abbrev pub home_names : UnnamedHome → List Name
+home_names home = map string_bytes home.files.items ++ string_bytes home.folder ∷ []
+
+-- all names that are to be removed, in order
+abbrev pub planned : Sweep → List Name
+planned plan = map string_bytes plan.tables.items ++ flat_map home_names plan.homes.items
+
+-- the steps that remove these names
+abbrev pub removals : List Name → List Step
+removals names = map (λ name. Put name Missing) names
+
+-- the disk went on by removals of names that are so, and by nothing else
+pub record Removes (P : Name → Type 0) (old new : Meaning) : Type 0 where
+  pub names : List Name
+  pub took : Took old new (removals names)
+  pub each : AllByRecursion P names
+
+-- nothing stands at any of these names
+abbrev pub AreGone : State → List Name → Type 0
+AreGone state names = AllByRecursion (λ name. (state name).now ≡ Missing) names
+
+-- Of what stood in `keyspaces` nothing is left that no record names: no folder of a keyspace that doesn't live, nothing in
+-- such a folder, and no table in the folder of a keyspace that lives.
+pub record IsSwept (old new : State) (living : List LivingKeyspace) : Type 0 where
+  pub homes : (id : ℕ) → id < 2 ^ 64 → id ≢ 0 → (Lives living id → ⊥) → (old (keyspace_folder id)).now ≡ Folder → (new (keyspace_folder id)).now ≡ Missing
+  pub files : (id : ℕ) (name : Name) → id < 2 ^ 64 → id ≢ 0 → (Lives living id → ⊥) → (old (keyspace_folder id)).now ≡ Folder → folder_of name ≡ keyspace_folder id → (old name).now ≢ Missing → (new name).now ≡ Missing
+  pub tables : (id n : ℕ) → n < 2 ^ 64 → Lives living id → (old (table_name id n)).now ≢ Missing → (new (table_name id n)).now ≡ Missing

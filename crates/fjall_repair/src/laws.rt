@@ -1,0 +1,12 @@
+//! What holds of a folder that is to be opened.
+
+ghost use Rattle.std.specs.Prelude.{◌≡◌, [], Option};
+ghost use Rattle.fjall_base.specs.Disk.{Name, State, standing};
+ghost use Rattle.fjall_opening.specs.Folders.{Contents};
+ghost use Rattle.fjall_places.specs.Held.{IsFolder};
+ghost use Rattle.fjall_repair.specs.Opened.{ComesBack};
+
+/// Where a crash brings nothing back, as on a disk that a crash left, nothing comes back but what stands.
+pub fn settled_folders_come_back()
+    ensures { (state : State) (folder : Option Contents) → ((name : Name) → (state name).older ≡ []) → IsFolder (standing state) folder → ComesBack state folder }
+{}

@@ -1,0 +1,47 @@
+//! The numbers of changes that a folder tells: all that come later are greater.
+
+ghost use Rattle.std.specs.Prelude.{◌≡◌, ◌<◌, ◌^◌, All, IfErr, IfSome, OnOk, max};
+ghost use Rattle.fjall_base.specs.declared.error.Error.TheVariants.{Storage};
+ghost use Rattle.fjall_base.specs.declared.error.StorageError.TheVariants.{TableDamaged};
+ghost use Rattle.fjall_opening.specs.Folders.{past, past_records};
+ghost use Rattle.fjall_repair.specs.Opened.{HasNumbers, records_of};
+
+use fjall_base::{Error, Result, StorageError};
+use fjall_keyspaces::LivingKeyspace;
+use fjall_opening::Finished;
+
+/// One past the number, and 0 where there is none.
+fn past(number: Option<u64>) -> u64
+    ensures { IfSome number (λ n. n < 2 ^ 63) → result ≡ past number }
+{
+    match number {
+        Some(number) => number.saturating_add(1),
+        None => 0,
+    }
+}
+
+/// One past the greatest number that a folder tells: of its batches, and of its last records.
+pub(crate) fn number_of(found: &Finished) -> u64
+    ensures { All HasNumbers (records_of found.now) → result ≡ max found.now.journals.least (past_records (records_of found.now)) }
+{
+    let catalog = &found.catalog.catalog;
+    let tree = past(catalog.persisted).max(past(catalog.highest));
+    let mut number = found.journals.least.max(tree);
+    for home in &found.homes {
+        let record = &home.record;
+        number = number.max(past(record.persisted)).max(past(record.highest));
+    }
+    number
+}
+
+/// Refuses keyspaces of which one was made under this number or a greater one.
+pub(crate) fn check_made(living: &[LivingKeyspace], number: u64) -> Result<()>
+    ensures ok { OnOk result (All (λ k. k.number < number) living.now) }
+    ensures cause { IfErr result (λ e. (e ≡ Storage TableDamaged) × (All (λ k. k.number < number) living.now → ⊥)) }
+{
+    if living.iter().all(|keyspace| keyspace.number < number) {
+        Ok(())
+    } else {
+        Err(Error::Storage(StorageError::TableDamaged))
+    }
+}

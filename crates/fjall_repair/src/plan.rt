@@ -1,0 +1,189 @@
+//! What no record names: found before anything is removed.
+
+ghost use Rattle.std.specs.List.{list_any};
+ghost use Rattle.std.specs.Prelude.{◌≡◌, ◌==◌, ◌↔◌, ◌⊎◌, ◌≢◌, ◌≤◌, ◌<◌, ◌^◌, ℕ, [], All, Contains, IfErr, IfOk, IsOkUnless, IsTrue, List, None, map, string_bytes};
+ghost use Rattle.fjall_base.specs.Disk.{Name, Took, folder_of, state_in};
+ghost use Rattle.fjall_opening.specs.Refusals.{HasRisen, IsDue};
+ghost use Rattle.fjall_recovery.specs.Names.{keyspace_folder as folder_at};
+ghost use Rattle.fjall_repair.specs.Listing.{AreTables, as_file, other_tables};
+ghost use Rattle.fjall_repair.specs.Sweeps.{FindsAll, FindsHomes, FindsTables, FindsTablesOf, IsHomeFound, IsPlan, IsUnnamedHome, IsUnnamedTable, Lives};
+
+use fjall_base::{DirEntry, Disk, Error, Result};
+use fjall_keyspaces::LivingKeyspace;
+use fjall_recovery::{keyspace_folder, table_name, tables};
+use std::alloc::Global;
+
+/// The folder of a keyspace that doesn't live.
+#[derive(Debug, Drop)]
+pub struct UnnamedHome {
+    /// Its name, as `keyspaces/7`.
+    pub folder: String,
+    /// The names of all that stands in it, as `keyspaces/7/current`.
+    pub files: Vec<String>,
+}
+
+/// What no record names, and is to be removed.
+#[derive(Debug, Drop)]
+pub struct Sweep {
+    /// The names of tables, as `keyspaces/0/3.table`.
+    pub tables: Vec<String>,
+    /// The folders of keyspaces that don't live.
+    pub homes: Vec<UnnamedHome>,
+}
+
+/// The names of the tables of these ids in the folder of a keyspace, but that of the one that is named.
+fn other_names(alloc: Global, id: u64, named: Option<u64>, ids: &[u64]) -> Result<Vec<String>>
+    ensures names { IfOk result (λ names. map string_bytes names.items ≡ other_tables id named ids.now) }
+    ensures only { IsOkUnless result Error.OutOfMemory }
+{
+    let mut names = Vec::new(alloc);
+    for table in ids {
+        if Some(*table) != named {
+            names.push(table_name(alloc, id, *table)?)?;
+        }
+    }
+    Ok(names)
+}
+
+/// The same entries, each told as a file: a folder that has a table's name counts as a table.
+fn as_files(alloc: Global, listed: Vec<DirEntry>) -> Result<Vec<DirEntry>>
+    ensures files { IfOk result (λ files. files.items ≡ map as_file listed.items) }
+    ensures only { IsOkUnless result Error.OutOfMemory }
+{
+    let files = listed.into_iter().map(|entry| DirEntry {
+        name: entry.name,
+        is_folder: false,
+    });
+    Ok(files.collect(alloc)?)
+}
+
+/// The names of these entries.
+fn names_of(alloc: Global, listed: Vec<DirEntry>) -> Result<Vec<String>>
+    ensures names { IfOk result (λ names. names.items ≡ map (λ entry. entry.name) listed.items) }
+    ensures only { IsOkUnless result Error.OutOfMemory }
+{
+    let names = listed.into_iter().map(|entry| entry.name);
+    Ok(names.collect(alloc)?)
+}
+
+/// The names of the tables that stand in the folder of this id, but that of the one that is named.
+fn list_tables<D: Disk>(
+    alloc: Global,
+    disk: &mut D,
+    id: u64,
+    named: Option<u64>,
+) -> Result<Vec<String>>
+    ensures found { IsTrue D.honest → IfOk result (λ names. AreTables (state_in (D.meaning disk.old)) id named (map string_bytes names.items)) }
+    ensures fits { id < 2 ^ 64 }
+    ensures same { IsTrue D.honest → Took (D.meaning disk.old) (D.meaning disk.new) [] }
+    ensures later { (D.meaning disk.old).faults ≤ (D.meaning disk.new).faults }
+    ensures risen { IfErr result (HasRisen (D.meaning disk.old).faults (D.meaning disk.new).faults) }
+    ensures only { IfErr result (IsDue (λ error. ⊥)) }
+{
+    let folder = keyspace_folder(alloc, id)?;
+    let listed = disk.list(alloc, folder.as_str())?;
+    let files = as_files(alloc, listed)?;
+    let ids = tables(alloc, id, &files)?;
+    other_names(alloc, id, named, &ids)
+}
+
+/// The names of the tables that no record names: in tree 0's folder, and in those of the keyspaces that live.
+fn list_all_tables<D: Disk>(
+    alloc: Global,
+    disk: &mut D,
+    named: Option<u64>,
+    living: &[LivingKeyspace],
+) -> Result<Vec<String>>
+    ensures unnamed { IsTrue D.honest → IfOk result (λ names. All (λ name. IsUnnamedTable named living.now (string_bytes name)) names.items) }
+    ensures tree { IsTrue D.honest → IfOk result (λ names. FindsTables (state_in (D.meaning disk.old)) named (map string_bytes names.items)) }
+    ensures others { IsTrue D.honest → IfOk result (λ names. FindsTablesOf (state_in (D.meaning disk.old)) living.now (map string_bytes names.items)) }
+    ensures same { IsTrue D.honest → Took (D.meaning disk.old) (D.meaning disk.new) [] }
+    ensures later { (D.meaning disk.old).faults ≤ (D.meaning disk.new).faults }
+    ensures risen { IfErr result (HasRisen (D.meaning disk.old).faults (D.meaning disk.new).faults) }
+    ensures only { IfErr result (IsDue (λ error. ⊥)) }
+{
+    let mut names = list_tables(alloc, disk, 0, named)?;
+    for keyspace in living {
+        let mut more = list_tables(alloc, disk, keyspace.id, None)?;
+        names.append(&mut more)?;
+    }
+    Ok(names)
+}
+
+/// Whether the keyspace of this id lives.
+fn lives(living: &[LivingKeyspace], id: u64) -> bool
+    ensures { result ≡ list_any (λ k. k.id == id) living.now }
+{
+    living.iter().any(|keyspace| keyspace.id == id)
+}
+
+/// Whether the folder of this id is tree 0's, or that of a keyspace that lives.
+fn is_named(living: &[LivingKeyspace], id: u64) -> bool
+    ensures { IsTrue result ↔ ((id ≡ 0) ⊎ Lives living.now id) }
+{
+    id == 0 || lives(living, id)
+}
+
+/// The folder of this id, with the names of all that stands in it.
+fn list_home<D: Disk>(alloc: Global, disk: &mut D, id: u64) -> Result<UnnamedHome>
+    ensures found { IsTrue D.honest → IfOk result (IsHomeFound (state_in (D.meaning disk.old)) id) }
+    ensures fits { id < 2 ^ 64 }
+    ensures inside { IsTrue D.honest → IfOk result (λ home. All (λ file. folder_of (string_bytes file) ≡ folder_at id) home.files.items) }
+    ensures same { IsTrue D.honest → Took (D.meaning disk.old) (D.meaning disk.new) [] }
+    ensures later { (D.meaning disk.old).faults ≤ (D.meaning disk.new).faults }
+    ensures risen { IfErr result (HasRisen (D.meaning disk.old).faults (D.meaning disk.new).faults) }
+    ensures only { IfErr result (IsDue (λ error. ⊥)) }
+{
+    let folder = keyspace_folder(alloc, id)?;
+    let listed = disk.list(alloc, folder.as_str())?;
+    let files = names_of(alloc, listed)?;
+    Ok(UnnamedHome { folder, files })
+}
+
+/// The folders of these ids but tree 0's and those of the keyspaces that live.
+fn list_homes<D: Disk>(
+    alloc: Global,
+    disk: &mut D,
+    living: &[LivingKeyspace],
+    ids: &[u64],
+) -> Result<Vec<UnnamedHome>>
+    ensures unnamed { IsTrue D.honest → IfOk result (λ homes. All (IsUnnamedHome living.now) homes.items) }
+    ensures found { IsTrue D.honest → IfOk result (λ homes. FindsHomes (state_in (D.meaning disk.old)) living.now ids.now homes.items) }
+    ensures same { IsTrue D.honest → Took (D.meaning disk.old) (D.meaning disk.new) [] }
+    ensures later { (D.meaning disk.old).faults ≤ (D.meaning disk.new).faults }
+    ensures risen { IfErr result (HasRisen (D.meaning disk.old).faults (D.meaning disk.new).faults) }
+    ensures only { IfErr result (IsDue (λ error. ⊥)) }
+{
+    let mut homes = Vec::new(alloc);
+    for id in ids {
+        if !is_named(living, *id) {
+            homes.push(list_home(alloc, disk, *id)?)?;
+        }
+    }
+    Ok(homes)
+}
+
+/// What no record names, of what stands in `keyspaces`: the tables in tree 0's folder but the named one, the tables in
+/// the folders of the keyspaces that live, whose records name none, and of the folders with these ids those of keyspaces
+/// that don't live. A folder that has a table's name counts as one, and so does one within such a folder, though neither
+/// can be removed like a file.
+///
+/// Nothing of the disk changes. `OutOfMemory` and `Io` come as ever.
+pub fn plan_sweep<D: Disk>(
+    alloc: Global,
+    disk: &mut D,
+    named_table: Option<u64>,
+    living: &[LivingKeyspace],
+    folder_ids: &[u64],
+) -> Result<Sweep>
+    ensures right { IsTrue D.honest → IfOk result (IsPlan named_table living.now) }
+    ensures whole { IsTrue D.honest → IfOk result (FindsAll (state_in (D.meaning disk.old)) named_table living.now folder_ids.now) }
+    ensures same { IsTrue D.honest → Took (D.meaning disk.old) (D.meaning disk.new) [] }
+    ensures later { (D.meaning disk.old).faults ≤ (D.meaning disk.new).faults }
+    ensures risen { IfErr result (HasRisen (D.meaning disk.old).faults (D.meaning disk.new).faults) }
+    ensures only { IfErr result (IsDue (λ error. ⊥)) }
+{
+    let tables = list_all_tables(alloc, disk, named_table, living)?;
+    let homes = list_homes(alloc, disk, living, folder_ids)?;
+    Ok(Sweep { tables, homes })
+}

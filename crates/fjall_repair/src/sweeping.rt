@@ -1,0 +1,71 @@
+//! What no record names, removed: what is named stays as it was.
+
+ghost use Rattle.std.specs.Prelude.{◌≡◌, ◌∷◌, ◌++◌, List, IsTrue, OnOk, codes, map, string_bytes};
+ghost use Rattle.std.specs.List.{flat_map, Contains};
+ghost use Rattle.fjall_base.specs.Disk.{LeavesOnly, OnlyFaults, state_in};
+ghost use Rattle.fjall_places.specs.Halves.{HasTree, Tree};
+ghost use Rattle.fjall_places.specs.Places.{LiesInTree, RestsInTree};
+ghost use Rattle.fjall_regions.specs.Regions.{Within};
+ghost use Rattle.fjall_repair.specs.Sweeps.{AreGone, FindsTables, IsPlan, Removes, home_names, named_in, planned};
+ghost use Rattle.fjall_tree.specs.Records.{Fields};
+
+use crate::plan::{Sweep, UnnamedHome};
+use fjall_base::{Disk, Result};
+
+/// Removes files, one after another, where they are there.
+fn remove_all<D: Disk>(disk: &mut D, names: &[String]) -> Result<()>
+    ensures removes { IsTrue D.honest → Removes (Contains (map string_bytes names.now)) (D.meaning disk.old) (D.meaning disk.new) }
+    ensures gone { IsTrue D.honest → OnOk result (AreGone (state_in (D.meaning disk.new)) (map string_bytes names.now)) }
+    ensures cause { OnlyFaults (D.meaning disk.old) (D.meaning disk.new) result }
+{
+    for name in names {
+        disk.remove(name.as_str())?;
+    }
+    Ok(())
+}
+
+/// Removes what is in a folder, and then the folder.
+fn remove_unnamed<D: Disk>(disk: &mut D, home: &UnnamedHome) -> Result<()>
+    ensures removes { IsTrue D.honest → Removes (Contains (home_names home.now)) (D.meaning disk.old) (D.meaning disk.new) }
+    ensures gone { IsTrue D.honest → OnOk result (AreGone (state_in (D.meaning disk.new)) (home_names home.now)) }
+    ensures cause { OnlyFaults (D.meaning disk.old) (D.meaning disk.new) result }
+{
+    remove_all(disk, &home.files)?;
+    disk.remove_folder(home.folder.as_str())
+}
+
+/// Removes folders with what is in them, one after another.
+fn remove_homes<D: Disk>(disk: &mut D, homes: &[UnnamedHome]) -> Result<()>
+    ensures removes { IsTrue D.honest → Removes (Contains (flat_map home_names homes.now)) (D.meaning disk.old) (D.meaning disk.new) }
+    ensures gone { IsTrue D.honest → OnOk result (AreGone (state_in (D.meaning disk.new)) (flat_map home_names homes.now)) }
+    ensures cause { OnlyFaults (D.meaning disk.old) (D.meaning disk.new) result }
+{
+    for home in homes {
+        remove_unnamed(disk, home)?;
+    }
+    Ok(())
+}
+
+/// Removes all that a plan has: its tables, and then each home's files and the home. No sync is owed: what a crash brings
+/// back is named by nothing.
+///
+/// A folder that has a table's name, or stands within a home, is a fault of the disk. What a call that fails has removed
+/// was named by nothing either.
+pub fn sweep<D: Disk>(disk: &mut D, plan: &Sweep) -> Result<()>
+    // Names of the plan are removed and nothing else is done, and after a success none of them is left.
+    ensures removes { IsTrue D.honest → Removes (Contains (planned plan.now)) (D.meaning disk.old) (D.meaning disk.new) }
+    ensures gone { IsTrue D.honest → OnOk result (AreGone (state_in (D.meaning disk.new)) (planned plan.now)) }
+    ensures within { IsTrue D.honest → (t : Tree) → IsPlan (named_in t) t.keyspaces.living plan.now → Within (codes "keyspaces") (D.meaning disk.old) (D.meaning disk.new) }
+    // A crash at any moment of the call leaves what the records name.
+    ensures any_moment { IsTrue D.honest → (records : List Fields) (t : Tree) → IsPlan (named_in t) t.keyspaces.living plan.now → RestsInTree (state_in (D.meaning disk.old)) records t
+        → LeavesOnly (D.meaning disk.old) (D.meaning disk.new) (λ image. HasTree image t) }
+    // It rests as before, also where the call fails.
+    ensures rests { IsTrue D.honest → (records : List Fields) (t : Tree) → IsPlan (named_in t) t.keyspaces.living plan.now → RestsInTree (state_in (D.meaning disk.old)) records t
+        → RestsInTree (state_in (D.meaning disk.new)) records t }
+    ensures ok { IsTrue D.honest → (records : List Fields) (t : Tree) → IsPlan (named_in t) t.keyspaces.living plan.now → RestsInTree (state_in (D.meaning disk.old)) records t
+        → FindsTables (state_in (D.meaning disk.old)) (named_in t) (map string_bytes plan.now.tables.items) → OnOk result (LiesInTree (state_in (D.meaning disk.new)) records t) }
+    ensures cause { OnlyFaults (D.meaning disk.old) (D.meaning disk.new) result }
+{
+    remove_all(disk, &plan.tables)?;
+    remove_homes(disk, &plan.homes)
+}
