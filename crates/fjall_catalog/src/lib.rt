@@ -5,8 +5,6 @@ mod catalog;
 mod laws;
 mod reading;
 mod table;
-#[cfg(test)]
-mod tests;
 mod update;
 mod writing;
 

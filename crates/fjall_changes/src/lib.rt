@@ -5,8 +5,6 @@ mod change;
 mod creation;
 mod deletion;
 mod removal;
-#[cfg(test)]
-mod tests;
 
 pub use creation::{Creation, create_home, prepare_creation};
 pub use deletion::delete_home;

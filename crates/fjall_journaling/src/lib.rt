@@ -3,8 +3,6 @@
 
 mod journaling;
 mod laws;
-#[cfg(test)]
-mod tests;
 
 pub use journaling::{hand_over, write_through};
 pub use laws::{

@@ -7,8 +7,6 @@ mod homes;
 mod journals;
 mod laws;
 mod listing;
-#[cfg(test)]
-mod tests;
 mod unfinished;
 
 pub use folder::{Finished, read_folder};

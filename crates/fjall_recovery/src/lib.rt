@@ -6,8 +6,6 @@ mod lists;
 mod marker;
 mod names;
 mod number;
-#[cfg(test)]
-mod tests;
 
 pub use laws::{
     journal_names_differ, kept_names_differ, keyspace_folders_differ, table_names_differ,

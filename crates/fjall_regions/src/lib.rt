@@ -3,8 +3,6 @@
 
 mod home;
 mod laws;
-#[cfg(test)]
-mod tests;
 mod trim;
 
 pub use home::{append_synced, make_file, make_home, put_file, remove_home};

@@ -1,7 +1,10 @@
 //! Worked rows, and each call that allocates on its happy path.
 
-use super::*;
 use fjall_base::{DirEntry, Error, FormatVersion, JournalRecoveryError, Result};
+use fjall_recovery::{
+    Marker, current_name, journal_name, journals, keyspace_folder, keyspaces, parse_file_header,
+    parse_journal_name, read_marker, table_name, tables, version_of, write_file_header,
+};
 use std::alloc::Global;
 use std::process::Abort;
 use std::test::*;

@@ -1,7 +1,10 @@
 //! Changes of the catalog on a disk in memory.
 
-use crate::*;
 use fjall_base::{Disk, Error, MemoryDisk, Result, Slice, StorageError};
+use fjall_catalog::{
+    Catalog, Found, Update, commit, first_record, first_record_of, prepare, read_catalog,
+    remove_old, write_table,
+};
 use fjall_keyspaces::MetaKeyspace;
 use fjall_meta::KeyspaceCreateOptions;
 use fjall_regions::make_file;

@@ -1,8 +1,10 @@
 //! Keyspaces made, deleted and removed on a disk in memory.
 
-use crate::*;
 use fjall_base::{Disk, Error, MemoryDisk, Result, Slice};
 use fjall_catalog::{Catalog, Found, Update, first_record, prepare, read_catalog};
+use fjall_changes::{
+    Creation, create_home, delete_home, prepare_creation, prepare_removal, remove_keyspace,
+};
 use fjall_keyspaces::MetaKeyspace;
 use fjall_meta::KeyspaceCreateOptions;
 use fjall_regions::make_file;

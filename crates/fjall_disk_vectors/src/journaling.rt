@@ -1,8 +1,8 @@
 //! The bytes of a journal that batches were written to, on a disk in memory.
 
-use crate::{hand_over, write_through};
 use fjall_base::{Disk, MemoryDisk};
 use fjall_journal::{PersistMode, ValueType, Writer};
+use fjall_journaling::{hand_over, write_through};
 use std::test::Fail;
 
 const NAME: &str = "0.jnl";

@@ -1,12 +1,12 @@
 //! Folders on a disk in memory, sound and faulty.
 
-use crate::{Finished, read_folder};
 use fjall_base::{
     Disk, Error, FormatVersion, JournalRecoveryError, MemoryDisk, Result, Slice, StorageError,
 };
 use fjall_catalog::{commit, first_record, first_record_of, prepare, read_catalog, write_table};
 use fjall_journal::{PersistMode, ValueType, Writer};
 use fjall_meta::KeyspaceCreateOptions;
+use fjall_opening::{Finished, read_folder};
 use fjall_regions::{make_file, make_home};
 use std::alloc::Global;
 use std::test::Fail;

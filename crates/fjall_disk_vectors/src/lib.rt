@@ -1,0 +1,15 @@
+//! Folders on a disk in memory: read, changed, damaged, and cut short at each call.
+#![tactic(auto)]
+
+#[cfg(test)]
+mod catalog;
+#[cfg(test)]
+mod changes;
+#[cfg(test)]
+mod journaling;
+#[cfg(test)]
+mod opening;
+#[cfg(test)]
+mod recovery;
+#[cfg(test)]
+mod regions;
