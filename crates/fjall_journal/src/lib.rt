@@ -25,6 +25,3 @@ pub use parsing::checksum;
 pub use persist_mode::PersistMode;
 pub use recovery_mode::RecoveryMode;
 pub use writer::{JOURNAL_BUFFER_BYTES, Writer};
-
-#[cfg(test)]
-mod tests;

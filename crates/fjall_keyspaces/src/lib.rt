@@ -8,8 +8,6 @@ mod living;
 mod meta_keyspace;
 mod name;
 mod reading;
-#[cfg(test)]
-mod tests;
 
 pub use entry::MetaEntry;
 pub use laws::one_list_of_keyspaces;

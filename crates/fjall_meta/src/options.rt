@@ -10,8 +10,6 @@ mod leveled;
 mod option_value;
 mod policy;
 mod stored_option;
-#[cfg(test)]
-mod tests;
 
 pub use config::{DecodeConfig, EncodeConfig};
 pub use config_key::{encode_config_key, encode_name_key};

@@ -8,9 +8,6 @@ use fjall_base::{Error, Result};
 use std::alloc::Global;
 use std::marker::Model;
 
-#[cfg(test)]
-mod tests;
-
 /// The number of a write, or an instant: a view at an instant shows the writes numbered below it.
 pub type SeqNo = u64;
 

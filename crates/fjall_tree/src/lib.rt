@@ -19,14 +19,8 @@ mod lookup;
 mod open_block;
 mod record;
 mod table;
-#[cfg(test)]
-mod table_tests;
 mod table_writer;
-#[cfg(test)]
-mod tests;
 mod version;
-#[cfg(test)]
-mod writer_tests;
 
 pub use block::{BLOCK_BYTES, read_block};
 pub use current::{Current, read_current};

@@ -6,8 +6,6 @@ mod marks;
 mod oracle;
 mod outcome;
 mod read;
-#[cfg(test)]
-mod tests;
 mod writes;
 
 pub use laws::{

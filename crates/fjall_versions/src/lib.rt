@@ -17,6 +17,3 @@ pub use pages::{KeyRange, page};
 pub use recovery::replay;
 pub use sound::check_batches;
 pub use version::{Version, newest_value};
-
-#[cfg(test)]
-mod tests;

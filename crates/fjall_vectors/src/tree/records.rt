@@ -1,7 +1,8 @@
 //! Worked rows of the formats, and damaged inputs.
 
-use super::*;
+use super::checksum;
 use fjall_base::{Error, Result, StorageError};
+use fjall_tree::{BLOCK_BYTES, Level, Record, TableInfo, Version, read_block, read_current};
 use std::alloc::Global;
 use std::process::Abort;
 use std::test::*;
@@ -139,7 +140,7 @@ fn with_byte(alloc: Global, at: usize, byte: u8) -> Result<Vec<u8>> {
     if let Some(other) = text.get_mut(at) {
         *other = byte;
     }
-    let sum = check::checksum(&text);
+    let sum = checksum(&text);
     text.extend_from_slice(&sum)?;
     Ok(text)
 }
@@ -176,7 +177,7 @@ fn framed(alloc: Global, payload: &[u8]) -> Result<Vec<u8>> {
     let mut out = Vec::new(alloc);
     out.extend_from_slice(&(payload.len() as u64).to_le_bytes())?;
     out.extend_from_slice(payload)?;
-    let sum = check::checksum(&out);
+    let sum = checksum(&out);
     out.extend_from_slice(&sum)?;
     Ok(out)
 }

@@ -1,6 +1,6 @@
-//! Rows worked out by hand.
+//! Marks of transactions that meet or not, worked out by hand.
 
-use crate::{CommitOutcome, Conflict, ConflictManager, Oracle};
+use fjall_tx::{CommitOutcome, Conflict, ConflictManager, Oracle};
 use std::alloc::Global;
 use std::ops::Bound;
 use std::test::Fail;

@@ -1,10 +1,10 @@
 //! Worked rows of many keyspaces, and calls of each public function.
 
-use crate::{KeyRange, Version, check_batches, newest_value, page, replay};
 use fjall_base::{Error, Result, Slice};
 use fjall_journal::{Batch, ReadBatchItem, ValueType, read_journal};
 use fjall_keyspaces::MetaKeyspace;
 use fjall_meta::KeyspaceCreateOptions;
+use fjall_versions::{KeyRange, Version, check_batches, newest_value, page, replay};
 use std::alloc::Global;
 use std::ops::Bound;
 use std::test::Fail;

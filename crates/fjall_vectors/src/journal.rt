@@ -1,13 +1,16 @@
 //! Worked rows of the format, and calls of each public function.
 
-use super::*;
 use fjall_base::{CompressionType, Disk, Error, JournalRecoveryError, MemoryDisk, Result, Slice};
+use fjall_journal::{
+    Entry, JOURNAL_BUFFER_BYTES, JournalBatchReader, PersistMode, RecoveryMode, Tail, ValueType,
+    Writer, read_journal, serialize_marker_item,
+};
 use std::alloc::Global;
 use std::io::ErrorKind;
 use std::process::Abort;
 use std::test::*;
 
-// The journal of one insert of a=b into keyspace 1 under number 1. The check was computed apart from this crate.
+// The journal of one insert of a=b into keyspace 1 under number 1. The check was computed apart from this repository.
 const ONE: [u8; 49] = [
     1, 1, 0, 0, 0, 1, 0, 0, 0, 0, 0, 0, 0, 2, 0, 0, 1, 0, 0, 0, 0, 0, 0, 0, 1, 0, 1, 0, 0, 0, 1, 0,
     0, 0, 97, 98, 3, 18, 215, 64, 145, 131, 194, 0, 0, 70, 74, 76, 3,

@@ -1,7 +1,8 @@
 //! Tables built by hand, and damaged ones.
 
-use super::*;
+use super::checksum;
 use fjall_base::{Error, Result, StorageError};
+use fjall_tree::{FOOTER_LEN, Footer, Index, Level, Table, TableInfo, Version};
 use std::alloc::Global;
 use std::process::Abort;
 use std::test::*;
@@ -21,7 +22,7 @@ fn put_framed(out: &mut Vec<u8>, alloc: Global, payload: &[u8]) -> Result<()> {
 
 fn put_checked(out: &mut Vec<u8>, bytes: &[u8]) -> Result<()> {
     out.extend_from_slice(bytes)?;
-    out.extend_from_slice(&check::checksum(bytes))?;
+    out.extend_from_slice(&checksum(bytes))?;
     Ok(())
 }
 

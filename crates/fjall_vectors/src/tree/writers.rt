@@ -1,7 +1,8 @@
 //! Worked rows of the tables' format, as a writer makes them.
 
-use super::*;
+use super::checksum;
 use fjall_base::{Error, Result};
+use fjall_tree::{TableWriter, Version, put_frame, read_block};
 use std::alloc::Global;
 use std::process::Abort;
 use std::test::*;
@@ -58,11 +59,11 @@ fn one_entry_table(rt: HostRuntime) -> std::result::Result<(), Fail> {
     );
     assert_eq!(rt;
         part(&bytes, 60, 68),
-        check::checksum(part(&bytes, 33, 60)).as_slice()
+        checksum(part(&bytes, 33, 60)).as_slice()
     );
     assert_eq!(rt;
         part(&bytes, 96, 104),
-        check::checksum(part(&bytes, 68, 96)).as_slice()
+        checksum(part(&bytes, 68, 96)).as_slice()
     );
     Ok(())
 }

@@ -1,0 +1,15 @@
+//! Worked rows of the formats and of what stands in memory, and calls of each public function there.
+#![tactic(auto)]
+
+#[cfg(test)]
+mod journal;
+#[cfg(test)]
+mod keyspaces;
+#[cfg(test)]
+mod meta;
+#[cfg(test)]
+mod tree;
+#[cfg(test)]
+mod tx;
+#[cfg(test)]
+mod versions;
