@@ -1,8 +1,8 @@
 //! What an engine holds in memory: keyspaces that were made under lesser numbers than the next one, and versions
 //! of ids that were given out.
 
-ghost use Rattle.std.specs.Prelude.{◌≡◌, ◌≢◌, ◌<◌, ◌+◌, ◌-◌, ◌^◌, ◌++◌, ◌∷◌, [], List, All, None, is_some, true, false, length, map, IfOk, IfErr, OnOk, OnErr, IsOkUnless, IsPermutation, IsSorted};
-ghost use Rattle.std.specs.FinMap.{from_entries, len};
+ghost use Rattle.std.specs.Prelude.{◌≡◌, ◌≢◌, ◌<◌, ◌+◌, ◌-◌, ◌^◌, ◌++◌, ◌∷◌, [], ℕ, List, All, None, is_some, true, false, length, map, IfOk, IfErr, OnOk, OnErr, IsOkUnless, IsPermutation, IsSorted};
+ghost use Rattle.std.specs.FinMap.{empty, from_entries, len, values};
 ghost use Rattle.std.specs.Option.{option_copied};
 ghost use Rattle.fjall_base.specs.Pairs.{Bytes, byte_order, page, pairs_between};
 ghost use Rattle.fjall_keyspaces.specs.Keyspaces.{id_of, is_name};
@@ -150,6 +150,7 @@ impl Memory {
     /// The names of the keyspaces that live, in the order of their bytes. Refuses for want of memory alone.
     pub fn list_keyspace_names(&self, alloc: Global) -> Result<Vec<Slice>>
         ensures names { IfOk result (λ names. IsPermutation (map (λ k. k.name) self.now.keyspaces.living) names.items) }
+        ensures named { IfOk result (λ names. IsPermutation (values (store_of self.now.keyspaces self.now.versions).names) names.items) }
         ensures sorted { IfOk result (λ names. IsSorted byte_order names.items) }
         ensures only { IsOkUnless result Error.OutOfMemory }
     {

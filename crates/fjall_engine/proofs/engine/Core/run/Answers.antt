@@ -1,0 +1,74 @@
+use Rattle.std.proofs.Common.{rules, ◌≡◌, ◌≤◌, ◌<◌, ◌+◌, ◌∷◌, ◌++◌, [], length, length-append, take, vec_len, vec_capacity, refl, sym, ◌∙◌, ap, subst, arith}
+use Rattle.std.proofs.lemmas.List.{take_all}
+use Rattle.std.proofs.lemmas.Iterator.Adapters.{YieldsList-from_vec}
+use Rattle.std.proofs.lemmas.Iterator.Consumers.{YieldsList-end, YieldsList-turn}
+use Rattle.fjall_engine.specs.Standing.{OwesAll}
+use Rattle.fjall_engine.proofs.Owing.{owes_run, owed_more}
+use Rattle.fjall_engine.proofs.Running.{SoFar, none_yet, call_more, ends}
+use Rattle.fjall_engine.proofs.engine.Core.run.Goals as goal
+
+pub loop-call-init : goal.loop-call-init
+loop-call-init g c = record {
+  crash = λ _ s d stands on. subst (λ rs. SoFar c.args.self.now s d [] rs) (sym c.in_ok-replies.ensures.items) (none_yet c.args.self.now s d stands on);
+  owes = subst (λ rs. OwesAll c.args.self.now [] rs c.args.self.now) (sym c.in_ok-replies.ensures.items) refl;
+  count = search rules;
+  room = search rules;
+}
+
+pub loop-call-preserved : goal.loop-call-preserved
+loop-call-preserved g c =
+    let at = c.loop-call in
+    let calls = c.args.calls.items in
+    let call = c.in-Some.call in
+    let road = YieldsList-from_vec {s = c.into_iter-call-iterator.result} calls (search rules) (search rules) in
+    let turn = YieldsList-turn road at.yielded at.call-iterator at.yielded_by c.next.result c.next.new.self call c.in-Some.is c.next.ensures.steps in
+    let pushed : c.push.new.self.items ≡ at.replies.items ++ c.serve-reply.result ∷ [] = search rules in
+    let one_more : vec_len c.push.new.self ≡ vec_len at.replies + 1 = search rules in
+    let longer : length at.yielded + 1 ≡ length (at.yielded ++ call ∷ []) = sym (length-append at.yielded (call ∷ [])) in
+    record {
+      crash = λ honest s d stands on. subst (λ n. SoFar c.serve-reply.new.self s d (take n calls) c.push.new.self.items) longer
+          (call_more at.self c.serve-reply.new.self s d calls at.replies.items c.push.new.self.items (length at.yielded) call c.serve-reply.result turn.0 turn.1 pushed
+          (at.invariant.crash honest s d stands on) (c.serve-reply.ensures.serves honest));
+      owes = subst (λ n. OwesAll c.args.self.now (take n calls) c.push.new.self.items c.serve-reply.new.self) longer
+          (owed_more c.args.self.now at.self c.serve-reply.new.self calls at.replies.items c.push.new.self.items (length at.yielded) call c.serve-reply.result turn.0 turn.1 pushed
+          at.invariant.owes c.serve-reply.ensures.owes);
+      count = one_more ∙ ap (λ n. n + 1) at.invariant.count ∙ longer;
+      room = search rules;
+    }
+
+pub unwrap-requires : goal.unwrap-requires
+unwrap-requires g c =
+    let at = c.loop-call in
+    let road = YieldsList-from_vec {s = c.into_iter-call-iterator.result} c.args.calls.items (search rules) (search rules) in
+    let turn = YieldsList-turn road at.yielded at.call-iterator at.yielded_by c.next.result c.next.new.self c.in-Some.call c.in-Some.is c.next.ensures.steps in
+    let less : vec_len at.replies < vec_capacity at.replies = omega (arith, turn.0, at.invariant.count, at.invariant.room) in
+    search rules
+
+pub returns-clause-runs : goal.returns-clause-runs
+returns-clause-runs g c = λ _ s stands.
+    let at = c.loop-call in
+    let calls = c.args.calls.items in
+    let road = YieldsList-from_vec {s = c.into_iter-call-iterator.result} calls (search rules) (search rules) in
+    let end = YieldsList-end road at.yielded at.call-iterator at.yielded_by c.next.result c.next.new.self c.in-None.is c.next.ensures.steps in
+    let all : length calls ≤ length at.yielded = omega (arith, end.1) in
+    owes_run c.args.self.now at.self calls at.replies.items s
+    (subst (λ cs. OwesAll c.args.self.now cs at.replies.items at.self) (take_all (length at.yielded) calls all) at.invariant.owes) stands
+
+pub returns-clause-crash : goal.returns-clause-crash
+returns-clause-crash g c = λ honest s d stands on.
+    let at = c.loop-call in
+    let calls = c.args.calls.items in
+    let road = YieldsList-from_vec {s = c.into_iter-call-iterator.result} calls (search rules) (search rules) in
+    let end = YieldsList-end road at.yielded at.call-iterator at.yielded_by c.next.result c.next.new.self c.in-None.is c.next.ensures.steps in
+    let all : length calls ≤ length at.yielded = omega (arith, end.1) in
+    ends c.args.self.now at.self s d calls at.replies.items on
+    (subst (λ cs. SoFar at.self s d cs at.replies.items) (take_all (length at.yielded) calls all) (at.invariant.crash honest s d stands on))
+
+pub returns-clause-owes : goal.returns-clause-owes
+returns-clause-owes g c =
+    let at = c.loop-call in
+    let calls = c.args.calls.items in
+    let road = YieldsList-from_vec {s = c.into_iter-call-iterator.result} calls (search rules) (search rules) in
+    let end = YieldsList-end road at.yielded at.call-iterator at.yielded_by c.next.result c.next.new.self c.in-None.is c.next.ensures.steps in
+    let all : length calls ≤ length at.yielded = omega (arith, end.1) in
+    subst (λ cs. OwesAll c.args.self.now cs at.replies.items at.self) (take_all (length at.yielded) calls all) at.invariant.owes

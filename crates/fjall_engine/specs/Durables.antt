@@ -1,0 +1,63 @@
+-- What a crash leaves of the engine's commands.
+use Rattle.std.specs.Prelude.{◌≡◌, ◌⊎◌, Bool, true, false, List, [], ◌∷◌, ◌++◌, map}
+use Rattle.fjall_base.specs.Store.{Store, Command, fold, kept}
+use Rattle.fjall_base.specs.Disk.{Image, IsImage, Meaning, LeavesOnly, state_in}
+use Rattle.fjall_journal.specs.Batches.{shown}
+use Rattle.fjall_tree.specs.Records.{Fields}
+use Rattle.fjall_versions.specs.Replays.{journal_commands}
+use Rattle.fjall_opening.specs.Folders.{StandsFor, number_of, store_of}
+use Rattle.fjall_places.specs.Halves.{Tree}
+use Rattle.fjall_places.specs.Places.{Journaling, LiesInTree, contents_with}
+use Rattle.fjall_journaling.specs.Journaling.{IsWriting}
+use Rattle.fjall_engine.specs.Holding.{Held}
+
+-- What a reopening would know: the store that the synced bytes make, and the commands behind it.
+pub record Durable : Type 0 where
+  pub meaning : Meaning
+  pub base : Store
+  pub pending : List Command
+
+-- the second list begins with the first
+abbrev pub IsBeginning : List Command → List Command → Type 0
+IsBeginning front commands = (rest : List Command) × (front ++ rest ≡ commands)
+
+-- The image stands for the base and a beginning of all these commands, which has at least those.
+pub record StandsAmid (base : Store) (least all : List Command) (image : Image) : Type 0 where
+  pub front : List Command
+  pub holds : IsBeginning least front
+  pub within : IsBeginning front all
+  pub stands : StandsFor image (kept (fold base front))
+
+-- a crash now leaves the base with a beginning of what is pending
+abbrev pub Rests : Durable → Type 0
+Rests d = (image : Image) → IsImage (state_in d.meaning) image → StandsAmid d.base [] d.pending image
+
+-- From old to new, while these commands were tried: each crash since old leaves the base with a beginning of what was
+-- pending and what was tried, and some beginning of those is in the new base.
+pub record Passes (old : Durable) (tried : List Command) (new : Durable) : Type 0 where
+  pub leaves : LeavesOnly old.meaning new.meaning (StandsAmid old.base [] (old.pending ++ tried))
+  pub safe : List Command
+  pub base : kept new.base ≡ kept (fold old.base safe)
+  pub rest : safe ++ new.pending ≡ old.pending ++ tried
+  pub rests : Rests new
+
+-- How base and pending lie on the disk of a core: the synced batches and tree 0 make the base, the batches behind them
+-- are pending, and the core's writer, catalog and keyspaces go on from there.
+pub record Lies (core : Held) (d : Durable) : Type 0 where
+  pub journals : Journaling
+  pub records : List Fields
+  pub tree : Tree
+  pub writing : IsWriting (state_in d.meaning) core.journal journals
+  pub in_tree : LiesInTree (state_in d.meaning) records tree
+  pub last : tree.last ≡ core.catalog
+  pub keyspaces : tree.keyspaces ≡ core.memory.keyspaces
+  pub made : kept d.base ≡ store_of (contents_with journals tree [])
+  pub waits : d.pending ≡ journal_commands tree.keyspaces (map shown journals.later)
+  pub next : core.memory.next ≡ number_of (contents_with journals tree journals.later)
+
+-- base and pending make the present, but that after a fault the last one may be pending that isn't there
+abbrev pub MakesPresent : Bool → Durable → Store → Type 0
+MakesPresent false d store = kept (fold d.base d.pending) ≡ kept store
+MakesPresent true d store =
+    (kept (fold d.base d.pending) ≡ kept store)
+    ⊎ ((front : List Command) × (last : Command) × (d.pending ≡ front ++ last ∷ []) × (kept (fold d.base front) ≡ kept store))

@@ -1,0 +1,41 @@
+-- What opening makes of a disk.
+use Rattle.std.specs.Prelude.{ℕ, [], length, Option}
+use Rattle.fjall_base.specs.Store.{Store}
+use Rattle.fjall_base.specs.Disk.{Image, LeavesOnly, Meaning, Took, standing, state_in}
+use Rattle.fjall_base.specs.declared.error.Error.{Error}
+use Rattle.fjall_base.specs.declared.error.Error.TheVariants.{Io}
+use Rattle.fjall_opening.specs.Folders as folders
+use Rattle.fjall_opening.specs.Folders.{Contents}
+use Rattle.fjall_opening.specs.Refusals.{FolderRefuses, IsDue}
+use Rattle.fjall_places.specs.Held.{IsFolder, number_held, store_held}
+use Rattle.fjall_machine.specs.Machine.{Parts, opened_state}
+use Rattle.fjall_engine.specs.Holding.{Held}
+use Rattle.fjall_engine.specs.Standing.{HoldsStore, StandsFor, StandsOn}
+
+-- the parts that a core's counts speak of
+abbrev pub parts_of : Held → Parts
+parts_of core = record { journal = core.journal.len; buffer = length core.journal.buffer; table = core.catalog.next_table_id }
+
+-- a core that was just opened stands for this store, and its next command takes this number
+abbrev pub Opens : Held → Store → ℕ → Type 0
+Opens core store next = StandsFor core (opened_state store next (parts_of core))
+
+-- a core that was opened on what stands there
+abbrev pub OpensOn : Image → Held → Type 0
+OpensOn image core = (folder : Option Contents) × IsFolder image folder × Opens core (store_held folder) (number_held folder)
+
+-- Over a disk that returns what it holds, a refusal but `Io` is due to the folder or to want of memory, and the disk
+-- holds what it held.
+abbrev pub IsDueTo : Meaning → Meaning → Error → Type 0
+IsDueTo old new (Io kind) = Unit {0}
+IsDueTo old new error = IsDue (FolderRefuses (standing (state_in old))) error × Took old new []
+
+-- whatever store the disk held, a crash at each moment from old to new leaves that store
+abbrev pub KeepsStore : Meaning → Meaning → Type 0
+KeepsStore old new = (store : Store) → HoldsStore (state_in old) store → LeavesOnly old new (λ image. folders.StandsFor image store)
+
+-- A core that was just opened stands for this store, with it as its base, and nothing is pending.
+pub record OpensAs (core : Held) (store : Store) : Type 0 where
+  pub next : ℕ
+  pub state : Opens core store next
+  pub base : StandsOn core (record { meaning = core.disk; base = store; pending = [] })

@@ -1,0 +1,12 @@
+//! The engine's one machine: calls that change keyspaces, read them and sync their journal.
+#![tactic(auto)]
+
+mod config;
+mod engine;
+mod turning;
+
+pub use config::Config;
+pub use engine::Core;
+pub use fjall_journal::PersistMode;
+pub use fjall_machine::{Call, Reply, View};
+pub use fjall_versions::{KeyRange, Version};
