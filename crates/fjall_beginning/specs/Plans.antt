@@ -3,9 +3,7 @@ use Rattle.std.specs.Prelude.{◌≡◌, ◌≢◌, ◌⊎◌, if◌then◌else�
 use Rattle.std.specs.List.Sorted.{IsStrictlyIncreasing}
 use Rattle.std.specs.Str.{bytes_eq}
 use Rattle.fjall_base.specs.declared.error.FormatVersion.TheVariants.{V3}
-use Rattle.fjall_base.specs.declared.error.Error.{Error}
-use Rattle.fjall_base.specs.declared.error.Error.TheVariants.{Io, OutOfMemory}
-use Rattle.fjall_base.specs.Disk.{Name, File, Folder, State, Image, Meaning, Took, IsFile, folder_of}
+use Rattle.fjall_base.specs.Disk.{Name, File, Folder, State, Image, IsFile, folder_of}
 use Rattle.fjall_regions.specs.Regions.{IsSafe}
 use Rattle.fjall_tree.specs.Records.{record_text}
 use Rattle.fjall_recovery.specs.Marker.{header}
@@ -77,9 +75,3 @@ pub record AwaitsMarker (state : State) (sealed : List ℕ) (active : ℕ) : Typ
   pub root : LiesInRoot (marked state) (empty_journals sealed active)
   pub tree : RestsInTree (marked state) (fields first_catalog ∷ []) first_tree
   pub settled : (name : Name) → folder_of name ≡ [] → (state name).older ≡ []
-
--- The making stopped: the disk failed, or memory ran out before anything was changed.
-abbrev pub IsStopped : Meaning → Meaning → Error → Type 0
-IsStopped old new (Io kind) = Unit {0}
-IsStopped old new OutOfMemory = Took old new []
-IsStopped old new error = ⊥

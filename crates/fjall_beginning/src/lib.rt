@@ -2,15 +2,14 @@
 //! meanwhile leaves anything but a database without keyspaces.
 #![tactic(auto)]
 
-mod begin;
 mod file;
 mod journals;
 mod laws;
+mod making;
 mod marker;
 mod plan;
-#[cfg(test)]
-mod tests;
 mod tree;
 
-pub use begin::begin_folder;
 pub use laws::settled_folders_come_back_unfinished;
+pub use making::begin;
+pub use plan::{Found, Plan, plan_beginning};

@@ -8,6 +8,7 @@ ghost use Rattle.fjall_recovery.specs.Names.{journal_name as name_of_journal};
 ghost use Rattle.fjall_opening.specs.Journals.{AreJournalIds, text_in};
 ghost use Rattle.fjall_opening.specs.Naming.{JournalsAreNamed};
 ghost use Rattle.fjall_opening.specs.Refusals.{HasRisen, IsDue};
+ghost use Rattle.fjall_beginning.specs.Begun.{IsActive};
 ghost use Rattle.fjall_beginning.specs.Plans.{AreToBe, IsFound, IsPlan};
 
 use crate::tree::CURRENT;
@@ -21,7 +22,7 @@ pub(crate) const MARKER: &str = "version";
 
 /// What a file has of the bytes that it is to hold.
 #[derive(Clone, Copy, Debug, PartialEq, Eq)]
-pub(crate) enum Found {
+pub enum Found {
     /// Not a byte, or there is no file.
     Nothing,
     /// Some other bytes.
@@ -32,7 +33,7 @@ pub(crate) enum Found {
 
 /// What a database's making comes to.
 #[derive(Debug, Drop)]
-pub(crate) struct Plan {
+pub struct Plan {
     /// The names of the journals, by id ascending.
     pub journals: Vec<String>,
     /// The id of the last one, which is active.
@@ -133,9 +134,14 @@ fn header(alloc: Global) -> Result<Vec<u8>>
     Ok(bytes)
 }
 
-/// Finds out what is to be done. Nothing of the disk changes.
-pub(crate) fn make_plan<D: Disk>(alloc: Global, disk: &mut D) -> Result<Plan>
+/// Finds out what is to be done to begin a database, or to go on with one whose making was cut short, and gets all memory
+/// for it. Such a folder is what `read_folder` answers `None` for. Nothing of the disk changes.
+///
+/// Refusals: `OutOfMemory`; `Io` for a fault of the disk; and for a file that is named nearly like a journal
+/// `InvalidFileName`, which `read_folder` answers first.
+pub fn plan_beginning<D: Disk>(alloc: Global, disk: &mut D) -> Result<Plan>
     ensures plan { IsTrue D.honest → IfOk result (IsPlan (standing (state_in (D.meaning disk.old)))) }
+    ensures active { IsTrue D.honest → IfOk result (λ plan. IsActive (standing (state_in (D.meaning disk.old))) plan.active) }
     ensures same { IsTrue D.honest → Took (D.meaning disk.old) (D.meaning disk.new) [] }
     ensures later { (D.meaning disk.old).faults ≤ (D.meaning disk.new).faults }
     ensures risen { IfErr result (HasRisen (D.meaning disk.old).faults (D.meaning disk.new).faults) }

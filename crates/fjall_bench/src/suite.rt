@@ -5,7 +5,9 @@ use crate::data::{at_random, in_order};
 use crate::place::Place;
 use crate::report::Row;
 use crate::tables::{digest_blocks, look_up, opened, read_blocks, written};
-use crate::workload::{append_records, digest_records, fill, fill_synced, holds, open};
+use crate::workload::{
+    append_records, digest_records, fill, fill_synced, holds, make_keyspace, make_keyspaces, open,
+};
 use anyhow::{Result, bail};
 use fjall_base::Disk;
 use fjall_core::Core;
@@ -15,6 +17,14 @@ use std::time::CpuClock;
 
 // So many writes are synced one by one at most.
 const SYNCED_WRITES: u64 = 500;
+
+// So many keyspaces are made at most, and each gets so many pairs.
+const KEYSPACES: u64 = 1_000;
+
+const PAIRS_PER_KEYSPACE: u64 = 100;
+
+// The keyspace that a workload over a single one fills.
+const ITEMS: &str = "items";
 
 // So many keys are looked up in a table at most.
 const LOOK_UPS: usize = 20_000;
@@ -46,6 +56,8 @@ pub fn run<R: Print + Eprint + Clock + CpuClock, P: Place>(
     )?;
     let few = in_order(alloc, count.min(SYNCED_WRITES))?;
     sync_each(rt, alloc, place.disk(alloc, "sync")?, &few)?;
+    let keyspaces = (count / PAIRS_PER_KEYSPACE).min(KEYSPACES);
+    many_keyspaces(rt, alloc, place.disk(alloc, "keyspaces")?, keyspaces)?;
     tables(rt, alloc, &shuffled)?;
     limits(rt, place.disk(alloc, "limits")?, count)
 }
@@ -68,15 +80,16 @@ fn tell<R: Eprint>(
     Ok(())
 }
 
-// Says what a core holds, once its first and last pair were read back.
+// Says what a core holds, once a keyspace's first and last pair were read back.
 fn check<R: Print, D: Disk>(
     rt: &R,
     core: &mut Core<D>,
     workload: &'static str,
+    id: u64,
     numbers: &[u64],
 ) -> Result<()> {
     for number in numbers.first().into_iter().chain(numbers.last()) {
-        if !holds(core, *number)? {
+        if !holds(core, id, *number)? {
             bail!("a pair is missing");
         }
     }
@@ -95,17 +108,18 @@ fn fill_and_reopen<R: Print + Eprint + Clock + CpuClock, D: Disk + Drop>(
 ) -> Result<()> {
     let count = numbers.len() as u64;
     let mut core = open(alloc, disk)?;
+    let id = make_keyspace(alloc, &mut core, ITEMS)?;
     let watch = Stopwatch::start(rt)?;
-    fill(&mut core, numbers)?;
+    fill(&mut core, id, numbers)?;
     tell(rt, "pothvilai", workload, count, watch.spent(rt)?)?;
-    check(rt, &mut core, workload, numbers)?;
+    check(rt, &mut core, workload, id, numbers)?;
 
     let (disk, closed) = core.close();
     closed?;
     let watch = Stopwatch::start(rt)?;
     let mut core = open(alloc, disk)?;
     tell(rt, "pothvilai", "reopen", count, watch.spent(rt)?)?;
-    check(rt, &mut core, "reopen", numbers)
+    check(rt, &mut core, "reopen", id, numbers)
 }
 
 // Writes a few pairs, each synced before the next.
@@ -117,10 +131,42 @@ fn sync_each<R: Print + Eprint + Clock + CpuClock, D: Disk + Drop>(
 ) -> Result<()> {
     let count = numbers.len() as u64;
     let mut core = open(alloc, disk)?;
+    let id = make_keyspace(alloc, &mut core, ITEMS)?;
     let watch = Stopwatch::start(rt)?;
-    fill_synced(&mut core, numbers)?;
+    fill_synced(&mut core, id, numbers)?;
     tell(rt, "pothvilai", "one sync a write", count, watch.spent(rt)?)?;
-    check(rt, &mut core, "one sync a write", numbers)
+    check(rt, &mut core, "one sync a write", id, numbers)
+}
+
+// Makes keyspaces, gives each its pairs, closes the database and opens it again.
+fn many_keyspaces<R: Print + Eprint + Clock + CpuClock, D: Disk + Drop>(
+    rt: &R,
+    alloc: Global,
+    disk: D,
+    count: u64,
+) -> Result<()> {
+    let numbers = in_order(alloc, PAIRS_PER_KEYSPACE)?;
+    let pairs = count.saturating_mul(PAIRS_PER_KEYSPACE);
+    let mut core = open(alloc, disk)?;
+    let watch = Stopwatch::start(rt)?;
+    let ids = make_keyspaces(alloc, &mut core, count)?;
+    tell(rt, "pothvilai", "make keyspaces", count, watch.spent(rt)?)?;
+
+    let watch = Stopwatch::start(rt)?;
+    for id in &ids {
+        fill(&mut core, *id, &numbers)?;
+    }
+    tell(rt, "pothvilai", "fill keyspaces", pairs, watch.spent(rt)?)?;
+
+    let (disk, closed) = core.close();
+    closed?;
+    let watch = Stopwatch::start(rt)?;
+    let mut core = open(alloc, disk)?;
+    tell(rt, "pothvilai", "reopen keyspaces", pairs, watch.spent(rt)?)?;
+    match ids.last() {
+        Some(id) => check(rt, &mut core, "reopen keyspaces", *id, &numbers),
+        None => Ok(()),
+    }
 }
 
 // Writes a table in memory, reads its blocks, and looks its keys up.

@@ -3,21 +3,37 @@
 use crate::data::{RECORD_LEN, key_of, value_of};
 use fjall_base::{Disk, Result};
 use fjall_core::{Config, Core, PersistMode, View};
+use fjall_meta::KeyspaceCreateOptions;
 use sha2::{Digest, Sha256};
 use std::alloc::Global;
 
-/// Inserts each number's pair, and hands all of it to the system.
-pub fn fill<D: Disk>(core: &mut Core<D>, numbers: &[u64]) -> Result<()> {
+/// Makes a keyspace of this name, with the default options, and answers its id.
+pub fn make_keyspace<D: Disk>(alloc: Global, core: &mut Core<D>, name: &str) -> Result<u64> {
+    core.keyspace(name.as_bytes(), KeyspaceCreateOptions::default(alloc)?)
+}
+
+/// Makes so many keyspaces, and answers their ids.
+pub fn make_keyspaces<D: Disk>(alloc: Global, core: &mut Core<D>, count: u64) -> Result<Vec<u64>> {
+    let mut ids = Vec::new(alloc);
+    for number in 0..count {
+        let name = format!(in alloc; "keyspace {number}")?;
+        ids.push(make_keyspace(alloc, core, name.as_str())?)?;
+    }
+    Ok(ids)
+}
+
+/// Inserts each number's pair into a keyspace, and hands all of it to the system.
+pub fn fill<D: Disk>(core: &mut Core<D>, id: u64, numbers: &[u64]) -> Result<()> {
     for number in numbers {
-        core.insert(1, &key_of(*number), &value_of(*number))?;
+        core.insert(id, &key_of(*number), &value_of(*number))?;
     }
     core.persist(PersistMode::Buffer)
 }
 
-/// Inserts each number's pair, and syncs the journal behind each.
-pub fn fill_synced<D: Disk>(core: &mut Core<D>, numbers: &[u64]) -> Result<()> {
+/// Inserts each number's pair into a keyspace, and syncs the journal behind each.
+pub fn fill_synced<D: Disk>(core: &mut Core<D>, id: u64, numbers: &[u64]) -> Result<()> {
     for number in numbers {
-        core.insert(1, &key_of(*number), &value_of(*number))?;
+        core.insert(id, &key_of(*number), &value_of(*number))?;
         core.persist(PersistMode::SyncAll)?;
     }
     Ok(())
@@ -31,9 +47,9 @@ pub fn open<D: Disk + Drop>(alloc: Global, disk: D) -> Result<Core<D>> {
     }
 }
 
-/// Whether the pair of a number is there.
-pub fn holds<D: Disk>(core: &mut Core<D>, number: u64) -> Result<bool> {
-    match core.get_at(View::Present, 1, &key_of(number))? {
+/// Whether the pair of a number is in a keyspace.
+pub fn holds<D: Disk>(core: &mut Core<D>, id: u64, number: u64) -> Result<bool> {
+    match core.get_at(View::Present, id, &key_of(number))? {
         Some(value) => Ok(value.as_slice() == value_of(number).as_slice()),
         None => Ok(false),
     }

@@ -5,12 +5,14 @@ use Rattle.fjall_base.specs.Store.{Store, Command, fold, kept}
 use Rattle.fjall_base.specs.Disk.{Image, IsImage, Meaning, Took, LeavesOnly, state_in, after}
 use Rattle.fjall_base.specs.Disk as disk
 use Rattle.fjall_base.proofs.Moments.{after-append, started, runs_on, weaken}
-use Rattle.fjall_core.specs.declared.call.Call.{Call}
-use Rattle.fjall_core.specs.declared.call.Reply.{Reply}
-use Rattle.fjall_core.specs.Machine.{State, Step}
-use Rattle.fjall_core.specs.Durables.{Stands, Durable, IsBeginning, StandsAmid, Rests, Passes}
+use Rattle.fjall_machine.specs.declared.call.Call.{Call}
+use Rattle.fjall_machine.specs.declared.call.Reply.{Reply}
+use Rattle.fjall_machine.specs.Machine.{State, Step}
+use Rattle.fjall_opening.specs.Folders.{StandsFor}
+use Rattle.fjall_core.specs.Durables.{Durable, IsBeginning, StandsAmid, Rests, Passes}
 use Rattle.fjall_core.specs.Crashes.{attempt, CallPasses, RunOn, IsSyncAt, SafeSince, SafeAt}
-use Rattle.fjall_core.proofs.Kept.{kept_along, fold-append}
+use Rattle.fjall_versions.proofs.Kept.{kept_along}
+use Rattle.fjall_versions.proofs.Slots.{fold-append}
 
 pub none_first : (commands : List Command) → IsBeginning [] commands
 none_first commands = (commands, refl)
@@ -30,7 +32,7 @@ amid_shift base later safe least all image same s = record {
   front = safe ++ s.front;
   holds = (s.holds.0, append_assoc safe least s.holds.0 ∙ ap (λ (l : List Command). safe ++ l) s.holds.1);
   within = (s.within.0, append_assoc safe s.front s.within.0 ∙ ap (λ (l : List Command). safe ++ l) s.within.1);
-  stands = subst (λ t. Stands image t) (kept_along later (fold base safe) s.front same ∙ ap kept (sym (fold-append base safe s.front))) s.stands;
+  stands = subst (λ t. StandsFor image t) (kept_along later (fold base safe) s.front same ∙ ap kept (sym (fold-append base safe s.front))) s.stands;
 }
 
 pub amid_least : (base : Store) (least all : List Command) (image : Image) → StandsAmid base least all image → StandsAmid base [] all image
@@ -114,9 +116,9 @@ safe_now d m new tried more p none later =
       since = weaken m.meaning new _ _ later (λ image s. behind image all (subst (λ l. StandsAmid m.base [] (l ++ more) image) none s));
     }
   where
-    settled : (image : Image) → p.safe ≡ d.pending ++ tried → StandsAmid m.base [] [] image → Stands image (kept (fold d.base (d.pending ++ tried)))
+    settled : (image : Image) → p.safe ≡ d.pending ++ tried → StandsAmid m.base [] [] image → StandsFor image (kept (fold d.base (d.pending ++ tried)))
     settled image all s =
-        subst (λ t. Stands image t) (ap (λ l. kept (fold m.base l)) (no_more s.front s.within.0 s.within.1) ∙ p.base ∙ ap (λ l. kept (fold d.base l)) all) s.stands
+        subst (λ t. StandsFor image t) (ap (λ l. kept (fold m.base l)) (no_more s.front s.within.0 s.within.1) ∙ p.base ∙ ap (λ l. kept (fold d.base l)) all) s.stands
 
     behind : (image : Image) → p.safe ≡ d.pending ++ tried → StandsAmid m.base [] more image → StandsAmid d.base (d.pending ++ tried) (d.pending ++ (tried ++ more)) image
     behind image all s =
@@ -141,7 +143,7 @@ safe_later d m new tried before all p safe = record {
   added = p.leaves.added ++ safe.added;
   passed = took_on d.meaning m.meaning safe.moment p.leaves.added safe.added p.leaves.took safe.passed;
   exactly = λ image is.
-      subst (λ t. Stands image t) (kept_along m.base (fold d.base p.safe) (m.pending ++ before) p.base ∙ ap kept (sym (fold-append d.base p.safe (m.pending ++ before))) ∙ ap (λ l. kept (fold d.base l)) (joined d m tried before p)) (safe.exactly image is);
+      subst (λ t. StandsFor image t) (kept_along m.base (fold d.base p.safe) (m.pending ++ before) p.base ∙ ap kept (sym (fold-append d.base p.safe (m.pending ++ before))) ∙ ap (λ l. kept (fold d.base l)) (joined d m tried before p)) (safe.exactly image is);
   since = weaken safe.moment new _ _ safe.since (λ image s.
       subst (λ l. StandsAmid d.base l (d.pending ++ (tried ++ all)) image) (joined d m tried before p)
       (subst (λ l. StandsAmid d.base (p.safe ++ (m.pending ++ before)) l image) (joined d m tried all p) (amid_shift d.base m.base p.safe (m.pending ++ before) (m.pending ++ all) image p.base s)));

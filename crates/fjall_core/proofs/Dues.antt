@@ -1,68 +1,24 @@
--- Which refusal is due depends on a store by its names and next id alone, and those never change with writes.
-use Rattle.std.proofs.Common.{◌≡◌, ◌==◌, ◌||◌, not, nat_le, ℕ, zero, suc, ◌^◌, Bool, true, false, if◌then◌else◌, List, [], ◌∷◌, length, map, None, Some, refl, sym, ◌∙◌, ap, arith}
-use Rattle.std.proofs.lemmas.Bool.{true≢false, le-leb, ne_eqb}
+-- Which refusals are due, and what a call asks for.
+use Rattle.std.proofs.Common.{◌≡◌, ◌⊎◌, inl, inr, ℕ, ◌-◌, ◌^◌, Bool, true, false, not, ◌==◌, ◌&&◌, if◌then◌else◌, List, [], ◌∷◌, Option, None, Some, refl, sym, ap}
+use Rattle.std.proofs.lemmas.Bool.{true≢false}
 use Rattle.std.proofs.lemmas.Option.{none-some}
-use Rattle.std.specs.FinMap.{empty, contains_key, get-insert}
-use Rattle.std.specs.Option.{is_some}
-use Rattle.std.specs.Cmp.{nat_cmp_total}
-use Rattle.std.specs.Prelude.{codes}
-use Rattle.fjall_base.specs.Pairs.{Bytes}
-use Rattle.fjall_base.specs.Store.{Store, fold}
-use Rattle.fjall_base.specs.declared.error.Error.{Error}
-use Rattle.fjall_base.specs.declared.error.Error.TheVariants.{Poisoned, KeyspaceDeleted, KeyEmpty, KeyTooLong, ValueTooLong, NumbersUsedUp, UnknownKeyspace}
 use Rattle.std.specs.List.{AllByRecursion}
-use Rattle.fjall_core.specs.declared.call.Call.{Call}
-use Rattle.fjall_core.specs.declared.call.Call.TheVariants.{Insert, Remove, RemoveWeak, GetAt, PageAt, Persist, Seqno, VisibleSeqno, JournalDiskSpace}
-use Rattle.fjall_core.specs.declared.version.Version.{Version}
-use Rattle.fjall_core.specs.Machine.{State, first_due, write_refusals, one_refusals, is_unknown, is_deleted, due_in, due, present}
-use Rattle.fjall_core.specs.Holding.{Held}
-use Rattle.fjall_core.specs.Replays.{initial}
-use Rattle.fjall_core.specs.Standing.{StandsFor, command_of, store_of, held_due}
+use Rattle.fjall_base.specs.Pairs.{Bytes}
+use Rattle.fjall_base.specs.Store.{Command, Create, Delete}
+use Rattle.fjall_base.specs.declared.error.Error.{Error}
+use Rattle.fjall_base.specs.declared.error.Error.TheVariants.{Io, KeyspaceDeleted, NumbersUsedUp, Poisoned, UnknownKeyspace}
+use Rattle.fjall_journal.specs.declared.persist_mode.PersistMode.TheVariants.{Buffer, SyncData, SyncAll}
+use Rattle.fjall_versions.specs.Replays.{option_pairs}
+use Rattle.fjall_machine.specs.declared.call.Call.{Call}
+use Rattle.fjall_machine.specs.declared.call.Call.TheVariants.{Keyspace, DeleteKeyspace, Retain, Release, Insert, Remove, RemoveWeak, GetAt, PageAt, Persist, KeyspaceCount, ListKeyspaceNames, KeyspaceExists, Seqno, VisibleSeqno, JournalDiskSpace}
+use Rattle.fjall_machine.specs.declared.call.Reply.TheVariants.{Refused}
+use Rattle.fjall_machine.specs.Machine.{Facts, State, handles_of, is_read, is_unknown, due, due_in, facts, first_due, creation_refusals, deletion_refusals, read_refusals, write_refusals, has_name, is_living, present, write_of}
+use Rattle.fjall_core.specs.Crashes.{asked, attempt, IsSync}
+use Rattle.fjall_core.specs.Standing.{is_io}
 
--- the refusals of a write
-write_along : (a b : Store) (n m : ℕ) (p q : Bool) (id : ℕ) (key value : Bytes) → a.next ≡ b.next → a.names ≡ b.names → n ≡ m → p ≡ q → first_due (write_refusals a n p id key value) ≡ first_due (write_refusals b m q id key value)
-write_along a b n m p q id key value next names number flag = λ i. first_due (
-    (length key == 0, KeyEmpty)
-    ∷ (nat_le (2 ^ 16) (length key), KeyTooLong)
-    ∷ (nat_le (2 ^ 32) (length value), ValueTooLong)
-    ∷ (id == 0 || nat_le (next i) id, UnknownKeyspace)
-    ∷ (not (contains_key (names i) id), KeyspaceDeleted)
-    ∷ (flag i, Poisoned)
-    ∷ (nat_le (2 ^ 63) (number i), NumbersUsedUp)
-    ∷ [])
-
-pub due_along : (a b : Store) (n m : ℕ) (p q : Bool) (call : Call) → a.next ≡ b.next → a.names ≡ b.names → n ≡ m → p ≡ q → due_in a n p call ≡ due_in b m q call
-due_along a b n m p q (Insert id key value) next names number flag = write_along a b n m p q id key value next names number flag
-due_along a b n m p q (Remove id key) next names number flag = write_along a b n m p q id key [] next names number flag
-due_along a b n m p q (RemoveWeak id key) next names number flag = write_along a b n m p q id key [] next names number flag
-due_along a b n m p q (GetAt view id key) next names number flag = λ i. first_due ((id == 0 || nat_le (next i) id, UnknownKeyspace) ∷ [])
-due_along a b n m p q (PageAt view id range back max) next names number flag = λ i. first_due ((id == 0 || nat_le (next i) id, UnknownKeyspace) ∷ [])
-due_along a b n m p q (Persist mode) next names number flag = λ i. first_due ((flag i, Poisoned) ∷ [])
-due_along a b n m p q Seqno next names number flag = refl
-due_along a b n m p q VisibleSeqno next names number flag = refl
-due_along a b n m p q JournalDiskSpace next names number flag = refl
-
--- what is due in a state that the core stands for is due for the core
-pub same_due : (core : Held) (s : State) (call : Call) → StandsFor core s → due s call ≡ held_due core call
-same_due core s call stands = due_along (present s) (store_of core.versions) _ core.next s.poisoned core.poisoned call
-    (ap (λ (t : Store). t.next) stands.present) (ap (λ (t : Store). t.names) stands.present) stands.number stands.poisoned
-
-fold_next : (versions : List Version) (t : Store) → (fold t (map command_of versions)).next ≡ t.next
-fold_next [] t = refl
-fold_next (v ∷ versions) t = fold_next versions _
-
-fold_names : (versions : List Version) (t : Store) → (fold t (map command_of versions)).names ≡ t.names
-fold_names [] t = refl
-fold_names (v ∷ versions) t = fold_names versions _
-
-pub store_next : (versions : List Version) → (store_of versions).next ≡ 2
-store_next versions = fold_next versions initial
-
-pub store_names : (versions : List Version) → (store_of versions).names ≡ initial.names
-store_names versions = fold_names versions initial
-
-pub living : contains_key initial.names 1 ≡ true
-living = ap is_some (get-insert nat_cmp_total empty 1 (codes "items") 1)
+pub bool_cases : (b : Bool) → (b ≡ true) ⊎ (b ≡ false)
+bool_cases true = inl refl
+bool_cases false = inr refl
 
 -- where none is due, no cause holds
 pub none_due : (refusals : List (Bool × Error)) → first_due refusals ≡ None → AllByRecursion (λ refusal. refusal.0 ≡ false) refusals
@@ -70,50 +26,79 @@ none_due [] none = tt
 none_due ((true, error) ∷ others) none = absurd (none-some _ (sym none))
 none_due ((false, error) ∷ others) none = (refl, none_due others none)
 
--- only keyspace 1 is known
-pub known_one : (id next : ℕ) → next ≡ 2 → (id == 0 || nat_le next id) ≡ false → id ≡ 1
-known_one zero next is e = absurd (true≢false e)
-known_one (suc zero) next is e = refl
-known_one (suc (suc id)) next is e =
-    absurd (true≢false (sym (ap (λ b. b || nat_le next (suc (suc id))) (ne_eqb (suc (suc id)) 0 (λ z. omega arith)) ∙ le-leb next (suc (suc id)) (omega arith)) ∙ e))
+-- ---- a fault is never due
 
--- a write that is not refused is into keyspace 1
-pub write_one : (core : Held) (id : ℕ) (key value : Bytes) → first_due (write_refusals (store_of core.versions) core.next core.poisoned id key value) ≡ None → id ≡ 1
-write_one core id key value none =
-    let causes = none_due (write_refusals (store_of core.versions) core.next core.poisoned id key value) none in
-    known_one id (store_of core.versions).next (store_next core.versions) causes.1.1.1.0
+abbrev pub is_fault : Option Error → Bool
+is_fault None = false
+is_fault (Some error) = is_io error
 
--- so is a read
-pub read_one : (core : Held) (id : ℕ) → first_due ((is_unknown (store_of core.versions) id, UnknownKeyspace) ∷ []) ≡ None → id ≡ 1
-read_one core id none =
-    let causes = none_due ((is_unknown (store_of core.versions) id, UnknownKeyspace) ∷ []) none in
-    known_one id (store_of core.versions).next (store_next core.versions) causes.0
+no_fault_due : (refusals : List (Bool × Error)) → AllByRecursion (λ refusal. is_io refusal.1 ≡ false) refusals → is_fault (first_due refusals) ≡ false
+no_fault_due [] each = refl
+no_fault_due ((true, error) ∷ refusals) each = each.0
+no_fault_due ((false, error) ∷ refusals) each = no_fault_due refusals each.1
 
--- what is unknown or deleted where keyspace 1 alone was ever made
-unknown_one : (id next : ℕ) → next ≡ 2 → (id == 0 || nat_le next id) ≡ not (id == 1)
-unknown_one zero next is = refl
-unknown_one (suc zero) next is = ap (λ n. nat_le n 1) is
-unknown_one (suc (suc id)) next is =
-    ap (λ b. b || nat_le next (suc (suc id))) (ne_eqb (suc (suc id)) 0 (λ z. omega arith)) ∙ le-leb next (suc (suc id)) (omega arith)
-    ∙ sym (ap not (ne_eqb (suc (suc id)) 1 (λ z. omega arith)))
+no_write_fault : (f : Facts) (id : ℕ) (key value : Bytes) → is_fault (first_due (write_refusals f id key value)) ≡ false
+no_write_fault f id key value = no_fault_due (write_refusals f id key value) (refl, (refl, (refl, (refl, (refl, (refl, (refl, tt)))))))
 
--- at an id that is known no name is missing
-skip_deleted : (unknown deleted : Bool) (rest : List (Bool × Error)) → (unknown ≡ false → deleted ≡ false) → first_due ((unknown, UnknownKeyspace) ∷ (deleted, KeyspaceDeleted) ∷ rest) ≡ first_due ((unknown, UnknownKeyspace) ∷ rest)
-skip_deleted true deleted rest named = refl
-skip_deleted false deleted rest named = ap (λ b. if b then Some KeyspaceDeleted else first_due rest) (named refl)
+pub never_due : (f : Facts) (call : Call) → is_fault (due_in f call) ≡ false
+never_due f (Keyspace name options) = no_fault_due (creation_refusals f name) (refl, (refl, (refl, tt)))
+never_due f (DeleteKeyspace id) = no_fault_due (deletion_refusals f id) (refl, (refl, (refl, tt)))
+never_due f (Retain id) = no_fault_due ((is_unknown f.store id, UnknownKeyspace) ∷ (not (is_read f id), KeyspaceDeleted) ∷ (handles_of f.handles id == 2 ^ 64 - 1, NumbersUsedUp) ∷ []) (refl, (refl, (refl, tt)))
+never_due f (Release id) = no_fault_due ((is_unknown f.store id, UnknownKeyspace) ∷ (handles_of f.handles id == 0, UnknownKeyspace) ∷ []) (refl, (refl, tt))
+never_due f (Insert id key value) = no_write_fault f id key value
+never_due f (Remove id key) = no_write_fault f id key []
+never_due f (RemoveWeak id key) = no_write_fault f id key []
+never_due f (GetAt view id key) = no_fault_due (read_refusals f id) (refl, (refl, tt))
+never_due f (PageAt view id range back max) = no_fault_due (read_refusals f id) (refl, (refl, tt))
+never_due f (Persist mode) = no_fault_due ((f.poisoned, Poisoned) ∷ []) (refl, tt)
+never_due f KeyspaceCount = refl
+never_due f ListKeyspaceNames = refl
+never_due f (KeyspaceExists name) = refl
+never_due f Seqno = refl
+never_due f VisibleSeqno = refl
+never_due f JournalDiskSpace = refl
 
-named_one : (store : Store) (id : ℕ) → store.next ≡ 2 → store.names ≡ initial.names → is_unknown store id ≡ false → is_deleted store id ≡ false
-named_one store id next names known =
-    ap not (ap (λ i. contains_key store.names i) (known_one id store.next next known) ∙ ap (λ n. contains_key n 1) names ∙ living)
+-- what is refused without a fault was not tried
+pub no_attempt : (s : State) (call : Call) (error : Error) → is_io error ≡ false → attempt s call (Refused error) ≡ []
+no_attempt s call (Io kind) other = absurd (true≢false other)
+no_attempt s call error other = refl
 
-pub one_due : (versions : List Version) (next : ℕ) (poisoned : Bool) (id : ℕ) (key value : Bytes) → first_due (write_refusals (store_of versions) next poisoned id key value) ≡ first_due (one_refusals next poisoned id key value)
-one_due versions next poisoned id key value =
-    let store = store_of versions in
-    let rest = (poisoned, Poisoned) ∷ (nat_le (2 ^ 63) next, NumbersUsedUp) ∷ [] in
-    let tail = skip_deleted (is_unknown store id) (is_deleted store id) rest (named_one store id (store_next versions) (store_names versions)) in
-    let head = unknown_one id store.next (store_next versions) in
-    ap (λ o. if length key == 0 then Some KeyEmpty else (if nat_le (2 ^ 16) (length key) then Some KeyTooLong else (if nat_le (2 ^ 32) (length value) then Some ValueTooLong else o)))
-    (tail ∙ ap (λ b. first_due ((b, UnknownKeyspace) ∷ rest)) head)
+-- and what is refused is no sync
+pub no_sync : (s : State) (call : Call) (error : Error) → IsSync s call (Refused error) → ⊥
+no_sync s (Persist Buffer) error sync = sync
+no_sync s (Persist SyncData) error sync = sync
+no_sync s (Persist SyncAll) error sync = sync
+no_sync s call error sync = sync
 
-pub one_read_due : (versions : List Version) (id : ℕ) → first_due ((is_unknown (store_of versions) id, UnknownKeyspace) ∷ []) ≡ first_due ((not (id == 1), UnknownKeyspace) ∷ [])
-one_read_due versions id = ap (λ b. first_due ((b, UnknownKeyspace) ∷ [])) (unknown_one id (store_of versions).next (store_next versions))
+-- ---- what a call asks for
+
+-- A call asks for nothing, or for one command, which is refused to a poisoned engine.
+pub data Asks (s : State) (call : Call) : Type 0 where
+  asks_nothing : (none : asked s call ≡ []) → Asks s call
+  asks_one : (command : Command) (is : asked s call ≡ command ∷ []) (well : due s call ≡ None → s.poisoned ≡ false) → Asks s call
+
+and_false : (a b : Bool) → a ≡ true → (a && b) ≡ false → b ≡ false
+and_false true b is none = none
+and_false false b is none = absurd (true≢false (sym is))
+
+well_write : (s : State) (id : ℕ) (key value : Bytes) → first_due (write_refusals (facts s) id key value) ≡ None → s.poisoned ≡ false
+well_write s id key value none = (none_due (write_refusals (facts s) id key value) none).1.1.1.1.1.0
+
+creation_asks : (s : State) (name : Bytes) (options : List Bytes) (had : Bool) → has_name (present s) name ≡ had → Asks s (Keyspace name options)
+creation_asks s name options true had = asks_nothing (ap (λ b. if b then [] else (Create name (option_pairs options) ∷ [])) had)
+creation_asks s name options false had =
+    asks_one (Create name (option_pairs options)) (ap (λ b. if b then [] else (Create name (option_pairs options) ∷ [])) had)
+    (λ none. and_false (not (has_name (present s) name)) s.poisoned (ap not had) (none_due (creation_refusals (facts s) name) none).1.0)
+
+deletion_asks : (s : State) (id : ℕ) (living : Bool) → is_living (present s) id ≡ living → Asks s (DeleteKeyspace id)
+deletion_asks s id true living =
+    asks_one (Delete id) (ap (λ b. if b then (Delete id ∷ []) else []) living) (λ none. and_false (is_living (present s) id) s.poisoned living (none_due (deletion_refusals (facts s) id) none).1.0)
+deletion_asks s id false living = asks_nothing (ap (λ b. if b then (Delete id ∷ []) else []) living)
+
+pub asks : (s : State) (call : Call) → Asks s call
+asks s (Keyspace name options) = creation_asks s name options (has_name (present s) name) refl
+asks s (DeleteKeyspace id) = deletion_asks s id (is_living (present s) id) refl
+asks s (Insert id key value) = asks_one (write_of id key (Some value)) refl (well_write s id key value)
+asks s (Remove id key) = asks_one (write_of id key None) refl (well_write s id key [])
+asks s (RemoveWeak id key) = asks_one (write_of id key None) refl (well_write s id key [])
+asks s call = asks_nothing refl

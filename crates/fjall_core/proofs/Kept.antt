@@ -1,97 +1,43 @@
--- What is dropped with deleted keyspaces never comes back.
-use Rattle.std.proofs.Common.{◌≡◌, ℕ, ◌+◌, Bool, true, false, List, [], ◌∷◌, ◌++◌, None, Some, refl, sym, ◌∙◌, ap, cond, subst, unwrap_or, arith}
-use Rattle.std.proofs.lemmas.Bool.Decides.{nat_tests}
-use Rattle.std.proofs.lemmas.Bool.{true≢false}
-use Rattle.std.specs.Option.{is_some}
-use Rattle.std.specs.Ordering.{nat_cmp, eq_by_cmp}
-use Rattle.std.specs.Cmp.{nat_cmp_total}
-use Rattle.std.specs.FinMap.{FinMap, empty, get, insert, remove, retain_keys, contains_key, get-insert, get-remove, get-retain_keys, same_map, nat_cmp-IsAntisymmetric}
-use Rattle.fjall_base.specs.Pairs.{Pairs, altered}
-use Rattle.fjall_base.specs.Store.{Store, Item, Command, Write, Clear, Create, Delete, map_at, written, apply, fold, kept}
+-- What disks hold that a crash left, or that nothing was put on.
+use Rattle.std.proofs.Common.{◌≡◌, inl, inr, false, List, [], Option, Some, None, refl, sym, subst}
+use Rattle.fjall_base.specs.Store.{Command, Store, fold, kept}
+use Rattle.fjall_base.specs.Disk.{Image, IsImage, Leaves, Missing, Name, State, Step, disk_of}
+use Rattle.fjall_keyspaces.specs.Keyspaces.{no_keyspaces}
+use Rattle.fjall_versions.specs.Replays.{bare}
+use Rattle.fjall_opening.specs.Folders.{Contents, IsUnfinished, StandsFor}
+use Rattle.fjall_places.specs.Held.{IsFolder, store_held}
+use Rattle.fjall_places.proofs.Holding.{a_crash_holds, folder_stands}
+use Rattle.fjall_beginning.proofs.Standing.{missing_stands, unfinished_of}
+use Rattle.fjall_repair.proofs.Openings.{settled_comes_back}
+use Rattle.fjall_core.specs.Durables.{IsBeginning, StandsAmid}
+use Rattle.fjall_core.specs.Standing.{HoldsStore}
 
-tied : (q k : ℕ) → eq_by_cmp nat_cmp q k ≡ true → q ≡ k
-tied q k e = grind (arith, nat_tests)
+-- a folder that a crash left
+left_holds : (state : State) (steps : List Step) (image : Image) (store : Store) (folder : Option Contents) → Leaves state steps image → IsFolder image folder → store ≡ store_held folder → HoldsStore (disk_of image) store
+left_holds state steps image store folder leaves is same = (folder, a_crash_holds state steps image folder leaves is, settled_comes_back (disk_of image) folder (λ name. refl) is, same)
 
--- the two maps have the same at each key that passes
-abbrev pub Agree : {X : Type 0} → (ℕ → Bool) → FinMap nat_cmp X → FinMap nat_cmp X → Type 0
-Agree p m n = (q : ℕ) → p q ≡ true → get m q ≡ get n q
+pub crash_holds : (state : State) (steps : List Step) (image : Image) (store : Store) → Leaves state steps image → StandsFor image store → HoldsStore (disk_of image) store
+crash_holds state steps image store leaves (inl (contents, sound, same)) = left_holds state steps image store (Some contents) leaves sound same
+crash_holds state steps image store leaves (inr (unfinished, same)) = left_holds state steps image store None leaves unfinished same
 
-at_retained : {X : Type 0} (p : ℕ → Bool) (m : FinMap nat_cmp X) (q : ℕ) → get (retain_keys m p) q ≡ cond (p q) (get m q) None
-at_retained p m q = get-retain_keys m p q (λ x e. ap p (sym (nat_cmp-IsAntisymmetric q x e)))
+pub a_crash_amid_holds : (state : State) (steps : List Step) (image : Image) (base : Store) (least all : List Command) → Leaves state steps image → StandsAmid base least all image
+    → (front : List Command) × IsBeginning least front × IsBeginning front all × HoldsStore (disk_of image) (kept (fold base front))
+a_crash_amid_holds state steps image base least all leaves is = (is.front, is.holds, is.within, crash_holds state steps image (kept (fold base is.front)) leaves is.stands)
 
-retained : {X : Type 0} (p : ℕ → Bool) (m : FinMap nat_cmp X) → Agree p (retain_keys m p) m
-retained p m q ok = at_retained p m q ∙ ap (λ b. cond b (get m q) None) ok
+pub holds_through_crash : (state : State) (store : Store) (image : Image) → HoldsStore state store → IsImage state image → StandsFor image store
+holds_through_crash state store image (folder, holds, back, same) is = subst (StandsFor image) (sym same) (folder_stands image folder (holds.crash image is))
 
-pub same_retained : {X : Type 0} (p : ℕ → Bool) (m n : FinMap nat_cmp X) → Agree p m n → retain_keys m p ≡ retain_keys n p
-same_retained p m n same = same_map nat_cmp_total nat_cmp-IsAntisymmetric _ _ (λ q. at_retained p m q ∙ either q (p q) refl ∙ sym (at_retained p n q))
-  where
-    either : (q : ℕ) (b : Bool) → p q ≡ b → cond (p q) (get m q) None ≡ cond (p q) (get n q) None
-    either q true e = ap (λ x. cond (p q) x None) (same q e)
-    either q false e = ap (λ b. cond b (get m q) None) e ∙ sym (ap (λ b. cond b (get n q) None) e)
+-- nothing stands anywhere
+abbrev nothing : Image
+nothing name = Missing
 
-agree_insert : {X : Type 0} (p : ℕ → Bool) (m n : FinMap nat_cmp X) (k : ℕ) (x y : X) → ((q : ℕ) → p q ≡ true → eq_by_cmp nat_cmp q k ≡ false → get m q ≡ get n q) → (p k ≡ true → x ≡ y) → Agree p (insert m k x) (insert n k y)
-agree_insert p m n k x y same values q ok = get-insert nat_cmp_total m k x q ∙ either (eq_by_cmp nat_cmp q k) refl ∙ sym (get-insert nat_cmp_total n k y q)
-  where
-    either : (b : Bool) → eq_by_cmp nat_cmp q k ≡ b → cond (eq_by_cmp nat_cmp q k) (Some x) (get m q) ≡ cond (eq_by_cmp nat_cmp q k) (Some y) (get n q)
-    either true e = ap (λ v. cond (eq_by_cmp nat_cmp q k) (Some v) (get m q)) (values (subst (λ z. p z ≡ true) (tied q k e) ok)) ∙ ap (λ b. cond b (Some y) (get m q)) e ∙ sym (ap (λ b. cond b (Some y) (get n q)) e)
-    either false e = ap (λ b. cond b (Some x) (get m q)) e ∙ same q ok e ∙ sym (ap (λ b. cond b (Some y) (get n q)) e)
+nothing_unfinished : IsUnfinished nothing
+nothing_unfinished = unfinished_of nothing (missing_stands false)
 
-agree_written : (p : ℕ → Bool) (items : List Item) (m n : FinMap nat_cmp Pairs) → Agree p m n → Agree p (written m items) (written n items)
-agree_written p [] m n same = same
-agree_written p (item ∷ items) m n same =
-    agree_written p items _ _ (agree_insert p m n item.id _ _ (λ q ok apart. same q ok) (λ ok. ap (λ o. altered (unwrap_or o empty) item.key item.value) (same item.id ok)))
+nothing_left : IsImage (disk_of nothing) nothing
+nothing_left = record { kept = λ name there. inl refl; lost = λ name gone. refl }
 
--- a store kept, after a command, keeps what the store would
-pub kept-apply : (s : Store) (c : Command) → kept (apply (kept s) c) ≡ kept (apply s c)
-kept-apply s (Write items) =
-    let p = contains_key s.names in
-    let maps = same_retained p _ _ (agree_written p items _ _ (retained p s.maps)) in
-    let options = same_retained p _ _ (retained p s.options) in
-    λ i. record { names = s.names; maps = maps i; options = options i; next = s.next }
-kept-apply s (Clear id) =
-    let p = contains_key s.names in
-    let maps = same_retained p _ _ (agree_insert p _ s.maps id empty empty (λ q ok apart. retained p s.maps q ok) (λ _. refl)) in
-    let options = same_retained p _ _ (retained p s.options) in
-    λ i. record { names = s.names; maps = maps i; options = options i; next = s.next }
-kept-apply s (Create name settings) =
-    let p = contains_key s.names in
-    let names = insert s.names s.next name in
-    let was : (q : ℕ) → contains_key names q ≡ true → eq_by_cmp nat_cmp q s.next ≡ false → p q ≡ true =
-    λ q ok apart. sym (ap is_some (get-insert nat_cmp_total s.names s.next name q ∙ ap (λ b. cond b (Some name) (get s.names q)) apart)) ∙ ok in
-    let maps = same_retained (contains_key names) _ _ (agree_insert (contains_key names) _ s.maps s.next empty empty (λ q ok apart. retained p s.maps q (was q ok apart)) (λ _. refl)) in
-    let options = same_retained (contains_key names) _ _ (agree_insert (contains_key names) _ s.options s.next settings settings (λ q ok apart. retained p s.options q (was q ok apart)) (λ _. refl)) in
-    λ i. record { names = names; maps = maps i; options = options i; next = s.next + 1 }
-kept-apply s (Delete id) =
-    let p = contains_key s.names in
-    let names = remove s.names id in
-    let was : (q : ℕ) → contains_key names q ≡ true → p q ≡ true = λ q ok. left_after q (eq_by_cmp nat_cmp q id) refl ok in
-    let maps = same_retained (contains_key names) _ _ (λ q ok. retained p s.maps q (was q ok)) in
-    let options = same_retained (contains_key names) _ _ (λ q ok. retained p s.options q (was q ok)) in
-    λ i. record { names = names; maps = maps i; options = options i; next = s.next }
-  where
-    left_after : (q : ℕ) (b : Bool) → eq_by_cmp nat_cmp q id ≡ b → contains_key (remove s.names id) q ≡ true → contains_key s.names q ≡ true
-    left_after q true e ok = absurd (true≢false (sym ok ∙ ap is_some (get-remove nat_cmp_total s.names id q ∙ ap (λ b. cond b None (get s.names q)) e)))
-    left_after q false e ok = sym (ap is_some (get-remove nat_cmp_total s.names id q ∙ ap (λ b. cond b None (get s.names q)) e)) ∙ ok
-
-pub kept_twice : (s : Store) → kept (kept s) ≡ kept s
-kept_twice s =
-    let p = contains_key s.names in
-    let maps = same_retained p _ _ (retained p s.maps) in
-    let options = same_retained p _ _ (retained p s.options) in
-    λ i. record { names = s.names; maps = maps i; options = options i; next = s.next }
-
-pub kept-fold : (s : Store) (cs : List Command) → kept (fold (kept s) cs) ≡ kept (fold s cs)
-kept-fold s [] = kept_twice s
-kept-fold s (c ∷ cs) = sym (kept-fold (apply (kept s) c) cs) ∙ ap (λ t. kept (fold t cs)) (kept-apply s c) ∙ kept-fold (apply s c) cs
-
--- stores that keep the same go on keeping the same
-pub kept_along : (s t : Store) (cs : List Command) → kept s ≡ kept t → kept (fold s cs) ≡ kept (fold t cs)
-kept_along s t cs same = sym (kept-fold s cs) ∙ ap (λ u. kept (fold u cs)) same ∙ kept-fold t cs
-
-pub fold-append : (s : Store) (a b : List Command) → fold s (a ++ b) ≡ fold (fold s a) b
-fold-append s [] b = refl
-fold-append s (c ∷ a) b = fold-append (apply s c) a b
-
--- the map of a living keyspace is kept
-pub kept_map : (s : Store) (id : ℕ) → contains_key s.names id ≡ true → map_at (kept s).maps id ≡ map_at s.maps id
-kept_map s id living = ap (λ o. unwrap_or o empty) (retained (contains_key s.names) s.maps id living)
+pub new_disk_holds : (state : State) → ((name : Name) → state name ≡ record { now = Missing; older = [] }) → HoldsStore state (bare no_keyspaces)
+new_disk_holds state none =
+    let at : disk_of nothing ≡ state = λ i name. sym (none name) i in
+    subst (λ (s : State). HoldsStore s (bare no_keyspaces)) at (left_holds (disk_of nothing) [] nothing (bare no_keyspaces) None nothing_left nothing_unfinished refl)

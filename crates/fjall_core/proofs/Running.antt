@@ -3,15 +3,14 @@ use Rattle.std.proofs.Common.{◌≡◌, ℕ, ◌+◌, ◌<◌, List, [], ◌∷
 use Rattle.std.proofs.lemmas.List.{take_more}
 use Rattle.fjall_base.specs.Store.{Command}
 use Rattle.fjall_base.specs.Disk.{LeavesOnly}
-use Rattle.fjall_core.specs.declared.call.Call.{Call}
-use Rattle.fjall_core.specs.declared.call.Reply.{Reply}
-use Rattle.fjall_core.specs.Machine.{State}
+use Rattle.fjall_machine.specs.declared.call.Call.{Call}
+use Rattle.fjall_machine.specs.declared.call.Reply.{Reply}
+use Rattle.fjall_machine.specs.Machine.{State}
 use Rattle.fjall_core.specs.Holding.{Held}
 use Rattle.fjall_core.specs.Durables.{Durable, StandsAmid}
 use Rattle.fjall_core.specs.Crashes.{attempt, RunOn, SafeAt}
 use Rattle.fjall_core.specs.Standing.{StandsFor, StandsOn, Serves, RunsOn}
 use Rattle.fjall_core.proofs.Amids.{run_passes, run_safe, run-push}
-use Rattle.fjall_core.proofs.Calling.{rests_on}
 use Rattle.fjall_core.proofs.Tries.{run_tries}
 
 -- a run so far: the state that the core is in now and what it stands on
@@ -48,7 +47,7 @@ call_more mid new s d calls replies more i call reply lt is pushed so_far serves
 -- a whole run
 pub ends : (old new : Held) (s : State) (d : Durable) (calls : List Call) (replies : List Reply) → StandsOn old d → SoFar new s d calls replies → RunsOn old calls replies new s d
 ends old new s d calls replies on end =
-    let passes = run_passes s end.state d end.durable calls replies end.tried (rests_on old d on) end.run in
+    let passes = run_passes s end.state d end.durable calls replies end.tried on.rests end.run in
     record {
       tried = end.tried;
       state = end.state;

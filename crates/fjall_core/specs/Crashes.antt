@@ -1,35 +1,42 @@
 -- Runs of calls over a disk that may crash, and what the syncs among them make safe.
-use Rattle.std.specs.Prelude.{◌≡◌, ℕ, zero, suc, List, [], ◌∷◌, ◌++◌, take, Option, Some, None, IsSome, true}
-use Rattle.fjall_base.specs.Store.{Command, fold, kept}
+use Rattle.std.specs.Prelude.{◌≡◌, ℕ, zero, suc, List, [], ◌∷◌, ◌++◌, take, Option, Some, None, IsSome, true, false, if◌then◌else◌}
+use Rattle.fjall_base.specs.Store.{Command, Create, Delete, fold, kept}
 use Rattle.fjall_base.specs.Disk.{Image, IsImage, Meaning, Took, LeavesOnly, state_in}
 use Rattle.fjall_base.specs.Disk as disk
 use Rattle.fjall_base.specs.declared.error.Error.TheVariants.{Io}
 use Rattle.fjall_journal.specs.declared.persist_mode.PersistMode.TheVariants.{SyncData, SyncAll}
-use Rattle.fjall_core.specs.declared.call.Call.{Call}
-use Rattle.fjall_core.specs.declared.call.Call.TheVariants.{Insert, Remove, RemoveWeak, Persist}
-use Rattle.fjall_core.specs.declared.call.Reply.{Reply}
-use Rattle.fjall_core.specs.declared.call.Reply.TheVariants.{Done, Refused}
-use Rattle.fjall_core.specs.Histories.{extended}
-use Rattle.fjall_core.specs.Machine.{State, Step, write_of}
-use Rattle.fjall_core.specs.Durables.{Durable, Stands, StandsAmid, Passes}
+use Rattle.fjall_machine.specs.declared.call.Call.{Call}
+use Rattle.fjall_machine.specs.declared.call.Call.TheVariants.{DeleteKeyspace, Insert, Keyspace, Persist, Remove, RemoveWeak}
+use Rattle.fjall_machine.specs.declared.call.Reply.{Reply}
+use Rattle.fjall_machine.specs.declared.call.Reply.TheVariants.{Done, Number, Refused}
+use Rattle.fjall_versions.specs.Replays.{option_pairs}
+use Rattle.fjall_opening.specs.Folders.{StandsFor}
+use Rattle.fjall_machine.specs.Histories.{extended}
+use Rattle.fjall_machine.specs.Machine.{State, Step, has_name, is_living, present, write_of}
+use Rattle.fjall_core.specs.Durables.{Durable, StandsAmid, Passes}
 
--- the command that a call asks for
-abbrev pub asked : Call → List Command
-asked (Insert id key value) = write_of id key (Some value) ∷ []
-asked (Remove id key) = write_of id key None ∷ []
-asked (RemoveWeak id key) = write_of id key None ∷ []
-asked call = []
+-- the command that a call asks for in that state
+abbrev pub asked : State → Call → List Command
+asked s (Keyspace name options) = if has_name (present s) name then [] else (Create name (option_pairs options) ∷ [])
+asked s (DeleteKeyspace id) = if is_living (present s) id then (Delete id ∷ []) else []
+asked s (Insert id key value) = write_of id key (Some value) ∷ []
+asked s (Remove id key) = write_of id key None ∷ []
+asked s (RemoveWeak id key) = write_of id key None ∷ []
+asked s call = []
 
 -- what a call in that state tried to do: its command, where it was accepted or a fault of the disk refused it
 abbrev pub attempt : State → Call → Reply → List Command
-attempt s call Done = asked call
-attempt s call (Refused (Io kind)) = asked call
+attempt s call Done = asked s call
+attempt s call (Number n) = asked s call
+attempt s call (Refused (Io kind)) = asked s call
 attempt s call reply = []
 
--- in that state, a sync of the journal that succeeded
+-- in that state, a sync of all that was accepted which succeeded: a creation or a deletion is one too
 abbrev pub IsSync : State → Call → Reply → Type 0
 IsSync s (Persist SyncData) Done = Unit {0}
 IsSync s (Persist SyncAll) Done = Unit {0}
+IsSync s (Keyspace name options) (Number id) = has_name (present s) name ≡ false
+IsSync s (DeleteKeyspace id) Done = is_living (present s) id ≡ true
 IsSync s call reply = ⊥
 
 -- what one call in that state leaves, and where it was a sync that succeeded, nothing is pending
@@ -68,7 +75,7 @@ pub record SafeSince (old : Durable) (before all : List Command) (new : Meaning)
   pub moment : Meaning
   pub added : List disk.Step
   pub passed : Took old.meaning moment added
-  pub exactly : (image : Image) → IsImage (state_in moment) image → Stands image (kept (fold old.base (old.pending ++ before)))
+  pub exactly : (image : Image) → IsImage (state_in moment) image → StandsFor image (kept (fold old.base (old.pending ++ before)))
   pub since : LeavesOnly moment new (StandsAmid old.base (old.pending ++ before) (old.pending ++ all))
 
 -- The sync at that place is such a moment: what the run tried up to it stays.

@@ -1,51 +1,15 @@
 -- What a crash leaves of the engine's commands.
-use Rattle.std.specs.Prelude.{◌≡◌, ◌⊎◌, ℕ, Bool, true, false, List, [], ◌∷◌, ◌++◌, map, take, drop, codes, None}
-use Rattle.std.specs.List.{flat_map, AllByRecursion}
+use Rattle.std.specs.Prelude.{◌≡◌, ◌⊎◌, Bool, true, false, List, [], ◌∷◌, ◌++◌, map}
 use Rattle.fjall_base.specs.Store.{Store, Command, fold, kept}
-use Rattle.fjall_base.specs.Disk.{Name, Entry, Missing, File, Folder, State, standing, Image, IsImage, Meaning, LeavesOnly, IsNoFolder, state_in}
-use Rattle.fjall_journal.specs.declared.batch.Tail.TheVariants.{Clean, Torn}
-use Rattle.fjall_journal.specs.Batches.{Written, IsWritten, IsWhole, IsTail, batch_text, shown}
-use Rattle.fjall_core.specs.Replays.{initial, journal_commands, first_fault}
-
--- the name of the one journal
-abbrev pub journal_name : Name
-journal_name = codes "0.jnl"
-
--- the text of a journal: its file's bytes, and none where there is no file
-abbrev pub text_in : Entry → List ℕ
-text_in (File synced unsynced) = synced ++ unsynced
-text_in entry = []
-
--- the store that whole batches stand for
-abbrev pub store_in : List Written → Store
-store_in batches = kept (fold initial (journal_commands (map shown batches)))
-
--- the journal's text in an image
-abbrev pub image_text : Image → List ℕ
-image_text image = text_in (image journal_name)
-
--- The image stands for the store: its journal's whole batches make that store and have no fault, no damage stands
--- behind them, and no folder has the journal's name.
-pub record Stands (image : Image) (store : Store) : Type 0 where
-  pub batches : List Written
-  pub end : ℕ
-  pub whole : IsWhole (image_text image) batches end
-  pub sound : first_fault 0 (map shown batches) ≡ None
-  pub tail : IsTail (drop end (image_text image)) Clean ⊎ IsTail (drop end (image_text image)) Torn
-  pub file : IsNoFolder (image journal_name)
-  pub makes : store ≡ store_in batches
-
--- all bytes of the entry are synced, and it is no folder
-abbrev pub IsSynced : Entry → Type 0
-IsSynced Missing = Unit {0}
-IsSynced (File synced unsynced) = unsynced ≡ []
-IsSynced Folder = ⊥
-
--- The disk holds a journal that stands for the store, all of it synced, its name too.
-pub record Holds (state : State) (store : Store) : Type 0 where
-  pub settled : (state journal_name).older ≡ []
-  pub synced : IsSynced (state journal_name).now
-  pub stands : Stands (standing state) store
+use Rattle.fjall_base.specs.Disk.{Image, IsImage, Meaning, LeavesOnly, state_in}
+use Rattle.fjall_journal.specs.Batches.{shown}
+use Rattle.fjall_tree.specs.Records.{Fields}
+use Rattle.fjall_versions.specs.Replays.{journal_commands}
+use Rattle.fjall_opening.specs.Folders.{StandsFor, number_of, store_of}
+use Rattle.fjall_places.specs.Halves.{Tree}
+use Rattle.fjall_places.specs.Places.{Journaling, LiesInTree, contents_with}
+use Rattle.fjall_journaling.specs.Journaling.{IsWriting}
+use Rattle.fjall_core.specs.Holding.{Held}
 
 -- What a reopening would know: the store that the synced bytes make, and the commands behind it.
 pub record Durable : Type 0 where
@@ -62,7 +26,7 @@ pub record StandsAmid (base : Store) (least all : List Command) (image : Image) 
   pub front : List Command
   pub holds : IsBeginning least front
   pub within : IsBeginning front all
-  pub stands : Stands image (kept (fold base front))
+  pub stands : StandsFor image (kept (fold base front))
 
 -- a crash now leaves the base with a beginning of what is pending
 abbrev pub Rests : Durable → Type 0
@@ -77,21 +41,19 @@ pub record Passes (old : Durable) (tried : List Command) (new : Durable) : Type 
   pub rest : safe ++ new.pending ≡ old.pending ++ tried
   pub rests : Rests new
 
--- the texts of batches, one after another
-abbrev pub texts_of : List Written → List ℕ
-texts_of batches = flat_map batch_text batches
-
--- How base and pending lie in the journal's file: the base is made by batches whose bytes are synced, and behind them
--- stands a beginning of the bytes of the batches that are pending. None of these batches has a fault.
-pub record Lies (state : State) (base : Store) (pending : List Command) : Type 0 where
-  pub whole : List Written
-  pub later : List Written
-  pub each : AllByRecursion IsWritten (whole ++ later)
-  pub sound : first_fault 0 (map shown (whole ++ later)) ≡ None
-  pub made : kept base ≡ kept (store_in whole)
-  pub waits : pending ≡ journal_commands (map shown later)
-  pub cut : ℕ
-  pub place : state journal_name ≡ record { now = File (texts_of whole) (take cut (texts_of later)); older = [] }
+-- How base and pending lie on the disk of a core: the synced batches and tree 0 make the base, the batches behind them
+-- are pending, and the core's writer, catalog and keyspaces go on from there.
+pub record Lies (core : Held) (d : Durable) : Type 0 where
+  pub journals : Journaling
+  pub records : List Fields
+  pub tree : Tree
+  pub writing : IsWriting (state_in d.meaning) core.journal journals
+  pub in_tree : LiesInTree (state_in d.meaning) records tree
+  pub last : tree.last ≡ core.catalog
+  pub keyspaces : tree.keyspaces ≡ core.memory.keyspaces
+  pub made : kept d.base ≡ store_of (contents_with journals tree [])
+  pub waits : d.pending ≡ journal_commands tree.keyspaces (map shown journals.later)
+  pub next : core.memory.next ≡ number_of (contents_with journals tree journals.later)
 
 -- base and pending make the present, but that after a fault the last one may be pending that isn't there
 abbrev pub MakesPresent : Bool → Durable → Store → Type 0

@@ -1,11 +1,6 @@
-pub mod Histories
-pub mod Ops
-pub mod Changes
-pub mod Machine
-pub mod Replays
-pub mod Versions
+pub mod Holding
+pub mod Turns
 pub mod Durables
 pub mod Crashes
-pub mod Holding
 pub mod Standing
 pub mod Openings

@@ -1,29 +1,34 @@
 //! The core: one machine over a disk.
 
-ghost use Rattle.std.specs.Prelude.{◌≡◌, ◌≤◌, ◌<◌, ◌+◌, ◌^◌, ◌++◌, ◌∷◌, [], Some, None, Err, ℕ, IsTrue, IsErrOf, IfOk, IfErr, IsOkUnless, OnOk, OnErr, false, Result};
-ghost use Rattle.fjall_base.specs.Disk.{Meaning, state_in};
+ghost use Rattle.std.specs.Prelude.{◌≡◌, ◌≤◌, ◌<◌, ◌+◌, ◌^◌, ◌++◌, ◌∷◌, [], Some, None, Err, ℕ, IsTrue, IsErrOf, IfOk, IfErr, IsOkUnless, OnOk, OnErr, false, true, if◌then◌else◌, Result, length, List};
+ghost use Rattle.std.specs.FinMap.{len};
+ghost use Rattle.fjall_base.specs.Disk.{Meaning, standing, state_in};
+ghost use Rattle.fjall_base.specs.Store.{Store};
 ghost use Rattle.fjall_journal.specs.Spelling.{item_refusal};
 ghost use Rattle.fjall_journal.specs.Batches.{batch_text, of_item};
-ghost use Rattle.fjall_core.specs.Changes.{op_of, call_of};
-ghost use Rattle.fjall_core.specs.declared.call.Call.TheVariants.{Insert, Remove, RemoveWeak, GetAt, PageAt, Persist, Seqno, VisibleSeqno, JournalDiskSpace};
-ghost use Rattle.fjall_core.specs.declared.call.Reply.TheVariants.{Number};
-ghost use Rattle.fjall_core.specs.Histories.{number};
-ghost use Rattle.fjall_base.specs.Store.{Store};
-ghost use Rattle.fjall_core.specs.Openings.{journal_text, Opens, OpensOn, OpensAs, Repaired, KeepsStore, HasRisen, IsDueTo};
-ghost use Rattle.fjall_core.specs.Durables.{Holds};
-ghost use Rattle.fjall_core.specs.Machine.{State, Run};
-ghost use Rattle.fjall_core.specs.Standing.{StandsFor, Owes, OwesAll, Serves, Writes, WritesDisk, Runs, RunsSafely, OwesClosing, ClosesDisk, ClosesSafely, reply_of, value_reply, pairs_reply};
+ghost use Rattle.fjall_machine.specs.Changes.{op_of, call_of};
+ghost use Rattle.fjall_machine.specs.Histories.{number};
+ghost use Rattle.fjall_machine.specs.Machine.{State, Run, has_name, is_living, present};
+ghost use Rattle.fjall_machine.specs.declared.call.Call.TheVariants.{Keyspace, DeleteKeyspace, Retain, Release, Insert, Remove, RemoveWeak, GetAt, PageAt, Persist, KeyspaceCount, KeyspaceExists, ListKeyspaceNames, Seqno, VisibleSeqno, JournalDiskSpace};
+ghost use Rattle.fjall_machine.specs.declared.call.Reply.TheVariants.{Flag, Number};
+ghost use Rattle.fjall_keyspaces.specs.Keyspaces.{id_of};
+ghost use Rattle.fjall_machine.specs.Remembered.{IsLawful, poisoned};
+ghost use Rattle.fjall_opening.specs.Refusals.{HasRisen};
+ghost use Rattle.fjall_core.specs.Openings.{IsDueTo, KeepsStore, Opens, OpensAs, OpensOn};
+ghost use Rattle.fjall_core.specs.Turns.{Makes, Removes, Unmakes, Writes};
+ghost use Rattle.fjall_core.specs.Standing.{HoldsStore, StandsFor, held_due, is_io, Owes, OwesAll, Serves, Runs, RunsSafely, OwesClosing, ClosesDisk, ClosesSafely, names_reply, number_reply, pairs_reply, reply_of, store_in, value_reply};
 
-use crate::call::{Call, Reply, View};
-use crate::change::Change;
 use crate::config::Config;
-use crate::journaling::write_through;
-use crate::page::{KeyRange, page};
-use crate::recovery::restore;
-use crate::refusal::{KEYSPACE_ID, is_fault, write_refusal};
-use crate::version::{Version, newest_value, shared_value};
-use fjall_base::{Disk, Error, KvPair, Refused, Result, UserValue};
+use crate::turning::{is_fault, make_keyspace, unmake_keyspace};
+use fjall_base::{Disk, Error, KvPair, Refused, Result, Slice, UserValue};
+use fjall_catalog::{Catalog, prepare_deletion};
+use fjall_changes::{prepare_creation, prepare_removal, remove_keyspace};
 use fjall_journal::{PersistMode, ValueType, Writer};
+use fjall_journaling::{hand_over, write_through};
+use fjall_machine::{Call, Change, Memory, Reply, View};
+use fjall_meta::KeyspaceCreateOptions;
+use fjall_repair::open_folder;
+use fjall_versions::{KeyRange, Version};
 use std::alloc::Global;
 use std::marker::Model;
 
@@ -33,53 +38,219 @@ pub struct Core<D: Disk> {
     alloc: Global,
     disk: D,
     journal: Writer,
-    versions: Vec<Version>,
-    next: u64,
-    poisoned: bool,
+    catalog: Catalog,
+    memory: Memory,
 }
 
 impl<D: Disk> Model for Core<D> {
+    ghost use Rattle.std.specs.Coded.{codes};
     ghost use Rattle.fjall_core.specs.Holding.{Held};
+    ghost use Rattle.fjall_machine.specs.Remembered.{handles_code};
 
     ghost Value = { Held };
 
-    ghost view = { λ core. record { disk = D.meaning core.disk; journal = core.journal; versions = core.versions.items; next = core.next; poisoned = core.poisoned } };
+    ghost coded = { Prim.hlevel (codes, handles_code) };
+
+    ghost view = { λ core. record { disk = D.meaning core.disk; journal = core.journal; catalog = core.catalog; memory = core.memory } };
 }
 
 impl<D: Disk> Core<D> {
-    /// Opens the database on a disk: reads the journal `0.jnl`, made where it is missing, cuts the torn tail that a
-    /// crash may have left, syncs the file and the root folder, and replays the whole batches.
+    /// Opens the database on a disk: reads its folder whole, begins a database where none is there or goes on with one
+    /// whose making was cut short, cuts what a crash left unfinished, syncs what counts, and removes what nothing names.
     ///
-    /// Refusals hand the disk back: `OutOfMemory`; `Unrecoverable` where numbers don't ascend or reach 2^63;
-    /// `InvalidTag` for an item of type 4; `JournalRecovery` for a damaged tail; `Io`. All is read before anything is
-    /// changed, so that after each but `Io` the disk holds what it held.
+    /// Refusals hand the disk back: `InvalidVersion`; `JournalRecovery`, `Unrecoverable` and `InvalidTag` for what
+    /// stands in journals; `Storage` for what stands in records, tables and options; `OutOfMemory`; `Io`. All is read,
+    /// and all memory got, before anything is changed, so that after each but `Io` the disk holds what it held.
     pub fn open(alloc: Global, config: Config, disk: D) -> std::result::Result<Core<D>, Refused<D>>
-        ensures opened { IsTrue D.honest → IfOk result (λ core. OpensOn (journal_text (D.meaning disk)) core) }
-        ensures repaired { IsTrue D.honest → IfOk result (λ core. Repaired (D.meaning disk) core.disk) }
-        ensures safe { IsTrue D.honest → (store : Store) → Holds (state_in (D.meaning disk)) store → IfOk result (λ core. OpensAs core store) }
+        ensures opened { IsTrue D.honest → IfOk result (λ core. OpensOn (standing (state_in (D.meaning disk))) core) }
+        ensures safe { IsTrue D.honest → (store : Store) → HoldsStore (state_in (D.meaning disk)) store → IfOk result (λ core. OpensAs core store) }
         ensures any_moment { IsTrue D.honest → IfOk result (λ core. KeepsStore (D.meaning disk) core.disk) }
         ensures any_moment_err { IsTrue D.honest → IfErr result (λ refused. KeepsStore (D.meaning disk) (D.meaning refused.value)) }
         ensures stands { IfOk result (λ core. (store : Store) × (next : ℕ) × Opens core store next) }
         ensures later { IfOk result (λ core. (D.meaning disk).faults ≤ core.disk.faults) }
         ensures later_err { IfErr result (λ refused. (D.meaning disk).faults ≤ (D.meaning refused.value).faults) }
         ensures risen { IfErr result (λ refused. HasRisen (D.meaning disk).faults (D.meaning refused.value).faults refused.error) }
-        ensures due { IsTrue D.honest → IfErr result (λ refused. IsDueTo (journal_text (D.meaning disk)) (D.meaning disk) (D.meaning refused.value) refused.error) }
+        ensures due { IsTrue D.honest → IfErr result (λ refused. IsDueTo (D.meaning disk) (D.meaning refused.value) refused.error) }
     {
         drop(config);
         let mut disk = disk;
-        match restore(alloc, &mut disk) {
-            Ok((journal, found)) => Ok(Core {
+        match open_folder(alloc, &mut disk) {
+            Ok(opened) => Ok(Core {
                 alloc,
                 disk,
-                journal,
-                versions: found.versions,
-                next: found.least.max(1),
-                poisoned: false,
+                journal: opened.journal,
+                catalog: opened.catalog,
+                memory: Memory::new(alloc, opened.keyspaces, opened.versions, opened.number),
             }),
             Err(error) => Err(Refused { error, value: disk }),
         }
     }
 
+    /// The id of the keyspace of this name, which is made with these options where none has it.
+    ///
+    /// A new keyspace takes the next number and the next id, and outlives a crash once it is answered; all that was
+    /// accepted before it does so too. Refusals: `InvalidName` (a name has 1 to 255 bytes); and where it is to be made
+    /// `Poisoned`, `NumbersUsedUp`, `ValueTooLong` (an option's value of 2^32 bytes or more), `OutOfMemory`, and `Io`,
+    /// after which the core is poisoned. After each of the others nothing has changed.
+    pub fn keyspace(&mut self, name: &[u8], options: KeyspaceCreateOptions) -> Result<u64>
+        ensures serves { IsTrue D.honest → Serves self.old (Keyspace name.now options) (number_reply result) self.new }
+        ensures owes { Owes self.old (Keyspace name.now options) (number_reply result) self.new }
+    {
+        if let Some(error) = self
+            .memory
+            .creation_refusal(name, self.catalog.next_table_id)
+        {
+            return Err(error);
+        }
+        match self.memory.resolve(name) {
+            Some(id) => Ok(id),
+            None => self.create(name, options),
+        }
+    }
+
+    // Makes a keyspace of a name that none has.
+    fn create(&mut self, name: &[u8], options: KeyspaceCreateOptions) -> Result<u64>
+        requires due { held_due self.old (Keyspace name.now options) ≡ None }
+        requires fresh { id_of name.now self.old.memory.keyspaces.living ≡ None }
+        requires unnamed { has_name (store_in self.old) name.now ≡ false }
+        ensures serves { IsTrue D.honest → Serves self.old (Keyspace name.now options) (number_reply result) self.new }
+        ensures owes { Owes self.old (Keyspace name.now options) (number_reply result) self.new }
+    {
+        let name = Slice::new(self.alloc, name)?;
+        let number = self.memory.seqno();
+        let id = self.memory.create(name, options)?;
+        match self.make(id, number) {
+            Ok(()) => Ok(id),
+            Err(error) => {
+                self.memory.take_back();
+                self.poison_by(&error);
+                Err(error)
+            }
+        }
+    }
+
+    // Makes a keyspace on the disk that stands in memory already.
+    fn make(&mut self, id: u64, number: u64) -> Result<()>
+        ensures made { Makes (IsTrue D.honest) self.old id number result self.new }
+    {
+        let keyspaces = self.memory.keyspaces();
+        let creation = prepare_creation(self.alloc, &self.catalog, keyspaces, id, number)?;
+        make_keyspace(&mut self.journal, &mut self.disk, &creation)?;
+        self.catalog = creation.update.catalog;
+        Ok(())
+    }
+
+    // After a fault of the disk the core is poisoned.
+    fn poison_by(&mut self, error: &Error)
+        ensures { self.new ≡ (if is_io error.now then record self.old { memory = poisoned self.old.memory } else self.old) }
+    {
+        if is_fault(error) {
+            self.memory.poison();
+        }
+    }
+
+    /// Deletes the keyspace of this id: its name is free again, and its id is never given out anew. Where it is deleted
+    /// already nothing changes.
+    ///
+    /// A deletion takes the next number, and outlives a crash once it is answered, as does all that was accepted before
+    /// it. The map stays readable until its last handle is released. Refusals: `UnknownKeyspace`; and where the keyspace
+    /// lives `Poisoned`, `NumbersUsedUp`, `ValueTooLong` (another keyspace's option of 2^32 bytes or more),
+    /// `OutOfMemory`, and `Io`, after which the core is poisoned. After each of the others nothing has changed.
+    pub fn delete_keyspace(&mut self, id: u64) -> Result<()>
+        ensures serves { IsTrue D.honest → Serves self.old (DeleteKeyspace id) (reply_of result) self.new }
+        ensures owes { Owes self.old (DeleteKeyspace id) (reply_of result) self.new }
+    {
+        if let Some(error) = self.memory.deletion_refusal(id, self.catalog.next_table_id) {
+            return Err(error);
+        }
+        if !self.memory.is_living(id) {
+            return Ok(());
+        }
+        self.delete(id)
+    }
+
+    // Deletes a keyspace that lives.
+    fn delete(&mut self, id: u64) -> Result<()>
+        requires due { held_due self.old (DeleteKeyspace id) ≡ None }
+        requires living { is_living (store_in self.old) id ≡ true }
+        ensures serves { IsTrue D.honest → Serves self.old (DeleteKeyspace id) (reply_of result) self.new }
+        ensures owes { Owes self.old (DeleteKeyspace id) (reply_of result) self.new }
+    {
+        let lasting = self.memory.prepare_deletion(self.alloc, id)?;
+        match self.unmake(id) {
+            Ok(()) => {
+                self.memory.delete(id, lasting);
+                Ok(())
+            }
+            Err(error) => {
+                self.poison_by(&error);
+                Err(error)
+            }
+        }
+    }
+
+    // Takes a keyspace out of the catalog.
+    fn unmake(&mut self, id: u64) -> Result<()>
+        ensures unmade { Unmakes (IsTrue D.honest) self.old id result self.new }
+        ensures lawful { IsLawful self.old.memory }
+    {
+        let number = self.memory.seqno();
+        let keyspaces = self.memory.keyspaces();
+        let update = prepare_deletion(self.alloc, &self.catalog, keyspaces, id, number)?;
+        unmake_keyspace(&mut self.journal, &mut self.disk, &update)?;
+        self.catalog = update.catalog;
+        Ok(())
+    }
+
+    /// Counts one handle more of the keyspace of this id. A deleted keyspace is read, and keeps its files, as long as
+    /// handles of it are counted.
+    ///
+    /// Refusals: `UnknownKeyspace`; `KeyspaceDeleted` after a deleted keyspace's last release; `NumbersUsedUp`;
+    /// `OutOfMemory`. After each of them nothing has changed.
+    pub fn retain(&mut self, id: u64) -> Result<()>
+        ensures serves { IsTrue D.honest → Serves self.old (Retain id) (reply_of result) self.new }
+        ensures owes { Owes self.old (Retain id) (reply_of result) self.new }
+    {
+        self.memory.retain(id)
+    }
+
+    /// Counts one handle less. With the last one of a deleted keyspace its map goes, and its folder is removed, which a
+    /// poisoned core leaves to the next opening.
+    ///
+    /// Refusals: `UnknownKeyspace` where no handle is counted; `OutOfMemory`; and `Io`, after which the core is poisoned.
+    /// After each of them the handle is still counted.
+    pub fn release(&mut self, id: u64) -> Result<()>
+        ensures serves { IsTrue D.honest → Serves self.old (Release id) (reply_of result) self.new }
+        ensures owes { Owes self.old (Release id) (reply_of result) self.new }
+    {
+        if let Some(error) = self.memory.release_refusal(id) {
+            return Err(error);
+        }
+        if !self.memory.is_last(id) || self.memory.is_poisoned() {
+            self.memory.release(id);
+            return Ok(());
+        }
+        self.remove_files(id)?;
+        self.memory.release(id);
+        Ok(())
+    }
+
+    // Removes the files of a deleted keyspace.
+    fn remove_files(&mut self, id: u64) -> Result<()>
+        ensures removed { Removes (IsTrue D.honest) self.old id result self.new }
+    {
+        let removal = prepare_removal(self.alloc, id)?;
+        match remove_keyspace(&mut self.disk, &removal) {
+            Ok(()) => Ok(()),
+            Err(error) => {
+                self.memory.poison();
+                Err(error)
+            }
+        }
+    }
+}
+
+impl<D: Disk> Core<D> {
     // Writes one version under the next number. All memory is got before the first byte goes to the disk.
     fn write(
         &mut self,
@@ -90,13 +261,13 @@ impl<D: Disk> Core<D> {
         value_type: ValueType,
     ) -> Result<()>
         requires fits { item_refusal key.now value.now ≡ None }
-        requires well { self.old.poisoned ≡ false }
-        requires room { self.old.next < 2 ^ 63 }
-        ensures writes { Writes self.old version (batch_text (of_item id key.now value.now value_type self.old.next)) result self.new }
-        ensures disk { IsTrue D.honest → WritesDisk self.old (batch_text (of_item id key.now value.now value_type self.old.next)) result self.new }
+        requires living { is_living (store_in self.old) id ≡ true }
+        requires version { version.keyspace_id ≡ id }
+        requires room { self.old.memory.next < 2 ^ 63 }
+        ensures writes { Writes (IsTrue D.honest) self.old version (of_item id key.now value.now value_type self.old.memory.next) value_type result self.new }
     {
-        let before = self.versions.len();
-        self.versions.push(version)?;
+        let seqno = self.memory.seqno();
+        self.memory.remember(version)?;
         let written = write_through(
             &mut self.journal,
             &mut self.disk,
@@ -104,14 +275,13 @@ impl<D: Disk> Core<D> {
             key,
             value,
             value_type,
-            self.next,
+            seqno,
         );
         if let Err(error) = written {
-            self.versions.truncate(before);
-            self.poisoned = is_fault(&error);
+            self.memory.forget();
+            self.poison_by(&error);
             return Err(error);
         }
-        self.next += 1;
         Ok(())
     }
 
@@ -121,21 +291,19 @@ impl<D: Disk> Core<D> {
         ensures owes { Owes self.old (call_of id key.now (op_of change.entry)) (reply_of result) self.new }
     {
         let value = change.bytes();
-        if let Some(error) = write_refusal(self.next, self.poisoned, id, key, value) {
+        if let Some(error) = self.memory.write_refusal(id, key, value) {
             return Err(error);
         }
-        let version = change.version(self.alloc, self.next, key)?;
+        let version = change.version(self.alloc, id, self.memory.seqno(), key)?;
         self.write(id, version, key, value, change.value_type())
     }
-}
 
-impl<D: Disk> Core<D> {
     /// Gives a key of a keyspace a value, under the next number, and hands the command to the system. A crash may
     /// still lose it until the journal is synced.
     ///
     /// Refusals, the first that has its cause: `KeyEmpty`, `KeyTooLong` (above 65,535 bytes), `ValueTooLong` (above
-    /// 4,294,967,295), `UnknownKeyspace`, `Poisoned`, `NumbersUsedUp`, `OutOfMemory`, and `Io`, after which the core
-    /// is poisoned. After each of the others nothing has changed.
+    /// 4,294,967,295), `UnknownKeyspace`, `KeyspaceDeleted`, `Poisoned`, `NumbersUsedUp`, `OutOfMemory`, and `Io`,
+    /// after which the core is poisoned. After each of the others nothing has changed.
     pub fn insert(&mut self, id: u64, key: &[u8], value: &[u8]) -> Result<()>
         ensures serves { IsTrue D.honest → Serves self.old (Insert id key.now value.now) (reply_of result) self.new }
         ensures owes { Owes self.old (Insert id key.now value.now) (reply_of result) self.new }
@@ -160,25 +328,44 @@ impl<D: Disk> Core<D> {
         self.change(id, key, Change::RemoveWeak)
     }
 
+    /// Writes the journal's buffer out and, in the two sync modes, syncs the journal: what was accepted before then
+    /// outlives a crash.
+    ///
+    /// Refusals: `Poisoned`, and `Io`, after which the core is poisoned.
+    pub fn persist(&mut self, mode: PersistMode) -> Result<()>
+        ensures serves { IsTrue D.honest → Serves self.old (Persist mode) (reply_of result) self.new }
+        ensures owes { Owes self.old (Persist mode) (reply_of result) self.new }
+    {
+        if self.memory.is_poisoned() {
+            return Err(Error::Poisoned);
+        }
+        match hand_over(&mut self.journal, &mut self.disk, mode) {
+            Ok(()) => Ok(()),
+            Err(error) => {
+                self.memory.poison();
+                Err(error)
+            }
+        }
+    }
+}
+
+impl<D: Disk> Core<D> {
     /// The value that a key of a keyspace has in a view. A key that no write can have has none.
     ///
-    /// Refusals: `UnknownKeyspace`, `OutOfMemory`. Nothing changes.
+    /// Refusals: `UnknownKeyspace`, `KeyspaceDeleted`, `OutOfMemory`. Nothing changes.
     pub fn get_at(&mut self, view: View, id: u64, key: &[u8]) -> Result<Option<UserValue>>
         ensures serves { IsTrue D.honest → Serves self.old (GetAt view id key.now) (value_reply result) self.new }
         ensures owes { Owes self.old (GetAt view id key.now) (value_reply result) self.new }
         ensures same { self.new ≡ self.old }
     {
         let View::Present = view;
-        if id != KEYSPACE_ID {
-            return Err(Error::UnknownKeyspace);
-        }
-        shared_value(newest_value(&self.versions, key))
+        self.memory.get(id, key)
     }
 
     /// The first pairs of a keyspace's range in a view or, where `back`, the last ones: at most `max`, in the order of
     /// their keys.
     ///
-    /// Refusals: `UnknownKeyspace`, `OutOfMemory`. Nothing changes.
+    /// Refusals: `UnknownKeyspace`, `KeyspaceDeleted`, `OutOfMemory`. Nothing changes.
     pub fn page_at(
         &mut self,
         view: View,
@@ -192,49 +379,51 @@ impl<D: Disk> Core<D> {
         ensures same { self.new ≡ self.old }
     {
         let View::Present = view;
-        if id != KEYSPACE_ID {
-            return Err(Error::UnknownKeyspace);
-        }
-        page(self.alloc, &self.versions, range, back, max)
+        self.memory.page(self.alloc, id, range, back, max)
     }
 
-    /// Writes the journal's buffer out and, in the two sync modes, syncs the journal: what was accepted before then
-    /// outlives a crash.
-    ///
-    /// Refusals: `Poisoned`, and `Io`, after which the core is poisoned.
-    pub fn persist(&mut self, mode: PersistMode) -> Result<()>
-        ensures serves { IsTrue D.honest → Serves self.old (Persist mode) (reply_of result) self.new }
-        ensures owes { Owes self.old (Persist mode) (reply_of result) self.new }
+    /// How many keyspaces live.
+    pub fn keyspace_count(&self) -> usize
+        ensures held { result ≡ length self.now.memory.keyspaces.living }
+        ensures count { (s : State) → StandsFor self.now s → result ≡ len (present s).names }
     {
-        if self.poisoned {
-            return Err(Error::Poisoned);
-        }
-        match self.journal.persist(&mut self.disk, mode) {
-            Ok(()) => Ok(()),
-            Err(error) => {
-                self.poisoned = true;
-                Err(error)
-            }
-        }
+        self.memory.keyspace_count()
+    }
+
+    /// The names of the keyspaces that live, in the order of their bytes. Refuses for want of memory alone.
+    pub fn list_keyspace_names(&mut self) -> Result<Vec<Slice>>
+        ensures serves { IsTrue D.honest → Serves self.old ListKeyspaceNames (names_reply result) self.new }
+        ensures owes { Owes self.old ListKeyspaceNames (names_reply result) self.new }
+        ensures same { self.new ≡ self.old }
+    {
+        self.memory.list_keyspace_names(self.alloc)
+    }
+
+    /// Whether a keyspace has this name.
+    pub fn keyspace_exists(&self, name: &[u8]) -> bool
+        ensures held { result ≡ has_name (store_in self.now) name.now }
+        ensures named { (s : State) → StandsFor self.now s → result ≡ has_name (present s) name.now }
+    {
+        self.memory.keyspace_exists(name)
     }
 
     /// The number that the next command takes.
     pub fn seqno(&self) -> u64
-        ensures held { result ≡ self.now.next }
+        ensures held { result ≡ self.now.memory.next }
         ensures number { (s : State) → StandsFor self.now s → result ≡ number s.history }
     {
-        self.next
+        self.memory.seqno()
     }
 
     /// One past the number of the last accepted command: a view at this instant shows all of them.
     pub fn visible_seqno(&self) -> u64
-        ensures held { result ≡ self.now.next }
+        ensures held { result ≡ self.now.memory.next }
         ensures number { (s : State) → StandsFor self.now s → result ≡ number s.history }
     {
-        self.next
+        self.memory.seqno()
     }
 
-    /// How many bytes the journal's file has.
+    /// How many bytes the active journal's file has.
     pub fn journal_disk_space(&self) -> u64
         ensures held { result ≡ self.now.journal.len }
         ensures parts { (s : State) → StandsFor self.now s → result ≡ s.parts.journal }
@@ -244,19 +433,26 @@ impl<D: Disk> Core<D> {
 }
 
 impl<D: Disk> Core<D> {
-    fn serve(&mut self, call: &Call) -> Reply
-        ensures serves { IsTrue D.honest → Serves self.old call.now result self.new }
-        ensures owes { Owes self.old call.now result self.new }
+    fn serve(&mut self, call: Call) -> Reply
+        ensures serves { IsTrue D.honest → Serves self.old call result self.new }
+        ensures owes { Owes self.old call result self.new }
     {
         match call {
-            Call::Insert(id, key, value) => reply_of(self.insert(*id, key, value)),
-            Call::Remove(id, key) => reply_of(self.remove(*id, key)),
-            Call::RemoveWeak(id, key) => reply_of(self.remove_weak(*id, key)),
+            Call::Keyspace(name, options) => number_reply(self.keyspace(&name, options)),
+            Call::DeleteKeyspace(id) => reply_of(self.delete_keyspace(id)),
+            Call::Retain(id) => reply_of(self.retain(id)),
+            Call::Release(id) => reply_of(self.release(id)),
+            Call::Insert(id, key, value) => reply_of(self.insert(id, &key, &value)),
+            Call::Remove(id, key) => reply_of(self.remove(id, &key)),
+            Call::RemoveWeak(id, key) => reply_of(self.remove_weak(id, &key)),
             Call::PageAt(view, id, range, back, max) => {
-                pairs_reply(self.page_at(*view, *id, range, *back, *max))
+                pairs_reply(self.page_at(view, id, &range, back, max))
             }
-            Call::GetAt(view, id, key) => value_reply(self.get_at(*view, *id, key)),
-            Call::Persist(mode) => reply_of(self.persist(*mode)),
+            Call::GetAt(view, id, key) => value_reply(self.get_at(view, id, &key)),
+            Call::Persist(mode) => reply_of(self.persist(mode)),
+            Call::KeyspaceCount => Reply::Number(self.keyspace_count() as u64),
+            Call::ListKeyspaceNames => names_reply(self.list_keyspace_names()),
+            Call::KeyspaceExists(name) => Reply::Flag(self.keyspace_exists(&name)),
             Call::Seqno => Reply::Number(self.seqno()),
             Call::VisibleSeqno => Reply::Number(self.visible_seqno()),
             Call::JournalDiskSpace => Reply::Number(self.journal_disk_space()),
@@ -273,7 +469,7 @@ impl<D: Disk> Core<D> {
         ensures only { IsOkUnless result Error.OutOfMemory }
     {
         let mut replies = Vec::with_capacity(self.alloc, calls.len())?;
-        for call in &calls {
+        for call in calls {
             let reply = self.serve(call);
             replies.push(reply).unwrap();
         }
@@ -288,12 +484,11 @@ impl<D: Disk> Core<D> {
             alloc: _,
             disk,
             journal,
-            versions,
-            next: _,
-            poisoned: _,
+            catalog: _,
+            memory,
         } = self;
         drop(journal);
-        drop(versions);
+        drop(memory);
         disk
     }
 
@@ -334,6 +529,24 @@ fn pairs_reply(found: Result<Vec<KvPair>>) -> Reply
 {
     match found {
         Ok(pairs) => Reply::Pairs(pairs),
+        Err(error) => Reply::Refused(error),
+    }
+}
+
+fn number_reply(found: Result<u64>) -> Reply
+    ensures { result ≡ number_reply found }
+{
+    match found {
+        Ok(number) => Reply::Number(number),
+        Err(error) => Reply::Refused(error),
+    }
+}
+
+fn names_reply(found: Result<Vec<Slice>>) -> Reply
+    ensures { result ≡ names_reply found }
+{
+    match found {
+        Ok(names) => Reply::Names(names),
         Err(error) => Reply::Refused(error),
     }
 }

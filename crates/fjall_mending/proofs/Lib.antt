@@ -12,4 +12,4 @@ pub mod Rested
 pub mod Mended
 pub mod Carrying
 pub mod Suiting
-pub mod Mending
+pub mod Suited

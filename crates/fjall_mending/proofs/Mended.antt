@@ -1,6 +1,6 @@
 -- A folder all of whose steps were taken is mended.
-use Rattle.std.proofs.Common.{◌≡◌, ℕ, List, [], ◌∷◌, length, Some, refl, sym, ◌∙◌, ap}
-use Rattle.fjall_base.specs.Disk.{State}
+use Rattle.std.proofs.Common.{◌≡◌, List, [], ◌∷◌, length, Some, refl, sym, ◌∙◌, ap}
+use Rattle.fjall_base.specs.Disk.{Name, State}
 use Rattle.fjall_tree.specs.Records.{last_of}
 use Rattle.fjall_recovery.specs.Names.{journal_name}
 use Rattle.fjall_opening.specs.declared.folder.Finished.{Finished}
@@ -20,14 +20,14 @@ pub same_active : (js : List Journal) → active_of (ids_of (opened js)) ≡ act
 same_active [] = refl
 same_active (j ∷ js) = refl
 
-pub mended : (state : State) (found : Finished) (c : Contents) (active : ℕ) → IsRested state (with_active c) → active ≡ active_of (ids_of c.journals)
+pub mended : (state : State) (found : Finished) (c : Contents) (active : Name) → IsRested state (with_active c) → active ≡ journal_name (active_of (ids_of c.journals))
     → ((journal : Journal) → last_of (opened c.journals) ≡ Some journal → length (texts_of journal.batches) ≡ found.journals.end) → IsMended state found c active
 mended state found c active rest is ends =
     let p = opened_parted c.journals in
     record {
       j = journaling state (with_active c) rest p;
       root = lies_in_root state (with_active c) rest p;
-      active_is = sym (active_parted (opened c.journals) p) ∙ same_active c.journals ∙ sym is;
+      active_is = ap journal_name (sym (active_parted (opened c.journals) p) ∙ same_active c.journals) ∙ sym is;
       later = refl;
       end = ends p.active (last_parted (opened c.journals) p);
       batches = ap batches_in (with_is state (with_active c) rest p) ∙ same_batches c.journals;

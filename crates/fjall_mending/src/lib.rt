@@ -1,10 +1,10 @@
-//! A folder that was read whole is mended: torn tails are cut, and all that counts is synced.
+//! A folder mended after a crash: first all that is to be done is found out, and then it is done, and no crash meanwhile
+//! leaves another store.
 #![tactic(auto)]
 
-mod mend;
+mod mending;
 mod plan;
 mod steps;
-#[cfg(test)]
-mod tests;
 
-pub use mend::mend_folder;
+pub use mending::{mend, plan_mending};
+pub use plan::{FileEnd, Plan};

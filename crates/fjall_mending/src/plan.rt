@@ -14,7 +14,8 @@ use std::alloc::Global;
 
 /// A file, and where it is to end.
 #[derive(Debug, Drop)]
-pub(crate) struct FileEnd {
+pub struct FileEnd {
+    /// Its name.
     pub name: String,
     /// Whether bytes stand behind the end, which are to be cut.
     pub cut: bool,
@@ -24,7 +25,7 @@ pub(crate) struct FileEnd {
 
 /// What is to be done to a folder. The root isn't named.
 #[derive(Debug, Drop)]
-pub(crate) struct Plan {
+pub struct Plan {
     /// The file of the active journal.
     pub active: String,
     /// The folders whose names are to be synced.
@@ -36,7 +37,7 @@ pub(crate) struct Plan {
 }
 
 /// The id of the active journal: the last one, and 1 where there is no journal.
-pub(crate) fn active_id(ids: &[u64]) -> u64
+fn active_id(ids: &[u64]) -> u64
     ensures { result ≡ active_of ids.now }
 {
     match ids {

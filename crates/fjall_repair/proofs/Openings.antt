@@ -1,5 +1,5 @@
 -- What was opened, and the disk until then.
-use Rattle.std.proofs.Common.{◌≡◌, ℕ, ◌<◌, max, List, [], ◌∷◌, map, All, Option, None, Some, Result, Ok, Err, refl, sym, ◌∙◌, ap, subst, arith}
+use Rattle.std.proofs.Common.{◌≡◌, inl, inr, ℕ, ◌<◌, max, List, [], ◌∷◌, length, map, All, Option, None, Some, Result, Ok, Err, refl, sym, ◌∙◌, ap, subst, arith}
 use Rattle.std.specs.List.{AllByRecursion}
 use Rattle.std.proofs.lemmas.List.Elements.{All-from_recursion}
 use Rattle.std.specs.Prelude.{IfOk, IfErr}
@@ -8,7 +8,14 @@ use Rattle.fjall_base.specs.declared.error.Error.{Error}
 use Rattle.fjall_base.specs.declared.error.Error.TheVariants.{Io, OutOfMemory}
 use Rattle.fjall_base.proofs.Moments.{started}
 use Rattle.fjall_regions.proofs.Made.{took_both}
-use Rattle.fjall_journal.specs.Batches.{Written, shown, view}
+use Rattle.fjall_journal.specs.Batches.{Shown, Written, shown, view}
+use Rattle.fjall_keyspaces.specs.Keyspaces.{Keyspaces}
+use Rattle.fjall_versions.specs.declared.version.Version.{Version}
+use Rattle.fjall_versions.proofs.Replaying.{replay_makes_the_store}
+use Rattle.fjall_journal.specs.Writer.{Journal}
+use Rattle.fjall_recovery.specs.Names.{journal_name}
+use Rattle.fjall_versions.specs.Versions.{store_of as store_behind, versions_behind}
+use Rattle.fjall_places.specs.Places.{texts_of}
 use Rattle.fjall_versions.specs.Replays.{store_in, least_after}
 use Rattle.fjall_tree.specs.Records.{Fields, IsRecord, last_of}
 use Rattle.fjall_tree.specs.Records as records
@@ -19,7 +26,7 @@ use Rattle.fjall_opening.specs.Folders.{Contents, IsFinished, IsSound, IsUnfinis
 use Rattle.fjall_opening.specs.declared.folder.Finished.{Finished}
 use Rattle.fjall_opening.specs.declared.homes.Home.{Home}
 use Rattle.fjall_opening.specs.Homes.{AreHomesRead}
-use Rattle.fjall_opening.specs.Refusals.{FolderRefuses, IsDue}
+use Rattle.fjall_opening.specs.Refusals.{FolderRefuses, HasRisen, IsDue}
 use Rattle.fjall_opening.proofs.Alone.{one_contents}
 use Rattle.fjall_journal.proofs.Writing.{took_none}
 use Rattle.fjall_recovery.specs.declared.marker.Marker.TheVariants.{Whole, Unfinished}
@@ -28,9 +35,9 @@ use Rattle.fjall_places.specs.Held.{Holds, IsFolder, number_held, store_held}
 use Rattle.fjall_places.specs.Places.{contents_with}
 use Rattle.fjall_places.proofs.Holding.{folder_stands, tree_of}
 use Rattle.fjall_beginning.proofs.Beginning as Beginning
-use Rattle.fjall_repair.specs.declared.opening.Opened.{Opened}
+use Rattle.fjall_repair.specs.declared.opened.Opened.{Opened}
 use Rattle.fjall_repair.specs.Sweeps.{IsSwept}
-use Rattle.fjall_repair.specs.Opened.{ComesBack, HasNumbers, IsHeldUp, IsOpenedFrom, IsRepaired, IsUnopened, Opens, records_of}
+use Rattle.fjall_repair.specs.Opened.{ComesBack, HasNumbers, IsHeldUp, IsOpenedFrom, IsRepaired, IsUnopened, Opens, Takes, records_of}
 
 -- ---- before the first change
 
@@ -52,27 +59,47 @@ stands_now old folder holds = started old (λ image. StandsFor image (store_held
 
 -- ---- what was opened
 
-module _ (state : State) (contents : Contents) (active end : ℕ) (is : IsRepaired state contents active end) where
+-- what was read is what the folder holds
+pub takes_contents : (found : Finished) (contents : Contents) (o : Opened) (active : Name) (end : ℕ) → Shows found contents → Takes o active end found.catalog.catalog found.catalog.keyspaces (map view found.journals.batches.items)
+    → Takes o active end contents.last contents.keyspaces (map shown (batches_in contents.journals))
+takes_contents found contents o active end shows takes = record {
+  journal = takes.journal;
+  last_is = takes.last_is ∙ shows.last;
+  keyspaces = takes.keyspaces ∙ shows.keyspaces;
+  versions = takes.versions ∙ ap (λ (s : Keyspaces). versions_behind s [] (map view found.journals.batches.items)) shows.keyspaces ∙ ap (λ (b : List Shown). versions_behind contents.keyspaces [] b) shows.batches;
+}
+
+-- and it stands for the store of the folder
+pub makes_store : (contents : Contents) (active : Name) (end : ℕ) (o : Opened) → Takes o active end contents.last contents.keyspaces (map shown (batches_in contents.journals)) → store_behind o.keyspaces o.versions.items ≡ store_of contents
+makes_store contents active end o takes =
+    ap (λ (s : Keyspaces). store_behind s o.versions.items) takes.keyspaces ∙ ap (λ (v : List Version). store_behind contents.keyspaces v) takes.versions
+    ∙ sym (replay_makes_the_store contents.keyspaces (map shown (batches_in contents.journals)))
+
+module _ (state : State) (contents : Contents) (active : Name) (end : ℕ) (is : IsRepaired state contents active end) where
   same_store : store_of (contents_with is.j (tree_of contents) []) ≡ store_of contents
   same_store = ap (λ (b : List Written). store_in contents.keyspaces (map shown b)) is.batches
 
   same_number : number_of (contents_with is.j (tree_of contents) []) ≡ number_of contents
   same_number = ap (λ (b : List Written). max (least_after 0 (map shown b)) (past_records (fields contents.last ∷ contents.homes))) is.batches
 
-  pub opens_of : (folder : Option Contents) (o : Opened) → active ≡ o.active → end ≡ o.end → contents.last ≡ o.catalog → contents.keyspaces ≡ o.keyspaces → map view o.batches.items ≡ map shown (batches_in contents.journals)
+  at_end : (writer : Journal) → writer ≡ record { name = active; buffer = []; len = end } → writer ≡ record { name = journal_name is.j.active; buffer = []; len = length (texts_of is.j.whole) }
+  at_end writer writing =
+      writing ∙ ap (λ (n : Name). let w : Journal = record { name = n; buffer = []; len = end } in w) (sym is.active_is)
+      ∙ ap (λ (n : ℕ). let w : Journal = record { name = journal_name is.j.active; buffer = []; len = n } in w) (sym is.end_is)
+
+  pub opens_of : (folder : Option Contents) (o : Opened) → Takes o active end contents.last contents.keyspaces (map shown (batches_in contents.journals))
       → store_of contents ≡ store_held folder → o.number ≡ number_of contents → number_of contents ≡ number_held folder → Opens state folder o
-  opens_of folder o active_is end_is last keyspaces batches store number held = record {
+  opens_of folder o takes store number held = record {
     j = is.j;
     records = is.records;
     t = tree_of contents;
     root = is.root;
     tree = is.tree;
     later = is.later;
-    active = is.active_is ∙ active_is;
-    end = is.end_is ∙ end_is;
-    last = last;
-    keyspaces = keyspaces;
-    batches = batches ∙ ap (λ (b : List Written). map shown b) (sym is.batches);
+    journal = at_end o.journal takes.journal;
+    last = sym takes.last_is;
+    keyspaces = sym takes.keyspaces;
+    made = makes_store contents active end o takes ∙ sym same_store;
     store = same_store ∙ store;
     number = number ∙ sym same_number;
     same = number ∙ held;
@@ -119,7 +146,7 @@ pub unfinished_is : (image : Image) (folder : Option Contents) → IsUnfinished 
 unfinished_is image None begun is = refl
 unfinished_is image (Some contents) begun is = let no : Ok Whole ≡ Ok Unfinished = sym is.marker ∙ begun.marker in absurd (let bad : ⊥ = cc in bad)
 
-pub opened_from : (image : Image) (folder : Option Contents) (result : Result Opened Error) → IsFolder image folder → IfOk result (λ o. store_in o.keyspaces (map view o.batches.items) ≡ store_held folder)
+pub opened_from : (image : Image) (folder : Option Contents) (result : Result Opened Error) → IsFolder image folder → IfOk result (λ o. store_behind o.keyspaces o.versions.items ≡ store_held folder)
     → IfOk result (λ o. o.number ≡ number_held folder) → IfOk result (IsOpenedFrom image)
 opened_from image folder (Ok o) is store number = (folder, is, store, number)
 opened_from image folder (Err e) is store number = tt
@@ -140,6 +167,21 @@ held_up old mid new (Ok x) took held = tt
 held_up old mid new (Err (Io kind)) took held = tt
 held_up old mid new (Err OutOfMemory) took held = (tt, took_none old mid new [] took held)
 held_up old mid new (Err error) took held = absurd held
+
+-- before anything was changed
+pub held_early : (old new : Meaning) (error : Error) → IsDue (λ error. ⊥) error → Took old new [] → IsHeldUp old new error
+held_early old new (Io kind) due took = tt
+held_early old new OutOfMemory due took = took
+held_early old new error due took = absurd due
+
+pub due_to_memory : (error : Error) → error ≡ OutOfMemory → IsDue (λ error. ⊥) error
+due_to_memory error is = subst (IsDue (λ error. ⊥)) (sym is) tt
+
+-- what is no fault where the count stays is none
+pub no_fault : (old new : ℕ) (error : Error) → HasRisen old old error → HasRisen old new error
+no_fault old new (Io kind) (inl more) = let no : old < old = more in absurd (let bad : ⊥ = omega (arith, no) in bad)
+no_fault old new (Io kind) (inr most) = inr most
+no_fault old new error none = tt
 
 pub held_on : (old mid new : Meaning) (error : Error) → Took old mid [] → IsHeldUp mid new error → IsHeldUp old new error
 held_on old mid new (Io kind) took held = tt

@@ -1,13 +1,15 @@
 -- A folder that is mended or begun, and then swept.
-use Rattle.std.proofs.Common.{◌≡◌, ℕ, ◌<◌, ◌^◌, true, List, [], ◌∷◌, ◌++◌, map, length, codes, Option, refl, sym, ◌∙◌, ap, subst}
+use Rattle.std.proofs.Common.{◌≡◌, ℕ, ◌<◌, ◌^◌, true, List, [], ◌∷◌, ◌++◌, map, length, codes, Option, Result, Ok, Err, refl, sym, ◌∙◌, ap, subst}
+use Rattle.std.specs.Prelude.{OnOk}
 use Rattle.std.specs.List.{Contains}
 use Rattle.std.specs.Option.{option_map}
 use Rattle.std.proofs.lemmas.List.Elements.{All-contains}
 use Rattle.fjall_base.specs.Disk.{Name, State, Meaning, LeavesOnly, state_in}
+use Rattle.fjall_base.specs.declared.error.Error.{Error}
 use Rattle.fjall_regions.specs.Regions.{is_under}
 use Rattle.fjall_journal.specs.Batches.{Written, shown}
 use Rattle.fjall_tree.specs.Records.{Fields}
-use Rattle.fjall_recovery.specs.Names.{table_name}
+use Rattle.fjall_recovery.specs.Names.{journal_name, table_name}
 use Rattle.fjall_base.specs.Store.{Store}
 use Rattle.fjall_keyspaces.specs.Keyspaces.{Keyspaces}
 use Rattle.fjall_catalog.specs.declared.catalog.Catalog.{Catalog}
@@ -25,6 +27,11 @@ use Rattle.fjall_repair.proofs.Planned.{planned_spare, planned_within}
 use Rattle.fjall_repair.proofs.Removals as Removals
 use Rattle.fjall_repair.proofs.Spared.{IsSpare}
 use Rattle.fjall_repair.proofs.Rooted.{IsSpareWithin, root_stays, store_stays}
+
+-- what follows of what a success gives
+pub on_ok_then : (result : Result Unit Error) (P Q : Type 0) → (P → Q) → OnOk result P → OnOk result Q
+on_ok_then (Ok done) P Q to is = to is
+on_ok_then (Err e) P Q to is = tt
 
 -- tables that stay as they are are found as before
 pub finds_still : (old new : State) (named : Option ℕ) (names : List Name) → ((n : ℕ) → n < 2 ^ 64 → (new (table_name 0 n)).now ≡ (old (table_name 0 n)).now) → FindsTables old named names → FindsTables new named names
@@ -44,7 +51,7 @@ module _ (contents : Contents) (mid new : Meaning) (plan : Sweep) (records : Lis
       (store_stays mid new j records (tree_of contents) root rests later spare)
 
   -- and at its end the folder is repaired
-  pub repaired : (active end : ℕ) → j.active ≡ active → length (texts_of j.whole) ≡ end → LiesInTree (state_in new) records (tree_of contents) → IsRepaired (state_in new) contents active end
+  pub repaired : (active : Name) (end : ℕ) → journal_name j.active ≡ active → length (texts_of j.whole) ≡ end → LiesInTree (state_in new) records (tree_of contents) → IsRepaired (state_in new) contents active end
   repaired active end active_is end_is tree = record {
     j = j;
     records = records;

@@ -1,14 +1,16 @@
 -- A database that was opened.
-use Rattle.std.specs.Prelude.{◌≡◌, ℕ, ◌<◌, ◌^◌, IfSome, List, [], ◌∷◌, length, map, Option, None, Some}
-use Rattle.fjall_base.specs.Disk.{Image, Meaning, State, Took, standing, state_in}
+use Rattle.std.specs.Prelude.{◌≡◌, ℕ, ◌<◌, ◌^◌, All, IfSome, List, [], ◌∷◌, length, map, Option, None, Some}
+use Rattle.fjall_base.specs.Disk.{Image, Meaning, Name, State, Took, standing, state_in}
 use Rattle.fjall_base.specs.declared.error.Error.{Error}
 use Rattle.fjall_base.specs.declared.error.Error.TheVariants.{Io, OutOfMemory}
-use Rattle.fjall_journal.specs.Batches.{shown, view}
+use Rattle.fjall_recovery.specs.Names.{journal_name}
+use Rattle.fjall_journal.specs.Batches.{Shown}
 use Rattle.fjall_tree.specs.Records.{Fields}
 use Rattle.fjall_tree.specs.Records as records
-use Rattle.fjall_keyspaces.specs.Keyspaces.{no_keyspaces}
+use Rattle.fjall_keyspaces.specs.Keyspaces.{AreKeyspaces, Keyspaces, no_keyspaces}
+use Rattle.fjall_catalog.specs.declared.catalog.Catalog.{Catalog}
 use Rattle.fjall_catalog.specs.Catalog.{fields, first_catalog}
-use Rattle.fjall_versions.specs.Replays.{store_in}
+use Rattle.fjall_versions.specs.Versions.{store_of as store_behind, versions_behind}
 use Rattle.fjall_opening.specs.declared.folder.Finished.{Finished}
 use Rattle.fjall_opening.specs.Folders.{Contents, number_of, store_of}
 use Rattle.fjall_opening.specs.Journals.{batches_in}
@@ -17,7 +19,7 @@ use Rattle.fjall_places.specs.Halves.{Tree}
 use Rattle.fjall_places.specs.Held.{IsFolder, number_held, store_held}
 use Rattle.fjall_places.specs.Places.{Journaling, LiesInRoot, LiesInTree, contents_with, journals_with, texts_of}
 use Rattle.fjall_beginning.specs.Making.{ComesBackUnfinished}
-use Rattle.fjall_repair.specs.declared.opening.Opened.{Opened}
+use Rattle.fjall_repair.specs.declared.opened.Opened.{Opened}
 
 -- ---- what was opened
 
@@ -29,18 +31,31 @@ pub record Opens (state : State) (folder : Option Contents) (o : Opened) : Type 
   pub root : LiesInRoot state j
   pub tree : LiesInTree state records t
   pub later : j.later ≡ []
-  pub active : j.active ≡ o.active
-  pub end : length (texts_of j.whole) ≡ o.end
+  pub journal : o.journal ≡ record { name = journal_name j.active; buffer = []; len = length (texts_of j.whole) }
   pub last : t.last ≡ o.catalog
   pub keyspaces : t.keyspaces ≡ o.keyspaces
-  pub batches : map view o.batches.items ≡ map shown (batches_in (journals_with j []))
+  pub made : store_behind o.keyspaces o.versions.items ≡ store_of (contents_with j t [])
   pub store : store_of (contents_with j t []) ≡ store_held folder
   pub number : o.number ≡ number_of (contents_with j t [])
   pub same : o.number ≡ number_held folder
 
+-- keyspaces were made under lesser numbers than the next one, and versions are of ids that were given out
+pub record IsLawful (o : Opened) : Type 0 where
+  pub keyspaces : AreKeyspaces o.keyspaces
+  pub made : All (λ k. k.number < o.number) o.keyspaces.living
+  pub given : All (λ v. v.keyspace_id < o.keyspaces.next) o.versions.items
+
+-- This is opened: a writer at the end of the active journal, what the last record of tree 0 says, the keyspaces that live, and
+-- the versions that the batches make of them.
+pub record Takes (o : Opened) (active : Name) (end : ℕ) (last : Catalog) (s : Keyspaces) (batches : List Shown) : Type 0 where
+  pub journal : o.journal ≡ record { name = active; buffer = []; len = end }
+  pub last_is : o.catalog ≡ last
+  pub keyspaces : o.keyspaces ≡ s
+  pub versions : o.versions.items ≡ versions_behind s [] batches
+
 -- what was opened is what the image holds: its store, and one past the greatest number in it
 abbrev pub IsOpenedFrom : Image → Opened → Type 0
-IsOpenedFrom image o = (folder : Option Contents) × IsFolder image folder × (store_in o.keyspaces (map view o.batches.items) ≡ store_held folder) × (o.number ≡ number_held folder)
+IsOpenedFrom image o = (folder : Option Contents) × IsFolder image folder × (store_behind o.keyspaces o.versions.items ≡ store_held folder) × (o.number ≡ number_held folder)
 
 -- Where a folder's making was cut short, whatever may come back in folders that are made anew is such a folder too.
 abbrev pub ComesBack : State → Option Contents → Type 0
@@ -49,14 +64,14 @@ ComesBack state (Some contents) = Unit {0}
 
 -- ---- the repair
 
--- these contents lie on the disk, all of them synced, and this is the id of the active journal and where it ends
-pub record IsRepaired (state : State) (contents : Contents) (active end : ℕ) : Type 0 where
+-- these contents lie on the disk, all of them synced, and this is the file of the active journal and where it ends
+pub record IsRepaired (state : State) (contents : Contents) (active : Name) (end : ℕ) : Type 0 where
   pub j : Journaling
   pub records : List Fields
   pub root : LiesInRoot state j
   pub tree : LiesInTree state records (record { last = contents.last; keyspaces = contents.keyspaces; homes = contents.homes })
   pub later : j.later ≡ []
-  pub active_is : j.active ≡ active
+  pub active_is : journal_name j.active ≡ active
   pub end_is : length (texts_of j.whole) ≡ end
   pub batches : batches_in (journals_with j []) ≡ batches_in contents.journals
 

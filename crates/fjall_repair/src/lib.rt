@@ -3,14 +3,15 @@
 
 mod laws;
 mod numbers;
+mod opened;
 mod opening;
 mod plan;
+mod ready;
 mod repair;
 mod sweeping;
-#[cfg(test)]
-mod tests;
 
 pub use laws::settled_folders_come_back;
-pub use opening::{Opened, open_folder};
+pub use opened::Opened;
+pub use opening::open_folder;
 pub use plan::{Sweep, UnnamedHome, plan_sweep};
 pub use sweeping::sweep;

@@ -1,5 +1,5 @@
 -- Each line has an answer, and the one for bad lines is given to no command.
-use Rattle.std.proofs.Common.{◌≡◌, ℕ, ◌<◌, ◌^◌, Bool, false, List, [], ◌∷◌, ◌++◌, length, drop, get_or, Option, Some, None, refl, sym, ap, ◌∙◌, append_assoc, codes, decimal, arith, lit<}
+use Rattle.std.proofs.Common.{◌≡◌, ℕ, ◌<◌, ◌^◌, Bool, true, false, List, [], ◌∷◌, ◌++◌, length, drop, get_or, Option, Some, None, refl, sym, ap, ◌∙◌, append_assoc, codes, decimal, arith, lit<}
 use Rattle.std.specs.Prelude.{All, IfSome}
 use Rattle.std.specs.List.{AllZip}
 use Rattle.std.proofs.lemmas.List.{append-nil}
@@ -8,10 +8,10 @@ use Rattle.std.proofs.lemmas.Fmt.{first_decimal, decimal_nonempty}
 use Rattle.fjall_base.specs.declared.error.Error.{Error}
 use Rattle.fjall_base.specs.declared.error.Error.TheVariants.{Io}
 use Rattle.fjall_base.specs.Errors.{number_of, name_of}
-use Rattle.fjall_core.specs.declared.call.Reply.{Reply}
-use Rattle.fjall_core.specs.declared.call.Reply.TheVariants.{Done, Value, Pairs, Number, Refused}
+use Rattle.fjall_machine.specs.declared.call.Reply.{Reply}
+use Rattle.fjall_machine.specs.declared.call.Reply.TheVariants.{Done, Value, Pairs, Number, Names, Flag, Refused}
 use Rattle.fjall_run.specs.declared.command.Command.{Command}
-use Rattle.fjall_run.specs.declared.command.Command.TheVariants.{Insert, Remove, RemoveWeak, Get, Len, Scan, Persist, Crash, Reopen}
+use Rattle.fjall_run.specs.declared.command.Command.TheVariants.{Keyspace, Delete, Insert, Remove, RemoveWeak, Get, Len, Scan, Persist, Crash, Reopen}
 use Rattle.fjall_run.specs.Answers.{bad_line, reply_text}
 use Rattle.fjall_core.specs.Holding.{Held}
 use Rattle.fjall_core.specs.Standing.{Owes, OwesAll}
@@ -34,6 +34,8 @@ not_bad : (command : Command) (reply : Reply) → reply_text command reply ≡ b
 not_bad command Done h = let first = ap first_of h in omega arith
 not_bad command (Value None) h = let first = ap first_of h in omega arith
 not_bad command (Value (Some value)) h = let first = ap first_of h in omega arith
+not_bad (Keyspace name) (Pairs pairs) h = let first = ap first_of h in omega arith
+not_bad (Delete id) (Pairs pairs) h = let first = ap first_of h in omega arith
 not_bad (Insert id key value) (Pairs pairs) h = let first = ap first_of h in omega arith
 not_bad (Remove id key) (Pairs pairs) h = let first = ap first_of h in omega arith
 not_bad (RemoveWeak id key) (Pairs pairs) h = let first = ap first_of h in omega arith
@@ -43,7 +45,20 @@ not_bad (Scan id) (Pairs pairs) h = let first = ap first_of h in omega arith
 not_bad Persist (Pairs pairs) h = let first = ap first_of h in omega arith
 not_bad (Crash keep) (Pairs pairs) h = let first = ap first_of h in omega arith
 not_bad Reopen (Pairs pairs) h = let first = ap first_of h in omega arith
-not_bad command (Number count) h = let first = ap first_of h in omega arith
+not_bad (Keyspace name) (Number count) h = let first = ap first_of h in omega arith
+not_bad (Delete id) (Number count) h = let first = ap first_of h in omega arith
+not_bad (Insert id key value) (Number count) h = let first = ap first_of h in omega arith
+not_bad (Remove id key) (Number count) h = let first = ap first_of h in omega arith
+not_bad (RemoveWeak id key) (Number count) h = let first = ap first_of h in omega arith
+not_bad (Get id key) (Number count) h = let first = ap first_of h in omega arith
+not_bad (Len id) (Number count) h = let first = ap first_of h in omega arith
+not_bad (Scan id) (Number count) h = let first = ap first_of h in omega arith
+not_bad Persist (Number count) h = let first = ap first_of h in omega arith
+not_bad (Crash keep) (Number count) h = let first = ap first_of h in omega arith
+not_bad Reopen (Number count) h = let first = ap first_of h in omega arith
+not_bad command (Names names) h = let first = ap first_of h in omega arith
+not_bad command (Flag true) h = let first = ap first_of h in omega arith
+not_bad command (Flag false) h = let first = ap first_of h in omega arith
 not_bad command (Refused error) h =
     let number = numbered error in
     let some = decimal_nonempty (number_of error) number.1 in
@@ -56,34 +71,60 @@ not_bad command (Refused error) h =
 fits : (command : Command) (reply : Reply) (old new : Held) → is_stop (Some command) ≡ false → IfSome (call_of (Some command)) (λ call. Owes old call reply new)
     → IsReplyTo command reply
 fits command (Refused error) old new h owes = tt
+fits (Keyspace name) Done old new h owes = absurd owes
+fits (Keyspace name) (Value found) old new h owes = absurd owes
+fits (Keyspace name) (Pairs pairs) old new h owes = absurd owes
+fits (Keyspace name) (Number count) old new h owes = tt
+fits (Keyspace name) (Names names) old new h owes = absurd owes
+fits (Keyspace name) (Flag flag) old new h owes = absurd owes
+fits (Delete id) Done old new h owes = tt
+fits (Delete id) (Value found) old new h owes = absurd owes
+fits (Delete id) (Pairs pairs) old new h owes = absurd owes
+fits (Delete id) (Number count) old new h owes = absurd owes
+fits (Delete id) (Names names) old new h owes = absurd owes
+fits (Delete id) (Flag flag) old new h owes = absurd owes
 fits (Insert id key value) Done old new h owes = tt
 fits (Insert id key value) (Value found) old new h owes = absurd owes
 fits (Insert id key value) (Pairs pairs) old new h owes = absurd owes
 fits (Insert id key value) (Number count) old new h owes = absurd owes
+fits (Insert id key value) (Names names) old new h owes = absurd owes
+fits (Insert id key value) (Flag flag) old new h owes = absurd owes
 fits (Remove id key) Done old new h owes = tt
 fits (Remove id key) (Value found) old new h owes = absurd owes
 fits (Remove id key) (Pairs pairs) old new h owes = absurd owes
 fits (Remove id key) (Number count) old new h owes = absurd owes
+fits (Remove id key) (Names names) old new h owes = absurd owes
+fits (Remove id key) (Flag flag) old new h owes = absurd owes
 fits (RemoveWeak id key) Done old new h owes = tt
 fits (RemoveWeak id key) (Value found) old new h owes = absurd owes
 fits (RemoveWeak id key) (Pairs pairs) old new h owes = absurd owes
 fits (RemoveWeak id key) (Number count) old new h owes = absurd owes
+fits (RemoveWeak id key) (Names names) old new h owes = absurd owes
+fits (RemoveWeak id key) (Flag flag) old new h owes = absurd owes
 fits (Get id key) Done old new h owes = absurd owes
 fits (Get id key) (Value found) old new h owes = tt
 fits (Get id key) (Pairs pairs) old new h owes = absurd owes
 fits (Get id key) (Number count) old new h owes = absurd owes
+fits (Get id key) (Names names) old new h owes = absurd owes
+fits (Get id key) (Flag flag) old new h owes = absurd owes
 fits (Len id) Done old new h owes = absurd owes
 fits (Len id) (Value found) old new h owes = absurd owes
 fits (Len id) (Pairs pairs) old new h owes = tt
 fits (Len id) (Number count) old new h owes = absurd owes
+fits (Len id) (Names names) old new h owes = absurd owes
+fits (Len id) (Flag flag) old new h owes = absurd owes
 fits (Scan id) Done old new h owes = absurd owes
 fits (Scan id) (Value found) old new h owes = absurd owes
 fits (Scan id) (Pairs pairs) old new h owes = tt
 fits (Scan id) (Number count) old new h owes = absurd owes
+fits (Scan id) (Names names) old new h owes = absurd owes
+fits (Scan id) (Flag flag) old new h owes = absurd owes
 fits Persist Done old new h owes = tt
 fits Persist (Value found) old new h owes = absurd owes
 fits Persist (Pairs pairs) old new h owes = absurd owes
 fits Persist (Number count) old new h owes = absurd owes
+fits Persist (Names names) old new h owes = absurd owes
+fits Persist (Flag flag) old new h owes = absurd owes
 fits (Crash keep) reply old new h owes = cc h
 fits Reopen reply old new h owes = cc h
 
@@ -99,6 +140,8 @@ front_answers (None ∷ rest) replies old new calls owes =
 front_answers (Some command ∷ rest) [] old new calls owes = absurd (no_reply command (All-head IsCall (Some command) rest calls) owes)
   where
     no_reply : (c : Command) → is_stop (Some c) ≡ false → OwesAll old (calls_of (Some c ∷ rest)) [] new → ⊥
+    no_reply (Keyspace name) h owed = absurd owed
+    no_reply (Delete id) h owed = absurd owed
     no_reply (Insert id key value) h owed = absurd owed
     no_reply (Remove id key) h owed = absurd owed
     no_reply (RemoveWeak id key) h owed = absurd owed
@@ -118,6 +161,8 @@ front_answers (Some command ∷ rest) (reply ∷ replies) old new calls owes =
   where
     split : (c : Command) → is_stop (Some c) ≡ false → OwesAll old (calls_of (Some c ∷ rest)) (reply ∷ replies) new
         → (mid : Held) × IfSome (call_of (Some c)) (λ call. Owes old call reply mid) × OwesAll mid (calls_of rest) replies new
+    split (Keyspace name) h owed = owed
+    split (Delete id) h owed = owed
     split (Insert id key value) h owed = owed
     split (Remove id key) h owed = owed
     split (RemoveWeak id key) h owed = owed
@@ -129,6 +174,8 @@ front_answers (Some command ∷ rest) (reply ∷ replies) old new calls owes =
     split Reopen h owed = cc h
 
     said : (c : Command) → is_stop (Some c) ≡ false → IsReplyTo c reply → IsSaid (Some c) (reply_text c reply)
+    said (Keyspace name) h fit = (reply, fit, refl)
+    said (Delete id) h fit = (reply, fit, refl)
     said (Insert id key value) h fit = (reply, fit, refl)
     said (Remove id key) h fit = (reply, fit, refl)
     said (RemoveWeak id key) h fit = (reply, fit, refl)
@@ -149,6 +196,8 @@ AllZip-append (c ∷ a) b (p ∷ x) y h g = (h.0, AllZip-append a b x y h.1 g)
 ok_answer : (honest : Bool) (stop : Option Command) (old new : Held) → Restarts honest stop old new → IsAnswer stop (codes "ok")
 ok_answer honest (Some (Crash keep)) old new h = record { said = refl; bad = λ e. absurd (not_bad Reopen Done e) }
 ok_answer honest (Some Reopen) old new h = record { said = refl; bad = λ e. absurd (not_bad Reopen Done e) }
+ok_answer honest (Some (Keyspace name)) old new h = absurd h
+ok_answer honest (Some (Delete id)) old new h = absurd h
 ok_answer honest (Some (Insert id key value)) old new h = absurd h
 ok_answer honest (Some (Remove id key)) old new h = absurd h
 ok_answer honest (Some (RemoveWeak id key)) old new h = absurd h

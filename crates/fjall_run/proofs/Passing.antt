@@ -3,7 +3,7 @@ use Rattle.std.proofs.Common.{◌≡◌, ℕ, Bool, IsTrue, List, [], ◌∷◌,
 use Rattle.std.specs.Prelude.{OnOk, OnErr}
 use Rattle.std.proofs.lemmas.List.{append-nil}
 use Rattle.std.proofs.lemmas.List.Concat.{flat_map-append}
-use Rattle.fjall_core.specs.Standing.{OwesClosing, ClosesDisk}
+use Rattle.fjall_core.specs.Standing.{OwesClosing, ClosesDisk, ClosesSafely}
 use Rattle.fjall_run.specs.declared.command.Command.{Command}
 use Rattle.fjall_run.specs.Answers.{text_of}
 use Rattle.fjall_base.specs.Disk.{Meaning}
@@ -60,6 +60,6 @@ prints_to_end honest commands (found ∷ rest) core start new (Ok x) p none clos
 prints_to_end honest commands rest core start new (Err e) p none closed = tt
 
 -- what a closing leaves, where it was not refused
-pub closed : (honest : Bool) (core : Held) (r : Result Unit Error) (disk : Meaning) → OwesClosing core r disk → (IsTrue honest → ClosesDisk core r disk) → OnOk r (IsClosed honest core)
-closed honest core (Ok done) disk owes took = record { disk = disk; closes = record { owes = owes; took = took } }
-closed honest core (Err error) disk owes took = tt
+pub closed : (honest : Bool) (core : Held) (r : Result Unit Error) (disk : Meaning) → OwesClosing core r disk → (IsTrue honest → ClosesDisk core r disk) → (IsTrue honest → ClosesSafely core r disk) → OnOk r (IsClosed honest core)
+closed honest core (Ok done) disk owes took safe = record { disk = disk; closes = record { owes = owes; took = took; safe = safe } }
+closed honest core (Err error) disk owes took safe = tt

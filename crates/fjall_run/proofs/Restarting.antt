@@ -1,11 +1,45 @@
--- A core that is opened again.
-use Rattle.std.proofs.Common.{Bool, IsTrue, Result, Ok, Err}
+-- A core that a session begins with.
+use Rattle.std.proofs.Common.{Bool, false, IsTrue, [], None, Result, Ok, Err, refl, subst, sym}
 use Rattle.std.specs.Prelude.{IfOk}
-use Rattle.fjall_base.specs.Disk.{Meaning}
+use Rattle.fjall_base.specs.Disk.{Meaning, Missing, State, standing, state_in}
 use Rattle.fjall_base.specs.declared.error.Error.{Error}
+use Rattle.fjall_keyspaces.specs.Keyspaces.{no_keyspaces}
+use Rattle.fjall_versions.specs.Replays.{bare}
+use Rattle.fjall_opening.specs.Folders.{IsUnfinished}
+use Rattle.fjall_beginning.specs.Making.{IsKept}
+use Rattle.fjall_beginning.proofs.Standing.{kept_image, missing_stands, unfinished_of}
+use Rattle.fjall_beginning.proofs.Beginning.{settled_comes_back}
 use Rattle.fjall_core.specs.Holding.{Held}
+use Rattle.fjall_core.specs.Standing.{HoldsStore}
 use Rattle.fjall_run.specs.Machine.{Begins, IsNew, OpenedOn}
 
+-- nothing stands anywhere
+abbrev bare_state : State
+bare_state name = record { now = Missing; older = [] }
+
+bare_kept : IsKept false bare_state
+bare_kept = record { now = λ name. missing_stands false name; older = λ name. tt }
+
+bare_unfinished : IsUnfinished (standing bare_state)
+bare_unfinished = unfinished_of (standing bare_state) (λ name. missing_stands false name)
+
+bare_holds : HoldsStore bare_state (bare no_keyspaces)
+bare_holds = (
+  None,
+  record { now = bare_unfinished; crash = λ image is. unfinished_of image (kept_image false bare_state image bare_kept is) },
+  settled_comes_back bare_state (λ name. refl) bare_unfinished,
+  refl,
+)
+
+-- a new disk holds the store without keyspaces
+new_holds : (disk : Meaning) → IsNew disk → HoldsStore (state_in disk) (bare no_keyspaces)
+new_holds disk new = subst (λ (d : Meaning). HoldsStore (state_in d) (bare no_keyspaces)) (sym new) bare_holds
+
 pub begun : (honest : Bool) (disk : Meaning) (r : Result Held Error) → (IsTrue honest → IsNew disk) → IfOk r (λ core. OpenedOn honest disk core) → IfOk r (λ core. Begins honest core)
-begun honest disk (Ok core) fresh opened = record { disk = disk; fresh = fresh; opened = opened }
+begun honest disk (Ok core) fresh opened = record {
+  disk = disk;
+  fresh = fresh;
+  opened = opened;
+  empty = λ h. opened.safe h (bare no_keyspaces) (new_holds disk (fresh h));
+}
 begun honest disk (Err error) fresh opened = tt

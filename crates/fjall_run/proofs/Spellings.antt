@@ -1,17 +1,17 @@
--- A line is cut at its spaces, and joined again: a command's words have no space, and are ASCII.
+-- A line is cut at its spaces, and joined again: a command's words are text and have no space.
 use Rattle.std.proofs.Common.{◌≡◌, ℕ, suc, ◌/◌, ◌%◌, ◌<◌, ◌^◌, ◌==◌, Bool, false, ◌||◌, List, [], ◌∷◌, ◌++◌, slice_index, Option, Some, None, refl, sym, ap, ◌∙◌, arith, codes, decimal, subst}
 use Rattle.std.specs.Prelude.{nat_le, IfSome, IfOk, Result, Ok, Err}
 use Rattle.std.specs.List.{list_any, slice_split, join_with_byte}
 use Rattle.std.specs.Str.{IsAscii, IsUtf8}
 use Rattle.std.specs.Str.Parse.{AllDigits}
 use Rattle.std.proofs.lemmas.List.Splits.{join_with_byte-slice_split}
-use Rattle.std.proofs.lemmas.Str.{IsUtf8-from_ascii}
+use Rattle.std.proofs.lemmas.Str.{IsUtf8-append, IsUtf8-from_ascii}
 use Rattle.std.proofs.lemmas.Str.Ascii.{IsAscii-nil, IsAscii-cons}
 use Rattle.std.proofs.lemmas.Str.Parse.{tells_digits, numerals_by_value}
 use Rattle.std.proofs.lemmas.Fmt.{digits_decimal}
 use Rattle.hex.specs.Hex.{IsBytes, encode_lower, encode_with, lower_digits}
 use Rattle.fjall_run.specs.declared.command.Command.{Command}
-use Rattle.fjall_run.specs.declared.command.Command.TheVariants.{Insert, Remove, RemoveWeak, Get, Len, Scan, Persist, Crash, Reopen}
+use Rattle.fjall_run.specs.declared.command.Command.TheVariants.{Keyspace, Delete, Insert, Remove, RemoveWeak, Get, Len, Scan, Persist, Crash, Reopen}
 use Rattle.fjall_run.specs.Lines.{hex_word, words_of, spelling, IsCommand, Spells, Reads}
 use Rattle.fjall_run.proofs.Bytes.{or_false, digit, lower_digit}
 
@@ -25,38 +25,24 @@ is_odd b = b == 32 || nat_le 128 b
 abbrev IsPlain : List ℕ → Type 0
 IsPlain word = list_any is_odd word ≡ false
 
+-- a word of text without a space
+record IsWord (word : List ℕ) : Type 0 where
+  whole : list_any is_space word ≡ false
+  text : IsUtf8 word
+
 no_space : (b : ℕ) → is_odd b ≡ false → is_space b ≡ false
 no_space b h = (or_false (b == 32) (nat_le 128 b) h).0
 
 is_low : (b : ℕ) → is_odd b ≡ false → b < 128
 is_low b h = grind arith
 
--- a word is one part, and ends at a space
-split_none : (word : List ℕ) → IsPlain word → slice_split is_space word ≡ word ∷ []
-split_none [] h = refl
-split_none (b ∷ rest) h =
+no_spaces : (word : List ℕ) → IsPlain word → list_any is_space word ≡ false
+no_spaces [] h = refl
+no_spaces (b ∷ rest) h =
     let parts = or_false (is_odd b) (list_any is_odd rest) h in
     let here = no_space b parts.0 in
-    let ih = split_none rest parts.1 in
+    let ih = no_spaces rest parts.1 in
     rw (here, ih) refl
-
-split_at : (word rest : List ℕ) → IsPlain word → slice_split is_space (word ++ (32 ∷ rest)) ≡ word ∷ slice_split is_space rest
-split_at [] rest h = refl
-split_at (b ∷ word) rest h =
-    let parts = or_false (is_odd b) (list_any is_odd word) h in
-    let here = no_space b parts.0 in
-    let ih = split_at word rest parts.1 in
-    rw (here, ih) refl
-
--- words, all of them plain
-data ArePlain : List (List ℕ) → Type 0 where
-  one : (word : List ℕ) → IsPlain word → ArePlain (word ∷ [])
-  more : (word next : List ℕ) (rest : List (List ℕ)) → IsPlain word → ArePlain (next ∷ rest) → ArePlain (word ∷ next ∷ rest)
-
-split-join : (words : List (List ℕ)) → ArePlain words → slice_split is_space (join_with_byte 32 words) ≡ words
-split-join _ (one word h) = split_none word h
-split-join _ (more word next rest h hs) =
-    split_at word (join_with_byte 32 (next ∷ rest)) h ∙ ap (λ (ws : List (List ℕ)). word ∷ ws) (split-join (next ∷ rest) hs)
 
 ascii : (bs : List ℕ) → IsPlain bs → IsAscii bs
 ascii [] h = IsAscii-nil
@@ -64,14 +50,43 @@ ascii (b ∷ rest) h =
     let parts = or_false (is_odd b) (list_any is_odd rest) h in
     IsAscii-cons b rest (is_low b parts.0) (ascii rest parts.1)
 
-ascii-append : (bs cs : List ℕ) → IsAscii bs → IsAscii cs → IsAscii (bs ++ cs)
-ascii-append [] cs h g = g
-ascii-append (b ∷ bs) cs h g = IsAscii-cons b (bs ++ cs) (h 0) (ascii-append bs cs (λ i. h (suc i)) g)
+plain : (word : List ℕ) → IsPlain word → IsWord word
+plain word h = record { whole = no_spaces word h; text = IsUtf8-from_ascii word (ascii word h) }
 
-ascii-join : (words : List (List ℕ)) → ArePlain words → IsAscii (join_with_byte 32 words)
-ascii-join _ (one word h) = ascii word h
-ascii-join _ (more word next rest h hs) =
-    ascii-append word (32 ∷ join_with_byte 32 (next ∷ rest)) (ascii word h) (IsAscii-cons 32 (join_with_byte 32 (next ∷ rest)) (omega arith) (ascii-join (next ∷ rest) hs))
+-- a word is one part, and ends at a space
+split_none : (word : List ℕ) → list_any is_space word ≡ false → slice_split is_space word ≡ word ∷ []
+split_none [] h = refl
+split_none (b ∷ rest) h =
+    let parts = or_false (is_space b) (list_any is_space rest) h in
+    let here = parts.0 in
+    let ih = split_none rest parts.1 in
+    rw (here, ih) refl
+
+split_at : (word rest : List ℕ) → list_any is_space word ≡ false → slice_split is_space (word ++ (32 ∷ rest)) ≡ word ∷ slice_split is_space rest
+split_at [] rest h = refl
+split_at (b ∷ word) rest h =
+    let parts = or_false (is_space b) (list_any is_space word) h in
+    let here = parts.0 in
+    let ih = split_at word rest parts.1 in
+    rw (here, ih) refl
+
+-- words of text, none with a space
+data AreWords : List (List ℕ) → Type 0 where
+  one : (word : List ℕ) → IsWord word → AreWords (word ∷ [])
+  more : (word next : List ℕ) (rest : List (List ℕ)) → IsWord word → AreWords (next ∷ rest) → AreWords (word ∷ next ∷ rest)
+
+split-join : (words : List (List ℕ)) → AreWords words → slice_split is_space (join_with_byte 32 words) ≡ words
+split-join _ (one word h) = split_none word h.whole
+split-join _ (more word next rest h hs) =
+    split_at word (join_with_byte 32 (next ∷ rest)) h.whole ∙ ap (λ (ws : List (List ℕ)). word ∷ ws) (split-join (next ∷ rest) hs)
+
+space : IsUtf8 (32 ∷ [])
+space = IsUtf8-from_ascii (32 ∷ []) (IsAscii-cons 32 [] (omega arith) IsAscii-nil)
+
+text-join : (words : List (List ℕ)) → AreWords words → IsUtf8 (join_with_byte 32 words)
+text-join _ (one word h) = h.text
+text-join _ (more word next rest h hs) =
+    IsUtf8-append word (32 ∷ join_with_byte 32 (next ∷ rest)) h.text (IsUtf8-append (32 ∷ []) (join_with_byte 32 (next ∷ rest)) space (text-join (next ∷ rest) hs))
 
 -- digits are plain
 plain_digits : (ds : List ℕ) → AllDigits 10 ds → IsPlain ds
@@ -83,8 +98,8 @@ plain_digits (d ∷ ds) h =
     let ih = plain_digits ds parts.1 in
     rw (here, ih) refl
 
-plain_number : (n : ℕ) → n < 2 ^ 64 → IsPlain (decimal n)
-plain_number n small = plain_digits (decimal n) (digits_decimal (numerals_by_value (AllDigits 10) tells_digits) n small)
+number_word : (n : ℕ) → n < 2 ^ 64 → IsWord (decimal n)
+number_word n small = plain (decimal n) (plain_digits (decimal n) (digits_decimal (numerals_by_value (AllDigits 10) tells_digits) n small))
 
 plain_digit : (d : ℕ) → d < 16 → is_odd (digit d) ≡ false
 plain_digit d small = grind arith
@@ -101,39 +116,45 @@ plain_hex (b ∷ rest) h =
     let ih = plain_hex rest (λ k. h (suc k)) in
     rw (da, db, ih) refl
 
-plain_bytes : (bytes : List ℕ) → IsBytes bytes → IsPlain (hex_word bytes)
-plain_bytes [] h = refl
-plain_bytes (b ∷ rest) h = plain_hex (b ∷ rest) h
+bytes_word : (bytes : List ℕ) → IsBytes bytes → IsWord (hex_word bytes)
+bytes_word [] h = plain (codes "-") refl
+bytes_word (b ∷ rest) h = plain (encode_lower (b ∷ rest)) (plain_hex (b ∷ rest) h)
+
+-- a word and a number
+with_number : (word : List ℕ) (n : ℕ) → IsPlain word → n < 2 ^ 64 → AreWords (word ∷ decimal n ∷ [])
+with_number word n h small = more word (decimal n) [] (plain word h) (one (decimal n) (number_word n small))
 
 -- a word, a number and a key
-plain_key : (word : List ℕ) (id : ℕ) (key : List ℕ) → IsPlain word → (id < 2 ^ 64) × IsBytes key → ArePlain (word ∷ decimal id ∷ hex_word key ∷ [])
-plain_key word id key h both =
-    more word (decimal id) (hex_word key ∷ []) h
-    (more (decimal id) (hex_word key) [] (plain_number id both.0) (one (hex_word key) (plain_bytes key both.1)))
+with_key : (word : List ℕ) (id : ℕ) (key : List ℕ) → IsPlain word → (id < 2 ^ 64) × IsBytes key → AreWords (word ∷ decimal id ∷ hex_word key ∷ [])
+with_key word id key h both =
+    more word (decimal id) (hex_word key ∷ []) (plain word h)
+    (more (decimal id) (hex_word key) [] (number_word id both.0) (one (hex_word key) (bytes_word key both.1)))
 
-plain_words : (command : Command) → IsCommand command → ArePlain (words_of command)
-plain_words (Insert id key value) h =
-    more (codes "insert") (decimal id) (hex_word key ∷ hex_word value ∷ []) refl
-    (more (decimal id) (hex_word key) (hex_word value ∷ []) (plain_number id h.0)
-    (more (hex_word key) (hex_word value) [] (plain_bytes key h.1) (one (hex_word value) (plain_bytes value h.2))))
-plain_words (Remove id key) h = plain_key (codes "remove") id key refl h
-plain_words (RemoveWeak id key) h = plain_key (codes "remove_weak") id key refl h
-plain_words (Get id key) h = plain_key (codes "get") id key refl h
-plain_words (Len id) h = more (codes "len") (decimal id) [] refl (one (decimal id) (plain_number id h))
-plain_words (Scan id) h = more (codes "scan") (decimal id) [] refl (one (decimal id) (plain_number id h))
-plain_words Persist h = one (codes "persist") refl
-plain_words (Crash keep) h = more (codes "crash") (decimal keep) [] refl (one (decimal keep) (plain_number keep h))
-plain_words Reopen h = one (codes "reopen") refl
+are_words : (command : Command) → IsCommand command → AreWords (words_of command)
+are_words (Keyspace name) h = more (codes "keyspace") name [] (plain (codes "keyspace") refl) (one name (record { whole = h.1; text = h.0 }))
+are_words (Delete id) h = with_number (codes "delete") id refl h
+are_words (Insert id key value) h =
+    more (codes "insert") (decimal id) (hex_word key ∷ hex_word value ∷ []) (plain (codes "insert") refl)
+    (more (decimal id) (hex_word key) (hex_word value ∷ []) (number_word id h.0)
+    (more (hex_word key) (hex_word value) [] (bytes_word key h.1) (one (hex_word value) (bytes_word value h.2))))
+are_words (Remove id key) h = with_key (codes "remove") id key refl h
+are_words (RemoveWeak id key) h = with_key (codes "remove_weak") id key refl h
+are_words (Get id key) h = with_key (codes "get") id key refl h
+are_words (Len id) h = with_number (codes "len") id refl h
+are_words (Scan id) h = with_number (codes "scan") id refl h
+are_words Persist h = one (codes "persist") (plain (codes "persist") refl)
+are_words (Crash keep) h = with_number (codes "crash") keep refl h
+are_words Reopen h = one (codes "reopen") (plain (codes "reopen") refl)
 
 -- a command's spelling is text
 pub text_of_command : (command : Command) → IsCommand command → IsUtf8 (spelling command)
-text_of_command command h = IsUtf8-from_ascii (spelling command) (ascii-join (words_of command) (plain_words command h))
+text_of_command command h = text-join (words_of command) (are_words command h)
 
 -- a line spells what its words spell
 reads_from_words : (line : List ℕ) (found : Option Command) → Spells (slice_split is_space line) found → Reads line found
 reads_from_words line found s = record {
   spelled = spelled found s.spelled;
-  all_found = λ command h e. s.all_found command h (ap (slice_split is_space) e ∙ split-join (words_of command) (plain_words command h));
+  all_found = λ command h e. s.all_found command h (ap (slice_split is_space) e ∙ split-join (words_of command) (are_words command h));
 }
   where
     spelled : (f : Option Command) → IfSome f (λ command. slice_split is_space line ≡ words_of command) → IfSome f (λ command. line ≡ spelling command)

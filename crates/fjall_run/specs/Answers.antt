@@ -1,13 +1,13 @@
 -- What is printed.
-use Rattle.std.specs.Prelude.{ℕ, List, [], ◌∷◌, ◌++◌, length, codes, decimal, Some, None}
+use Rattle.std.specs.Prelude.{ℕ, List, [], ◌∷◌, ◌++◌, length, codes, decimal, Some, None, true, false}
 use Rattle.std.specs.List.{flat_map}
 use Rattle.fjall_base.specs.declared.error.Error.{Error}
 use Rattle.fjall_base.specs.Errors.{number_of, name_of}
 use Rattle.fjall_base.specs.Pairs.{Bytes}
-use Rattle.fjall_core.specs.declared.call.Reply.{Reply}
-use Rattle.fjall_core.specs.declared.call.Reply.TheVariants.{Done, Value, Pairs, Number, Refused}
+use Rattle.fjall_machine.specs.declared.call.Reply.{Reply}
+use Rattle.fjall_machine.specs.declared.call.Reply.TheVariants.{Done, Value, Pairs, Number, Names, Flag, Refused}
 use Rattle.fjall_run.specs.declared.command.Command.{Command}
-use Rattle.fjall_run.specs.declared.command.Command.TheVariants.{Len}
+use Rattle.fjall_run.specs.declared.command.Command.TheVariants.{Keyspace, Len}
 use Rattle.fjall_run.specs.Lines.{hex_word}
 
 -- a refusal: its number and its name
@@ -25,14 +25,19 @@ pairs_text pairs = codes "pairs" ++ flat_map (λ pair. codes " " ++ pair_word pa
 abbrev pub count_text : ℕ → List ℕ
 count_text count = codes "count " ++ decimal count
 
--- the answer to a command, by the reply to its call: `len` tells how many pairs there are, and `scan` tells the pairs
+-- the answer to a command, by the reply to its call: `keyspace` tells an id, `len` how many pairs there are, and `scan`
+-- the pairs
 abbrev pub reply_text : Command → Reply → List ℕ
 reply_text command Done = codes "ok"
 reply_text command (Value None) = codes "none"
 reply_text command (Value (Some value)) = codes "value " ++ hex_word value
 reply_text (Len id) (Pairs pairs) = count_text (length pairs.items)
 reply_text command (Pairs pairs) = pairs_text pairs.items
+reply_text (Keyspace name) (Number id) = codes "keyspace " ++ decimal id
 reply_text command (Number count) = count_text count
+reply_text command (Names names) = count_text (length names.items)
+reply_text command (Flag true) = codes "true"
+reply_text command (Flag false) = codes "false"
 reply_text command (Refused error) = refusal_text error
 
 -- the answer to a line that is no command

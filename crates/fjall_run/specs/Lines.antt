@@ -1,9 +1,10 @@
 -- The lines of an input, the words of a line, and how a command is spelled.
-use Rattle.std.specs.Prelude.{◌≡◌, ℕ, ◌==◌, ◌<◌, ◌^◌, if◌then◌else◌, List, [], ◌∷◌, codes, decimal, Option, IfSome, Some}
-use Rattle.std.specs.List.{onto_first, join_with_byte}
+use Rattle.std.specs.Prelude.{◌≡◌, ℕ, ◌==◌, ◌<◌, ◌^◌, if◌then◌else◌, false, List, [], ◌∷◌, codes, decimal, Option, IfSome, Some}
+use Rattle.std.specs.List.{list_any, onto_first, join_with_byte}
+use Rattle.std.specs.Str.{IsUtf8}
 use Rattle.hex.specs.Hex.{encode_lower, IsBytes}
 use Rattle.fjall_run.specs.declared.command.Command.{Command}
-use Rattle.fjall_run.specs.declared.command.Command.TheVariants.{Insert, Remove, RemoveWeak, Get, Len, Scan, Persist, Crash, Reopen}
+use Rattle.fjall_run.specs.declared.command.Command.TheVariants.{Keyspace, Delete, Insert, Remove, RemoveWeak, Get, Len, Scan, Persist, Crash, Reopen}
 
 -- a line feed ends a line, and so does the end of the text
 abbrev pub lines_of : List ℕ → List (List ℕ)
@@ -15,8 +16,10 @@ abbrev pub hex_word : List ℕ → List ℕ
 hex_word [] = codes "-"
 hex_word (b ∷ rest) = encode_lower (b ∷ rest)
 
--- the words of a command
+-- the words of a command: a keyspace's name is its word, byte for byte
 abbrev pub words_of : Command → List (List ℕ)
+words_of (Keyspace name) = codes "keyspace" ∷ name ∷ []
+words_of (Delete id) = codes "delete" ∷ decimal id ∷ []
 words_of (Insert id key value) = codes "insert" ∷ decimal id ∷ hex_word key ∷ hex_word value ∷ []
 words_of (Remove id key) = codes "remove" ∷ decimal id ∷ hex_word key ∷ []
 words_of (RemoveWeak id key) = codes "remove_weak" ∷ decimal id ∷ hex_word key ∷ []
@@ -31,8 +34,10 @@ words_of Reopen = codes "reopen" ∷ []
 abbrev pub spelling : Command → List ℕ
 spelling command = join_with_byte 32 (words_of command)
 
--- its numbers have 64 bits, its keys and values are bytes
+-- its name is UTF-8 without a space, its numbers have 64 bits, its keys and values are bytes
 abbrev pub IsCommand : Command → Type 0
+IsCommand (Keyspace name) = IsUtf8 name × (list_any (λ b. b == 32) name ≡ false)
+IsCommand (Delete id) = id < 2 ^ 64
 IsCommand (Insert id key value) = (id < 2 ^ 64) × IsBytes key × IsBytes value
 IsCommand (Remove id key) = (id < 2 ^ 64) × IsBytes key
 IsCommand (RemoveWeak id key) = (id < 2 ^ 64) × IsBytes key

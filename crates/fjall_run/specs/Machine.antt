@@ -2,48 +2,57 @@
 -- in memory does, all is said that the core promises; over another one, as a folder, what needs no such premise.
 use Rattle.std.specs.Prelude.{◌≡◌, ℕ, Bool, IsTrue, [], List, Result, Ok}
 use Rattle.fjall_base.specs.Crash.{crashed}
-use Rattle.fjall_base.specs.Disk.{Meaning, disk_of, state_in}
-use Rattle.fjall_base.specs.declared.error.Error.{Error}
-use Rattle.fjall_core.specs.Holding.{Held}
+use Rattle.fjall_base.specs.Disk.{Meaning, IsImage, disk_of, standing, state_in}
 use Rattle.fjall_base.specs.Store.{Store}
-use Rattle.fjall_core.specs.Openings.{Opens, OpensOn, Repaired, journal_text}
-use Rattle.fjall_core.specs.Standing.{Runs, OwesAll, OwesClosing, ClosesDisk}
-use Rattle.fjall_core.specs.declared.call.Call.{Call}
-use Rattle.fjall_core.specs.declared.call.Reply.{Reply}
+use Rattle.fjall_base.specs.declared.error.Error.{Error}
+use Rattle.fjall_keyspaces.specs.Keyspaces.{no_keyspaces}
+use Rattle.fjall_versions.specs.Replays.{bare}
+use Rattle.fjall_machine.specs.declared.call.Call.{Call}
+use Rattle.fjall_machine.specs.declared.call.Reply.{Reply}
+use Rattle.fjall_core.specs.Holding.{Held}
+use Rattle.fjall_core.specs.Openings.{KeepsStore, Opens, OpensAs, OpensOn}
+use Rattle.fjall_core.specs.Standing.{ClosesDisk, ClosesSafely, HoldsStore, OwesAll, OwesClosing, Runs, RunsSafely}
 
--- The replies are those of a run of the engine, whichever state the core stood for, and each is owed by
--- what the core held.
+-- The replies are those of a run of the engine, whichever state the core stood for; a crash at each moment leaves a beginning
+-- of the commands, with all that a sync made safe before; and each reply is owed by what the core held.
 pub record RunsCalls (honest : Bool) (old : Held) (calls : List Call) (replies : List Reply) (new : Held) : Type 0 where
   pub runs : IsTrue honest → Runs old calls replies new
+  pub safe : IsTrue honest → RunsSafely old calls replies new
   pub owes : OwesAll old calls replies new
 
--- A core that was opened on this disk: it stands for what the journal's text says, and the disk took what
--- opening does.
+-- A core that was opened on this disk: it stands for what stands there. Where the disk held a store, whatever a crash
+-- leaves of it, the core opened as that store, and a crash at each moment of the opening leaves it.
 pub record OpenedOn (honest : Bool) (disk : Meaning) (core : Held) : Type 0 where
-  pub text : IsTrue honest → OpensOn (journal_text disk) core
-  pub repaired : IsTrue honest → Repaired disk core.disk
+  pub opened : IsTrue honest → OpensOn (standing (state_in disk)) core
+  pub safe : IsTrue honest → (store : Store) → HoldsStore (state_in disk) store → OpensAs core store
+  pub any_moment : IsTrue honest → KeepsStore disk core.disk
   pub stands : (store : Store) × (next : ℕ) × Opens core store next
 
 -- nothing was ever put on the disk
 abbrev pub IsNew : Meaning → Type 0
 IsNew disk = disk ≡ record { places = []; steps = []; faults = 0 }
 
--- a core that a session begins with: in memory, over a new disk
+-- a core that a session begins with: in memory, over a new disk, which holds no keyspace
 pub record Begins (honest : Bool) (core : Held) : Type 0 where
   pub disk : Meaning
   pub fresh : IsTrue honest → IsNew disk
   pub opened : OpenedOn honest disk core
+  pub empty : IsTrue honest → OpensAs core (bare no_keyspaces)
 
--- a core that was opened on what a crash of the old one's disk left, so many unsynced bytes of each file
+-- A core that was opened on what a crash of the old one's disk left, so many unsynced bytes of each file: one of the
+-- images that a crash may leave.
 pub record Crashes (honest : Bool) (keep : ℕ) (old new : Held) : Type 0 where
   pub disk : Meaning
+  pub image : IsTrue honest → IsImage (state_in old.disk) (crashed keep (state_in old.disk))
   pub left : IsTrue honest → state_in disk ≡ disk_of (crashed keep (state_in old.disk))
   pub opened : OpenedOn honest disk new
 
--- the core's disk after a closing, answered or refused
+-- The core's disk after a closing, answered or refused. A crash meanwhile leaves a beginning of what was accepted, with all
+-- that a sync made safe before; after an answer the disk holds all of it.
 pub record Closes (honest : Bool) (core : Held) (result : Result Unit Error) (disk : Meaning) : Type 0 where
   pub owes : OwesClosing core result disk
   pub took : IsTrue honest → ClosesDisk core result disk
+  pub safe : IsTrue honest → ClosesSafely core result disk
 
 -- a core that was opened again on the disk of the old one, which was closed, with success or not
 pub record Reopens (honest : Bool) (old new : Held) : Type 0 where

@@ -3,16 +3,17 @@ use Rattle.std.specs.Prelude.{◌≡◌, ℕ, ◌-◌, ◌^◌, Bool, true, fals
 use Rattle.std.specs.List.{filter_map}
 use Rattle.std.specs.declared.ops.Bound.TheVariants.{Unbounded}
 use Rattle.fjall_base.specs.Crash.{crashed}
-use Rattle.fjall_base.specs.Disk.{Meaning, disk_of, state_in}
+use Rattle.fjall_base.specs.Disk.{Meaning, IsImage, disk_of, state_in}
 use Rattle.fjall_core.specs.Holding.{Held}
-use Rattle.fjall_core.specs.declared.call.Call.{Call}
-use Rattle.fjall_core.specs.declared.call.Call.TheVariants as calls
-use Rattle.fjall_core.specs.declared.call.View.TheVariants.{Present}
+use Rattle.fjall_machine.specs.declared.call.Call.{Call}
+use Rattle.fjall_machine.specs.declared.call.Call.TheVariants as calls
+use Rattle.fjall_machine.specs.declared.call.View.TheVariants.{Present}
 use Rattle.fjall_journal.specs.declared.persist_mode.PersistMode.TheVariants.{SyncAll}
-use Rattle.fjall_core.specs.declared.call.Reply.{Reply}
-use Rattle.fjall_core.specs.declared.call.Reply.TheVariants.{Done, Value, Pairs, Refused}
+use Rattle.fjall_machine.specs.declared.call.Reply.{Reply}
+use Rattle.fjall_machine.specs.declared.call.Reply.TheVariants.{Done, Value, Pairs, Number, Refused}
+use Rattle.fjall_meta.specs.Options.{default_options}
 use Rattle.fjall_run.specs.declared.command.Command.{Command}
-use Rattle.fjall_run.specs.declared.command.Command.TheVariants.{Insert, Remove, RemoveWeak, Get, Len, Scan, Persist, Crash, Reopen}
+use Rattle.fjall_run.specs.declared.command.Command.TheVariants.{Keyspace, Delete, Insert, Remove, RemoveWeak, Get, Len, Scan, Persist, Crash, Reopen}
 use Rattle.fjall_run.specs.Answers.{reply_text, bad_line, text_of}
 use Rattle.fjall_run.specs.Machine.{RunsCalls, Begins, Crashes, Reopens, IsClosed}
 
@@ -22,6 +23,8 @@ all_pairs id = calls.PageAt Present id (Unbounded, Unbounded) false (2 ^ 64 - 1)
 
 -- the call that a line makes; none for one that is no command, a crash or a reopening
 abbrev pub call_of : Option Command → Option Call
+call_of (Some (Keyspace name)) = Some (calls.Keyspace name default_options)
+call_of (Some (Delete id)) = Some (calls.DeleteKeyspace id)
 call_of (Some (Insert id key value)) = Some (calls.Insert id key value)
 call_of (Some (Remove id key)) = Some (calls.Remove id key)
 call_of (Some (RemoveWeak id key)) = Some (calls.RemoveWeak id key)
@@ -50,6 +53,8 @@ answers_to (Some command ∷ rest) (reply ∷ replies) = reply_text command repl
 -- what the call of a command may reply: what the command asks for, or a refusal
 abbrev pub IsReplyTo : Command → Reply → Type 0
 IsReplyTo command (Refused error) = Unit {0}
+IsReplyTo (Keyspace name) (Number id) = Unit {0}
+IsReplyTo (Delete id) Done = Unit {0}
 IsReplyTo (Insert id key value) Done = Unit {0}
 IsReplyTo (Remove id key) Done = Unit {0}
 IsReplyTo (RemoveWeak id key) Done = Unit {0}
@@ -76,9 +81,10 @@ abbrev pub IsAtStop : List (Option Command) → Type 0
 IsAtStop [] = Unit {0}
 IsAtStop (found ∷ rest) = is_stop found ≡ true
 
--- what a crash leaves of a disk, so many unsynced bytes of each file, or the same disk at a reopening
+-- what a crash leaves of a disk, one of the images that it may leave: so many unsynced bytes of each file; or the same
+-- disk at a reopening
 abbrev pub Leaves : Option Command → Meaning → Meaning → Type 0
-Leaves (Some (Crash keep)) old new = state_in new ≡ disk_of (crashed keep (state_in old))
+Leaves (Some (Crash keep)) old new = IsImage (state_in old) (crashed keep (state_in old)) × (state_in new ≡ disk_of (crashed keep (state_in old)))
 Leaves stop old new = new ≡ old
 
 -- the line opens the core again, after a crash or not

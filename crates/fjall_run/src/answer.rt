@@ -69,7 +69,16 @@ pub fn answer(alloc: Global, command: &Command, reply: &Reply) -> Result<String,
             }
             _ => pairs_text(alloc, pairs.as_slice()),
         },
-        Reply::Number(count) => format!(in alloc; "count {count}"),
+        Reply::Number(number) => match command {
+            Command::Keyspace(_) => format!(in alloc; "keyspace {number}"),
+            _ => format!(in alloc; "count {number}"),
+        },
+        Reply::Names(names) => {
+            let count = names.len();
+            format!(in alloc; "count {count}")
+        }
+        Reply::Flag(true) => String::from_str(alloc, "true"),
+        Reply::Flag(false) => String::from_str(alloc, "false"),
         Reply::Refused(error) => Refusal(*error).to_string(alloc),
     }
 }

@@ -1,10 +1,14 @@
 //! The commands that a line may spell.
 
-use fjall_base::{UserKey, UserValue};
+use fjall_base::{Slice, UserKey, UserValue};
 
 /// What a line asks for.
 #[derive(Debug, Drop)]
 pub enum Command {
+    /// `keyspace NAME`: the id of the keyspace of this name, which is made where none has it.
+    Keyspace(Slice),
+    /// `delete ID`: deletes a keyspace.
+    Delete(u64),
     /// `insert ID K V`: gives a key of a keyspace a value.
     Insert(u64, UserKey, UserValue),
     /// `remove ID K`: takes a key of a keyspace and its value away.

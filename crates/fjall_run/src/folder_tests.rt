@@ -45,12 +45,13 @@ fn refusal(rt: &HostRuntime, path: &str, script: &str) -> Result<String, Fail> {
 fn a_folder_keeps_its_pairs(rt: HostRuntime) -> Result<(), Fail> {
     let path = fresh(&rt, "keeps")?;
     let path = path.as_str();
-    let text = answers(&rt, path, "insert 1 61 62\ninsert 1 63 -\n")?;
-    assert_eq!(rt; text.as_str(), "ok\nok\n");
+    let script = "keyspace items\ninsert 1 61 62\ninsert 1 63 -\n";
+    let text = answers(&rt, path, script)?;
+    assert_eq!(rt; text.as_str(), "keyspace 1\nok\nok\n");
     let text = answers(&rt, path, "scan 1\nremove 1 61\nget 1 61\n")?;
     assert_eq!(rt; text.as_str(), "pairs 61=62 63=-\nok\nnone\n");
-    let text = answers(&rt, path, "len 1\nscan 1\n")?;
-    assert_eq!(rt; text.as_str(), "count 1\npairs 63=-\n");
+    let text = answers(&rt, path, "keyspace items\nlen 1\nscan 1\n")?;
+    assert_eq!(rt; text.as_str(), "keyspace 1\ncount 1\npairs 63=-\n");
     fs::remove_dir_all(&rt, path)?;
     Ok(())
 }
@@ -59,9 +60,24 @@ fn a_folder_keeps_its_pairs(rt: HostRuntime) -> Result<(), Fail> {
 fn a_folder_is_opened_again(rt: HostRuntime) -> Result<(), Fail> {
     let path = fresh(&rt, "again")?;
     let path = path.as_str();
-    let script = "insert 1 61 62\nreopen\nget 1 61\npersist\nreopen\nreopen\nget 1 61\n";
+    let script =
+        "keyspace items\ninsert 1 61 62\nreopen\nget 1 61\npersist\nreopen\nreopen\nget 1 61\n";
     let text = answers(&rt, path, script)?;
-    assert_eq!(rt; text.as_str(), "ok\nok\nvalue 62\nok\nok\nok\nvalue 62\n");
+    let want = "keyspace 1\nok\nok\nvalue 62\nok\nok\nok\nvalue 62\n";
+    assert_eq!(rt; text.as_str(), want);
+    fs::remove_dir_all(&rt, path)?;
+    Ok(())
+}
+
+#[test]
+fn a_folder_keeps_its_keyspaces(rt: HostRuntime) -> Result<(), Fail> {
+    let path = fresh(&rt, "keyspaces")?;
+    let path = path.as_str();
+    let text = answers(&rt, path, "keyspace b\nkeyspace a\ndelete 1\n")?;
+    assert_eq!(rt; text.as_str(), "keyspace 1\nkeyspace 2\nok\n");
+    let text = answers(&rt, path, "keyspace a\nlen 1\nkeyspace b\n")?;
+    let want = "keyspace 2\nerror 9 KeyspaceDeleted\nkeyspace 3\n";
+    assert_eq!(rt; text.as_str(), want);
     fs::remove_dir_all(&rt, path)?;
     Ok(())
 }
@@ -70,8 +86,12 @@ fn a_folder_is_opened_again(rt: HostRuntime) -> Result<(), Fail> {
 fn a_crash_of_a_folder_is_no_command(rt: HostRuntime) -> Result<(), Fail> {
     let path = fresh(&rt, "crash")?;
     let path = path.as_str();
-    let text = answers(&rt, path, "insert 1 61 62\ncrash 0\nget 1 61\n")?;
-    assert_eq!(rt; text.as_str(), "ok\nerror 0 BadLine\nvalue 62\n");
+    let script = "keyspace items\ninsert 1 61 62\ncrash 0\nget 1 61\n";
+    let text = answers(&rt, path, script)?;
+    assert_eq!(rt;
+        text.as_str(),
+        "keyspace 1\nok\nerror 0 BadLine\nvalue 62\n"
+    );
     fs::remove_dir_all(&rt, path)?;
     Ok(())
 }
@@ -84,8 +104,8 @@ fn a_locked_folder_is_refused(rt: HostRuntime) -> Result<(), Fail> {
     let text = refusal(&rt, path, "get 1 61\n")?;
     assert_eq!(rt; text.as_str(), "error 10 Locked\n");
     drop(disk);
-    let text = answers(&rt, path, "get 1 61\n")?;
-    assert_eq!(rt; text.as_str(), "none\n");
+    let text = answers(&rt, path, "keyspace items\nget 1 61\n")?;
+    assert_eq!(rt; text.as_str(), "keyspace 1\nnone\n");
     fs::remove_dir_all(&rt, path)?;
     Ok(())
 }
@@ -107,7 +127,7 @@ fn what_is_no_folder_is_refused(rt: HostRuntime) -> Result<(), Fail> {
 fn a_damaged_journal_is_refused(rt: HostRuntime) -> Result<(), Fail> {
     let path = fresh(&rt, "damaged")?;
     let path = path.as_str();
-    answers(&rt, path, "insert 1 61 62\n")?;
+    answers(&rt, path, "keyspace items\ninsert 1 61 62\n")?;
     let mut disk = FolderDisk::open(&rt, rt.alloc(), path)?;
     let mut journal = disk.read(rt.alloc(), "0.jnl")?.ok_or("no journal")?;
     *journal.as_mut_slice().get_mut(34).ok_or("too short")? ^= 1;

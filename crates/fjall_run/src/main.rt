@@ -8,13 +8,9 @@ mod command;
 mod folder_tests;
 mod parse;
 mod place;
-#[cfg(test)]
-mod reference;
 mod run;
 mod script;
 mod session;
-#[cfg(test)]
-mod sweep;
 #[cfg(test)]
 mod tests;
 

@@ -87,17 +87,24 @@ fn bare(word: &str) -> Option<Command>
     }
 }
 
-// The command of a word and a number.
-fn with_number(word: &str, number: &str) -> Option<Command>
-    ensures { Spells (word.now ∷ number.now ∷ []) result }
+// The command of a word and a keyspace's name or a number.
+fn with_one(alloc: Global, word: &str, other: &str) -> Result<Option<Command>, AllocError>
+    ensures { IfOk result (λ found. Spells (word.now ∷ other.now ∷ []) found) }
 {
-    let number = self::number(number)?;
-    match word {
+    if word == "keyspace" {
+        let name = Slice::new(alloc, other.as_bytes())?;
+        return Ok(Some(Command::Keyspace(name)));
+    }
+    let Some(number) = number(other) else {
+        return Ok(None);
+    };
+    Ok(match word {
+        "delete" => Some(Command::Delete(number)),
         "len" => Some(Command::Len(number)),
         "scan" => Some(Command::Scan(number)),
         "crash" => Some(Command::Crash(number)),
         _ => None,
-    }
+    })
 }
 
 // The command of a word, a keyspace's id and a key.
@@ -121,7 +128,7 @@ fn command(alloc: Global, words: &[&str]) -> Result<Option<Command>, AllocError>
 {
     match words {
         [word] => Ok(bare(word)),
-        [word, number] => Ok(with_number(word, number)),
+        [word, other] => with_one(alloc, word, other),
         [word, id, key] => with_key(alloc, word, id, key),
         ["insert", id, key, value] => insert(alloc, id, key, value),
         _ => Ok(None),

@@ -11,6 +11,7 @@ use crate::command::Command;
 use crate::place::Place;
 use fjall_base::{Disk, Result};
 use fjall_core::{Call, Config, Core, PersistMode, Reply, View};
+use fjall_meta::KeyspaceCreateOptions;
 use std::alloc::{AllocError, Global};
 use std::ops::Bound;
 
@@ -35,10 +36,15 @@ fn all_pairs(id: u64) -> Call
     Call::PageAt(View::Present, id, everywhere, false, usize::MAX)
 }
 
-fn call_of(found: &Option<Command>) -> std::result::Result<Option<Call>, AllocError>
+fn call_of(alloc: Global, found: &Option<Command>) -> Result<Option<Call>>
     ensures { IfOk result (λ call. call ≡ call_of found.now) }
 {
     match found {
+        Some(Command::Keyspace(name)) => {
+            let options = KeyspaceCreateOptions::default(alloc)?;
+            Ok(Some(Call::Keyspace(name.clone()?, options)))
+        }
+        Some(Command::Delete(id)) => Ok(Some(Call::DeleteKeyspace(*id))),
         Some(Command::Insert(id, key, value)) => {
             Ok(Some(Call::Insert(*id, key.clone()?, value.clone()?)))
         }
@@ -51,15 +57,12 @@ fn call_of(found: &Option<Command>) -> std::result::Result<Option<Call>, AllocEr
     }
 }
 
-fn calls_of(
-    alloc: Global,
-    commands: &[Option<Command>],
-) -> std::result::Result<Vec<Call>, AllocError>
+fn calls_of(alloc: Global, commands: &[Option<Command>]) -> Result<Vec<Call>>
     ensures { IfOk result (λ calls. calls.items ≡ calls_of commands.now) }
 {
     let mut calls = Vec::new(alloc);
     for found in commands {
-        if let Some(call) = call_of(found)? {
+        if let Some(call) = call_of(alloc, found)? {
             calls.push(call)?;
         }
     }

@@ -20,8 +20,13 @@ fn check(rt: &impl Abort, alloc: Global, script: &[u8], want: &str) {
 
 #[test]
 fn a_synced_insert_outlives_a_crash(rt: HostRuntime) {
-    let script = b"insert 1 61 62\npersist\ncrash 0\nget 1 61\n";
-    check(&rt, rt.alloc(), script, "ok\nok\nok\nvalue 62\n");
+    let script = b"keyspace items\ninsert 1 61 62\npersist\ncrash 0\nget 1 61\n";
+    check(
+        &rt,
+        rt.alloc(),
+        script,
+        "keyspace 1\nok\nok\nok\nvalue 62\n",
+    );
 }
 
 #[test]
@@ -30,30 +35,75 @@ fn a_crash_keeps_whole_batches_alone(rt: HostRuntime) {
     check(
         &rt,
         alloc,
-        b"insert 1 61 62\ncrash 48\nget 1 61\n",
-        "ok\nok\nnone\n",
+        b"keyspace items\ninsert 1 61 62\ncrash 48\nget 1 61\n",
+        "keyspace 1\nok\nok\nnone\n",
     );
     check(
         &rt,
         alloc,
-        b"insert 1 61 62\ncrash 49\nget 1 61\n",
-        "ok\nok\nvalue 62\n",
+        b"keyspace items\ninsert 1 61 62\ncrash 49\nget 1 61\n",
+        "keyspace 1\nok\nok\nvalue 62\n",
     );
-    let most = b"insert 1 61 62\ncrash 18446744073709551615\nget 1 61\n";
-    check(&rt, alloc, most, "ok\nok\nvalue 62\n");
+    let most = b"keyspace items\ninsert 1 61 62\ncrash 18446744073709551615\nget 1 61\n";
+    check(&rt, alloc, most, "keyspace 1\nok\nok\nvalue 62\n");
 }
 
 #[test]
 fn a_reopened_core_has_what_was_written(rt: HostRuntime) {
-    let script = b"insert 1 61 62\nreopen\nget 1 61\ninsert 1 61 63\nget 1 61";
-    check(&rt, rt.alloc(), script, "ok\nok\nvalue 62\nok\nvalue 63\n");
+    let script = b"keyspace items\ninsert 1 61 62\nreopen\nget 1 61\ninsert 1 61 63\nget 1 61";
+    let want = "keyspace 1\nok\nok\nvalue 62\nok\nvalue 63\n";
+    check(&rt, rt.alloc(), script, want);
+}
+
+#[test]
+fn keyspaces_have_the_next_ids(rt: HostRuntime) {
+    let alloc = rt.alloc();
+    let script = b"keyspace b\nkeyspace a\nkeyspace a\ndelete 3\ndelete 1\ndelete 1\n";
+    let want = "keyspace 1\nkeyspace 2\nkeyspace 2\nerror 19 UnknownKeyspace\nok\nok\n";
+    check(&rt, alloc, script, want);
+    let script = b"keyspace b\nkeyspace a\ndelete 1\ncrash 0\nkeyspace a\nkeyspace b\n";
+    let want = "keyspace 1\nkeyspace 2\nok\nok\nkeyspace 2\nkeyspace 3\n";
+    check(&rt, alloc, script, want);
+}
+
+#[test]
+fn a_deleted_keyspace_is_read_until_it_is_reopened(rt: HostRuntime) {
+    let alloc = rt.alloc();
+    let script = b"keyspace a\ninsert 1 61 62\ndelete 1\nget 1 61\ninsert 1 61 63\n";
+    let want = "keyspace 1\nok\nok\nvalue 62\nerror 9 KeyspaceDeleted\n";
+    check(&rt, alloc, script, want);
+    let script = b"keyspace a\ninsert 1 61 62\ndelete 1\nreopen\nget 1 61\n";
+    let want = "keyspace 1\nok\nok\nok\nerror 9 KeyspaceDeleted\n";
+    check(&rt, alloc, script, want);
+}
+
+#[test]
+fn names_are_the_bytes_of_their_word(rt: HostRuntime) -> Result<(), Fail> {
+    let alloc = rt.alloc();
+    let script = "keyspace é/-\nkeyspace é/-\nkeyspace e/-\n";
+    let want = "keyspace 1\nkeyspace 1\nkeyspace 2\n";
+    check(&rt, alloc, script.as_bytes(), want);
+    check(&rt, alloc, b"keyspace \n", "error 15 InvalidName\n");
+    let mut script = String::from_str(alloc, "keyspace ")?;
+    for _ in 0..255 {
+        script.push_str("n")?;
+    }
+    check(&rt, alloc, script.as_bytes(), "keyspace 1\n");
+    script.push_str("n")?;
+    check(&rt, alloc, script.as_bytes(), "error 15 InvalidName\n");
+    Ok(())
 }
 
 #[test]
 fn refusals_have_their_number_and_name(rt: HostRuntime) {
     let alloc = rt.alloc();
     check(&rt, alloc, b"insert 1 - 62\n", "error 12 KeyEmpty\n");
-    check(&rt, alloc, b"get 2 61\n", "error 19 UnknownKeyspace\n");
+    check(
+        &rt,
+        alloc,
+        b"insert 1 61 62\n",
+        "error 19 UnknownKeyspace\n",
+    );
     check(
         &rt,
         alloc,
@@ -65,18 +115,33 @@ fn refusals_have_their_number_and_name(rt: HostRuntime) {
 #[test]
 fn words_of_bytes(rt: HostRuntime) {
     let alloc = rt.alloc();
-    check(&rt, alloc, b"insert 1 61 -\nget 1 61\n", "ok\nvalue -\n");
     check(
         &rt,
         alloc,
-        b"insert 1 00ff09af 0a\nget 1 00ff09af\n",
-        "ok\nvalue 0a\n",
+        b"keyspace items\ninsert 1 61 -\nget 1 61\n",
+        "keyspace 1\nok\nvalue -\n",
+    );
+    check(
+        &rt,
+        alloc,
+        b"keyspace items\ninsert 1 00ff09af 0a\nget 1 00ff09af\n",
+        "keyspace 1\nok\nvalue 0a\n",
     );
 }
 
 #[test]
 fn other_lines_are_no_commands(rt: HostRuntime) {
     let lines = [
+        "keyspace",
+        "keyspace a b",
+        "keyspace a ",
+        " keyspace a",
+        "keyspace\ta",
+        "Keyspace a",
+        "delete",
+        "delete 01",
+        "delete a",
+        "delete 1 2",
         "INSERT 1 61 62",
         "insert 1 6A 62",
         "insert 01 61 62",
@@ -127,8 +192,8 @@ fn each_line_has_its_answer(rt: HostRuntime) {
     check(
         &rt,
         alloc,
-        b"get 1 61\n\nget 1 61",
-        "none\nerror 0 BadLine\nnone\n",
+        b"keyspace items\n\nget 1 61",
+        "keyspace 1\nerror 0 BadLine\nnone\n",
     );
     check(
         &rt,
@@ -144,29 +209,39 @@ fn removed_keys_are_gone(rt: HostRuntime) {
     check(
         &rt,
         alloc,
-        b"insert 1 61 31\ninsert 1 62 32\nremove 1 61\nremove_weak 1 62\nlen 1\nget 1 61\nscan 1\n",
-        "ok\nok\nok\nok\ncount 0\nnone\npairs\n",
+        b"keyspace items\ninsert 1 61 31\ninsert 1 62 32\nremove 1 61\nremove_weak 1 62\nlen 1\nget 1 61\nscan 1\n",
+        "keyspace 1\nok\nok\nok\nok\ncount 0\nnone\npairs\n",
     );
     check(&rt, alloc, b"remove 1 -\n", "error 12 KeyEmpty\n");
     check(
         &rt,
         alloc,
-        b"remove 1 61\nremove_weak 0 61\n",
-        "ok\nerror 19 UnknownKeyspace\n",
+        b"keyspace items\nremove 1 61\nremove_weak 0 61\n",
+        "keyspace 1\nok\nerror 19 UnknownKeyspace\n",
     );
 }
 
 #[test]
 fn pairs_are_told_in_the_order_of_their_keys(rt: HostRuntime) {
     let alloc = rt.alloc();
-    check(&rt, alloc, b"scan 1\nlen 1\n", "pairs\ncount 0\n");
     check(
         &rt,
         alloc,
-        b"insert 1 62ff 3233\ninsert 1 61 31\nlen 1\nscan 1\n",
-        "ok\nok\ncount 2\npairs 61=31 62ff=3233\n",
+        b"keyspace items\nscan 1\nlen 1\n",
+        "keyspace 1\npairs\ncount 0\n",
     );
-    check(&rt, alloc, b"insert 1 61 -\nscan 1\n", "ok\npairs 61=-\n");
+    check(
+        &rt,
+        alloc,
+        b"keyspace items\ninsert 1 62ff 3233\ninsert 1 61 31\nlen 1\nscan 1\n",
+        "keyspace 1\nok\nok\ncount 2\npairs 61=31 62ff=3233\n",
+    );
+    check(
+        &rt,
+        alloc,
+        b"keyspace items\ninsert 1 61 -\nscan 1\n",
+        "keyspace 1\nok\npairs 61=-\n",
+    );
     check(
         &rt,
         alloc,
@@ -178,8 +253,8 @@ fn pairs_are_told_in_the_order_of_their_keys(rt: HostRuntime) {
 #[test]
 fn pairs_outlive_a_crash_and_a_reopening(rt: HostRuntime) {
     let script =
-        b"insert 1 61 31\ninsert 1 62 32\nremove 1 61\ncrash 98\nscan 1\nremove 1 61\nreopen\nscan 1\nlen 1\n";
-    let want = "ok\nok\nok\nok\npairs 61=31 62=32\nok\nok\npairs 62=32\ncount 1\n";
+        b"keyspace items\ninsert 1 61 31\ninsert 1 62 32\nremove 1 61\ncrash 98\nscan 1\nremove 1 61\nreopen\nscan 1\nlen 1\n";
+    let want = "keyspace 1\nok\nok\nok\nok\npairs 61=31 62=32\nok\nok\npairs 62=32\ncount 1\n";
     check(&rt, rt.alloc(), script, want);
 }
 

@@ -1,5 +1,5 @@
-use Rattle.fjall_core.proofs.Held as Held
+use Rattle.fjall_core.proofs.Kept as Kept
 use Rattle.fjall_core.proofs.laws.crash_holds.Goals as goal
 
 pub returns : goal.returns
-returns c = Held.crash_holds
+returns c = Kept.crash_holds

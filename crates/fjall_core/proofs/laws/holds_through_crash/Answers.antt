@@ -1,5 +1,5 @@
-use Rattle.fjall_core.proofs.Held as Held
+use Rattle.fjall_core.proofs.Kept as Kept
 use Rattle.fjall_core.proofs.laws.holds_through_crash.Goals as goal
 
 pub returns : goal.returns
-returns c = Held.holds_through_crash
+returns c = Kept.holds_through_crash

@@ -1,55 +1,65 @@
-use Rattle.std.proofs.Common.{[], None, ap, map, refl, sym, subst}
+use Rattle.std.proofs.Common.{[], None, map, refl, sym, subst}
 use Rattle.std.specs.Prelude.{string_bytes}
-use Rattle.fjall_base.specs.Disk.{Meaning, State, Took, standing, state_in}
-use Rattle.fjall_journal.proofs.Writing.{took_none}
-use Rattle.fjall_journal.specs.Batches.{view}
-use Rattle.fjall_beginning.specs.Making.{ComesBackUnfinished}
-use Rattle.fjall_repair.specs.Opened.{nothing}
 use Rattle.std.proofs.lemmas.Result.{err_from_is_err_and}
+use Rattle.fjall_base.specs.Disk.{Meaning, State, standing, state_in}
+use Rattle.fjall_base.proofs.Moments.{stays}
+use Rattle.fjall_recovery.specs.Names.{journal_name}
 use Rattle.fjall_keyspaces.specs.Keyspaces.{Keyspaces}
-use Rattle.fjall_opening.specs.Folders.{IsUnfinished}
-use Rattle.fjall_opening.specs.Naming.{AreFolderIds}
-use Rattle.fjall_repair.specs.Sweeps.{FindsAll, FindsTables, IsSwept}
+use Rattle.fjall_beginning.specs.Making.{ComesBackUnfinished}
+use Rattle.fjall_beginning.specs.Plans.{IsPlan as IsMakingOf}
+use Rattle.fjall_repair.specs.Opened.{nothing}
+use Rattle.fjall_repair.specs.Sweeps.{FindsTables, IsSwept}
 use Rattle.fjall_repair.proofs.Planned.{is_swept}
-use Rattle.fjall_repair.proofs.Openings.{held_on, holds_on, opens_of, run_on}
+use Rattle.fjall_repair.proofs.Openings.{held_early, holds_on, makes_store, opens_of, run_on, stands_now}
 use Rattle.fjall_repair.proofs.opening.open_unfinished.Goals as goal
 
-pub returns-in_err-active-clause-any_moment : goal.returns-in_err-active-clause-any_moment
-returns-in_err-active-clause-any_moment g c honest holds back =
+pub returns-in_err-opened-clause-any_moment : goal.returns-in_err-opened-clause-any_moment
+returns-in_err-opened-clause-any_moment g c honest holds back =
     let m : _ → Meaning = g.D.Disk.meaning in
-    let same : Took (m c.args.disk.now) (m c.plan_sweep.new.disk) [] = took_none _ _ _ [] (c.in_ok-ids.ensures.same honest) (c.in_ok-plan.ensures.same honest) in
-    run_on (m c.args.disk.now) (m c.plan_sweep.new.disk) same (m c.begin_and_sweep.new.disk) _
-    (c.in_err-active.ensures.any_moment honest (holds_on (m c.args.disk.now) (m c.plan_sweep.new.disk) same None holds) (subst (λ (s : State). ComesBackUnfinished s) (sym same.state) back) (c.in_ok-plan.ensures.right honest))
+    stays (m c.args.disk.now) (m c.args.disk.now) (m c.ready_to_begin.new.disk) _ (stands_now (m c.args.disk.now) None holds) (c.in_err-opened.ensures.same honest)
+
+pub returns-in_err-opened-clause-due : goal.returns-in_err-opened-clause-due
+returns-in_err-opened-clause-due g c honest unfinished =
+    let m : _ → Meaning = g.D.Disk.meaning in
+    let p = err_from_is_err_and c.from_residual.result c.from_residual.ensures.1 in
+    rw (p.1, p.2) (held_early (m c.args.disk.now) (m c.ready_to_begin.new.disk) c.in_err-opened.field-0.0 (c.in_err-opened.ensures.due honest unfinished) (c.in_err-opened.ensures.same honest))
+
+pub returns-in_err-begin_and_sweep-clause-any_moment : goal.returns-in_err-begin_and_sweep-clause-any_moment
+returns-in_err-begin_and_sweep-clause-any_moment g c honest holds back =
+    let m : _ → Meaning = g.D.Disk.meaning in
+    let ready = c.in_ok-opened.field-0 in
+    let same = c.in_ok-opened.ensures.same honest in
+    run_on (m c.args.disk.now) (m c.ready_to_begin.new.disk) same (m c.begin_and_sweep.new.disk) _
+    (c.in_err-begin_and_sweep.ensures.any_moment honest (holds_on (m c.args.disk.now) (m c.ready_to_begin.new.disk) same None holds) (subst ComesBackUnfinished (sym same.state) back)
+    (subst (λ (s : State). IsMakingOf (standing s) ready.making) (sym same.state) (c.in_ok-opened.ensures.making honest)) (c.in_ok-opened.ensures.sweep honest))
 
 pub returns-clause-opened : goal.returns-clause-opened
 returns-clause-opened g c honest holds =
     let m : _ → Meaning = g.D.Disk.meaning in
-    let same : Took (m c.args.disk.now) (m c.plan_sweep.new.disk) [] = took_none _ _ _ [] (c.in_ok-ids.ensures.same honest) (c.in_ok-plan.ensures.same honest) in
-    let finds = subst (λ (s : State). FindsTables s None (map string_bytes c.in_ok-plan.plan.tables.items)) (sym (c.in_ok-plan.ensures.same honest).state) (c.in_ok-plan.ensures.whole honest).tables in
-    let repaired = c.in_ok-active.ensures.ok honest (holds_on (m c.args.disk.now) (m c.plan_sweep.new.disk) same None holds) (c.in_ok-plan.ensures.right honest) finds in
-    opens_of (state_in (m c.begin_and_sweep.new.disk)) nothing c.in_ok-active.active 0 repaired None _ refl refl (sym c.new-2.ensures) (sym c.new-3.ensures) (ap (λ l. map view l) c.new.ensures.items) refl refl refl
-
-pub returns-clause-any_moment : goal.returns-clause-any_moment
-returns-clause-any_moment g c honest holds back =
-    let m : _ → Meaning = g.D.Disk.meaning in
-    let same : Took (m c.args.disk.now) (m c.plan_sweep.new.disk) [] = took_none _ _ _ [] (c.in_ok-ids.ensures.same honest) (c.in_ok-plan.ensures.same honest) in
-    run_on (m c.args.disk.now) (m c.plan_sweep.new.disk) same (m c.begin_and_sweep.new.disk) _
-    (c.in_ok-active.ensures.any_moment honest (holds_on (m c.args.disk.now) (m c.plan_sweep.new.disk) same None holds) (subst (λ (s : State). ComesBackUnfinished s) (sym same.state) back) (c.in_ok-plan.ensures.right honest))
-
-pub returns-in_err-active-clause-due : goal.returns-in_err-active-clause-due
-returns-in_err-active-clause-due g c honest begun =
-    let m : _ → Meaning = g.D.Disk.meaning in
-    let p = err_from_is_err_and c.from_residual-in_err-active.result c.from_residual-in_err-active.ensures.1 in
-    let same : Took (m c.args.disk.now) (m c.plan_sweep.new.disk) [] = took_none _ _ _ [] (c.in_ok-ids.ensures.same honest) (c.in_ok-plan.ensures.same honest) in
-    rw (p.1, p.2)
-    (held_on (m c.args.disk.now) (m c.plan_sweep.new.disk) (m c.begin_and_sweep.new.disk) c.in_err-active.field-0.0 same
-    (c.in_err-active.ensures.due honest (subst (λ (s : State). IsUnfinished (standing s)) (sym same.state) begun)))
+    let ready = c.in_ok-opened.field-0 in
+    let same = c.in_ok-opened.ensures.same honest in
+    let repaired = c.in_ok-begin_and_sweep.ensures.ok honest (holds_on (m c.args.disk.now) (m c.ready_to_begin.new.disk) same None holds)
+    (subst (λ (s : State). IsMakingOf (standing s) ready.making) (sym same.state) (c.in_ok-opened.ensures.making honest)) (c.in_ok-opened.ensures.sweep honest)
+    (subst (λ (s : State). FindsTables s None (map string_bytes ready.sweep.tables.items)) (sym same.state) (c.in_ok-opened.ensures.finds honest).2.tables) in
+    opens_of (state_in (m c.begin_and_sweep.new.disk)) nothing (journal_name ready.making.active) 0 repaired None ready.opened c.in_ok-opened.ensures.opened refl c.in_ok-opened.ensures.number refl
 
 pub returns-clause-swept : goal.returns-clause-swept
 returns-clause-swept g c honest =
     let m : _ → Meaning = g.D.Disk.meaning in
+    let ready = c.in_ok-opened.field-0 in
     let old : State = state_in (m c.args.disk.now) in
-    let finds = subst (λ (s : State). FindsAll s None [] c.deref.result.now c.in_ok-plan.plan) (c.in_ok-ids.ensures.same honest).state (c.in_ok-plan.ensures.whole honest) in
-    let ids = subst (λ l. AreFolderIds (standing old) l) (sym c.deref.ensures.value) (c.in_ok-ids.ensures.ids honest) in
-    subst (λ (s : Keyspaces). IsSwept old (state_in (m c.begin_and_sweep.new.disk)) s.living) (sym c.new-3.ensures)
-    (is_swept old (state_in (m c.begin_and_sweep.new.disk)) None [] c.deref.result.now c.in_ok-plan.plan finds ids (c.in_ok-active.ensures.gone honest))
+    let new : State = state_in (m c.begin_and_sweep.new.disk) in
+    let finds = c.in_ok-opened.ensures.finds honest in
+    subst (λ (s : Keyspaces). IsSwept old new s.living) (sym c.in_ok-opened.ensures.opened.keyspaces) (is_swept old new None [] finds.0 ready.sweep finds.2 finds.1 (c.in_ok-begin_and_sweep.ensures.gone honest))
+
+pub returns-clause-store : goal.returns-clause-store
+returns-clause-store g c = makes_store nothing (journal_name c.in_ok-opened.field-0.making.active) 0 c.in_ok-opened.field-0.opened c.in_ok-opened.ensures.opened
+
+pub returns-clause-any_moment : goal.returns-clause-any_moment
+returns-clause-any_moment g c honest holds back =
+    let m : _ → Meaning = g.D.Disk.meaning in
+    let ready = c.in_ok-opened.field-0 in
+    let same = c.in_ok-opened.ensures.same honest in
+    run_on (m c.args.disk.now) (m c.ready_to_begin.new.disk) same (m c.begin_and_sweep.new.disk) _
+    (c.in_ok-begin_and_sweep.ensures.any_moment honest (holds_on (m c.args.disk.now) (m c.ready_to_begin.new.disk) same None holds) (subst ComesBackUnfinished (sym same.state) back)
+    (subst (λ (s : State). IsMakingOf (standing s) ready.making) (sym same.state) (c.in_ok-opened.ensures.making honest)) (c.in_ok-opened.ensures.sweep honest))

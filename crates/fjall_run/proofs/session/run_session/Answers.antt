@@ -36,7 +36,7 @@ loop-stop-preserved g c =
     }
 
 pub returns-clause-ok : goal.returns-clause-ok
-returns-clause-ok g c = prints_to_end g.P.Disk.Disk.honest _ _ _ _ _ _ c.loop-stop.invariant.so_far c.in_default.ensures.cases (closed g.P.Disk.Disk.honest c.loop-stop.core c.close.result.1 (g.P.Disk.Disk.meaning c.close.result.0) c.close.ensures.owes c.close.ensures.disk)
+returns-clause-ok g c = prints_to_end g.P.Disk.Disk.honest _ _ _ _ _ _ c.loop-stop.invariant.so_far c.in_default.ensures.cases (closed g.P.Disk.Disk.honest c.loop-stop.core c.close.result.1 (g.P.Disk.Disk.meaning c.close.result.0) c.close.ensures.owes c.close.ensures.disk c.close.ensures.crash)
 
 pub returns-clause-err : goal.returns-clause-err
 returns-clause-err g c = prints_some g.P.Disk.Disk.honest _ _ _ _ _ _ c.loop-stop.invariant.so_far

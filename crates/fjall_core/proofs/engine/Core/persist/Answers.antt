@@ -1,27 +1,31 @@
-use Rattle.std.proofs.Common.{◌≡◌, true, ap, sym, ◌∙◌, subst, rules, if◌then◌else◌, Some, None}
-use Rattle.fjall_base.specs.Disk.{Took}
-use Rattle.fjall_base.specs.Errors.{IsFault}
+use Rattle.std.proofs.Common.{refl, sym, ◌∙◌, ap, subst}
+use Rattle.fjall_machine.specs.declared.call.Call.TheVariants.{Persist}
+use Rattle.fjall_machine.specs.declared.call.Reply.TheVariants.{Done, Refused}
 use Rattle.fjall_base.specs.declared.error.Error.TheVariants.{Poisoned}
-use Rattle.fjall_journal.specs.Writer.{PersistTook, persist_steps}
-use Rattle.fjall_core.specs.declared.call.Call.TheVariants.{Persist}
 use Rattle.fjall_core.specs.Holding.{Held}
-use Rattle.fjall_core.proofs.Serving.{due_serves, serving, unpersisted_on_disk}
+use Rattle.fjall_core.specs.Standing.{Serves}
+use Rattle.fjall_core.proofs.Persisting.{ill_due, persisted_serves, unpersisted_serves}
+use Rattle.fjall_core.proofs.Serving.{due_serves}
 use Rattle.fjall_core.proofs.engine.Core.persist.Goals as goal
 
-pub returns-then-self-clause-serves : goal.returns-then-self-clause-serves
-returns-then-self-clause-serves g c = λ _.
-    let poisoned : c.args.self.now.poisoned ≡ true = ap (λ (core : Held). core.poisoned) (sym c.self.view_is) ∙ c.if-self.true in
-    due_serves c.args.self.now (Persist c.args.mode) Poisoned (ap (λ b. if b then Some Poisoned else None) poisoned)
-
-pub returns-in-Err-clause-serves : goal.returns-in-Err-clause-serves
-returns-in-Err-clause-serves g c = λ h.
-    let disk = g.D.Disk.meaning c.persist.new.disk in
-    let took = subst (λ (core : Held). PersistTook core.journal c.persist.new.self c.args.mode core.disk disk) c.self.view_is (c.in-Err.ensures.left h) in
-    let cause = subst (λ (core : Held). IsFault core.disk.faults disk.faults c.in-Err.error) c.self.view_is c.in-Err.ensures.cause.cause in
-    serving c.args.self.now _ (Persist c.args.mode) _ (search rules) (unpersisted_on_disk c.args.self.now _ c.args.mode c.in-Err.error cause took)
+pub returns-then-is_poisoned-clause-serves : goal.returns-then-is_poisoned-clause-serves
+returns-then-is_poisoned-clause-serves g c = λ h.
+    due_serves c.args.self.now (Persist c.args.mode) Poisoned (ill_due c.args.self.now c.args.mode (ap (λ (core : Held). core.memory.poisoned) (sym c.self.view_is) ∙ sym c.is_poisoned.ensures ∙ c.if-is_poisoned.true))
 
 pub returns-in-Ok-clause-serves : goal.returns-in-Ok-clause-serves
 returns-in-Ok-clause-serves g c = λ h.
-    let disk = g.D.Disk.meaning c.persist.new.disk in
-    serving c.args.self.now _ (Persist c.args.mode) _ (search rules)
-    (subst (λ (core : Held). Took core.disk disk (persist_steps core.journal c.args.mode)) c.self.view_is (c.in-Ok.ensures.took h))
+    let m = g.D.Disk.meaning in
+    let old : Held = record { disk = m c.self.inside.disk; journal = c.self.inside.journal; catalog = c.self.inside.catalog; memory = c.self.inside.memory } in
+    let new : Held = record { disk = m c.hand_over.new.disk; journal = c.hand_over.new.journal; catalog = c.self.inside.catalog; memory = c.self.inside.memory } in
+    subst (λ (core : Held). Serves core (Persist c.args.mode) Done new) c.self.view_is
+    (persisted_serves old new c.args.mode (sym c.is_poisoned.ensures ∙ c.if-is_poisoned.false) (record { memory_is = refl; catalog = refl; journal = c.in-Ok.ensures.ok; faults = c.in-Ok.ensures.cause.later }) (c.in-Ok.ensures.took h)
+    (record { leaves = c.in-Ok.ensures.any_moment h; lies = λ _. c.in-Ok.ensures.lies h; elsewhere = c.in-Ok.ensures.elsewhere h }))
+
+pub returns-in-Err-clause-serves : goal.returns-in-Err-clause-serves
+returns-in-Err-clause-serves g c = λ h.
+    let m = g.D.Disk.meaning in
+    let old : Held = record { disk = m c.self.inside.disk; journal = c.self.inside.journal; catalog = c.self.inside.catalog; memory = c.self.inside.memory } in
+    let new : Held = record { disk = m c.hand_over.new.disk; journal = c.hand_over.new.journal; catalog = c.self.inside.catalog; memory = c.poison.new.self } in
+    subst (λ (core : Held). Serves core (Persist c.args.mode) (Refused c.in-Err.error) new) c.self.view_is
+    (unpersisted_serves old new c.args.mode c.in-Err.error (sym c.is_poisoned.ensures ∙ c.if-is_poisoned.false) c.poison.ensures c.in-Err.ensures.cause.cause (c.in-Err.ensures.left h)
+    (record { leaves = c.in-Err.ensures.any_moment h; lies = λ e. let bad : ⊥ = cc in absurd bad; elsewhere = c.in-Err.ensures.elsewhere h }))

@@ -1,5 +1,7 @@
-use Rattle.std.proofs.Common.{rules, ◌≤◌, [], length, sym, subst}
+use Rattle.std.proofs.Common.{rules, ◌≡◌, ◌≤◌, ◌<◌, ◌+◌, ◌∷◌, ◌++◌, [], length, length-append, take, vec_len, vec_capacity, refl, sym, ◌∙◌, ap, subst, arith}
 use Rattle.std.proofs.lemmas.List.{take_all}
+use Rattle.std.proofs.lemmas.Iterator.Adapters.{YieldsList-from_vec}
+use Rattle.std.proofs.lemmas.Iterator.Consumers.{YieldsList-end, YieldsList-turn}
 use Rattle.fjall_core.specs.Standing.{OwesAll}
 use Rattle.fjall_core.proofs.Owing.{owes_run, owed_more}
 use Rattle.fjall_core.proofs.Running.{SoFar, none_yet, call_more, ends}
@@ -8,29 +10,65 @@ use Rattle.fjall_core.proofs.engine.Core.run.Goals as goal
 pub loop-call-init : goal.loop-call-init
 loop-call-init g c = record {
   crash = λ _ s d stands on. subst (λ rs. SoFar c.args.self.now s d [] rs) (sym c.in_ok-replies.ensures.items) (none_yet c.args.self.now s d stands on);
-  owes = search rules;
+  owes = subst (λ rs. OwesAll c.args.self.now [] rs c.args.self.now) (sym c.in_ok-replies.ensures.items) refl;
   count = search rules;
   room = search rules;
 }
 
 pub loop-call-preserved : goal.loop-call-preserved
-loop-call-preserved g c = record {
-  crash = λ honest s d stands on. call_more c.loop-call.self c.serve-reply.new.self s d c.args.calls.items c.loop-call.replies.items c.push.new.self.items c.loop-call.call-index c.call-item.result c.serve-reply.result
-      (search rules) (rw c.deref-call-items.ensures.value at c.call-item.is) (search rules) (c.loop-call.invariant.crash honest s d stands on) (c.serve-reply.ensures.serves honest);
-  owes = owed_more c.args.self.now c.loop-call.self c.serve-reply.new.self c.args.calls.items c.loop-call.replies.items c.push.new.self.items c.loop-call.call-index c.call-item.result c.serve-reply.result
-      (search rules) (rw c.deref-call-items.ensures.value at c.call-item.is) (search rules) c.loop-call.invariant.owes c.serve-reply.ensures.owes;
-  count = search rules;
-  room = search rules;
-}
+loop-call-preserved g c =
+    let at = c.loop-call in
+    let calls = c.args.calls.items in
+    let call = c.in-Some.call in
+    let road = YieldsList-from_vec {s = c.into_iter-call-iterator.result} calls (search rules) (search rules) in
+    let turn = YieldsList-turn road at.yielded at.call-iterator at.yielded_by c.next.result c.next.new.self call c.in-Some.is c.next.ensures.steps in
+    let pushed : c.push.new.self.items ≡ at.replies.items ++ c.serve-reply.result ∷ [] = search rules in
+    let one_more : vec_len c.push.new.self ≡ vec_len at.replies + 1 = search rules in
+    let longer : length at.yielded + 1 ≡ length (at.yielded ++ call ∷ []) = sym (length-append at.yielded (call ∷ [])) in
+    record {
+      crash = λ honest s d stands on. subst (λ n. SoFar c.serve-reply.new.self s d (take n calls) c.push.new.self.items) longer
+          (call_more at.self c.serve-reply.new.self s d calls at.replies.items c.push.new.self.items (length at.yielded) call c.serve-reply.result turn.0 turn.1 pushed
+          (at.invariant.crash honest s d stands on) (c.serve-reply.ensures.serves honest));
+      owes = subst (λ n. OwesAll c.args.self.now (take n calls) c.push.new.self.items c.serve-reply.new.self) longer
+          (owed_more c.args.self.now at.self c.serve-reply.new.self calls at.replies.items c.push.new.self.items (length at.yielded) call c.serve-reply.result turn.0 turn.1 pushed
+          at.invariant.owes c.serve-reply.ensures.owes);
+      count = one_more ∙ ap (λ n. n + 1) at.invariant.count ∙ longer;
+      room = search rules;
+    }
+
+pub unwrap-requires : goal.unwrap-requires
+unwrap-requires g c =
+    let at = c.loop-call in
+    let road = YieldsList-from_vec {s = c.into_iter-call-iterator.result} c.args.calls.items (search rules) (search rules) in
+    let turn = YieldsList-turn road at.yielded at.call-iterator at.yielded_by c.next.result c.next.new.self c.in-Some.call c.in-Some.is c.next.ensures.steps in
+    let less : vec_len at.replies < vec_capacity at.replies = omega (arith, turn.0, at.invariant.count, at.invariant.room) in
+    search rules
 
 pub returns-clause-runs : goal.returns-clause-runs
 returns-clause-runs g c = λ _ s stands.
-    let end : length c.args.calls.items ≤ c.loop-call.call-index = search rules in
-    owes_run c.args.self.now c.loop-call.self c.args.calls.items c.loop-call.replies.items s
-    (subst (λ cs. OwesAll c.args.self.now cs c.loop-call.replies.items c.loop-call.self) (take_all c.loop-call.call-index c.args.calls.items end) c.loop-call.invariant.owes) stands
+    let at = c.loop-call in
+    let calls = c.args.calls.items in
+    let road = YieldsList-from_vec {s = c.into_iter-call-iterator.result} calls (search rules) (search rules) in
+    let end = YieldsList-end road at.yielded at.call-iterator at.yielded_by c.next.result c.next.new.self c.in-None.is c.next.ensures.steps in
+    let all : length calls ≤ length at.yielded = omega (arith, end.1) in
+    owes_run c.args.self.now at.self calls at.replies.items s
+    (subst (λ cs. OwesAll c.args.self.now cs at.replies.items at.self) (take_all (length at.yielded) calls all) at.invariant.owes) stands
 
 pub returns-clause-crash : goal.returns-clause-crash
 returns-clause-crash g c = λ honest s d stands on.
-    let end : length c.args.calls.items ≤ c.loop-call.call-index = search rules in
-    ends c.args.self.now c.loop-call.self s d c.args.calls.items c.loop-call.replies.items on
-    (subst (λ cs. SoFar c.loop-call.self s d cs c.loop-call.replies.items) (take_all c.loop-call.call-index c.args.calls.items end) (c.loop-call.invariant.crash honest s d stands on))
+    let at = c.loop-call in
+    let calls = c.args.calls.items in
+    let road = YieldsList-from_vec {s = c.into_iter-call-iterator.result} calls (search rules) (search rules) in
+    let end = YieldsList-end road at.yielded at.call-iterator at.yielded_by c.next.result c.next.new.self c.in-None.is c.next.ensures.steps in
+    let all : length calls ≤ length at.yielded = omega (arith, end.1) in
+    ends c.args.self.now at.self s d calls at.replies.items on
+    (subst (λ cs. SoFar at.self s d cs at.replies.items) (take_all (length at.yielded) calls all) (at.invariant.crash honest s d stands on))
+
+pub returns-clause-owes : goal.returns-clause-owes
+returns-clause-owes g c =
+    let at = c.loop-call in
+    let calls = c.args.calls.items in
+    let road = YieldsList-from_vec {s = c.into_iter-call-iterator.result} calls (search rules) (search rules) in
+    let end = YieldsList-end road at.yielded at.call-iterator at.yielded_by c.next.result c.next.new.self c.in-None.is c.next.ensures.steps in
+    let all : length calls ≤ length at.yielded = omega (arith, end.1) in
+    subst (λ cs. OwesAll c.args.self.now cs at.replies.items at.self) (take_all (length at.yielded) calls all) at.invariant.owes

@@ -1,22 +1,21 @@
-use Rattle.std.proofs.Common.{sym, subst}
-use Rattle.fjall_core.specs.declared.call.Call.{Call}
-use Rattle.fjall_core.specs.declared.call.Call.TheVariants.{Seqno, VisibleSeqno, JournalDiskSpace}
-use Rattle.fjall_core.specs.declared.call.Reply.TheVariants.{Number}
-use Rattle.fjall_core.specs.Standing.{Serves}
-use Rattle.fjall_core.proofs.Serving.{seqno_serves, visible_serves, space_serves}
+use Rattle.std.proofs.Common.{rules, ◌≡◌}
+use Rattle.fjall_core.proofs.Replies.{count_serves, exists_serves, seqno_serves, space_serves, visible_serves}
 use Rattle.fjall_core.proofs.engine.Core.serve.Goals as goal
 
+pub returns-in-KeyspaceCount-clause-serves : goal.returns-in-KeyspaceCount-clause-serves
+returns-in-KeyspaceCount-clause-serves g c = λ _. count_serves c.args.self.now c.args.call c.keyspace_count.result c.in-KeyspaceCount.is c.keyspace_count.ensures.held
+
+pub returns-in-KeyspaceExists-clause-serves : goal.returns-in-KeyspaceExists-clause-serves
+returns-in-KeyspaceExists-clause-serves g c = λ _.
+    let given = c.deref-in-KeyspaceExists.result.now in
+    let same : given ≡ c.in-KeyspaceExists.name = search rules in
+    exists_serves c.args.self.now c.args.call c.in-KeyspaceExists.name given c.keyspace_exists.result c.in-KeyspaceExists.is same c.keyspace_exists.ensures.held
+
 pub returns-in-Seqno-clause-serves : goal.returns-in-Seqno-clause-serves
-returns-in-Seqno-clause-serves g c = λ _.
-    let core = c.args.self.now in
-    subst (λ (call : Call). Serves core call (Number c.seqno.result) core) (sym c.in-Seqno.is) (subst (λ n. Serves core Seqno (Number n) core) (sym c.seqno.ensures.held) (seqno_serves core))
+returns-in-Seqno-clause-serves g c = λ _. seqno_serves c.args.self.now c.args.call c.seqno.result c.in-Seqno.is c.seqno.ensures.held
 
 pub returns-in-VisibleSeqno-clause-serves : goal.returns-in-VisibleSeqno-clause-serves
-returns-in-VisibleSeqno-clause-serves g c = λ _.
-    let core = c.args.self.now in
-    subst (λ (call : Call). Serves core call (Number c.visible_seqno.result) core) (sym c.in-VisibleSeqno.is) (subst (λ n. Serves core VisibleSeqno (Number n) core) (sym c.visible_seqno.ensures.held) (visible_serves core))
+returns-in-VisibleSeqno-clause-serves g c = λ _. visible_serves c.args.self.now c.args.call c.visible_seqno.result c.in-VisibleSeqno.is c.visible_seqno.ensures.held
 
 pub returns-in-JournalDiskSpace-clause-serves : goal.returns-in-JournalDiskSpace-clause-serves
-returns-in-JournalDiskSpace-clause-serves g c = λ _.
-    let core = c.args.self.now in
-    subst (λ (call : Call). Serves core call (Number c.journal_disk_space.result) core) (sym c.in-JournalDiskSpace.is) (subst (λ n. Serves core JournalDiskSpace (Number n) core) (sym c.journal_disk_space.ensures.held) (space_serves core))
+returns-in-JournalDiskSpace-clause-serves g c = λ _. space_serves c.args.self.now c.args.call c.journal_disk_space.result c.in-JournalDiskSpace.is c.journal_disk_space.ensures.held

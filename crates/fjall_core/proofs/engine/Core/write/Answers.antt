@@ -1,10 +1,34 @@
-use Rattle.std.proofs.Common.{◌++◌, subst}
-use Rattle.fjall_base.specs.Disk.{TookPart}
-use Rattle.fjall_journal.specs.Batches.{batch_text, of_item}
+use Rattle.std.proofs.Common.{IsTrue, Ok, Err, ap, subst}
+use Rattle.fjall_journal.specs.Batches.{of_item}
 use Rattle.fjall_core.specs.Holding.{Held}
+use Rattle.fjall_core.specs.Turns.{Writes}
+use Rattle.fjall_core.proofs.Outcomes.{write_done, write_failed}
 use Rattle.fjall_core.proofs.engine.Core.write.Goals as goal
 
-pub returns-in-Err-clause-disk : goal.returns-in-Err-clause-disk
-returns-in-Err-clause-disk g c = λ h.
-    let text = λ (core : Held). batch_text (of_item c.args.id c.args.key.now c.args.value.now c.args.value_type core.next) in
-    subst (λ (core : Held). TookPart core.disk (g.D.Disk.meaning c.write_through-written.new.disk) core.journal.name (core.journal.buffer ++ text core)) c.self.view_is (c.in-Err.ensures.part h)
+pub forget-requires : goal.forget-requires
+forget-requires g c = (c.args.version, c.self.inside.memory, c.in_ok-remember.ensures.lawful, c.in_ok-remember.ensures.ok)
+
+pub returns-in-Err : goal.returns-in-Err
+returns-in-Err g c =
+    let m = g.D.Disk.meaning in
+    let old : Held = record { disk = m c.self.inside.disk; journal = c.self.inside.journal; catalog = c.self.inside.catalog; memory = c.self.inside.memory } in
+    let mid : Held = record { disk = m c.write_through-written.new.disk; journal = c.write_through-written.new.journal; catalog = c.self.inside.catalog; memory = c.forget.new.self } in
+    let back = c.forget.ensures c.args.version c.self.inside.memory c.in_ok-remember.ensures.ok in
+    record {
+      writes = subst (λ (h : Held). Writes (IsTrue g.D.Disk.honest) h c.args.version (of_item c.args.id c.args.key.now c.args.value.now c.args.value_type h.memory.next) c.args.value_type (Err c.in-Err.error) c.poison_by.new.self) c.self.view_is
+          (write_failed (IsTrue g.D.Disk.honest) old c.args.version c.args.id c.args.key.now c.args.value.now c.args.value_type c.seqno-seqno.result c.seqno-seqno.ensures mid c.poison_by.new.self c.in-Err.error
+          (λ i. record { disk = mid.disk; journal = mid.journal; catalog = old.catalog; memory = back i }) c.poison_by.ensures c.in-Err.ensures.cause.cause (λ e. c.in-Err.ensures.memory (ap Err e)) (λ e. c.in-Err.ensures.untouched (ap Err e)) c.in-Err.ensures.part
+          (λ h. record { leaves = c.in-Err.ensures.any_moment h; lies = λ e. let bad : ⊥ = cc in absurd bad; elsewhere = c.in-Err.ensures.elsewhere h }));
+    }
+
+pub returns : goal.returns
+returns g c =
+    let m = g.D.Disk.meaning in
+    let old : Held = record { disk = m c.self.inside.disk; journal = c.self.inside.journal; catalog = c.self.inside.catalog; memory = c.self.inside.memory } in
+    let new : Held = record { disk = m c.write_through-written.new.disk; journal = c.write_through-written.new.journal; catalog = c.self.inside.catalog; memory = c.remember.new.self } in
+    record {
+      writes = subst (λ (h : Held). Writes (IsTrue g.D.Disk.honest) h c.args.version (of_item c.args.id c.args.key.now c.args.value.now c.args.value_type h.memory.next) c.args.value_type (Ok tt) new) c.self.view_is
+          (write_done (IsTrue g.D.Disk.honest) old c.args.version c.args.id c.args.key.now c.args.value.now c.args.value_type c.seqno-seqno.result c.seqno-seqno.ensures new
+          (λ i. record { disk = new.disk; journal = c.in_default.ensures.ok i; catalog = old.catalog; memory = c.in_ok-remember.ensures.ok i }) c.in_default.ensures.cause.later c.in_default.ensures.took
+          (λ h. record { leaves = c.in_default.ensures.any_moment h; lies = λ e. c.in_default.ensures.lies h; elsewhere = c.in_default.ensures.elsewhere h }));
+    }

@@ -1,0 +1,47 @@
+use Rattle.std.proofs.Common.{◌≡◌, ◌∷◌, ◌++◌, [], ◌∙◌, ap, false, map}
+use Rattle.std.specs.Prelude.{string_bytes}
+use Rattle.fjall_base.specs.Disk.{Meaning, SyncFolder, Took}
+use Rattle.fjall_recovery.specs.Names.{journal_name}
+use Rattle.fjall_beginning.specs.Making.{GoesOn}
+use Rattle.fjall_beginning.proofs.Awaiting.{awaits, marker_stays}
+use Rattle.fjall_beginning.proofs.Moments.{goes_both, goes_settled}
+use Rattle.fjall_beginning.proofs.Trees.{on_ok_as}
+use Rattle.fjall_beginning.proofs.making.prepare.Goals as goal
+
+pub returns-in_err-empty_journals-clause-goes : goal.returns-in_err-empty_journals-clause-goes
+returns-in_err-empty_journals-clause-goes g c honest fits =
+    let m : _ → Meaning = g.D.Disk.meaning in
+    let names : map string_bytes c.deref-2.result.now ≡ map journal_name (fits.sealed ++ c.args.plan.now.active ∷ []) = ap (λ l. map string_bytes l) c.deref-2.ensures.value ∙ fits.names in
+    goes_both false (m c.args.disk.now) (m c.make_tree.new.disk) (m c.empty_journals.new.disk)
+    (c.in_ok-make_tree.ensures.goes honest (c.deref.ensures.value ∙ fits.first_is) fits.records)
+    (c.in_err-empty_journals.ensures.goes honest (fits.sealed ++ c.args.plan.now.active ∷ []) fits.to_be.fit names)
+
+pub returns-clause-goes : goal.returns-clause-goes
+returns-clause-goes g c honest fits =
+    let m : _ → Meaning = g.D.Disk.meaning in
+    let names : map string_bytes c.deref-2.result.now ≡ map journal_name (fits.sealed ++ c.args.plan.now.active ∷ []) = ap (λ l. map string_bytes l) c.deref-2.ensures.value ∙ fits.names in
+    goes_both false (m c.args.disk.now) (m c.empty_journals.new.disk) (m c.sync_folder.new.self)
+    (goes_both false (m c.args.disk.now) (m c.make_tree.new.disk) (m c.empty_journals.new.disk)
+    (c.in_ok-make_tree.ensures.goes honest (c.deref.ensures.value ∙ fits.first_is) fits.records)
+    (c.in_ok-empty_journals.ensures.goes honest (fits.sealed ++ c.args.plan.now.active ∷ []) fits.to_be.fit names))
+    (goes_settled false _ _ [] c.sync_folder.result (c.sync_folder.ensures.ok honest) (c.sync_folder.ensures.err honest))
+
+pub returns-clause-awaits : goal.returns-clause-awaits
+returns-clause-awaits g c honest fits making =
+    let m : _ → Meaning = g.D.Disk.meaning in
+    let names : map string_bytes c.deref-2.result.now ≡ map journal_name (fits.sealed ++ c.args.plan.now.active ∷ []) = ap (λ l. map string_bytes l) c.deref-2.ensures.value ∙ fits.names in
+    let goes : GoesOn false (m c.args.disk.now) (m c.sync_folder.new.self) = returns-clause-goes g c honest fits in
+    on_ok_as c.sync_folder.result (Took (m c.empty_journals.new.disk) (m c.sync_folder.new.self) (SyncFolder [] ∷ [])) _
+    (λ took. awaits string_bytes (m c.args.disk.now) (m c.make_tree.new.disk) (m c.empty_journals.new.disk) (m c.sync_folder.new.self) c.deref-2.result.now fits.sealed c.args.plan.now.active names fits.to_be
+    (goes.now making) (c.in_ok-make_tree.ensures.made honest (c.deref.ensures.value ∙ fits.first_is) fits.records) (c.in_ok-make_tree.ensures.within honest)
+    (c.in_ok-empty_journals.ensures.elsewhere honest) (c.in_ok-empty_journals.ensures.emptied honest) took)
+    (c.sync_folder.ensures.ok honest)
+
+pub returns-clause-marker : goal.returns-clause-marker
+returns-clause-marker g c honest fits =
+    let m : _ → Meaning = g.D.Disk.meaning in
+    let names : map string_bytes c.deref-2.result.now ≡ map journal_name (fits.sealed ++ c.args.plan.now.active ∷ []) = ap (λ l. map string_bytes l) c.deref-2.ensures.value ∙ fits.names in
+    on_ok_as c.sync_folder.result (Took (m c.empty_journals.new.disk) (m c.sync_folder.new.self) (SyncFolder [] ∷ [])) _
+    (λ took. marker_stays string_bytes (m c.args.disk.now) (m c.make_tree.new.disk) (m c.empty_journals.new.disk) (m c.sync_folder.new.self) c.deref-2.result.now (fits.sealed ++ c.args.plan.now.active ∷ []) names
+    (c.in_ok-make_tree.ensures.within honest) (c.in_ok-empty_journals.ensures.elsewhere honest) took)
+    (c.sync_folder.ensures.ok honest)

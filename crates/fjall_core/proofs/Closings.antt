@@ -1,0 +1,72 @@
+-- What closing leaves of the disk.
+use Rattle.std.proofs.Common.{◌≡◌, true, false, List, [], ◌∷◌, Some, Result, Ok, Err, refl, sym, ◌∙◌, ap, subst}
+use Rattle.fjall_base.specs.Store.{Store, Command, fold}
+use Rattle.fjall_base.specs.Disk.{Took, state_in}
+use Rattle.fjall_base.specs.declared.error.Error.{Error}
+use Rattle.fjall_base.specs.declared.error.Error.TheVariants.{Io, Poisoned}
+use Rattle.fjall_journal.specs.declared.persist_mode.PersistMode.TheVariants.{SyncAll}
+use Rattle.fjall_journal.specs.Writer.{Journal, persist_steps}
+use Rattle.fjall_places.specs.Places.{contents_with}
+use Rattle.fjall_places.proofs.Holding.{a_rest_holds}
+use Rattle.fjall_journaling.proofs.Leaving.{persist_apart, persist_leaves, persist_out}
+use Rattle.fjall_machine.specs.declared.call.Call.TheVariants.{Persist}
+use Rattle.fjall_machine.specs.declared.call.Reply.TheVariants.{Refused}
+use Rattle.fjall_machine.specs.Machine as machine
+use Rattle.fjall_core.specs.Holding.{Held}
+use Rattle.fjall_core.specs.Durables.{Durable, Passes}
+use Rattle.fjall_core.specs.Crashes.{attempt}
+use Rattle.fjall_core.specs.Standing.{Closes, ClosesDisk, HandsOver, OnDisk, Owes, Serves, StandsFor, StandsOn, reply_of}
+use Rattle.fjall_core.proofs.Dues.{none_due}
+use Rattle.fjall_core.proofs.Leading.{lies_rest}
+use Rattle.fjall_core.proofs.Syncs.{HandedOut, hand_leaves, same_of, sync_empty, sync_lies, synced_passes}
+use Rattle.fjall_core.proofs.Writes.{held_on, present_of}
+
+-- what the disk took of a sync is what closing owes of it
+pub closes_disk : (old new : Held) (result : Result Unit Error) → OnDisk old (Persist SyncAll) (reply_of result) new → ClosesDisk old result new.disk
+closes_disk old new (Ok _) took = took
+closes_disk old new (Err (Io kind)) failed = failed
+closes_disk old new (Err error) same = same
+
+-- a sync asks for no command
+no_command : (s : machine.State) (error : Error) → attempt s (Persist SyncAll) (Refused error) ≡ []
+no_command s (Io kind) = refl
+no_command s error = refl
+
+-- the steps of a sync hand all over
+synced_out : (old new : Held) → HandsOver old new → Took old.disk new.disk (persist_steps old.journal SyncAll) → HandedOut old new SyncAll true
+synced_out old new hands took = record {
+  leaves = λ j writing. persist_leaves old.disk new.disk old.journal j writing SyncAll took;
+  lies = λ _ j writing. persist_out old.disk new.disk old.journal j writing SyncAll new.journal took (ap (λ (w : Journal). w.name) hands.journal) (ap (λ (w : Journal). w.buffer) hands.journal);
+  elsewhere = λ j writing. persist_apart old.disk new.disk old.journal j writing SyncAll took;
+}
+
+-- nothing waits for a sync any more, so that the disk holds what it stands for
+synced_closes : (old new : Held) (s : machine.State) (base : Store) (pending : List Command) → old.memory.poisoned ≡ false → HandsOver old new → HandedOut old new SyncAll true → StandsFor old s → StandsOn old (held_on old base pending)
+    → Closes s (held_on old base pending) (Ok tt) new.disk
+synced_closes old new s base pending well hands out stands on =
+    let same = same_of old new hands in
+    let lies = on.lies well in
+    let after = sync_lies old new base pending same lies out in
+    let none = sync_empty old new base pending same lies out in
+    record {
+      after = held_on new (fold base pending) [];
+      same = refl;
+      passes = synced_passes old new base pending (hand_leaves old new SyncAll true base pending lies out) (lies_rest new (held_on new (fold base pending) []) after);
+      closed = (
+        Some (contents_with after.journals after.tree []),
+        a_rest_holds (state_in new.disk) after.journals after.records after.tree none after.writing.root after.in_tree.rests,
+        tt,
+        stands.remembered.present ∙ sym (present_of old (held_on old base pending) false well on) ∙ after.made,
+      );
+    }
+
+-- closing leaves what it may
+pub closing : (old new : Held) (result : Result Unit Error) (s : machine.State) (d : Durable) → Owes old (Persist SyncAll) (reply_of result) new → Serves old (Persist SyncAll) (reply_of result) new → StandsFor old s → StandsOn old d → Closes s d result new.disk
+closing old new (Ok _) s d (none, hands) serves stands on =
+    let well = (none_due ((old.memory.poisoned, Poisoned) ∷ []) none).0 in
+    let here : d ≡ held_on old d.base d.pending = λ i. record { meaning = on.same i; base = d.base; pending = d.pending } in
+    subst (λ (x : Durable). Closes s x (Ok tt) new.disk) (sym here)
+    (synced_closes old new s d.base d.pending well hands (synced_out old new hands serves.disk) stands (subst (λ (x : Durable). StandsOn old x) here on))
+closing old new (Err error) s d owes serves stands on =
+    let led = serves.crash s d stands on in
+    record { after = led.1; same = led.3.same; passes = subst (λ (l : List Command). Passes d l led.1) (no_command s error) led.5.0; closed = tt }

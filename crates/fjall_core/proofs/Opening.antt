@@ -1,0 +1,95 @@
+-- A core over a folder that was opened.
+use Rattle.std.proofs.Common.{◌≡◌, ℕ, List, [], map, Option, refl, sym, ◌∙◌, ap, subst}
+use Rattle.fjall_base.specs.Store.{Store, kept}
+use Rattle.fjall_base.specs.Disk.{Image, LeavesOnly, Meaning, state_in}
+use Rattle.fjall_base.specs.declared.error.Error.{Error}
+use Rattle.fjall_base.specs.declared.error.Error.TheVariants.{Io}
+use Rattle.fjall_journal.specs.Batches.{Written, shown}
+use Rattle.fjall_journal.specs.Writer.{Journal}
+use Rattle.fjall_versions.specs.Replays.{journal_commands}
+use Rattle.fjall_versions.specs.Versions.{store_of as store_behind}
+use Rattle.fjall_versions.proofs.Keeping.{nothing_to_keep}
+use Rattle.fjall_opening.specs.Folders.{Contents, StandsFor, number_of, store_of}
+use Rattle.fjall_opening.specs.Journals.{batches_in}
+use Rattle.fjall_places.specs.Held.{Holds, number_held, store_held}
+use Rattle.fjall_places.specs.Places.{contents_with}
+use Rattle.fjall_journaling.proofs.Lying.{begins}
+use Rattle.fjall_repair.specs.declared.opened.Opened.{Opened}
+use Rattle.fjall_repair.specs.Opened.{ComesBack, IsOpenedFrom, IsUnopened}
+use Rattle.fjall_repair.specs.Opened as repair
+use Rattle.fjall_machine.specs.Remembered.{Remembered, remembered}
+use Rattle.fjall_machine.specs.Remembered as memory
+use Rattle.fjall_machine.specs.Machine.{opened_state}
+use Rattle.fjall_machine.proofs.Standing.{an_opening_stands}
+use Rattle.fjall_core.specs.Holding.{Held}
+use Rattle.fjall_core.specs.Durables.{Durable, Lies}
+use Rattle.fjall_core.specs.Openings.{IsDueTo, KeepsStore, Opens, OpensAs, OpensOn, parts_of}
+use Rattle.fjall_core.proofs.Leading.{lies_rest}
+
+-- what a core holds over a folder that was opened
+abbrev pub held_of : Meaning → Opened → Remembered → Held
+held_of disk o memory = record { disk = disk; journal = o.journal; catalog = o.catalog; memory = memory }
+
+abbrev pub core_of : Meaning → Opened → Held
+core_of disk o = held_of disk o (remembered o.keyspaces o.versions.items o.number)
+
+-- it stands for the store of the folder
+pub opens : (disk : Meaning) (o : Opened) (store : Store) (next : ℕ) → repair.IsLawful o → store_behind o.keyspaces o.versions.items ≡ store → o.number ≡ next → Opens (core_of disk o) store next
+opens disk o store next lawful made number =
+    let m = remembered o.keyspaces o.versions.items o.number in
+    let table = o.catalog.next_table_id in
+    let parts = parts_of (core_of disk o) in
+    record {
+      remembered = subst (λ (s : Store). memory.StandsFor m table (opened_state s next parts)) made
+          (subst (λ (n : ℕ). memory.StandsFor m table (opened_state (store_behind o.keyspaces o.versions.items) n parts)) number
+          (an_opening_stands m (record { keyspaces = lawful.keyspaces; made = lawful.made; given = lawful.given }) refl refl refl table parts refl));
+      journal = refl;
+      buffer = refl;
+    }
+
+pub opens_on : (image : Image) (disk : Meaning) (o : Opened) → repair.IsLawful o → IsOpenedFrom image o → OpensOn image (core_of disk o)
+opens_on image disk o lawful (folder, is, store, number) = (folder, is, opens disk o (store_held folder) (number_held folder) lawful store number)
+
+pub opens_new : (disk : Meaning) (o : Opened) → repair.IsLawful o → (store : Store) × (next : ℕ) × Opens (core_of disk o) store next
+opens_new disk o lawful = (store_behind o.keyspaces o.versions.items, o.number, opens disk o (store_behind o.keyspaces o.versions.items) o.number lawful refl refl)
+
+-- with that store as its base, and nothing pending
+module _ (disk : Meaning) (folder : Option Contents) (o : Opened) (is : repair.Opens (state_in disk) folder o) where
+  abbrev here : Durable
+  here = record { meaning = disk; base = store_held folder; pending = [] }
+
+  held : store_of (contents_with is.j is.t []) ≡ store_held folder
+  held = is.store
+
+  kept_held : kept (store_held folder) ≡ store_of (contents_with is.j is.t [])
+  kept_held = ap kept (sym held) ∙ nothing_to_keep is.t.keyspaces (map shown (batches_in (contents_with is.j is.t []).journals))
+
+  lies : Lies (core_of disk o) here
+  lies = record {
+    journals = is.j;
+    records = is.records;
+    tree = is.t;
+    writing = begins (state_in disk) o.journal is.j is.root is.later (ap (λ (w : Journal). w.name) is.journal) (ap (λ (w : Journal). w.buffer) is.journal);
+    in_tree = is.tree;
+    last = is.last;
+    keyspaces = is.keyspaces;
+    made = kept_held;
+    waits = sym (ap (λ (b : List Written). journal_commands is.t.keyspaces (map shown b)) is.later);
+    next = is.number ∙ ap (λ (b : List Written). number_of (contents_with is.j is.t b)) (sym is.later);
+  }
+
+  pub opens_as : (store : Store) → repair.IsLawful o → store ≡ store_held folder → OpensAs (core_of disk o) store
+  opens_as store lawful same = subst (λ (s : Store). OpensAs (core_of disk o) s) (sym same) (record {
+    next = number_held folder;
+    state = opens disk o (store_held folder) (number_held folder) lawful (is.made ∙ is.store) is.same;
+    base = record { same = refl; rests = lies_rest (core_of disk o) here lies; lies = λ well. lies; present = ap kept (sym held ∙ sym is.made) };
+  })
+
+-- whatever store the disk held is left
+pub keeps : (old new : Meaning) → ((folder : Option Contents) → Holds (state_in old) folder → ComesBack (state_in old) folder → LeavesOnly old new (λ image. StandsFor image (store_held folder))) → KeepsStore old new
+keeps old new each store (folder, holds, back, same) = subst (λ (s : Store). LeavesOnly old new (λ image. StandsFor image s)) (sym same) (each folder holds back)
+
+-- why it isn't opened
+pub due_to : (old new : Meaning) (error : Error) → IsUnopened old new error → IsDueTo old new error
+due_to old new (Io kind) is = tt
+due_to old new error is = is

@@ -1,0 +1,136 @@
+-- Where a sync of the journal leads a core and its disk.
+use Rattle.std.proofs.Common.{◌≡◌, inl, Bool, true, false, List, [], ◌∷◌, ◌++◌, max, map, refl, sym, ◌∙◌, ap, subst}
+use Rattle.std.proofs.lemmas.List.{append-nil}
+use Rattle.fjall_base.specs.Store.{Store, Command, fold, kept}
+use Rattle.fjall_base.specs.Disk.{LeavesOnly, state_in}
+use Rattle.fjall_base.proofs.Moments.{at_end}
+use Rattle.fjall_journal.specs.Batches.{Written, shown}
+use Rattle.fjall_journal.specs.declared.persist_mode.PersistMode.{PersistMode}
+use Rattle.fjall_journal.specs.declared.persist_mode.PersistMode.TheVariants.{Buffer, SyncAll, SyncData}
+use Rattle.fjall_catalog.specs.Catalog.{fields}
+use Rattle.fjall_versions.specs.Replays.{least_after, store_in}
+use Rattle.fjall_versions.specs.Versions.{store_of}
+use Rattle.fjall_opening.specs.Folders.{past_records}
+use Rattle.fjall_opening.specs.Journals.{Journal, batches_in}
+use Rattle.fjall_places.specs.Places.{Journaling, journals_with}
+use Rattle.fjall_journaling.specs.Journaling.{LeavesRoot, after_persist, synced}
+use Rattle.fjall_machine.specs.declared.call.Call.TheVariants.{Persist}
+use Rattle.fjall_machine.specs.declared.call.Reply.TheVariants.{Done}
+use Rattle.fjall_machine.specs.Machine as Machine
+use Rattle.fjall_machine.specs.Remembered.{Remembered}
+use Rattle.fjall_core.specs.Holding.{Held}
+use Rattle.fjall_core.specs.Durables.{Durable, Lies, Passes, Rests, StandsAmid}
+use Rattle.fjall_core.specs.Turns as turns
+use Rattle.fjall_core.specs.Crashes.{IsSync}
+use Rattle.fjall_core.specs.Standing.{HandsOver, Poisons, StandsOn}
+use Rattle.fjall_core.specs.Standing as standing
+use Rattle.fjall_core.proofs.Along.{tree_along}
+use Rattle.fjall_core.proofs.Leading.{kept_with, root_amid}
+use Rattle.fjall_core.proofs.Writes.{Leads, Settles, held_on, leads_on, settles_on, present_of, stands_ill, stands_well}
+
+-- what a persist did to the disk and to the journal's writer of a core
+abbrev pub HandedOut : Held → Held → PersistMode → Bool → Type 0
+HandedOut old new mode done = turns.HandedOut old.disk new.disk old.journal new.journal mode done
+
+-- what a crash during it or after it leaves
+pub hand_leaves : (old new : Held) (mode : PersistMode) (done : Bool) (base : Store) (pending : List Command) → (lies : Lies old (held_on old base pending)) → HandedOut old new mode done → LeavesOnly old.disk new.disk (StandsAmid base [] (pending ++ []))
+hand_leaves old new mode done base pending lies out =
+    root_amid base pending old.disk new.disk lies.journals lies.records lies.tree [] lies.made lies.waits lies.in_tree
+    (subst (λ (l : List Written). LeavesOnly old.disk new.disk (LeavesRoot (state_in old.disk) lies.journals l)) (sym (append-nil lies.journals.later)) (out.leaves lies.journals lies.writing))
+
+-- the same keyspaces, catalog and number in memory
+pub record StaysSame (old new : Held) : Type 0 where
+  pub keyspaces : new.memory.keyspaces ≡ old.memory.keyspaces
+  pub next : new.memory.next ≡ old.memory.next
+  pub catalog : new.catalog ≡ old.catalog
+
+-- where base and pending lie once the bytes are in the file
+buffer_lies : (old new : Held) (base : Store) (pending : List Command) → StaysSame old new → (lies : Lies old (held_on old base pending)) → HandedOut old new Buffer true → Lies new (held_on new base pending)
+buffer_lies old new base pending same lies out = record {
+  journals = after_persist Buffer lies.journals;
+  records = lies.records;
+  tree = lies.tree;
+  writing = out.lies refl lies.journals lies.writing;
+  in_tree = tree_along (state_in old.disk) (state_in new.disk) lies.records lies.tree (out.elsewhere lies.journals lies.writing) lies.in_tree;
+  last = lies.last ∙ sym same.catalog;
+  keyspaces = lies.keyspaces ∙ sym same.keyspaces;
+  made = lies.made;
+  waits = lies.waits;
+  next = same.next ∙ lies.next;
+}
+
+-- the synced journals hold what they held
+synced_journals : (j : Journaling) → journals_with (synced j) [] ≡ journals_with j j.later
+synced_journals j = ap (λ (l : List Written). j.sealed ++ record { id = j.active; batches = l } ∷ []) (append-nil (j.whole ++ j.later))
+
+-- where they lie once all is synced: nothing is pending
+pub sync_lies : (old new : Held) (base : Store) (pending : List Command) → StaysSame old new → (lies : Lies old (held_on old base pending)) → HandedOut old new SyncAll true → Lies new (held_on new (fold base pending) [])
+sync_lies old new base pending same lies out =
+    let j = lies.journals in
+    let t = lies.tree in
+    record {
+      journals = synced j;
+      records = lies.records;
+      tree = t;
+      writing = out.lies refl j lies.writing;
+      in_tree = tree_along (state_in old.disk) (state_in new.disk) lies.records t (out.elsewhere j lies.writing) lies.in_tree;
+      last = lies.last ∙ sym same.catalog;
+      keyspaces = lies.keyspaces ∙ sym same.keyspaces;
+      made = ap (λ (l : List Command). kept (fold base l)) lies.waits ∙ kept_with base j t j.later lies.made
+          ∙ ap (λ (l : List Journal). store_in t.keyspaces (map shown (batches_in l))) (sym (synced_journals j));
+      waits = refl;
+      next = same.next ∙ lies.next ∙ ap (λ (l : List Journal). max (least_after 0 (map shown (batches_in l))) (past_records (fields t.last ∷ t.homes))) (sym (synced_journals j));
+    }
+
+pub sync_empty : (old new : Held) (base : Store) (pending : List Command) (same : StaysSame old new) (lies : Lies old (held_on old base pending)) (out : HandedOut old new SyncAll true) → (sync_lies old new base pending same lies out).journals.later ≡ []
+unfolding sync_lies
+sync_empty old new base pending same lies out = refl
+
+-- commands that a base has already
+pub synced_passes : (old new : Held) (base : Store) (pending : List Command) → LeavesOnly old.disk new.disk (StandsAmid base [] (pending ++ [])) → Rests (held_on new (fold base pending) [])
+    → Passes (held_on old base pending) [] (held_on new (fold base pending) [])
+synced_passes old new base pending leaves rests = record { leaves = leaves; safe = pending; base = refl; rest = refl; rests = rests }
+
+pub same_of : (old new : Held) → HandsOver old new → StaysSame old new
+same_of old new hands = record { keyspaces = ap (λ (m : Remembered). m.keyspaces) hands.memory_is; next = ap (λ (m : Remembered). m.next) hands.memory_is; catalog = hands.catalog }
+
+same_store : (old new : Held) → new.memory ≡ old.memory → kept (standing.store_in old) ≡ kept (standing.store_in new)
+same_store old new is = ap (λ (m : Remembered). kept (store_of m.keyspaces m.versions)) (sym is)
+
+-- a sync that was done: nothing is pending
+pub sync_settles : (old new : Held) (d : Durable) → old.memory.poisoned ≡ false → HandsOver old new → HandedOut old new SyncAll true → StandsOn old d → Settles new d []
+sync_settles old new d well hands out = settles_on old new d [] (λ base pending on.
+    let lies = on.lies well in
+    let after = sync_lies old new base pending (same_of old new hands) lies out in
+    let still = stands_well new (fold base pending) [] (ap (λ (m : Remembered). m.poisoned) hands.memory_is ∙ well) after (present_of old (held_on old base pending) false well on ∙ same_store old new hands.memory_is) in
+    (held_on new (fold base pending) [], still, synced_passes old new base pending (hand_leaves old new SyncAll true base pending lies out) still.rests, refl))
+
+-- what waited is in the file
+buffer_leads : (old new : Held) (d : Durable) → old.memory.poisoned ≡ false → HandsOver old new → HandedOut old new Buffer true → StandsOn old d → Leads new d []
+buffer_leads old new d well hands out = leads_on old new d [] (λ base pending on.
+    let lies = on.lies well in
+    let after = buffer_lies old new base pending (same_of old new hands) lies out in
+    let still = stands_well new base pending (ap (λ (m : Remembered). m.poisoned) hands.memory_is ∙ well) after (present_of old (held_on old base pending) false well on ∙ same_store old new hands.memory_is) in
+    (held_on new base pending, still, record { leaves = hand_leaves old new Buffer true base pending lies out; safe = []; base = refl; rest = sym (append-nil pending); rests = still.rests }))
+
+-- a persist that was done, and where it synced, nothing is pending
+pub persist_leads : (old new : Held) (mode : PersistMode) (d : Durable) → old.memory.poisoned ≡ false → HandsOver old new → HandedOut old new mode true → StandsOn old d
+    → (e : Durable) × StandsOn new e × Passes d [] e × ((s : Machine.State) → IsSync s (Persist mode) Done → e.pending ≡ [])
+persist_leads old new Buffer d well hands out stands =
+    let led = buffer_leads old new d well hands out stands in
+    (led.0, led.1, led.2, λ s none. absurd none)
+persist_leads old new SyncData d well hands out stands =
+    let led = sync_settles old new d well hands (record { leaves = out.leaves; lies = out.lies; elsewhere = out.elsewhere }) stands in
+    (led.0, led.1, led.2, λ s _. led.3)
+persist_leads old new SyncAll d well hands out stands =
+    let led = sync_settles old new d well hands out stands in
+    (led.0, led.1, led.2, λ s _. led.3)
+
+-- a persist that a fault refused
+pub unpersist_leads : (old new : Held) (mode : PersistMode) (d : Durable) → old.memory.poisoned ≡ false → Poisons old new → HandedOut old new mode false → StandsOn old d → Leads new d []
+unpersist_leads old new mode d well fault out = leads_on old new d [] (λ base pending on.
+    let leaves = hand_leaves old new mode false base pending (on.lies well) out in
+    let rests : Rests (held_on new base (pending ++ [])) = at_end old.disk new.disk _ leaves in
+    let was = present_of old (held_on old base pending) false well on ∙ ap (λ (m : Remembered). kept (store_of m.keyspaces m.versions)) (sym fault.memory_is) in
+    let still = stands_ill new base (pending ++ []) (ap (λ (m : Remembered). m.poisoned) fault.memory_is) rests (inl (ap (λ (l : List Command). kept (fold base l)) (append-nil pending) ∙ was)) in
+    (held_on new base (pending ++ []), still, record { leaves = leaves; safe = []; base = refl; rest = refl; rests = rests }))

@@ -1,0 +1,57 @@
+-- A sync of the journal and a change of the keyspaces behind it.
+use Rattle.std.proofs.Common.{◌≡◌, ◌<◌, ◌≤◌, ◌^◌, inr, ℕ, Bool, true, false, List, [], ◌∷◌, ◌++◌, codes, Result, Ok, Err, OnOk, sym}
+use Rattle.std.proofs.lemmas.Bool.{true≢false}
+use Rattle.fjall_base.specs.Disk.{LeavesOnly, Meaning, state_in}
+use Rattle.fjall_base.specs.declared.error.Error.{Error}
+use Rattle.fjall_regions.specs.Regions.{Within}
+use Rattle.fjall_journal.specs.declared.persist_mode.PersistMode.TheVariants.{SyncAll}
+use Rattle.fjall_journal.specs.Writer.{Journal}
+use Rattle.fjall_tree.specs.Records.{Fields}
+use Rattle.fjall_keyspaces.specs.Keyspaces.{AreKeyspaces, without_keyspace}
+use Rattle.fjall_catalog.specs.declared.update.Update.{Update}
+use Rattle.fjall_catalog.specs.Catalog.{fields}
+use Rattle.fjall_catalog.specs.Updates.{IsUpdate}
+use Rattle.fjall_opening.specs.Folders.{past_record}
+use Rattle.fjall_places.specs.Halves.{Tree}
+use Rattle.fjall_places.specs.Places.{LiesInTree}
+use Rattle.fjall_changes.specs.declared.creation.Creation.{Creation}
+use Rattle.fjall_changes.specs.Changes.{HasEither, IsCreation, with_home, without_home}
+use Rattle.fjall_core.specs.Turns.{HandedOut, Made, Turns, Unmade}
+
+-- what came of the change, behind a sync that was done
+pub turn : (Change : Meaning → Meaning → Bool → Type 0) (old mid new : Meaning) (before after : Journal) (r : Result Unit Error) → HandedOut old mid before after SyncAll true → OnOk r (Change mid new true) → Change mid new false
+    → Turns Change old new before after r
+turn Change old mid new before after (Ok _) synced done any = record { mid = mid; synced = synced; changed = done }
+turn Change old mid new before after (Err error) synced done any = inr (record { mid = mid; synced = synced; changed = any })
+
+pub not_done : {A : Type 0} → false ≡ true → A
+not_done e = absurd (true≢false (sym e))
+
+module _ (mid new : Meaning) (creation : Creation) (within : Within (codes "keyspaces") mid new)
+    (leaves : (records : List Fields) (t : Tree) (name : List ℕ) (options : List (List ℕ)) (number : ℕ) → let next = with_home name options number creation.update.catalog t in
+    LiesInTree (state_in mid) records t → IsCreation t.last next.keyspaces t.keyspaces.next number creation → AreKeyspaces next.keyspaces → past_record (fields t.last) ≤ number → t.keyspaces.next < 2 ^ 64
+    → LeavesOnly mid new (HasEither t next)) where
+  pub made_any : Made mid new creation false
+  made_any = record { within = within; leaves = leaves; lies = λ e. not_done e }
+
+  pub made_done : (r : Result Unit Error)
+      → ((records : List Fields) (t : Tree) (name : List ℕ) (options : List (List ℕ)) (number : ℕ) → let next = with_home name options number creation.update.catalog t in
+      LiesInTree (state_in mid) records t → IsCreation t.last next.keyspaces t.keyspaces.next number creation → AreKeyspaces next.keyspaces → past_record (fields t.last) ≤ number → t.keyspaces.next < 2 ^ 64
+      → OnOk r (LiesInTree (state_in new) (records ++ fields creation.update.catalog ∷ []) next))
+      → OnOk r (Made mid new creation true)
+  made_done (Ok _) lies = record { within = within; leaves = leaves; lies = λ e. lies }
+  made_done (Err error) lies = tt
+
+module _ (mid new : Meaning) (update : Update) (within : Within (codes "keyspaces") mid new)
+    (leaves : (records : List Fields) (t : Tree) (id number : ℕ) → let next = without_home id update.catalog t in
+    LiesInTree (state_in mid) records t → IsUpdate t.last (without_keyspace id t.keyspaces) number update → past_record (fields t.last) ≤ number → LeavesOnly mid new (HasEither t next)) where
+  pub unmade_any : Unmade mid new update false
+  unmade_any = record { within = within; leaves = leaves; lies = λ e. not_done e }
+
+  pub unmade_done : (r : Result Unit Error)
+      → ((records : List Fields) (t : Tree) (id number : ℕ) → let next = without_home id update.catalog t in
+      LiesInTree (state_in mid) records t → IsUpdate t.last (without_keyspace id t.keyspaces) number update → past_record (fields t.last) ≤ number
+      → OnOk r (LiesInTree (state_in new) (records ++ fields update.catalog ∷ []) next))
+      → OnOk r (Unmade mid new update true)
+  unmade_done (Ok _) lies = record { within = within; leaves = leaves; lies = λ e. lies }
+  unmade_done (Err error) lies = tt

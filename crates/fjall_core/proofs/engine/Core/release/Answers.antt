@@ -1,0 +1,51 @@
+use Rattle.std.proofs.Common.{arith, ◌≡◌, IsTrue, refl, sym, ◌∙◌, ap, subst}
+use Rattle.fjall_machine.specs.declared.call.Call.TheVariants.{Release}
+use Rattle.fjall_machine.specs.declared.call.Reply.TheVariants.{Done}
+use Rattle.fjall_core.specs.Holding.{Held}
+use Rattle.fjall_core.specs.Standing.{Serves, held_due}
+use Rattle.fjall_core.proofs.Serving.{due_serves}
+use Rattle.std.proofs.lemmas.Result.{err_from_is_err_and}
+use Rattle.fjall_machine.specs.Remembered.{is_last, released}
+use Rattle.fjall_core.proofs.Releasing.{counted_serves, then_serves, unremoved_owes, unremoved_serves}
+use Rattle.fjall_core.proofs.engine.Core.release.Goals as goal
+
+pub returns-in-Some-clause-serves : goal.returns-in-Some-clause-serves
+returns-in-Some-clause-serves g c = λ h.
+    due_serves c.args.self.now (Release c.args.id) c.in-Some.error (ap (λ (core : Held). held_due core (Release c.args.id)) (sym c.self.view_is) ∙ sym c.release_refusal.ensures ∙ c.in-Some.is)
+
+pub returns-then-not-is_last-clause-serves : goal.returns-then-not-is_last-clause-serves
+returns-then-not-is_last-clause-serves g c = λ h.
+    let m = g.D.Disk.meaning in
+    let old : Held = record { disk = m c.self.inside.disk; journal = c.self.inside.journal; catalog = c.self.inside.catalog; memory = c.self.inside.memory } in
+    let new : Held = record { disk = m c.self.inside.disk; journal = c.self.inside.journal; catalog = c.self.inside.catalog; memory = c.release.new.self } in
+    subst (λ (core : Held). Serves core (Release c.args.id) Done new) c.self.view_is
+    (counted_serves old new c.args.id (sym c.release_refusal.ensures ∙ c.in_default.is) (record { memory_is = c.release.ensures; catalog = refl; journal = refl; faults = omega arith }) refl)
+
+pub returns-in_err-remove_files-clause-serves : goal.returns-in_err-remove_files-clause-serves
+returns-in_err-remove_files-clause-serves g c = λ h.
+    let old = c.args.self.now in
+    let none = ap (λ (core : Held). held_due core (Release c.args.id)) (sym c.self.view_is) ∙ sym c.release_refusal.ensures ∙ c.in_default.is in
+    let last = ap (λ (core : Held). is_last core.memory c.args.id) (sym c.self.view_is) ∙ sym c.is_last.ensures ∙ c.if-not-is_last.false in
+    let well = ap (λ (core : Held). core.memory.poisoned) (sym c.self.view_is) ∙ sym c.is_poisoned.ensures ∙ c.if-is_poisoned.false in
+    let p = err_from_is_err_and c.from_residual.result c.from_residual.ensures.1 in
+    rw (p.1, p.2) (unremoved_serves (IsTrue g.D.Disk.honest) old c.remove_files.new.self c.args.id c.in_err-remove_files.field-0.0 none last well c.in_err-remove_files.ensures.removed h)
+
+pub returns-in_err-remove_files-clause-owes : goal.returns-in_err-remove_files-clause-owes
+returns-in_err-remove_files-clause-owes g c =
+    let old = c.args.self.now in
+    let none = ap (λ (core : Held). held_due core (Release c.args.id)) (sym c.self.view_is) ∙ sym c.release_refusal.ensures ∙ c.in_default.is in
+    let p = err_from_is_err_and c.from_residual.result c.from_residual.ensures.1 in
+    rw (p.1, p.2) (unremoved_owes (IsTrue g.D.Disk.honest) old c.remove_files.new.self c.args.id c.in_err-remove_files.field-0.0 none c.in_err-remove_files.ensures.removed)
+
+pub returns-clause-serves : goal.returns-clause-serves
+returns-clause-serves g c = λ h.
+    let old = c.args.self.now in
+    let none = ap (λ (core : Held). held_due core (Release c.args.id)) (sym c.self.view_is) ∙ sym c.release_refusal.ensures ∙ c.in_default.is in
+    let last = ap (λ (core : Held). is_last core.memory c.args.id) (sym c.self.view_is) ∙ sym c.is_last.ensures ∙ c.if-not-is_last.false in
+    let well = ap (λ (core : Held). core.memory.poisoned) (sym c.self.view_is) ∙ sym c.is_poisoned.ensures ∙ c.if-is_poisoned.false in
+    let m = g.D.Disk.meaning in
+    let view : Held = record { disk = m c.self-2.inside.disk; journal = c.self-2.inside.journal; catalog = c.self-2.inside.catalog; memory = c.self-2.inside.memory } in
+    let new : Held = record { disk = m c.self-2.inside.disk; journal = c.self-2.inside.journal; catalog = c.self-2.inside.catalog; memory = c.release-2.new.self } in
+    let is : new ≡ record c.remove_files.new.self { memory = released c.args.id c.remove_files.new.self.memory } =
+    (λ i. record { disk = view.disk; journal = view.journal; catalog = view.catalog; memory = c.release-2.ensures i }) ∙ ap (λ (core : Held). record core { memory = released c.args.id core.memory }) c.self-2.view_is in
+    then_serves (IsTrue g.D.Disk.honest) old c.remove_files.new.self new c.args.id none last well c.in_ok-remove_files.ensures.removed is h

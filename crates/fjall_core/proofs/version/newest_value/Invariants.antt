@@ -1,7 +1,0 @@
-use Rattle.std.proofs.Common.{◌≡◌, drop}
-use Rattle.std.specs.Option.{option_copied}
-use Rattle.fjall_core.specs.Standing.{newest_after, newest}
-use Rattle.fjall_core.proofs.version.newest_value.Given as goal
-
-abbrev pub invariant-loop-version : goal.invariant-loop-version
-invariant-loop-version l = newest_after (option_copied l.found) (drop l.version-index l.versions) l.key ≡ newest l.versions l.key

@@ -1,0 +1,55 @@
+//! Changes of the keyspaces on the disk: the journal is synced before them.
+
+ghost use Rattle.std.specs.Prelude.{◌≡◌, ℕ, codes, IsTrue, OnOk};
+ghost use Rattle.fjall_base.specs.Disk.{LeavesOnly, OnlyFaults};
+ghost use Rattle.fjall_regions.specs.Regions.{Within};
+ghost use Rattle.fjall_journal.specs.Writer.{written_out};
+ghost use Rattle.fjall_keyspaces.specs.Keyspaces.{Keyspaces};
+ghost use Rattle.fjall_catalog.specs.declared.catalog.Catalog.{Catalog};
+ghost use Rattle.fjall_catalog.specs.Updates.{IsUpdate};
+ghost use Rattle.fjall_changes.specs.Changes.{IsCreation};
+ghost use Rattle.fjall_core.specs.Standing.{is_io};
+ghost use Rattle.fjall_core.specs.Turns.{Made, Turns, Unmade};
+
+use fjall_base::{Disk, Error, Result};
+use fjall_catalog::Update;
+use fjall_changes::{Creation, create_home, delete_home};
+use fjall_journal::{PersistMode, Writer};
+use fjall_journaling::hand_over;
+
+/// Whether it tells of a fault of the disk.
+pub(crate) fn is_fault(error: &Error) -> bool
+    ensures { result ≡ is_io error.now }
+{
+    matches!(error, Error::Io(_))
+}
+
+/// Syncs the journal, and then makes a keyspace.
+pub(crate) fn make_keyspace<D: Disk>(
+    journal: &mut Writer,
+    disk: &mut D,
+    creation: &Creation,
+) -> Result<()>
+    ensures ok { OnOk result (journal.new ≡ written_out journal.old) }
+    ensures turns { IsTrue D.honest → (old : Catalog) (s : Keyspaces) (id number : ℕ) → IsCreation old s id number creation.now
+        → Turns (λ mid new done. Made mid new creation.now done) (D.meaning disk.old) (D.meaning disk.new) journal.old journal.new result }
+    ensures cause { OnlyFaults (D.meaning disk.old) (D.meaning disk.new) result }
+{
+    hand_over(journal, disk, PersistMode::SyncAll)?;
+    create_home(disk, creation)
+}
+
+/// Syncs the journal, and then takes a keyspace out of the catalog.
+pub(crate) fn unmake_keyspace<D: Disk>(
+    journal: &mut Writer,
+    disk: &mut D,
+    update: &Update,
+) -> Result<()>
+    ensures ok { OnOk result (journal.new ≡ written_out journal.old) }
+    ensures turns { IsTrue D.honest → (old : Catalog) (s : Keyspaces) (number : ℕ) → IsUpdate old s number update.now
+        → Turns (λ mid new done. Unmade mid new update.now done) (D.meaning disk.old) (D.meaning disk.new) journal.old journal.new result }
+    ensures cause { OnlyFaults (D.meaning disk.old) (D.meaning disk.new) result }
+{
+    hand_over(journal, disk, PersistMode::SyncAll)?;
+    delete_home(disk, update)
+}

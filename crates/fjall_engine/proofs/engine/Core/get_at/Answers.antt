@@ -1,8 +1,0 @@
-use Rattle.std.proofs.Common.{ap}
-use Rattle.fjall_engine.specs.Holding.{Held}
-use Rattle.fjall_engine.proofs.Replies.{value_serves}
-use Rattle.fjall_engine.proofs.engine.Core.get_at.Goals as goal
-
-pub returns-clause-serves : goal.returns-clause-serves
-returns-clause-serves g c = λ _.
-    value_serves c.args.self.now _ c.args.view c.args.id c.args.key.now c.get.result (ap (λ (core : Held). core.memory) c.self.view_is) c.get.ensures.due c.get.ensures.ok c.get.ensures.cause

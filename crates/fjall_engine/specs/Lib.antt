@@ -1,6 +1,0 @@
-pub mod Holding
-pub mod Turns
-pub mod Durables
-pub mod Crashes
-pub mod Standing
-pub mod Openings

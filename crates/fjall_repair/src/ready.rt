@@ -1,0 +1,175 @@
+//! All that opening a folder takes, in memory before the disk is changed.
+
+ghost use Rattle.std.specs.Prelude.{◌≡◌, ◌<◌, ◌≤◌, [], ℕ, List, All, IfErr, IfOk, IsOkUnless, IsTrue, None, map, max, string_bytes};
+ghost use Rattle.std.specs.Option.{option_map};
+ghost use Rattle.fjall_base.specs.Disk.{Image, Took, standing, state_in};
+ghost use Rattle.fjall_journal.specs.Batches.{view};
+ghost use Rattle.fjall_keyspaces.specs.Keyspaces.{AreKeyspaces, no_keyspaces};
+ghost use Rattle.fjall_catalog.specs.Catalog.{first_catalog};
+ghost use Rattle.fjall_recovery.specs.Names.{journal_name};
+ghost use Rattle.fjall_versions.specs.Versions.{versions_behind};
+ghost use Rattle.fjall_opening.specs.Folders.{IsFinished, IsUnfinished, past_records};
+ghost use Rattle.fjall_opening.specs.Naming.{AreFolderIds, KeyspacesAreNamed};
+ghost use Rattle.fjall_opening.specs.Refusals.{HasRisen, IsDue};
+ghost use Rattle.fjall_beginning.specs.Plans.{IsPlan as IsMakingOf};
+ghost use Rattle.fjall_mending.specs.Mended.{IsMendingOf};
+ghost use Rattle.fjall_repair.specs.Opened.{HasNumbers, IsLawful, Takes, records_of};
+ghost use Rattle.fjall_repair.specs.Sweeps.{FindsAll, IsPlan};
+
+use crate::numbers::{check_made, number_of};
+use crate::opened::Opened;
+use crate::plan::{Sweep, plan_sweep};
+use fjall_base::{Disk, Error, Result};
+use fjall_beginning::{Plan as Making, plan_beginning};
+use fjall_catalog::Catalog;
+use fjall_journal::{Batch, Writer};
+use fjall_keyspaces::MetaKeyspace;
+use fjall_mending::{Plan as Mending, plan_mending};
+use fjall_opening::Finished;
+use fjall_recovery::{journal_name, keyspaces};
+use fjall_versions::{Version, replay};
+use std::alloc::Global;
+
+/// What is opened once a database is begun.
+#[derive(Drop)]
+pub(crate) struct ToBegin {
+    /// What is opened then.
+    pub opened: Opened,
+    /// How the database is begun.
+    pub making: Making,
+    /// What is removed.
+    pub sweep: Sweep,
+}
+
+/// What is opened once a folder is mended.
+#[derive(Drop)]
+pub(crate) struct ToMend {
+    /// What is opened then.
+    pub opened: Opened,
+    /// How the folder is mended.
+    pub mending: Mending,
+    /// What is removed.
+    pub sweep: Sweep,
+}
+
+/// The ids of the folders of keyspaces, where each folder in `keyspaces` is named by an id.
+fn list_folders<D: Disk>(alloc: Global, disk: &mut D) -> Result<Vec<u64>>
+    ensures ids { IsTrue D.honest → IfOk result (λ ids. AreFolderIds (standing (state_in (D.meaning disk.old))) ids.items) }
+    ensures same { IsTrue D.honest → Took (D.meaning disk.old) (D.meaning disk.new) [] }
+    ensures later { (D.meaning disk.old).faults ≤ (D.meaning disk.new).faults }
+    ensures risen { IfErr result (HasRisen (D.meaning disk.old).faults (D.meaning disk.new).faults) }
+    ensures only { IsTrue D.honest → KeyspacesAreNamed (standing (state_in (D.meaning disk.old))) → IfErr result (IsDue (λ error. ⊥)) }
+{
+    let listed = disk.list(alloc, "keyspaces")?;
+    keyspaces(alloc, &listed)
+}
+
+/// What a database without keyspaces opens as.
+fn new_database(alloc: Global, active: u64) -> Result<Opened>
+    ensures opened { IfOk result (λ o. Takes o (journal_name active) 0 first_catalog no_keyspaces []) }
+    ensures number { IfOk result (λ o. o.number ≡ 0) }
+    ensures lawful { IfOk result IsLawful }
+    ensures only { IsOkUnless result Error.OutOfMemory }
+{
+    let name = journal_name(alloc, active)?;
+    Ok(Opened {
+        versions: Vec::new(alloc),
+        journal: Writer::from_file(alloc, name.as_str(), 0)?,
+        catalog: Catalog::new(),
+        keyspaces: MetaKeyspace::new(alloc),
+        number: 0,
+    })
+}
+
+/// Gets ready to begin a database, or to go on with one whose making was cut short.
+pub(crate) fn ready_to_begin<D: Disk>(alloc: Global, disk: &mut D) -> Result<ToBegin>
+    ensures making { IsTrue D.honest → IfOk result (λ r. IsMakingOf (standing (state_in (D.meaning disk.old))) r.making) }
+    ensures sweep { IsTrue D.honest → IfOk result (λ r. IsPlan None [] r.sweep) }
+    ensures finds { IsTrue D.honest → IfOk result (λ r. (ids : List ℕ) × AreFolderIds (standing (state_in (D.meaning disk.old))) ids × FindsAll (state_in (D.meaning disk.old)) None [] ids r.sweep) }
+    ensures opened { IfOk result (λ r. Takes r.opened (journal_name r.making.active) 0 first_catalog no_keyspaces []) }
+    ensures number { IfOk result (λ r. r.opened.number ≡ 0) }
+    ensures lawful { IfOk result (λ r. IsLawful r.opened) }
+    ensures same { IsTrue D.honest → Took (D.meaning disk.old) (D.meaning disk.new) [] }
+    ensures later { (D.meaning disk.old).faults ≤ (D.meaning disk.new).faults }
+    ensures risen { IfErr result (HasRisen (D.meaning disk.old).faults (D.meaning disk.new).faults) }
+    ensures due { IsTrue D.honest → IsUnfinished (standing (state_in (D.meaning disk.old))) → IfErr result (IsDue (λ error. ⊥)) }
+{
+    let ids = list_folders(alloc, disk)?;
+    let sweep = plan_sweep(alloc, disk, None, &[], &ids)?;
+    let making = plan_beginning(alloc, disk)?;
+    Ok(ToBegin {
+        opened: new_database(alloc, making.active)?,
+        making,
+        sweep,
+    })
+}
+
+/// The id of the table that tree 0's last record names.
+fn named_table(catalog: &Catalog) -> Option<u64>
+    ensures { result ≡ option_map (λ table. table.id) catalog.now.table }
+{
+    catalog.table.map(|table| table.id)
+}
+
+/// What the batches of the journals make of the keyspaces that live.
+fn replayed(alloc: Global, keyspaces: &MetaKeyspace, batches: Vec<Batch>) -> Result<Vec<Version>>
+    ensures ok { IfOk result (λ versions. versions.items ≡ versions_behind keyspaces.now [] (map view batches.items)) }
+    ensures given { IfOk result (λ versions. All (λ v. v.keyspace_id < keyspaces.now.next) versions.items) }
+    ensures lawful { AreKeyspaces keyspaces.now }
+    ensures only { IsOkUnless result Error.OutOfMemory }
+{
+    prove!(0 < keyspaces.next_id());
+    let mut versions = Vec::new(alloc);
+    replay(keyspaces, batches, &mut versions)?;
+    Ok(versions)
+}
+
+/// What a folder opens as that was read, and whose journal goes on at the end of this file.
+fn database_of(alloc: Global, found: Finished, active: &str) -> Result<Opened>
+    ensures opened { IfOk result (λ o. Takes o active.now found.journals.end found.catalog.catalog found.catalog.keyspaces (map view found.journals.batches.items)) }
+    ensures number { All HasNumbers (records_of found) → IfOk result (λ o. o.number ≡ max found.journals.least (past_records (records_of found))) }
+    ensures lawful { IfOk result IsLawful }
+    ensures risen { (faults : ℕ) → IfErr result (HasRisen faults faults) }
+    ensures only { (image : Image) → IsFinished image found → IsOkUnless result Error.OutOfMemory }
+{
+    let number = number_of(&found);
+    check_made(found.catalog.keyspaces.living(), number)?;
+    let journal = Writer::from_file(alloc, active, found.journals.end as u64)?;
+    let Finished {
+        journals,
+        catalog,
+        ..
+    } = found;
+    let versions = replayed(alloc, &catalog.keyspaces, journals.batches)?;
+    Ok(Opened {
+        versions,
+        journal,
+        catalog: catalog.catalog,
+        keyspaces: catalog.keyspaces,
+        number,
+    })
+}
+
+/// Gets ready to mend the folder that was read.
+pub(crate) fn ready_to_mend<D: Disk>(alloc: Global, disk: &mut D, found: Finished) -> Result<ToMend>
+    ensures mending { IsTrue D.honest → IfOk result (λ r. IsMendingOf (standing (state_in (D.meaning disk.old))) found r.mending) }
+    ensures sweep { IsTrue D.honest → IfOk result (λ r. IsPlan (option_map (λ table. table.id) found.catalog.catalog.table) found.catalog.keyspaces.living r.sweep) }
+    ensures finds { IsTrue D.honest → IfOk result (λ r. FindsAll (state_in (D.meaning disk.old)) (option_map (λ table. table.id) found.catalog.catalog.table) found.catalog.keyspaces.living found.folder_ids.items r.sweep) }
+    ensures opened { IfOk result (λ r. Takes r.opened (string_bytes r.mending.active) found.journals.end found.catalog.catalog found.catalog.keyspaces (map view found.journals.batches.items)) }
+    ensures number { All HasNumbers (records_of found) → IfOk result (λ r. r.opened.number ≡ max found.journals.least (past_records (records_of found))) }
+    ensures lawful { IfOk result (λ r. IsLawful r.opened) }
+    ensures same { IsTrue D.honest → Took (D.meaning disk.old) (D.meaning disk.new) [] }
+    ensures later { (D.meaning disk.old).faults ≤ (D.meaning disk.new).faults }
+    ensures risen { IfErr result (HasRisen (D.meaning disk.old).faults (D.meaning disk.new).faults) }
+    ensures due { IsTrue D.honest → (image : Image) → IsFinished image found → IfErr result (IsDue (λ error. ⊥)) }
+{
+    let named = named_table(&found.catalog.catalog);
+    let living = found.catalog.keyspaces.living();
+    let sweep = plan_sweep(alloc, disk, named, living, &found.folder_ids)?;
+    let mending = plan_mending(alloc, disk, &found)?;
+    Ok(ToMend {
+        opened: database_of(alloc, found, mending.active.as_str())?,
+        mending,
+        sweep,
+    })
+}
