@@ -2,14 +2,22 @@
 #![tactic(auto)]
 
 #[cfg(test)]
+mod beginning;
+#[cfg(test)]
 mod catalog;
 #[cfg(test)]
 mod changes;
 #[cfg(test)]
+mod folder;
+#[cfg(test)]
 mod journaling;
+#[cfg(test)]
+mod mending;
 #[cfg(test)]
 mod opening;
 #[cfg(test)]
 mod recovery;
 #[cfg(test)]
 mod regions;
+#[cfg(test)]
+mod repair;

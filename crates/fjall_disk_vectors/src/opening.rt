@@ -1,54 +1,14 @@
 //! Folders on a disk in memory, sound and faulty.
 
+use crate::folder::{create, empty_folder, folder_of_items, insert};
 use fjall_base::{
-    Disk, Error, FormatVersion, JournalRecoveryError, MemoryDisk, Result, Slice, StorageError,
+    Disk, Error, FormatVersion, JournalRecoveryError, MemoryDisk, Result, StorageError,
 };
-use fjall_catalog::{commit, first_record, first_record_of, prepare, read_catalog, write_table};
-use fjall_journal::{PersistMode, ValueType, Writer};
-use fjall_meta::KeyspaceCreateOptions;
 use fjall_opening::{Finished, read_folder};
-use fjall_regions::{make_file, make_home};
 use std::alloc::Global;
 use std::test::Fail;
 
 const MARKER: &[u8] = b"FJL\x03";
-
-/// A disk with an empty tree 0, and this marker.
-fn folder(alloc: Global, marker: &[u8]) -> Result<MemoryDisk> {
-    let mut disk = MemoryDisk::new(alloc);
-    disk.make_folder("keyspaces")?;
-    make_home(
-        &mut disk,
-        "keyspaces/0",
-        "keyspaces/0/current",
-        &first_record(alloc)?,
-    )?;
-    make_file(&mut disk, "version", marker)?;
-    Ok(disk)
-}
-
-/// Makes the keyspace of this name by the change of this number.
-fn create(alloc: Global, disk: &mut MemoryDisk, name: &[u8], number: u64) -> Result<()> {
-    let mut found = read_catalog(alloc, disk)?;
-    let options = KeyspaceCreateOptions::default(alloc)?;
-    let id = found
-        .keyspaces
-        .create_keyspace(Slice::new(alloc, name)?, options, number)?;
-    let home = format!(in alloc; "keyspaces/{id}")?;
-    let current = format!(in alloc; "keyspaces/{id}/current")?;
-    disk.make_folder(&home)?;
-    make_file(disk, &current, &first_record_of(alloc, number)?)?;
-    let update = prepare(alloc, &found.catalog, &found.keyspaces, number)?;
-    write_table(disk, &update)?;
-    commit(disk, &update)
-}
-
-/// Writes a=b into keyspace 1, under this number, into the journal of this name.
-fn insert(alloc: Global, disk: &mut MemoryDisk, journal: &str, number: u64) -> Result<()> {
-    let mut writer = Writer::create_new(alloc, disk, journal)?;
-    writer.write_raw(disk, 1, b"a", b"b", ValueType::Value, number)?;
-    writer.persist(disk, PersistMode::SyncAll)
-}
 
 /// Why the folder of this disk is refused.
 fn refusal(alloc: Global, mut disk: MemoryDisk) -> Option<Error> {
@@ -57,8 +17,7 @@ fn refusal(alloc: Global, mut disk: MemoryDisk) -> Option<Error> {
 
 /// A sound folder: keyspace 1 made under number 0, and a write in each of two journals.
 fn sound(alloc: Global) -> Result<MemoryDisk> {
-    let mut disk = folder(alloc, MARKER)?;
-    create(alloc, &mut disk, b"items", 0)?;
+    let mut disk = folder_of_items(alloc)?;
     insert(alloc, &mut disk, "0.jnl", 1)?;
     insert(alloc, &mut disk, "1.jnl", 2)?;
     Ok(disk)
@@ -95,7 +54,7 @@ fn number(alloc: Global, disk: &mut MemoryDisk) -> Result<Option<u64>> {
 #[test]
 fn numbers(rt: HostRuntime) -> std::result::Result<(), Fail> {
     let alloc = rt.alloc();
-    let mut disk = folder(alloc, MARKER)?;
+    let mut disk = empty_folder(alloc, MARKER)?;
     assert_eq!(rt; number(alloc, &mut disk)?, Some(0));
     create(alloc, &mut disk, b"items", 7)?;
     assert_eq!(rt; number(alloc, &mut disk)?, Some(8));
@@ -110,19 +69,22 @@ fn numbers(rt: HostRuntime) -> std::result::Result<(), Fail> {
 fn markers(rt: HostRuntime) -> std::result::Result<(), Fail> {
     let alloc = rt.alloc();
     let other = Error::InvalidVersion(Some(FormatVersion::V2));
-    assert_eq!(rt; refusal(alloc, folder(alloc, b"FJL\x02")?), Some(other));
     assert_eq!(rt;
-        refusal(alloc, folder(alloc, b"FJX\x01")?),
+        refusal(alloc, empty_folder(alloc, b"FJL\x02")?),
+        Some(other)
+    );
+    assert_eq!(rt;
+        refusal(alloc, empty_folder(alloc, b"FJX\x01")?),
         Some(Error::InvalidVersion(None))
     );
-    let mut disk = folder(alloc, b"FJ")?;
+    let mut disk = empty_folder(alloc, b"FJ")?;
     disk.create("0.jnl")?;
     assert!(rt; read_folder(alloc, &mut disk)?.is_none());
     insert(alloc, &mut disk, "0.jnl", 1)?;
     assert_eq!(rt; refusal(alloc, disk), Some(Error::Unrecoverable));
     let mut empty = MemoryDisk::new(alloc);
     assert!(rt; read_folder(alloc, &mut empty)?.is_none());
-    let mut written = folder(alloc, b"")?;
+    let mut written = empty_folder(alloc, b"")?;
     create(alloc, &mut written, b"a", 0)?;
     assert_eq!(rt; refusal(alloc, written), Some(Error::Unrecoverable));
     Ok(())

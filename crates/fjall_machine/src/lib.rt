@@ -15,6 +15,3 @@ pub use laws::{
     nothing_refused, other_parts_stand, reads_agree,
 };
 pub use memory::Memory;
-
-#[cfg(test)]
-mod tests;

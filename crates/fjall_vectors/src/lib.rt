@@ -6,6 +6,8 @@ mod journal;
 #[cfg(test)]
 mod keyspaces;
 #[cfg(test)]
+mod machine;
+#[cfg(test)]
 mod meta;
 #[cfg(test)]
 mod tree;

@@ -1,0 +1,27 @@
+//! Databases on a disk in memory: made, written, closed and opened again, damaged, and cut short at each call.
+#![tactic(auto)]
+
+#[cfg(test)]
+mod calls;
+#[cfg(test)]
+mod database;
+#[cfg(test)]
+mod faults;
+#[cfg(test)]
+mod folders;
+#[cfg(test)]
+mod journals;
+#[cfg(test)]
+mod keyspaces;
+#[cfg(test)]
+mod moments;
+#[cfg(test)]
+mod reference;
+#[cfg(test)]
+mod restarts;
+#[cfg(test)]
+mod script;
+#[cfg(test)]
+mod sweep;
+#[cfg(test)]
+mod tape;

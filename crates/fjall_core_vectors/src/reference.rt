@@ -1,0 +1,81 @@
+//! The keyspaces that commands make, and those that a database shows.
+
+use crate::database::Database;
+use fjall_base::{Disk, KvPair, Result, Slice};
+use std::alloc::Global;
+use std::ops::Bound;
+
+/// What takes a number of its own.
+#[derive(Clone, Debug, Drop)]
+pub enum Command {
+    /// Makes a keyspace of this name, under the next id.
+    Create(Slice),
+    /// Deletes the keyspace of this id.
+    Delete(u64),
+    /// Gives a key of a keyspace a value.
+    Put(u64, Slice, Slice),
+    /// Takes a key of a keyspace away.
+    Take(u64, Slice),
+}
+
+/// A keyspace that lives, with its pairs in the order of their keys.
+#[derive(Debug, PartialEq, Eq, PartialOrd, Ord, Drop)]
+pub struct Home {
+    pub name: Slice,
+    pub id: u64,
+    pub pairs: Vec<KvPair>,
+}
+
+/// A key of the keyspace of this id has this value from now on, or none.
+fn alter(homes: &mut Vec<Home>, id: u64, key: &Slice, value: Option<&Slice>) -> Result<()> {
+    let Some(at) = homes.iter().position(|home| home.id == id) else {
+        return Ok(());
+    };
+    if let Some(home) = homes.get_mut(at) {
+        home.pairs.retain(|(other, _)| other != key);
+        if let Some(value) = value {
+            home.pairs.push((key.clone()?, value.clone()?))?;
+        }
+    }
+    Ok(())
+}
+
+/// The keyspaces that these commands make of nothing, in the order of their names.
+pub fn fold(alloc: Global, commands: &[Command]) -> Result<Vec<Home>> {
+    let mut homes = Vec::new(alloc);
+    let mut last = 0u64;
+    for command in commands {
+        match command {
+            Command::Create(name) => {
+                last = last.saturating_add(1);
+                let name = name.clone()?;
+                let pairs = Vec::new(alloc);
+                homes.push(Home {
+                    name,
+                    id: last,
+                    pairs,
+                })?;
+            }
+            Command::Delete(id) => homes.retain(|home| home.id != *id),
+            Command::Put(id, key, value) => alter(&mut homes, *id, key, Some(value))?,
+            Command::Take(id, key) => alter(&mut homes, *id, key, None)?,
+        }
+    }
+    for home in &mut homes {
+        home.pairs.sort()?;
+    }
+    homes.sort()?;
+    Ok(homes)
+}
+
+/// The keyspaces that a database shows, in the order in which it lists their names.
+pub fn shown<D: Disk>(alloc: Global, core: &mut Database<D>) -> Result<Vec<Home>> {
+    let everywhere = (Bound::Unbounded, Bound::Unbounded);
+    let mut homes = Vec::new(alloc);
+    for name in core.names()? {
+        let id = core.keyspace(&name)?;
+        let pairs = core.page(id, &everywhere, false, usize::MAX)?;
+        homes.push(Home { name, id, pairs })?;
+    }
+    Ok(homes)
+}
