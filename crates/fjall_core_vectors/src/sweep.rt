@@ -63,7 +63,7 @@ fn check_step(
     }
     if moment.take(alloc, step)? {
         let names = check_crashes(rt, alloc, moment, moment.crashes(alloc)?, tried)?;
-        let bytes = check_crashes(rt, alloc, moment, moment.cuts(alloc, step, 101)?, tried)?;
+        let bytes = check_crashes(rt, alloc, moment, moment.cuts(alloc, step, 1)?, tried)?;
         count = count.saturating_add(names).saturating_add(bytes);
     }
     Ok(count)
