@@ -14,6 +14,7 @@ ghost use Rattle.fjall_machine.specs.declared.call.Reply.TheVariants.{Flag, Numb
 ghost use Rattle.fjall_keyspaces.specs.Keyspaces.{id_of};
 ghost use Rattle.fjall_machine.specs.Remembered.{IsLawful, poisoned};
 ghost use Rattle.fjall_opening.specs.Refusals.{HasRisen};
+ghost use Rattle.fjall_repair.specs.Sweeps.{IsSwept};
 ghost use Rattle.fjall_core.specs.Openings.{IsDueTo, KeepsStore, Opens, OpensAs, OpensOn};
 ghost use Rattle.fjall_core.specs.Turns.{Makes, Removes, Unmakes, Writes};
 ghost use Rattle.fjall_core.specs.Standing.{HoldsStore, StandsFor, held_due, is_io, Owes, OwesAll, Serves, Runs, RunsSafely, OwesClosing, ClosesDisk, ClosesSafely, names_reply, number_reply, pairs_reply, reply_of, store_in, value_reply};
@@ -66,6 +67,8 @@ impl<D: Disk> Core<D> {
         ensures safe { IsTrue D.honest → (store : Store) → HoldsStore (state_in (D.meaning disk)) store → IfOk result (λ core. OpensAs core store) }
         ensures any_moment { IsTrue D.honest → IfOk result (λ core. KeepsStore (D.meaning disk) core.disk) }
         ensures any_moment_err { IsTrue D.honest → IfErr result (λ refused. KeepsStore (D.meaning disk) (D.meaning refused.value)) }
+        // Nothing is left that no record names.
+        ensures swept { IsTrue D.honest → IfOk result (λ core. IsSwept (state_in (D.meaning disk)) (state_in core.disk) core.memory.keyspaces.living) }
         ensures stands { IfOk result (λ core. (store : Store) × (next : ℕ) × Opens core store next) }
         ensures later { IfOk result (λ core. (D.meaning disk).faults ≤ core.disk.faults) }
         ensures later_err { IfErr result (λ refused. (D.meaning disk).faults ≤ (D.meaning refused.value).faults) }

@@ -1,5 +1,6 @@
 use Rattle.std.proofs.Common.{sym, subst}
 use Rattle.fjall_base.specs.Disk.{Image, Meaning, standing, state_in}
+use Rattle.fjall_repair.specs.Sweeps.{IsSwept}
 use Rattle.fjall_machine.specs.Remembered.{Remembered}
 use Rattle.fjall_core.specs.Openings.{Opens, OpensAs, OpensOn}
 use Rattle.fjall_core.proofs.Opening.{held_of, keeps, opens_as, opens_new, opens_on}
@@ -31,3 +32,8 @@ returns-in-Ok-clause-stands g c =
 
 pub returns-in-Err-clause-any_moment_err : goal.returns-in-Err-clause-any_moment_err
 returns-in-Err-clause-any_moment_err g c honest = let m : _ → Meaning = g.D.Disk.meaning in keeps (m c.args.disk) (m c.open_folder.new.disk) (c.open_folder.ensures.any_moment honest)
+
+pub returns-in-Ok-clause-swept : goal.returns-in-Ok-clause-swept
+returns-in-Ok-clause-swept g c honest =
+    let m : _ → Meaning = g.D.Disk.meaning in
+    subst (λ (memory : Remembered). IsSwept (state_in (m c.args.disk)) (state_in (m c.open_folder.new.disk)) memory.keyspaces.living) (sym c.new.ensures) (c.in-Ok.ensures.swept honest)
