@@ -6,4 +6,4 @@ use Rattle.fjall_base.specs.declared.files.Files.{Files}
 
 -- the meaning of the entries and their changes, with this count of faults
 abbrev pub meaning_of : Files → ℕ → Meaning
-meaning_of files faults = record { places = map named_place files.names.items; steps = map step_of files.log.items; faults = faults }
+meaning_of files faults = record { places = map named_place files.names.items; steps = map step_of files.log.items; faults = faults; misuses = 0 }

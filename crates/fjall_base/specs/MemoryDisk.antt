@@ -6,4 +6,4 @@ use Rattle.fjall_base.specs.declared.memory.MemoryDisk.{MemoryDisk}
 
 -- the meaning of the whole disk
 abbrev pub meaning_in : MemoryDisk → Meaning
-meaning_in disk = record { places = map named_place disk.files.names.items; steps = map step_of disk.files.log.items; faults = disk.failing.count }
+meaning_in disk = record { places = map named_place disk.files.names.items; steps = map step_of disk.files.log.items; faults = disk.failing.count; misuses = disk.failing.misuses }

@@ -1,7 +1,8 @@
 //! A disk of named files and folders, as the layers above see it.
 
 ghost use Rattle.std.specs.Prelude.{◌≡◌, ◌≢◌, [], ◌∷◌, IfOk, OnOk, OnErr, IsTrue, Bool};
-ghost use Rattle.fjall_base.specs.Disk.{Meaning, File, Folder, Append, Sync, Loosen, Cut, SyncFolder, Took, TookOrNot, TookPart, TookCut, HasCause, OnlyFaults, making, removing, Reads, ReadsAt, Lists, IsFile, IsLong, IsNoFile, IsNoFolder, IsEmpty, HasFolder, IsThere, standing, state_in};
+ghost use Rattle.fjall_base.specs.Crash.{IsHoused};
+ghost use Rattle.fjall_base.specs.Disk.{Meaning, File, Folder, Append, Sync, Loosen, Cut, SyncFolder, Took, TookOrNot, TookPart, TookCut, HasCause, OnlyFaults, making, removing, Reads, ReadsAt, Lists, IsFile, IsLong, IsNoFile, IsNoFolder, IsEmpty, HasFolder, IsThere, CanCreate, CanMakeFolder, CanRemoveFolder, Judged, standing, state_in};
 
 use crate::Result;
 use std::alloc::Global;
@@ -23,8 +24,13 @@ pub struct DirEntry {
 /// have done then stands at each call. Calls that hand out bytes or names also answer
 /// `Error::OutOfMemory`, which is no fault.
 ///
+/// A fault is a failure of the device, or a misuse: a call that no disk can serve, as an append to a
+/// file that isn't there. Contracts count misuses apart, so that they can say that it was the device.
+///
 /// A system may drop the pages that it failed to sync, and call a later sync of the file a success.
-/// That is not modelled, since the engine never goes on after a failed sync.
+/// That isn't modelled. An engine is poisoned by a failed sync and syncs nothing more, but one that
+/// opens the folder anew without a crash between does: that a disk still holds then what it gives to
+/// reads is a premise on the disk.
 pub trait Disk {
     // where it is false nothing is known but the faults
     ghost honest: { Bool };
@@ -41,6 +47,7 @@ pub trait Disk {
     fn read(&mut self, alloc: Global, name: &str) -> Result<Option<Vec<u8>>>
         ensures found { IsTrue honest → IfOk result (Reads (state_in (meaning self.old) name.now).now) }
         ensures same { IsTrue honest → Took (meaning self.old) (meaning self.new) [] }
+        ensures judged { IsTrue honest → (meaning self.new).misuses ≡ (meaning self.old).misuses }
         ensures cause { HasCause (meaning self.old) (meaning self.new) result };
 
     /// `len` bytes of a file, from the byte `at` on; `None` where no file has that name, or the file
@@ -56,6 +63,7 @@ pub trait Disk {
     ) -> Result<Option<Vec<u8>>>
         ensures found { IsTrue honest → IfOk result (ReadsAt at len (state_in (meaning self.old) name.now).now) }
         ensures same { IsTrue honest → Took (meaning self.old) (meaning self.new) [] }
+        ensures judged { IsTrue honest → (meaning self.new).misuses ≡ (meaning self.old).misuses }
         ensures cause { HasCause (meaning self.old) (meaning self.new) result };
 
     /// The files and folders right in a folder, each once and in no order; none where there is no such
@@ -65,6 +73,7 @@ pub trait Disk {
     fn list(&mut self, alloc: Global, folder: &str) -> Result<Vec<DirEntry>>
         ensures found { IsTrue honest → IfOk result (λ listed. Lists (state_in (meaning self.old)) folder.now listed.items) }
         ensures same { IsTrue honest → Took (meaning self.old) (meaning self.new) [] }
+        ensures judged { IsTrue honest → (meaning self.new).misuses ≡ (meaning self.old).misuses }
         ensures cause { HasCause (meaning self.old) (meaning self.new) result };
 
     /// Makes an empty file, or leaves the file that is there.
@@ -77,6 +86,7 @@ pub trait Disk {
         ensures named { IsTrue honest → OnOk result (name.now ≢ []) }
         ensures housed { IsTrue honest → OnOk result (HasFolder (state_in (meaning self.old)) name.now) }
         ensures err { IsTrue honest → OnErr result (Took (meaning self.old) (meaning self.new) []) }
+        ensures judged { IsTrue honest → Judged (CanCreate (state_in (meaning self.old)) name.now) (meaning self.old) (meaning self.new) }
         ensures cause { OnlyFaults (meaning self.old) (meaning self.new) result };
 
     /// Adds bytes at the end of a file. A crash may leave any beginning of those that aren't synced.
@@ -87,6 +97,7 @@ pub trait Disk {
         ensures ok { IsTrue honest → OnOk result (Took (meaning self.old) (meaning self.new) (Append name.now bytes.now ∷ [])) }
         ensures file { IsTrue honest → OnOk result (IsFile (state_in (meaning self.old) name.now).now) }
         ensures err { IsTrue honest → OnErr result (TookPart (meaning self.old) (meaning self.new) name.now bytes.now) }
+        ensures judged { IsTrue honest → Judged (IsFile (state_in (meaning self.old) name.now).now) (meaning self.old) (meaning self.new) }
         ensures cause { OnlyFaults (meaning self.old) (meaning self.new) result };
 
     /// Syncs a file: a crash from then on leaves all the bytes that it has now.
@@ -96,6 +107,7 @@ pub trait Disk {
         ensures ok { IsTrue honest → OnOk result (Took (meaning self.old) (meaning self.new) (Sync name.now ∷ [])) }
         ensures file { IsTrue honest → OnOk result (IsFile (state_in (meaning self.old) name.now).now) }
         ensures err { IsTrue honest → OnErr result (TookOrNot (meaning self.old) (meaning self.new) (Sync name.now ∷ [])) }
+        ensures judged { IsTrue honest → Judged (IsFile (state_in (meaning self.old) name.now).now) (meaning self.old) (meaning self.new) }
         ensures cause { OnlyFaults (meaning self.old) (meaning self.new) result };
 
     /// Cuts a file to `len` bytes and syncs it. While it runs, no byte from `len` on is safe.
@@ -106,6 +118,7 @@ pub trait Disk {
         ensures ok { IsTrue honest → OnOk result (Took (meaning self.old) (meaning self.new) (Loosen name.now len ∷ Cut name.now len ∷ [])) }
         ensures long { IsTrue honest → OnOk result (IsLong len (state_in (meaning self.old) name.now).now) }
         ensures err { IsTrue honest → OnErr result (TookCut (meaning self.old) (meaning self.new) name.now len) }
+        ensures judged { IsTrue honest → Judged (IsLong len (state_in (meaning self.old) name.now).now) (meaning self.old) (meaning self.new) }
         ensures cause { OnlyFaults (meaning self.old) (meaning self.new) result };
 
     /// Removes a file, where there is one. A crash may bring it back until its folder is synced.
@@ -115,6 +128,7 @@ pub trait Disk {
         ensures ok { IsTrue honest → OnOk result (Took (meaning self.old) (meaning self.new) (removing name.now (state_in (meaning self.old) name.now).now)) }
         ensures kind { IsTrue honest → OnOk result (IsNoFolder (state_in (meaning self.old) name.now).now) }
         ensures err { IsTrue honest → OnErr result (Took (meaning self.old) (meaning self.new) []) }
+        ensures judged { IsTrue honest → Judged (IsNoFolder (state_in (meaning self.old) name.now).now) (meaning self.old) (meaning self.new) }
         ensures cause { OnlyFaults (meaning self.old) (meaning self.new) result };
 
     /// Removes an empty folder, where there is one. A crash may bring it back until the folder that it
@@ -127,6 +141,7 @@ pub trait Disk {
         ensures kind { IsTrue honest → OnOk result (IsNoFile (state_in (meaning self.old) name.now).now) }
         ensures empty { IsTrue honest → OnOk result ((state_in (meaning self.old) name.now).now ≡ Folder → IsEmpty (state_in (meaning self.old)) name.now) }
         ensures err { IsTrue honest → OnErr result (Took (meaning self.old) (meaning self.new) []) }
+        ensures judged { IsTrue honest → Judged (CanRemoveFolder (state_in (meaning self.old)) name.now) (meaning self.old) (meaning self.new) }
         ensures cause { OnlyFaults (meaning self.old) (meaning self.new) result };
 
     /// Makes an empty folder, or leaves the folder that is there.
@@ -139,6 +154,7 @@ pub trait Disk {
         ensures named { IsTrue honest → OnOk result (name.now ≢ []) }
         ensures housed { IsTrue honest → OnOk result (HasFolder (state_in (meaning self.old)) name.now) }
         ensures err { IsTrue honest → OnErr result (Took (meaning self.old) (meaning self.new) []) }
+        ensures judged { IsTrue honest → Judged (CanMakeFolder (state_in (meaning self.old)) name.now) (meaning self.old) (meaning self.new) }
         ensures cause { OnlyFaults (meaning self.old) (meaning self.new) result };
 
     /// Syncs the names right in a folder, "" being the root: a crash from then on leaves those that
@@ -149,5 +165,9 @@ pub trait Disk {
         ensures ok { IsTrue honest → OnOk result (Took (meaning self.old) (meaning self.new) (SyncFolder name.now ∷ [])) }
         ensures there { IsTrue honest → OnOk result (IsThere (standing (state_in (meaning self.old))) name.now) }
         ensures err { IsTrue honest → OnErr result (Took (meaning self.old) (meaning self.new) []) }
+        ensures judged { IsTrue honest → Judged (IsThere (standing (state_in (meaning self.old))) name.now) (meaning self.old) (meaning self.new) }
         ensures cause { OnlyFaults (meaning self.old) (meaning self.new) result };
+
+    // the folder of each name that is there stands too
+    ghost housed: { (disk : Self) → IsTrue honest → IsHoused (state_in (meaning disk)) };
 }

@@ -1,13 +1,13 @@
 //! Named entries, and the list of their changes.
 
 ghost use Rattle.std.specs.Prelude.{◌≡◌, ◌≢◌, ◌↔◌, ◌⊎◌, [], ◌∷◌, IfOk, IfErr, IsOkUnless, OnOk, OnErr, IsTrue};
-ghost use Rattle.fjall_base.specs.Disk.{Took, Append, Sync, Loosen, Cut, Put, SyncFolder, HasFolder, IsThere, standing, put, Reads, IsFile, IsLong};
+ghost use Rattle.fjall_base.specs.Disk.{Took, Append, Sync, Loosen, Cut, Put, SyncFolder, HasFolder, IsThere, standing, put, Reads, IsFile, IsLong, IsNoFile, IsNoFolder, IsEmpty, CanCreate, CanMakeFolder, CanRemoveFolder};
 ghost use Rattle.fjall_base.specs.Memory.{entry_of, IsKind, state_of};
 ghost use Rattle.fjall_base.specs.Crash.{IsHoused};
 
 use crate::node::{
-    Change, FileChange, Kind, Named, Node, alter_at, folder_name, is_there, kind_at, push_reserved,
-    put_at, read_at, settle_names,
+    Change, FileChange, Kind, Named, Node, alter_at, folder_name, holds_any, is_long_at, is_there,
+    kind_at, push_reserved, put_at, read_at, settle_names,
 };
 use crate::{Error, Result};
 use std::alloc::{AllocError, Global};
@@ -58,6 +58,68 @@ impl Files {
         ensures { IsTrue result ↔ IsThere (standing (state_of self.now.names.items)) folder.now }
     {
         is_there(self.names.as_slice(), folder.as_bytes())
+    }
+
+    /// Whether a file has the name.
+    pub fn is_file(&self, name: &str) -> bool
+        ensures { IsTrue result ↔ IsFile (state_of self.now.names.items name.now).now }
+    {
+        match self.kind(name) {
+            Kind::File => true,
+            _ => false,
+        }
+    }
+
+    /// Whether a file of at least so many bytes has the name.
+    pub fn is_long(&self, name: &str, len: usize) -> bool
+        ensures { IsTrue result ↔ IsLong len (state_of self.now.names.items name.now).now }
+    {
+        is_long_at(self.names.as_slice(), name, len)
+    }
+
+    /// Whether no folder has the name.
+    pub fn is_no_folder(&self, name: &str) -> bool
+        ensures { IsTrue result ↔ IsNoFolder (state_of self.now.names.items name.now).now }
+    {
+        match self.kind(name) {
+            Kind::Folder => false,
+            _ => true,
+        }
+    }
+
+    // Whether no file has the name.
+    fn is_no_file(&self, name: &str) -> bool
+        ensures { IsTrue result ↔ IsNoFile (state_of self.now.names.items name.now).now }
+    {
+        match self.kind(name) {
+            Kind::File => false,
+            _ => true,
+        }
+    }
+
+    /// Whether a file can be made there, or is there.
+    pub fn can_create(&self, name: &str) -> bool
+        ensures { IsTrue result ↔ CanCreate (state_of self.now.names.items) name.now }
+    {
+        self.has_room(name) && self.is_no_folder(name)
+    }
+
+    /// Whether a folder can be made there, or is there.
+    pub fn can_make_folder(&self, name: &str) -> bool
+        ensures { IsTrue result ↔ CanMakeFolder (state_of self.now.names.items) name.now }
+    {
+        self.has_room(name) && self.is_no_file(name)
+    }
+
+    /// Whether an empty folder is there, or nothing.
+    pub fn can_remove_folder(&self, name: &str) -> bool
+        ensures { IsTrue result ↔ CanRemoveFolder (state_of self.now.names.items) name.now }
+    {
+        match self.kind(name) {
+            Kind::Missing => true,
+            Kind::File => false,
+            Kind::Folder => !holds_any(self.names.as_slice(), name),
+        }
     }
 
     /// Adds bytes at the end of a file.

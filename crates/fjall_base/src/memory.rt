@@ -19,6 +19,8 @@ use std::io::ErrorKind;
 #[derive(Drop)]
 struct Failing {
     count: u64,
+    // how many of them were calls that no disk can serve
+    misuses: u64,
     call: u64,
     // how many bytes of an append that is to fail go out first
     part: usize,
@@ -30,9 +32,21 @@ impl Failing {
         ensures io { result ≡ Error.Io ErrorKind.Other }
         ensures rose { Rose self.old.count self.new.count }
         ensures later { self.old.count ≤ self.new.count }
+        ensures misuses { self.new.misuses ≡ self.old.misuses }
     {
         self.count = self.count.saturating_add(1);
         Error::Io(ErrorKind::Other)
+    }
+
+    // Counts a call that no disk can serve, which is a fault too.
+    fn misuse(&mut self) -> Error
+        ensures io { result ≡ Error.Io ErrorKind.Other }
+        ensures rose { Rose self.old.count self.new.count }
+        ensures later { self.old.count ≤ self.new.count }
+        ensures misuses { Rose self.old.misuses self.new.misuses }
+    {
+        self.misuses = self.misuses.saturating_add(1);
+        self.fault()
     }
 
     // Counts a device call, and says whether it is the one that is to fail.
@@ -40,6 +54,7 @@ impl Failing {
         ensures strikes { IsTrue result ↔ (self.old.call ≡ 1) }
         ensures call { self.new.call ≡ self.old.call - 1 }
         ensures count { self.new.count ≡ self.old.count }
+        ensures misuses { self.new.misuses ≡ self.old.misuses }
     {
         if self.call == 0 {
             return false;
@@ -64,7 +79,7 @@ impl MemoryDisk {
 
     /// An empty disk, without a fault. It allocates nothing.
     pub fn new(alloc: Global) -> MemoryDisk
-        ensures meaning { meaning_in result ≡ record { places = []; steps = []; faults = 0 } }
+        ensures meaning { meaning_in result ≡ record { places = []; steps = []; faults = 0; misuses = 0 } }
     {
         MemoryDisk {
             files: Files {
@@ -74,6 +89,7 @@ impl MemoryDisk {
             },
             failing: Failing {
                 count: 0,
+                misuses: 0,
                 call: 0,
                 part: 0,
             },
@@ -126,7 +142,7 @@ impl MemoryDisk {
 impl Disk for MemoryDisk {
     ghost honest = { true };
 
-    ghost meaning = { λ disk. record { places = map named_place disk.files.names.items; steps = map step_of disk.files.log.items; faults = disk.failing.count } };
+    ghost meaning = { λ disk. record { places = map named_place disk.files.names.items; steps = map step_of disk.files.log.items; faults = disk.failing.count; misuses = disk.failing.misuses } };
 
     fn faults(&self) -> u64 {
         self.failing.count
@@ -166,7 +182,11 @@ impl Disk for MemoryDisk {
     }
 
     fn create(&mut self, name: &str) -> Result<()> {
-        if self.failing.strikes() || !self.files.has_room(name) {
+        let strikes = self.failing.strikes();
+        if !self.files.can_create(name) {
+            return Err(self.failing.misuse());
+        }
+        if strikes {
             return Err(self.failing.fault());
         }
         match self.files.kind(name) {
@@ -187,7 +207,11 @@ impl Disk for MemoryDisk {
     }
 
     fn append(&mut self, name: &str, bytes: &[u8]) -> Result<()> {
-        if self.failing.strikes() {
+        let strikes = self.failing.strikes();
+        if !self.files.is_file(name) {
+            return Err(self.failing.misuse());
+        }
+        if strikes {
             let part = self.failing.part.min(bytes.len());
             let _ = self.files.append(name, &bytes[..part]);
             return Err(self.failing.fault());
@@ -199,21 +223,33 @@ impl Disk for MemoryDisk {
     }
 
     fn sync(&mut self, name: &str) -> Result<()> {
-        if self.failing.strikes() || self.files.sync(name).is_err() {
+        let strikes = self.failing.strikes();
+        if !self.files.is_file(name) {
+            return Err(self.failing.misuse());
+        }
+        if strikes || self.files.sync(name).is_err() {
             return Err(self.failing.fault());
         }
         Ok(())
     }
 
     fn cut_sync(&mut self, name: &str, len: usize) -> Result<()> {
-        if self.failing.strikes() || self.files.cut(name, len).is_err() {
+        let strikes = self.failing.strikes();
+        if !self.files.is_long(name, len) {
+            return Err(self.failing.misuse());
+        }
+        if strikes || self.files.cut(name, len).is_err() {
             return Err(self.failing.fault());
         }
         Ok(())
     }
 
     fn remove(&mut self, name: &str) -> Result<()> {
-        if self.failing.strikes() {
+        let strikes = self.failing.strikes();
+        if !self.files.is_no_folder(name) {
+            return Err(self.failing.misuse());
+        }
+        if strikes {
             return Err(self.failing.fault());
         }
         match self.files.kind(name) {
@@ -229,7 +265,11 @@ impl Disk for MemoryDisk {
     }
 
     fn remove_folder(&mut self, name: &str) -> Result<()> {
-        if self.failing.strikes() {
+        let strikes = self.failing.strikes();
+        if !self.files.can_remove_folder(name) {
+            return Err(self.failing.misuse());
+        }
+        if strikes {
             return Err(self.failing.fault());
         }
         match self.files.kind(name) {
@@ -248,7 +288,11 @@ impl Disk for MemoryDisk {
     }
 
     fn make_folder(&mut self, name: &str) -> Result<()> {
-        if self.failing.strikes() || !self.files.has_room(name) {
+        let strikes = self.failing.strikes();
+        if !self.files.can_make_folder(name) {
+            return Err(self.failing.misuse());
+        }
+        if strikes {
             return Err(self.failing.fault());
         }
         match self.files.kind(name) {
@@ -264,12 +308,15 @@ impl Disk for MemoryDisk {
     }
 
     fn sync_folder(&mut self, name: &str) -> Result<()> {
-        if self.failing.strikes() || !self.files.is_there(name) {
-            return Err(self.failing.fault());
+        let strikes = self.failing.strikes();
+        if !self.files.is_there(name) {
+            return Err(self.failing.misuse());
         }
-        if self.files.sync_folder(name).is_err() {
+        if strikes || self.files.sync_folder(name).is_err() {
             return Err(self.failing.fault());
         }
         Ok(())
     }
+
+    ghost housed = { λ disk honest. disk.files.housed };
 }

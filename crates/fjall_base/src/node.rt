@@ -155,6 +155,18 @@ impl Node {
         }
     }
 
+    /// Whether it is a file of at least so many bytes.
+    pub fn is_long(&self, len: usize) -> bool
+        ensures { IsTrue result ↔ IsLong len (entry_of self.now) }
+    {
+        match self {
+            Node::File { synced, unsynced } => {
+                len <= synced.len() || len - synced.len() <= unsynced.len()
+            }
+            _ => false,
+        }
+    }
+
     /// What a read of it gives.
     pub fn read(&self, alloc: Global) -> Result<Option<Vec<u8>>, AllocError>
         ensures { IfOk result (Reads (entry_of self.now)) }
@@ -261,6 +273,16 @@ pub fn kind_at(names: &[Named], name: &str) -> Kind
     match find(names, name) {
         Some(at) => names[at].now.kind(),
         None => Kind::Missing,
+    }
+}
+
+/// Whether a file of at least so many bytes has a name.
+pub fn is_long_at(names: &[Named], name: &str, len: usize) -> bool
+    ensures { IsTrue result ↔ IsLong len (state_of names.now name.now).now }
+{
+    match find(names, name) {
+        Some(at) => names[at].now.is_long(len),
+        None => false,
     }
 }
 

@@ -65,6 +65,7 @@ fn compare(bytes: &[u8], wanted: &[u8]) -> Found
 fn find<D: Disk>(alloc: Global, disk: &mut D, name: &str, wanted: &[u8]) -> Result<Found>
     ensures found { IsTrue D.honest → IfOk result (λ found. IsFound found wanted.now (text_in (standing (state_in (D.meaning disk.old)) name.now))) }
     ensures same { IsTrue D.honest → Took (D.meaning disk.old) (D.meaning disk.new) [] }
+    ensures served { IsTrue D.honest → (D.meaning disk.new).misuses ≡ (D.meaning disk.old).misuses }
     ensures cause { HasCause (D.meaning disk.old) (D.meaning disk.new) result }
 {
     match disk.read(alloc, name)? {
@@ -77,6 +78,7 @@ fn find<D: Disk>(alloc: Global, disk: &mut D, name: &str, wanted: &[u8]) -> Resu
 fn list_ids<D: Disk>(alloc: Global, disk: &mut D) -> Result<Vec<u64>>
     ensures ids { IsTrue D.honest → IfOk result (λ ids. AreJournalIds (standing (state_in (D.meaning disk.old))) ids.items) }
     ensures same { IsTrue D.honest → Took (D.meaning disk.old) (D.meaning disk.new) [] }
+    ensures served { IsTrue D.honest → (D.meaning disk.new).misuses ≡ (D.meaning disk.old).misuses }
     ensures later { (D.meaning disk.old).faults ≤ (D.meaning disk.new).faults }
     ensures risen { IfErr result (HasRisen (D.meaning disk.old).faults (D.meaning disk.new).faults) }
     ensures cause { IsTrue D.honest → JournalsAreNamed (standing (state_in (D.meaning disk.old))) → IfErr result (IsDue (λ error. ⊥)) }
@@ -90,6 +92,7 @@ fn journal_ids<D: Disk>(alloc: Global, disk: &mut D) -> Result<Vec<u64>>
     ensures ids { IsTrue D.honest → IfOk result (λ ids. AreToBe (standing (state_in (D.meaning disk.old))) ids.items) }
     ensures some { IfOk result (λ ids. ids.items ≢ []) }
     ensures same { IsTrue D.honest → Took (D.meaning disk.old) (D.meaning disk.new) [] }
+    ensures served { IsTrue D.honest → (D.meaning disk.new).misuses ≡ (D.meaning disk.old).misuses }
     ensures later { (D.meaning disk.old).faults ≤ (D.meaning disk.new).faults }
     ensures risen { IfErr result (HasRisen (D.meaning disk.old).faults (D.meaning disk.new).faults) }
     ensures cause { IsTrue D.honest → JournalsAreNamed (standing (state_in (D.meaning disk.old))) → IfErr result (IsDue (λ error. ⊥)) }
@@ -143,6 +146,7 @@ pub fn plan_beginning<D: Disk>(alloc: Global, disk: &mut D) -> Result<Plan>
     ensures plan { IsTrue D.honest → IfOk result (IsPlan (standing (state_in (D.meaning disk.old)))) }
     ensures active { IsTrue D.honest → IfOk result (λ plan. IsActive (standing (state_in (D.meaning disk.old))) plan.active) }
     ensures same { IsTrue D.honest → Took (D.meaning disk.old) (D.meaning disk.new) [] }
+    ensures served { IsTrue D.honest → (D.meaning disk.new).misuses ≡ (D.meaning disk.old).misuses }
     ensures later { (D.meaning disk.old).faults ≤ (D.meaning disk.new).faults }
     ensures risen { IfErr result (HasRisen (D.meaning disk.old).faults (D.meaning disk.new).faults) }
     ensures cause { IsTrue D.honest → JournalsAreNamed (standing (state_in (D.meaning disk.old))) → IfErr result (IsDue (λ error. ⊥)) }

@@ -1,6 +1,7 @@
 pub mod Naming
 pub mod Resting
 pub mod Runs
+pub mod Serving
 pub mod Commits
 pub mod Shapes
 pub mod Meanings

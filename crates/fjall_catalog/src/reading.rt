@@ -67,6 +67,7 @@ fn read_entries<D: Disk>(
     requires { IsAtLevel1 table }
     ensures ok { IsTrue D.honest → IfOk result (λ entries. HoldsEntries (standing (state_in (D.meaning disk.old))) table entries.items) }
     ensures same { IsTrue D.honest → Took (D.meaning disk.old) (D.meaning disk.new) [] }
+    ensures served { IsTrue D.honest → (D.meaning disk.new).misuses ≡ (D.meaning disk.old).misuses }
     ensures refused { IsTrue D.honest → IfErr result (IsTableRefused (standing (state_in (D.meaning disk.old))) table (D.meaning disk.old).faults (D.meaning disk.new).faults) }
     ensures later { (D.meaning disk.old).faults ≤ (D.meaning disk.new).faults }
     ensures fault { IfErr result (IsFaultIfIo (D.meaning disk.old).faults (D.meaning disk.new).faults) }
@@ -97,6 +98,7 @@ pub fn read_catalog<D: Disk>(alloc: Global, disk: &mut D) -> Result<Found>
     ensures end { IsTrue D.honest → IfOk result (λ found. (records : List Fields) × IsRecords (records_in (standing (state_in (D.meaning disk.old)))) records found.end) }
     ensures torn { IsTrue D.honest → IfOk result (λ found. IsTrue found.is_torn ↔ (found.end < length (records_in (standing (state_in (D.meaning disk.old)))))) }
     ensures same { IsTrue D.honest → Took (D.meaning disk.old) (D.meaning disk.new) [] }
+    ensures served { IsTrue D.honest → (D.meaning disk.new).misuses ≡ (D.meaning disk.old).misuses }
     ensures refused { IsTrue D.honest → IfErr result (IsRefusal (standing (state_in (D.meaning disk.old))) (D.meaning disk.old).faults (D.meaning disk.new).faults) }
     ensures later { (D.meaning disk.old).faults ≤ (D.meaning disk.new).faults }
     ensures fault { IfErr result (IsFaultIfIo (D.meaning disk.old).faults (D.meaning disk.new).faults) }

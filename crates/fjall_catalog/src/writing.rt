@@ -1,10 +1,10 @@
 //! A change of the catalog on the disk: the new table, the record that makes it count, and the removal of the old table.
 
-ghost use Rattle.std.specs.Prelude.{◌≡◌, ◌++◌, ◌∷◌, [], ℕ, List, OnOk, IsTrue};
-ghost use Rattle.fjall_base.specs.Disk.{LeavesOnly, OnlyFaults, state_in};
+ghost use Rattle.std.specs.Prelude.{◌≡◌, ◌++◌, ◌∷◌, [], ℕ, List, IfSome, OnOk, IsTrue};
+ghost use Rattle.fjall_base.specs.Disk.{IsNoFolder, LeavesOnly, Name, OnlyFaults, state_in};
 ghost use Rattle.fjall_regions.specs.Regions.{Within};
 ghost use Rattle.fjall_tree.specs.Records.{Fields, IsRecord};
-ghost use Rattle.fjall_recovery.specs.Names.{keyspace_folder};
+ghost use Rattle.fjall_recovery.specs.Names.{keyspace_folder, table_name};
 ghost use Rattle.fjall_keyspaces.specs.Keyspaces.{AreKeyspaces, Keyspaces};
 ghost use Rattle.fjall_catalog.specs.Catalog.{fields, Says, IsReady};
 ghost use Rattle.fjall_catalog.specs.Updates.{IsUpdate, IsWritten, SaysEither};
@@ -29,6 +29,8 @@ pub fn write_table<D: Disk>(disk: &mut D, update: &Update) -> Result<()>
         → LeavesOnly (D.meaning disk.old) (D.meaning disk.new) (λ image. Says image records old s) }
     ensures ok { IsTrue D.honest → (records : List Fields) (old : Catalog) (s t : Keyspaces) (number : ℕ) → IsReady (state_in (D.meaning disk.old)) records old s → IsUpdate old t number update.now
         → OnOk result (IsWritten (state_in (D.meaning disk.new)) records old s update.now.catalog t) }
+    ensures served { IsTrue D.honest → (records : List Fields) (old : Catalog) (s t : Keyspaces) (number : ℕ) → IsReady (state_in (D.meaning disk.old)) records old s → IsUpdate old t number update.now
+        → (D.meaning disk.new).misuses ≡ (D.meaning disk.old).misuses }
     ensures cause { OnlyFaults (D.meaning disk.old) (D.meaning disk.new) result }
 {
     let Some(table) = &update.table else {
@@ -48,6 +50,8 @@ pub fn commit<D: Disk>(disk: &mut D, update: &Update) -> Result<()>
     ensures ok { IsTrue D.honest → (records : List Fields) (old : Catalog) (s t : Keyspaces) (number : ℕ) → AreKeyspaces t → IsUpdate old t number update.now
         → IsWritten (state_in (D.meaning disk.old)) records old s update.now.catalog t
         → OnOk result (IsReady (state_in (D.meaning disk.new)) (records ++ fields update.now.catalog ∷ []) update.now.catalog t) }
+    ensures kinds { IsTrue D.honest → (q : Name) → IsNoFolder (state_in (D.meaning disk.old) q).now → IsNoFolder (state_in (D.meaning disk.new) q).now }
+    ensures served { IsTrue D.honest → (records : List Fields) (old next : Catalog) (s t : Keyspaces) → IsWritten (state_in (D.meaning disk.old)) records old s next t → (D.meaning disk.new).misuses ≡ (D.meaning disk.old).misuses }
     ensures cause { OnlyFaults (D.meaning disk.old) (D.meaning disk.new) result }
 {
     disk.append(CURRENT, &update.record_text)?;
@@ -65,6 +69,8 @@ pub fn remove_old<D: Disk>(disk: &mut D, update: &Update) -> Result<()>
     // It stays ready, also where the call fails.
     ensures ready { IsTrue D.honest → (records : List Fields) (old : Catalog) (t : Keyspaces) (number : ℕ) → IsUpdate old t number update.now → IsRecord (fields old)
         → IsReady (state_in (D.meaning disk.old)) records update.now.catalog t → IsReady (state_in (D.meaning disk.new)) records update.now.catalog t }
+    ensures served { IsTrue D.honest → (old : Catalog) (t : Keyspaces) (number : ℕ) → IsUpdate old t number update.now → IfSome old.table (λ table. IsNoFolder (state_in (D.meaning disk.old) (table_name 0 table.id)).now)
+        → (D.meaning disk.new).misuses ≡ (D.meaning disk.old).misuses }
     ensures cause { OnlyFaults (D.meaning disk.old) (D.meaning disk.new) result }
 {
     let Some(name) = &update.old_table else {

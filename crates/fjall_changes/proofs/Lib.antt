@@ -4,3 +4,4 @@ pub mod Beside
 pub mod Changed
 pub mod Nexts
 pub mod Building
+pub mod Served

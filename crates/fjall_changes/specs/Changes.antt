@@ -1,6 +1,6 @@
 -- A keyspace that is made or deleted on the disk: the tree before it and after it.
 use Rattle.std.specs.Prelude.{◌≡◌, ◌⊎◌, ℕ, List, [], ◌∷◌, ◌++◌, string_bytes}
-use Rattle.fjall_base.specs.Disk.{Image, State}
+use Rattle.fjall_base.specs.Disk.{Image, IsNoFile, IsNoFolder, State}
 use Rattle.fjall_tree.specs.Records.{record_text}
 use Rattle.fjall_recovery.specs.Names.{keyspace_folder, current_name}
 use Rattle.fjall_keyspaces.specs.Keyspaces.{AreKeyspaces, Keyspaces, with_keyspace, without_keyspace}
@@ -45,3 +45,8 @@ pub record AreHoused (state : State) (next : Tree) : Type 0 where
   pub are : AreKeyspaces next.keyspaces
   pub made : AreMade next.last next.keyspaces
   pub homes : HaveSafeHomes state next.keyspaces.living next.homes
+
+-- Where the keyspace of this id is to stand there is room: no file in the place of its folder, no folder in that of its file.
+pub record HasRoom (state : State) (id : ℕ) : Type 0 where
+  pub folder : IsNoFile (state (keyspace_folder id)).now
+  pub current : IsNoFolder (state (current_name id)).now

@@ -24,6 +24,8 @@ pub(crate) fn change_tree<D: Disk>(disk: &mut D, update: &Update) -> Result<()>
         → next.last ≡ update.now.catalog → IsUpdate t.last next.keyspaces number update.now → LeavesOnly (D.meaning disk.old) (D.meaning disk.new) (HasEither t next) }
     ensures ok { IsTrue D.honest → (records : List Fields) (t next : Tree) (number : ℕ) → LiesInTree (state_in (D.meaning disk.old)) records t → AreHoused (state_in (D.meaning disk.old)) next
         → next.last ≡ update.now.catalog → IsUpdate t.last next.keyspaces number update.now → OnOk result (LiesInTree (state_in (D.meaning disk.new)) (records ++ fields update.now.catalog ∷ []) next) }
+    ensures served { IsTrue D.honest → (records : List Fields) (t next : Tree) (number : ℕ) → LiesInTree (state_in (D.meaning disk.old)) records t → AreHoused (state_in (D.meaning disk.old)) next
+        → next.last ≡ update.now.catalog → IsUpdate t.last next.keyspaces number update.now → (D.meaning disk.new).misuses ≡ (D.meaning disk.old).misuses }
     ensures cause { OnlyFaults (D.meaning disk.old) (D.meaning disk.new) result }
 {
     write_table(disk, update)?;

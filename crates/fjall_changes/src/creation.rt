@@ -1,7 +1,7 @@
 //! A keyspace that is made: its folder and its first record are safe before the catalog names it.
 
 ghost use Rattle.std.specs.Prelude.{◌≡◌, ◌<◌, ◌≤◌, ◌^◌, ◌++◌, ◌∷◌, [], true, ℕ, List, IfErr, IfOk, IsTrue, OnOk, codes};
-ghost use Rattle.fjall_base.specs.Disk.{LeavesOnly, OnlyFaults, folder_of, state_in};
+ghost use Rattle.fjall_base.specs.Disk.{CanMakeFolder, IsNoFolder, LeavesOnly, OnlyFaults, folder_of, state_in};
 ghost use Rattle.fjall_regions.specs.Regions.{IsMade, Within, is_under};
 ghost use Rattle.fjall_tree.specs.Records.{Fields};
 ghost use Rattle.fjall_keyspaces.specs.Keyspaces.{AreKeyspaces, Keyspaces};
@@ -11,7 +11,7 @@ ghost use Rattle.fjall_catalog.specs.Updates.{IsPreparingRefusal};
 ghost use Rattle.fjall_opening.specs.Folders.{past_record};
 ghost use Rattle.fjall_places.specs.Halves.{HasTree, Tree};
 ghost use Rattle.fjall_places.specs.Places.{HasSafeHome, LiesInTree};
-ghost use Rattle.fjall_changes.specs.Changes.{HasEither, IsCreation, with_home};
+ghost use Rattle.fjall_changes.specs.Changes.{HasEither, HasRoom, IsCreation, with_home};
 ghost use Rattle.fjall_changes.specs.Removals.{IsUnused};
 
 use crate::change::change_tree;
@@ -66,6 +66,7 @@ pub fn prepare_creation(
 fn write_home<D: Disk>(disk: &mut D, folder: &str, current: &str, record_text: &[u8]) -> Result<()>
     ensures made { IsTrue D.honest → folder_of current.now ≡ folder.now → OnOk result (IsMade (state_in (D.meaning disk.new)) folder.now current.now record_text.now) }
     ensures within { IsTrue D.honest → is_under folder.now current.now ≡ true → Within folder.now (D.meaning disk.old) (D.meaning disk.new) }
+    ensures served { IsTrue D.honest → folder_of current.now ≡ folder.now → CanMakeFolder (state_in (D.meaning disk.old)) folder.now → IsNoFolder (state_in (D.meaning disk.old) current.now).now → (D.meaning disk.new).misuses ≡ (D.meaning disk.old).misuses }
     ensures cause { OnlyFaults (D.meaning disk.old) (D.meaning disk.new) result }
 {
     disk.make_folder(folder)?;
@@ -84,6 +85,9 @@ fn build_home<D: Disk>(disk: &mut D, creation: &Creation) -> Result<()>
         → IsCreation old s id number creation.now → LiesInTree (state_in (D.meaning disk.new)) records t }
     ensures home { IsTrue D.honest → (old : Catalog) (s : Keyspaces) (id number : ℕ) → id < 2 ^ 64 → IsCreation old s id number creation.now
         → OnOk result (HasSafeHome (state_in (D.meaning disk.new)) id (fields (first_of number))) }
+    // A folder that is already there may be used; a file in its place, or a folder in that of its file, no disk can pass by.
+    ensures served { IsTrue D.honest → (records : List Fields) (t : Tree) (old : Catalog) (s : Keyspaces) (id number : ℕ) → id < 2 ^ 64 → LiesInTree (state_in (D.meaning disk.old)) records t → IsCreation old s id number creation.now
+        → HasRoom (state_in (D.meaning disk.old)) id → (D.meaning disk.new).misuses ≡ (D.meaning disk.old).misuses }
     ensures cause { OnlyFaults (D.meaning disk.old) (D.meaning disk.new) result }
 {
     let folder = creation.folder.as_str();
@@ -111,6 +115,9 @@ pub fn create_home<D: Disk>(disk: &mut D, creation: &Creation) -> Result<()>
     ensures ok { IsTrue D.honest → (records : List Fields) (t : Tree) (name : List ℕ) (options : List (List ℕ)) (number : ℕ) → let next = with_home name options number creation.now.update.catalog t in
         LiesInTree (state_in (D.meaning disk.old)) records t → IsCreation t.last next.keyspaces t.keyspaces.next number creation.now → AreKeyspaces next.keyspaces → past_record (fields t.last) ≤ number
         → t.keyspaces.next < 2 ^ 64 → OnOk result (LiesInTree (state_in (D.meaning disk.new)) (records ++ fields creation.now.update.catalog ∷ []) next) }
+    ensures served { IsTrue D.honest → (records : List Fields) (t : Tree) (name : List ℕ) (options : List (List ℕ)) (number : ℕ) → let next = with_home name options number creation.now.update.catalog t in
+        LiesInTree (state_in (D.meaning disk.old)) records t → IsCreation t.last next.keyspaces t.keyspaces.next number creation.now → AreKeyspaces next.keyspaces → past_record (fields t.last) ≤ number
+        → t.keyspaces.next < 2 ^ 64 → HasRoom (state_in (D.meaning disk.old)) t.keyspaces.next → (D.meaning disk.new).misuses ≡ (D.meaning disk.old).misuses }
     ensures cause { OnlyFaults (D.meaning disk.old) (D.meaning disk.new) result }
 {
     build_home(disk, creation)?;

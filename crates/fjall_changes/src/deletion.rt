@@ -1,6 +1,6 @@
 //! A keyspace that is deleted: the catalog names it no more, and its files stay until they are removed.
 
-ghost use Rattle.std.specs.Prelude.{◌≤◌, ◌++◌, ◌∷◌, [], ℕ, List, IsTrue, OnOk, codes};
+ghost use Rattle.std.specs.Prelude.{◌≡◌, ◌≤◌, ◌++◌, ◌∷◌, [], ℕ, List, IsTrue, OnOk, codes};
 ghost use Rattle.fjall_base.specs.Disk.{LeavesOnly, OnlyFaults, state_in};
 ghost use Rattle.fjall_regions.specs.Regions.{Within};
 ghost use Rattle.fjall_tree.specs.Records.{Fields};
@@ -30,6 +30,8 @@ pub fn delete_home<D: Disk>(disk: &mut D, update: &Update) -> Result<()>
     ensures ok { IsTrue D.honest → (records : List Fields) (t : Tree) (id number : ℕ) → let next = without_home id update.now.catalog t in
         LiesInTree (state_in (D.meaning disk.old)) records t → IsUpdate t.last (without_keyspace id t.keyspaces) number update.now → past_record (fields t.last) ≤ number
         → OnOk result (LiesInTree (state_in (D.meaning disk.new)) (records ++ fields update.now.catalog ∷ []) next) }
+    ensures served { IsTrue D.honest → (records : List Fields) (t : Tree) (id number : ℕ) → LiesInTree (state_in (D.meaning disk.old)) records t → IsUpdate t.last (without_keyspace id t.keyspaces) number update.now → past_record (fields t.last) ≤ number
+        → (D.meaning disk.new).misuses ≡ (D.meaning disk.old).misuses }
     ensures cause { OnlyFaults (D.meaning disk.old) (D.meaning disk.new) result }
 {
     change_tree(disk, update)

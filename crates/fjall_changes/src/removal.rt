@@ -1,10 +1,10 @@
 //! A deleted keyspace whose files are removed: the keyspaces that live stay as they are.
 
-ghost use Rattle.std.specs.Prelude.{◌≡◌, ◌<◌, ◌^◌, true, ℕ, List, All, IfOk, IsOkUnless, IsTrue, OnOk, codes, string_bytes};
+ghost use Rattle.std.specs.Prelude.{◌≡◌, ◌<◌, ◌^◌, [], ◌∷◌, map, true, ℕ, List, All, IfOk, IsOkUnless, IsTrue, OnOk, codes, string_bytes};
 ghost use Rattle.fjall_base.specs.Disk.{LeavesOnly, Missing, Name, OnlyFaults, state_in};
-ghost use Rattle.fjall_regions.specs.Regions.{Within, is_under};
+ghost use Rattle.fjall_regions.specs.Regions.{HoldsOnly, Within, is_under};
 ghost use Rattle.fjall_tree.specs.Records.{Fields};
-ghost use Rattle.fjall_recovery.specs.Names.{keyspace_folder};
+ghost use Rattle.fjall_recovery.specs.Names.{current_name, keyspace_folder};
 ghost use Rattle.fjall_catalog.specs.Catalog.{only};
 ghost use Rattle.fjall_places.specs.Halves.{HasTree, Tree};
 ghost use Rattle.fjall_places.specs.Places.{LiesInTree};
@@ -41,6 +41,8 @@ pub fn prepare_removal(alloc: Global, id: u64) -> Result<Removal>
 /// Removes files, where they are there. A crash may bring each of them back until its folder is synced.
 fn remove_files<D: Disk>(disk: &mut D, files: &[String]) -> Result<()>
     ensures within { IsTrue D.honest → (folder : Name) → All (λ file. is_under folder (string_bytes file) ≡ true) files.now → Within folder (D.meaning disk.old) (D.meaning disk.new) }
+    ensures served { IsTrue D.honest → (folder : Name) → HoldsOnly (state_in (D.meaning disk.old)) folder (map string_bytes files.now) → (D.meaning disk.new).misuses ≡ (D.meaning disk.old).misuses }
+    ensures emptied { IsTrue D.honest → (folder : Name) → HoldsOnly (state_in (D.meaning disk.old)) folder (map string_bytes files.now) → OnOk result (HoldsOnly (state_in (D.meaning disk.new)) folder []) }
     ensures cause { OnlyFaults (D.meaning disk.old) (D.meaning disk.new) result }
 {
     for file in files {
@@ -64,6 +66,8 @@ pub fn remove_keyspace<D: Disk>(disk: &mut D, removal: &Removal) -> Result<()>
     ensures gone { IsTrue D.honest → (id : ℕ) → IsRemoval id removal.now → OnOk result ((state_in (D.meaning disk.new) (keyspace_folder id)).now ≡ Missing) }
     // No crash brings it back.
     ensures stays_gone { IsTrue D.honest → (id : ℕ) → id < 2 ^ 64 → IsRemoval id removal.now → OnOk result (state_in (D.meaning disk.new) (keyspace_folder id) ≡ only Missing) }
+    ensures served { IsTrue D.honest → (records : List Fields) (t : Tree) (id : ℕ) → IsRemoval id removal.now → LiesInTree (state_in (D.meaning disk.old)) records t
+        → HoldsOnly (state_in (D.meaning disk.old)) (keyspace_folder id) (current_name id ∷ []) → (D.meaning disk.new).misuses ≡ (D.meaning disk.old).misuses }
     ensures cause { OnlyFaults (D.meaning disk.old) (D.meaning disk.new) result }
 {
     remove_files(disk, &removal.files)?;

@@ -23,7 +23,7 @@ use Rattle.fjall_places.specs.Halves.{HasTree, Tree}
 use Rattle.fjall_places.specs.Places.{Journaling, LiesInRoot, LiesInTree, contents_with, journals_with}
 use Rattle.fjall_places.proofs.Roots.{crashes_leave_the_root, fewer_sound}
 use Rattle.fjall_changes.specs.declared.creation.Creation.{Creation}
-use Rattle.fjall_changes.specs.Changes.{IsCreation, with_home, without_home}
+use Rattle.fjall_changes.specs.Changes.{HasRoom, IsCreation, with_home, without_home}
 use Rattle.fjall_machine.specs.Remembered.{Remembered, with_creation, with_deletion}
 use Rattle.fjall_core.specs.Holding.{Held}
 use Rattle.fjall_core.specs.Turns as turns
@@ -93,6 +93,15 @@ creation_changed mid new base name options creation done lies none is were are d
       journal = core.journal_is;
     })
 
+-- no call of it was one that no disk can serve
+pub creation_served : (mid new : Held) (base : Store) (name : List ℕ) (options : List (List ℕ)) (creation : Creation) (done : Bool) (lies : Lies mid (held_on mid base [])) → lies.journals.later ≡ []
+    → IsCreation mid.catalog (with_keyspace name options mid.memory.next mid.memory.keyspaces) mid.memory.keyspaces.next mid.memory.next creation → AreKeyspaces mid.memory.keyspaces
+    → AreKeyspaces (with_keyspace name options mid.memory.next mid.memory.keyspaces) → Made mid new creation done → HasRoom (state_in mid.disk) mid.memory.keyspaces.next → new.disk.misuses ≡ mid.disk.misuses
+creation_served mid new base name options creation done lies none is were are disk room =
+    let t = tree_held mid lies.tree.homes in
+    let there : LiesInTree (state_in mid.disk) lies.records t = subst (λ (x : Tree). LiesInTree (state_in mid.disk) lies.records x) (sym (same_tree mid (held_on mid base []) lies)) lies.in_tree in
+    disk.served lies.records t name options mid.memory.next there is are (below_number lies.journals t mid.memory.next (number_is mid base lies none)).1 were.fits room
+
 -- ---- a deletion
 
 -- the same of a deletion
@@ -122,6 +131,14 @@ deletion_changed mid new base id update done lies none is disk core =
       keyspaces = λ ok. ap (λ (m : Remembered). m.keyspaces) (sym (core.memory_is ok));
       journal = core.journal_is;
     })
+
+-- no call of it was one that no disk can serve
+pub deletion_served : (mid new : Held) (base : Store) (id : ℕ) (update : Update) (done : Bool) (lies : Lies mid (held_on mid base [])) → lies.journals.later ≡ []
+    → IsUpdate mid.catalog (without_keyspace id mid.memory.keyspaces) mid.memory.next update → Unmade mid new update done → new.disk.misuses ≡ mid.disk.misuses
+deletion_served mid new base id update done lies none is disk =
+    let t = tree_held mid lies.tree.homes in
+    let there : LiesInTree (state_in mid.disk) lies.records t = subst (λ (x : Tree). LiesInTree (state_in mid.disk) lies.records x) (sym (same_tree mid (held_on mid base []) lies)) lies.in_tree in
+    disk.served lies.records t id mid.memory.next there is (below_number lies.journals t mid.memory.next (number_is mid base lies none)).1
 
 -- ---- a removal
 

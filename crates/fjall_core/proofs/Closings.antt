@@ -1,7 +1,7 @@
 -- What closing leaves of the disk.
 use Rattle.std.proofs.Common.{◌≡◌, true, false, List, [], ◌∷◌, Some, Result, Ok, Err, refl, sym, ◌∙◌, ap, subst}
 use Rattle.fjall_base.specs.Store.{Store, Command, fold}
-use Rattle.fjall_base.specs.Disk.{Took, state_in}
+use Rattle.fjall_base.specs.Disk.{Meaning, Took, state_in}
 use Rattle.fjall_base.specs.declared.error.Error.{Error}
 use Rattle.fjall_base.specs.declared.error.Error.TheVariants.{Io, Poisoned}
 use Rattle.fjall_journal.specs.declared.persist_mode.PersistMode.TheVariants.{SyncAll}
@@ -14,7 +14,7 @@ use Rattle.fjall_machine.specs.declared.call.Reply.TheVariants.{Refused}
 use Rattle.fjall_machine.specs.Machine as machine
 use Rattle.fjall_core.specs.Holding.{Held}
 use Rattle.fjall_core.specs.Durables.{Durable, Passes}
-use Rattle.fjall_core.specs.Crashes.{attempt}
+use Rattle.fjall_core.specs.Crashes.{BlamesDevice, attempt}
 use Rattle.fjall_core.specs.Standing.{Closes, ClosesDisk, HandsOver, OnDisk, Owes, Serves, StandsFor, StandsOn, reply_of}
 use Rattle.fjall_core.proofs.Dues.{none_due}
 use Rattle.fjall_core.proofs.Leading.{lies_rest}
@@ -33,11 +33,12 @@ no_command s (Io kind) = refl
 no_command s error = refl
 
 -- the steps of a sync hand all over
-synced_out : (old new : Held) → HandsOver old new → Took old.disk new.disk (persist_steps old.journal SyncAll) → HandedOut old new SyncAll true
-synced_out old new hands took = record {
+synced_out : (old new : Held) → HandsOver old new → Took old.disk new.disk (persist_steps old.journal SyncAll) → new.disk.misuses ≡ old.disk.misuses → HandedOut old new SyncAll true
+synced_out old new hands took served = record {
   leaves = λ j writing. persist_leaves old.disk new.disk old.journal j writing SyncAll took;
   lies = λ _ j writing. persist_out old.disk new.disk old.journal j writing SyncAll new.journal took (ap (λ (w : Journal). w.name) hands.journal) (ap (λ (w : Journal). w.buffer) hands.journal);
   elsewhere = λ j writing. persist_apart old.disk new.disk old.journal j writing SyncAll took;
+  served = λ j writing. served;
 }
 
 -- nothing waits for a sync any more, so that the disk holds what it stands for
@@ -58,15 +59,18 @@ synced_closes old new s base pending well hands out stands on =
         tt,
         stands.remembered.present ∙ sym (present_of old (held_on old base pending) false well on) ∙ after.made,
       );
+      device = out.served lies.journals lies.writing;
     }
 
 -- closing leaves what it may
 pub closing : (old new : Held) (result : Result Unit Error) (s : machine.State) (d : Durable) → Owes old (Persist SyncAll) (reply_of result) new → Serves old (Persist SyncAll) (reply_of result) new → StandsFor old s → StandsOn old d → Closes s d result new.disk
 closing old new (Ok _) s d (none, hands) serves stands on =
     let well = (none_due ((old.memory.poisoned, Poisoned) ∷ []) none).0 in
+    let led = serves.crash s d stands on in
+    let served = ap (λ (m : Meaning). m.misuses) (sym led.3.same) ∙ led.5.2 ∙ ap (λ (m : Meaning). m.misuses) on.same in
     let here : d ≡ held_on old d.base d.pending = λ i. record { meaning = on.same i; base = d.base; pending = d.pending } in
     subst (λ (x : Durable). Closes s x (Ok tt) new.disk) (sym here)
-    (synced_closes old new s d.base d.pending well hands (synced_out old new hands serves.disk) stands (subst (λ (x : Durable). StandsOn old x) here on))
+    (synced_closes old new s d.base d.pending well hands (synced_out old new hands serves.disk served) stands (subst (λ (x : Durable). StandsOn old x) here on))
 closing old new (Err error) s d owes serves stands on =
     let led = serves.crash s d stands on in
-    record { after = led.1; same = led.3.same; passes = subst (λ (l : List Command). Passes d l led.1) (no_command s error) led.5.0; closed = tt }
+    record { after = led.1; same = led.3.same; passes = subst (λ (l : List Command). Passes d l led.1) (no_command s error) led.5.0; closed = tt; device = subst (λ (m : Meaning). BlamesDevice (Refused error) d.meaning m) led.3.same led.5.2 }

@@ -1,6 +1,6 @@
 -- What a deletion makes of a core.
 use Rattle.std.proofs.Common.{◌≡◌, inl, inr, ⊎_elim, ℕ, ◌<◌, ◌≤◌, ◌^◌, Bool, true, false, if◌then◌else◌, [], ◌∷◌, None, Ok, Err, refl, sym, ◌∙◌, ap, subst, arith}
-use Rattle.fjall_base.specs.Store.{Delete, apply, kept}
+use Rattle.fjall_base.specs.Store.{Delete, apply, fold, kept}
 use Rattle.fjall_base.specs.Disk.{Meaning}
 use Rattle.fjall_base.specs.Errors.{Rose}
 use Rattle.fjall_base.specs.declared.error.Error.{Error}
@@ -18,14 +18,17 @@ use Rattle.fjall_machine.specs.Remembered.{IsLawful, facts_of, poisoned, with_de
 use Rattle.fjall_machine.proofs.Dues.{may_delete}
 use Rattle.fjall_machine.proofs.Lawful.{deletion_is_lawful}
 use Rattle.fjall_core.specs.Holding.{Held}
-use Rattle.fjall_core.specs.Durables.{Passes}
-use Rattle.fjall_core.specs.Standing.{Deletes, Owes, OwesRefusal, Poisons, Serves, StandsFor, held_due, is_io, store_in}
+use Rattle.fjall_core.specs.Durables.{Durable, Passes}
+use Rattle.fjall_core.specs.Standing.{Deletes, Owes, OwesRefusal, Poisons, Serves, StandsFor, StandsOn, held_due, is_io, store_in}
 use Rattle.fjall_core.specs.Turns.{Turned, Unmakes}
 use Rattle.fjall_core.specs.Turns as turns
-use Rattle.fjall_core.proofs.Changing.{Becomes, deletion_changed}
+use Rattle.fjall_core.proofs.Changing.{Becomes, deletion_changed, deletion_served}
+use Rattle.fjall_core.proofs.Devices.{served_on}
 use Rattle.fjall_core.proofs.Keyspacing.{between, stays}
 use Rattle.fjall_core.proofs.Serving.{led_by, long_owes, long_serves, memory_owes, memory_serves, serves_by, still_led}
 use Rattle.std.proofs.lemmas.Bool.{true≢false}
+use Rattle.fjall_core.proofs.Syncs.{HandedOut, sync_empty, sync_lies}
+use Rattle.fjall_core.proofs.Writes.{held_on}
 use Rattle.fjall_core.proofs.Tables.{deleted_table, long_option, some_left}
 use Rattle.fjall_core.proofs.Turned.{not_done}
 use Rattle.fjall_core.proofs.Ways.{ChangesTo, alter_settles, unaltered_leads, unsynced_leads}
@@ -40,6 +43,17 @@ module _ (old : Held) (id : ℕ) (none : held_due old (DeleteKeyspace id) ≡ No
   changes_by : (made new : Held) (mid : Meaning) (update : Update) (done : Bool) → IsUpdate old.catalog (without_keyspace id old.memory.keyspaces) old.memory.next update
       → turns.Unmade mid new.disk update done → Becomes (between old made mid) new (with_deletion id old.memory) update.catalog done → ChangesTo (between old made mid) new (Delete id) done
   changes_by made new mid update done is disk core base lies empty = deletion_changed (between old made mid) new base id update done lies empty is disk core
+
+  -- wherever the core stood, no call was one that no disk can serve
+  served_by : (made new : Held) (mid : Meaning) (update : Update) (done : Bool) → IsUpdate old.catalog (without_keyspace id old.memory.keyspaces) old.memory.next update
+      → turns.Unmade mid new.disk update done → HandedOut old (between old made mid) SyncAll true → (d : Durable) → StandsOn old d → new.disk.misuses ≡ old.disk.misuses
+  served_by made new mid update done is disk out d on =
+      let here : d ≡ held_on old d.base d.pending = λ i. record { meaning = on.same i; base = d.base; pending = d.pending } in
+      let lies = (subst (λ (x : Durable). StandsOn old x) here on).lies room.well in
+      let same = stays old made mid in
+      let after = sync_lies old (between old made mid) d.base d.pending same lies out in
+      let none = sync_empty old (between old made mid) d.base d.pending same lies out in
+      deletion_served (between old made mid) new (fold d.base d.pending) id update done after none is disk ∙ out.served lies.journals lies.writing
 
   -- memory after it
   abbrev pub Deleted : Held → Held → Type 0
@@ -65,7 +79,8 @@ module _ (old : Held) (id : ℕ) (none : held_due old (DeleteKeyspace id) ≡ No
   deleted_serves honest made new lawful all is true_ =
       let turned = all.4 true_ in
       let disk : new.disk ≡ made.disk = ap (λ (h : Held). h.disk) is in
-      serves_by old new (DeleteKeyspace id) Done (deleted_owes honest made new lawful all is) tt (λ s d stands on.
+      serves_by old new (DeleteKeyspace id) Done (deleted_owes honest made new lawful all is) tt
+      (λ s d stands on. served_by made new turned.mid all.0 true all.1 (subst (λ m. turns.Unmade turned.mid m all.0 true) (sym disk) turned.changed) turned.synced d on) (λ s d stands on.
       let core : Becomes (between old made turned.mid) new (with_deletion id old.memory) all.0.catalog true =
       record { memory_is = λ _. ap (λ (h : Held). h.memory) is; catalog_is = λ _. ap (λ (h : Held). h.catalog) is ∙ ap (λ (h : Held). h.catalog) all.2; journal_is = λ _. ap (λ (h : Held). h.journal) is } in
       let settled = alter_settles old (between old made turned.mid) new d (Delete id) room.well (stays old made turned.mid) turned.synced
@@ -104,7 +119,14 @@ module _ (old : Held) (id : ℕ) (none : held_due old (DeleteKeyspace id) ≡ No
   undeleted_serves honest made new (Io kind) lawful all back true_ =
       let fault = poisons_of honest made new kind all back in
       let disk : new.disk ≡ made.disk = ap (λ (h : Held). h.disk) back in
-      serves_by old new (DeleteKeyspace id) (Refused (Io kind)) (undeleted_owes honest made new (Io kind) lawful all back) tt (λ s d stands on.
+      serves_by old new (DeleteKeyspace id) (Refused (Io kind)) (undeleted_owes honest made new (Io kind) lawful all back) tt
+      (λ s d stands on. record {
+        rose = fault.faults;
+        served = ⊎_elim
+            (λ unsynced. served_on old new.disk d room.well (subst (λ (h : Held). turns.HandedOut old.disk h.disk old.journal h.journal SyncAll false) (sym back) unsynced).served on)
+            (λ turned. served_by made new turned.mid all.0 false all.1 (subst (λ m. turns.Unmade turned.mid m all.0 false) (sym disk) turned.changed) turned.synced d on)
+            (all.5 true_);
+      }) (λ s d stands on.
       led_by new s d (DeleteKeyspace id) (Refused (Io kind)) (Delete id ∷ []) (asks_one s stands) (λ sync. sync)
       (⊎_elim
       (λ unsynced. unsynced_leads old new d (Delete id) room.well fault (subst (λ (h : Held). turns.HandedOut old.disk h.disk old.journal h.journal SyncAll false) (sym back) unsynced) on)
@@ -119,6 +141,6 @@ module _ (old : Held) (id : ℕ) (none : held_due old (DeleteKeyspace id) ≡ No
 
 -- a keyspace that is deleted already
 pub gone_serves : (core : Held) (id : ℕ) → held_due core (DeleteKeyspace id) ≡ None → is_living (store_in core) id ≡ false → Serves core (DeleteKeyspace id) Done core
-gone_serves core id none gone = serves_by core core (DeleteKeyspace id) Done (none, inl (gone, refl)) tt (λ s d stands on.
+gone_serves core id none gone = serves_by core core (DeleteKeyspace id) Done (none, inl (gone, refl)) tt (λ _ _ _ _. refl) (λ s d stands on.
     let here : is_living (present s) id ≡ false = (λ i. is_living (stands.remembered.present i) id) ∙ gone in
     still_led core core s d (DeleteKeyspace id) Done (ap (λ b. if b then (Delete id ∷ []) else []) here) (λ sync. true≢false (sym sync ∙ here)) refl on)

@@ -20,6 +20,7 @@ use Rattle.fjall_core.specs.Holding.{Held}
 use Rattle.fjall_core.specs.Crashes.{IsSync, attempt}
 use Rattle.fjall_core.specs.Standing.{Grows, OnDisk, Owes, OwesRefusal, Serves, StandsFor, held_due, reply_of}
 use Rattle.fjall_core.specs.Turns.{Writes}
+use Rattle.fjall_core.proofs.Devices.{failed_on, only_by, served_on}
 use Rattle.fjall_core.proofs.Serving.{led_by, memory_owes, memory_serves, serves_by}
 use Rattle.fjall_core.proofs.Writes.{IsAdmitted, torn_leads, write_leads}
 
@@ -99,13 +100,14 @@ written_serves honest old new id key o (Ok _) none all true_ =
     let is = all.0 in
     let grows : Grows old (version_of old.memory.next id key o) (op_text id key o old.memory.next) new =
     record { memory_is = ap (λ (h : Held). h.memory) is; catalog = ap (λ (h : Held). h.catalog) is; journal = ap (λ (h : Held). h.journal) is; faults = all.1 } in
-    serves_by old new (call_of id key o) Done owes (op_disk old new id key o (all.2 true_)) (λ s d stands on.
+    serves_by old new (call_of id key o) Done owes (op_disk old new id key o (all.2 true_)) (λ s d stands on. only_by (call_of id key o) Done old.disk new.disk (served_on old new.disk d (may old id key o none).well out.served on)) (λ s d stands on.
     led_by new s d (call_of id key o) Done (write_of id key (value_in o) ∷ []) (op_attempt s id key o) (op_unsynced s id key o Done)
     (write_leads old new id key o d (admits old s id key o none stands) grows (record { leaves = out.leaves; lies = out.lies; elsewhere = out.elsewhere }) on))
 written_serves honest old new id key o (Err (Io kind)) none all true_ =
     let owes = written_owes honest old new id key o (Err (Io kind)) none all in
     let out = all.3 true_ in
-    serves_by old new (call_of id key o) (Refused (Io kind)) owes (op_part old new id key o kind (all.2 true_)) (λ s d stands on.
+    serves_by old new (call_of id key o) (Refused (Io kind)) owes (op_part old new id key o kind (all.2 true_))
+    (λ s d stands on. only_by (call_of id key o) (Refused (Io kind)) old.disk new.disk (failed_on old new.disk d (may old id key o none).well all.1 out.served on)) (λ s d stands on.
     led_by new s d (call_of id key o) (Refused (Io kind)) (write_of id key (value_in o) ∷ []) (op_tried s id key o kind) (op_unsynced s id key o (Refused (Io kind)))
     (torn_leads old new id key o d (admits old s id key o none stands) (record { memory_is = all.0; faults = all.1 }) (record { leaves = out.leaves; lies = out.lies; elsewhere = out.elsewhere }) on))
 written_serves honest old new id key o (Err error) none all true_ =

@@ -2,8 +2,8 @@
 use Rattle.std.proofs.Common.{◌≡◌, ◌≢◌, inl, inr, ⊎_elim, ℕ, ◌<◌, ◌-◌, ◌^◌, Bool, true, false, if◌then◌else◌, List, [], ◌∷◌, None, Some, Result, Ok, Err, refl, sym, ◌∙◌, ap, subst, arith}
 use Rattle.std.proofs.lemmas.Bool.{true≢false}
 use Rattle.fjall_base.specs.Pairs.{Bytes}
-use Rattle.fjall_base.specs.Store.{Create, apply, kept}
-use Rattle.fjall_base.specs.Disk.{Meaning}
+use Rattle.fjall_base.specs.Store.{Create, apply, fold, kept}
+use Rattle.fjall_base.specs.Disk.{Meaning, state_in}
 use Rattle.fjall_base.specs.declared.error.Error.{Error}
 use Rattle.fjall_base.specs.declared.error.Error.TheVariants.{Io, NumbersUsedUp, OutOfMemory, ValueTooLong}
 use Rattle.fjall_keyspaces.specs.Keyspaces.{id_of, with_keyspace}
@@ -27,15 +27,17 @@ use Rattle.fjall_machine.proofs.Lawful.{creation_is_lawful}
 use Rattle.fjall_base.specs.Errors.{Rose}
 use Rattle.fjall_journal.specs.declared.persist_mode.PersistMode.TheVariants.{SyncAll}
 use Rattle.fjall_core.specs.Holding.{Held}
-use Rattle.fjall_core.specs.Durables.{Passes}
-use Rattle.fjall_core.specs.Crashes.{attempt}
-use Rattle.fjall_core.specs.Standing.{Creates, Owes, OwesRefusal, Poisons, Serves, StandsFor, held_due, is_io, store_in}
+use Rattle.fjall_core.specs.Durables.{Durable, Passes}
+use Rattle.fjall_core.specs.Crashes.{IsTidy, attempt}
+use Rattle.fjall_core.specs.Standing.{Creates, Owes, OwesRefusal, Poisons, Serves, StandsFor, StandsOn, held_due, is_io, store_in}
 use Rattle.fjall_core.specs.Turns.{Makes, Turned}
 use Rattle.fjall_core.specs.Turns as turns
-use Rattle.fjall_core.proofs.Changing.{Becomes, creation_changed}
+use Rattle.fjall_core.proofs.Changing.{Becomes, creation_changed, creation_served}
+use Rattle.fjall_core.proofs.Devices.{served_on, room_on}
+use Rattle.fjall_core.proofs.Writes.{held_on}
 use Rattle.fjall_machine.proofs.Standing.{a_name_there}
 use Rattle.fjall_core.proofs.Serving.{still_led, led_by, long_owes, long_serves, memory_owes, memory_serves, serves_by}
-use Rattle.fjall_core.proofs.Syncs.{StaysSame}
+use Rattle.fjall_core.proofs.Syncs.{HandedOut, StaysSame, sync_empty, sync_lies}
 use Rattle.fjall_core.proofs.Tables.{created_table, long_option}
 use Rattle.fjall_core.proofs.Turned.{not_done}
 use Rattle.fjall_core.proofs.Ways.{ChangesTo, alter_settles, unaltered_leads, unsynced_leads}
@@ -87,13 +89,27 @@ module _ (old : Held) (name : Bytes) (options : List Bytes) (id number : ℕ) (i
     pub created_owes : (honest : Type 0) (made : Held) → Makes honest (raised name options old) id number (Ok tt) made → Owes old (Keyspace name options) (Number id) made
     created_owes honest made all = (none, inr (fresh, id_is, creates_of honest made all))
 
+    -- wherever the core stood, no call was one that no disk can serve
+    served_by : (made new : Held) (mid : Meaning) (creation : Creation) (done : Bool) → IsLawful old.memory → IsCreation old.catalog (with_keyspace name options old.memory.next old.memory.keyspaces) id number creation
+        → turns.Made mid new.disk creation done → HandedOut old (between old made mid) SyncAll true → (d : Durable) → StandsOn old d → IsTidy (state_in old.disk) → new.disk.misuses ≡ old.disk.misuses
+    served_by made new mid creation done lawful is disk out d on tidy =
+        let here : d ≡ held_on old d.base d.pending = λ i. record { meaning = on.same i; base = d.base; pending = d.pending } in
+        let lies = (subst (λ (x : Durable). StandsOn old x) here on).lies room.well in
+        let same = stays old made mid in
+        let synced = sync_lies old (between old made mid) d.base d.pending same lies out in
+        let nothing = sync_empty old (between old made mid) d.base d.pending same lies out in
+        creation_served (between old made mid) new (fold d.base d.pending) name options creation done synced nothing (of_creation creation is) lawful.keyspaces after.keyspaces disk
+        (room_on old.disk mid old.memory.keyspaces.next lawful.keyspaces.begun lawful.keyspaces.fits tidy (out.elsewhere lies.journals lies.writing))
+        ∙ out.served lies.journals lies.writing
+
     asks_one : (s : State) → StandsFor old s → (if has_name (present s) name then [] else (Create name (option_pairs options) ∷ [])) ≡ Create name (option_pairs options) ∷ []
     asks_one s stands = ap (λ b. if b then [] else (Create name (option_pairs options) ∷ [])) ((λ i. has_name (stands.remembered.present i) name) ∙ fresh)
 
     pub created_serves : (honest : Type 0) (made : Held) → Makes honest (raised name options old) id number (Ok tt) made → honest → Serves old (Keyspace name options) (Number id) made
     created_serves honest made all true_ =
         let turned = all.4 true_ in
-        serves_by old made (Keyspace name options) (Number id) (created_owes honest made all) tt (λ s d stands on.
+        serves_by old made (Keyspace name options) (Number id) (created_owes honest made all) tt
+        (λ s d stands on tidy. served_by made made turned.mid all.0 true stands.remembered.lawful all.1 turned.changed turned.synced d on tidy) (λ s d stands on.
         let lawful = stands.remembered.lawful in
         let core : Becomes (between old made turned.mid) made (with_creation name options old.memory) all.0.update.catalog true =
         record { memory_is = λ _. ap (λ (h : Held). h.memory) all.2; catalog_is = λ _. ap (λ (h : Held). h.catalog) all.2; journal_is = λ _. refl } in
@@ -137,7 +153,14 @@ module _ (old : Held) (name : Bytes) (options : List Bytes) (id number : ℕ) (i
         let fault = poisons_of honest made new kind all back in
         let disk : new.disk ≡ made.disk = ap (λ (h : Held). h.disk) back in
         let journal : new.journal ≡ made.journal = ap (λ (h : Held). h.journal) back in
-        serves_by old new (Keyspace name options) (Refused (Io kind)) (uncreated_owes honest made new (Io kind) lawful all back) tt (λ s d stands on.
+        serves_by old new (Keyspace name options) (Refused (Io kind)) (uncreated_owes honest made new (Io kind) lawful all back) tt
+        (λ s d stands on tidy. record {
+          rose = fault.faults;
+          served = ⊎_elim
+              (λ unsynced. served_on old new.disk d room.well (subst (λ (h : Held). turns.HandedOut old.disk h.disk old.journal h.journal SyncAll false) (sym back) unsynced).served on)
+              (λ turned. served_by made new turned.mid all.0 false lawful all.1 (subst (λ m. turns.Made turned.mid m all.0 false) (sym disk) turned.changed) turned.synced d on tidy)
+              (all.5 true_);
+        }) (λ s d stands on.
         led_by new s d (Keyspace name options) (Refused (Io kind)) (Create name (option_pairs options) ∷ []) (asked_one s kind stands) (λ sync. sync)
         (⊎_elim
         (λ unsynced. unsynced_leads old new d (Create name (option_pairs options)) room.well fault (subst (λ (h : Held). turns.HandedOut old.disk h.disk old.journal h.journal SyncAll false) (sym back) unsynced) on)
@@ -195,6 +218,6 @@ id_left core name options none fresh same = ((may_create (facts_of core.memory c
 
 -- a name that a keyspace has
 pub found_serves : (core : Held) (name : Bytes) (options : List Bytes) (id : ℕ) → held_due core (Keyspace name options) ≡ None → id_of name core.memory.keyspaces.living ≡ Some id → Serves core (Keyspace name options) (Number id) core
-found_serves core name options id none found = serves_by core core (Keyspace name options) (Number id) (none, inl (found, refl)) tt (λ s d stands on.
+found_serves core name options id none found = serves_by core core (Keyspace name options) (Number id) (none, inl (found, refl)) tt (λ _ _ _ _ _. refl) (λ s d stands on.
     let here : has_name (present s) name ≡ true = a_name_there core.memory core.catalog.next_table_id s stands.remembered name ∙ ap is_some found in
     still_led core core s d (Keyspace name options) (Number id) (ap (λ b. if b then [] else (Create name (option_pairs options) ∷ [])) here) (λ sync. true≢false (sym here ∙ sync)) refl on)

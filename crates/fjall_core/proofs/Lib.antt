@@ -13,6 +13,7 @@ mod Changing
 mod Ways
 mod Turned
 mod Owing
+mod Devices
 mod Serving
 mod Outcomes
 mod Doing

@@ -6,6 +6,7 @@ use Rattle.std.proofs.lemmas.List.Elements.{All-cons, All-nil}
 use Rattle.std.proofs.lemmas.Option.{none-some}
 use Rattle.std.specs.Option.{is_some}
 use Rattle.fjall_base.specs.Store.{kept}
+use Rattle.fjall_base.specs.Disk.{Meaning, state_in}
 use Rattle.fjall_base.specs.declared.error.Error.{Error}
 use Rattle.fjall_base.specs.declared.error.Error.TheVariants.{Io, UnknownKeyspace}
 use Rattle.fjall_regions.specs.Regions.{Within}
@@ -22,7 +23,10 @@ use Rattle.fjall_machine.specs.Remembered.{Remembered, is_last, released}
 use Rattle.fjall_machine.proofs.Dues.{none_due}
 use Rattle.fjall_machine.proofs.Standing as law
 use Rattle.fjall_core.specs.Holding.{Held}
-use Rattle.fjall_core.specs.Standing.{Counts, Owes, OwesRefusal, Serves, StandsFor, held_due, store_in}
+use Rattle.fjall_core.specs.Durables.{Durable}
+use Rattle.fjall_core.specs.Crashes.{IsTidy}
+use Rattle.fjall_core.specs.Standing.{Counts, Owes, OwesRefusal, Serves, StandsFor, StandsOn, held_due, store_in}
+use Rattle.fjall_core.proofs.Writes.{held_on}
 use Rattle.fjall_core.specs.Turns.{FilesGone, Removes}
 use Rattle.fjall_core.proofs.Serving.{led_by, memory_owes, memory_serves, serves_by}
 use Rattle.fjall_core.proofs.Ways.{Recounts, Removed, recount_leads, removed_leads, unremoved_leads}
@@ -93,8 +97,18 @@ released_owes old new id none counts = (none, counts)
 -- handles counted, on a disk that stays as it is
 pub counted_serves : (old new : Held) (id : ℕ) → held_due old (Release id) ≡ None → Counts old (released id old.memory) new → new.disk ≡ old.disk → Serves old (Release id) Done new
 counted_serves old new id none counts same =
-    serves_by old new (Release id) Done (none, counts) (subst (λ disk. Within (codes "keyspaces") old.disk disk) (sym same) (within_start (codes "keyspaces") old.disk)) (λ s d stands on.
+    serves_by old new (Release id) Done (none, counts) (subst (λ disk. Within (codes "keyspaces") old.disk disk) (sym same) (within_start (codes "keyspaces") old.disk)) (λ s d stands on tidy. ap (λ (m : Meaning). m.misuses) same) (λ s d stands on.
     led_by new s d (Release id) Done [] refl (λ sync. sync) (recount_leads old new d same (recounts_of old new s id stands counts) on))
+
+unused_by : (old : Held) (s : State) (id : ℕ) → StandsFor old s → held_due old (Release id) ≡ None → is_last old.memory id ≡ true → IsUnused id old.memory.keyspaces
+unused_by old s id stands none last = unused_of old.memory id stands.remembered.lawful.keyspaces (known old id none) (deleted old.memory id last)
+
+-- wherever the core stood, no call was one that no disk can serve
+release_served : (old new : Held) (id : ℕ) → FilesGone id old.disk new.disk → IsUnused id old.memory.keyspaces → old.memory.poisoned ≡ false → (d : Durable) → StandsOn old d → IsTidy (state_in old.disk) → new.disk.misuses ≡ old.disk.misuses
+release_served old new id gone unused well d on tidy =
+    let here : d ≡ held_on old d.base d.pending = λ i. record { meaning = on.same i; base = d.base; pending = d.pending } in
+    let lies = (subst (λ (x : Durable). StandsOn old x) here on).lies well in
+    gone.served lies.records lies.tree lies.in_tree (tidy id unused.positive unused.fits)
 
 removed_of : (old new : Held) (s : State) (id : ℕ) → StandsFor old s → held_due old (Release id) ≡ None → is_last old.memory id ≡ true → FilesGone id old.disk new.disk → Removed old new
 removed_of old new s id stands none last gone =
@@ -108,7 +122,8 @@ removed_of old new s id stands none last gone =
 -- files removed, and then handles counted
 pub removed_serves : (old new : Held) (id : ℕ) → held_due old (Release id) ≡ None → is_last old.memory id ≡ true → old.memory.poisoned ≡ false → Counts old (released id old.memory) new → FilesGone id old.disk new.disk → Serves old (Release id) Done new
 removed_serves old new id none last well counts gone =
-    serves_by old new (Release id) Done (none, counts) gone.within (λ s d stands on.
+    serves_by old new (Release id) Done (none, counts) gone.within
+    (λ s d stands on tidy. release_served old new id gone (unused_by old s id stands none last) well d on tidy) (λ s d stands on.
     led_by new s d (Release id) Done [] refl (λ sync. sync) (removed_leads old new d well (recounts_of old new s id stands counts) (removed_of old new s id stands none last gone) on))
 
 -- a removal that was refused
@@ -120,7 +135,8 @@ unremoved_owes honest old new id error none all =
 pub unremoved_serves : (honest : Type 0) (old new : Held) (id : ℕ) (error : Error) → held_due old (Release id) ≡ None → is_last old.memory id ≡ true → old.memory.poisoned ≡ false → Removes honest old id (Err error) new → honest
     → Serves old (Release id) (Refused error) new
 unremoved_serves honest old new id (Io kind) none last well all true_ =
-    serves_by old new (Release id) (Refused (Io kind)) (unremoved_owes honest old new id (Io kind) none all) (all.2 true_).within (λ s d stands on.
+    serves_by old new (Release id) (Refused (Io kind)) (unremoved_owes honest old new id (Io kind) none all) (all.2 true_).within
+    (λ s d stands on tidy. record { rose = all.1; served = release_served old new id (all.2 true_) (unused_by old s id stands none last) well d on tidy }) (λ s d stands on.
     led_by new s d (Release id) (Refused (Io kind)) [] refl (λ sync. sync)
     (unremoved_leads old new d well (record { memory_is = ap (λ (h : Held). h.memory) all.0; faults = all.1 }) (removed_of old new s id stands none last (all.2 true_)) on))
 unremoved_serves honest old new id error none last well all true_ =

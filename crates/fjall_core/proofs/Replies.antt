@@ -26,7 +26,7 @@ pub value_serves : (core : Held) (m : Remembered) (view : View) (id : ℕ) (key 
 value_serves core m view id key (Ok found) same none is cause =
     let none_here : first_due (read_refusals (facts_of core.memory 0) id) ≡ None = subst (λ (x : Remembered). first_due (read_refusals (facts_of x 0) id) ≡ None) same none in
     let is_here : found ≡ newest core.memory.versions id key = subst (λ (x : Remembered). found ≡ newest x.versions id key) same is in
-    answer_serves core (GetAt view id key) (Value found) (none_here, is_here, refl) refl (λ s. refl) (λ s sync. sync)
+    answer_serves core (GetAt view id key) (Value found) (none_here, is_here, refl) refl refl (λ s. refl) (λ s sync. sync)
 value_serves core m view id key (Err error) same none is cause =
     either_serves core (GetAt view id key) error tt (subst (λ (x : Remembered). IsDueOrMemory (first_due (read_refusals (facts_of x 0) id)) error) same cause)
 
@@ -36,7 +36,7 @@ pub pairs_serves : (core : Held) (m : Remembered) (view : View) (id : ℕ) (rang
 pairs_serves core m view id range back max (Ok found) same none is cause =
     let none_here : first_due (read_refusals (facts_of core.memory 0) id) ≡ None = subst (λ (x : Remembered). first_due (read_refusals (facts_of x 0) id) ≡ None) same none in
     let is_here : found.items ≡ page back max (pairs_between range (pairs_in id core.memory.versions)) = subst (λ (x : Remembered). found.items ≡ page back max (pairs_between range (pairs_in id x.versions))) same is in
-    answer_serves core (PageAt view id range back max) (Pairs found) (none_here, is_here, refl) refl (λ s. refl) (λ s sync. sync)
+    answer_serves core (PageAt view id range back max) (Pairs found) (none_here, is_here, refl) refl refl (λ s. refl) (λ s sync. sync)
 pairs_serves core m view id range back max (Err error) same none is cause =
     either_serves core (PageAt view id range back max) error tt (subst (λ (x : Remembered). IsDueOrMemory (first_due (read_refusals (facts_of x 0) id)) error) same cause)
 
@@ -60,7 +60,7 @@ retained_there : (core : Held) (m : Remembered) (id : ℕ) (result : Result Unit
 retained_there core m id (Ok _) none is same cause =
     let new : Held = record core { memory = m } in
     let new_is : new ≡ with_handle core id = ap (λ (x : Remembered). record core { memory = x }) is in
-    serves_by core new (Retain id) Done (none, new_is) refl
+    serves_by core new (Retain id) Done (none, new_is) refl (λ s d stands on. refl)
     (λ s d stands on. led_by new s d (Retain id) Done [] refl (λ sync. sync) (recount_leads core new d refl (retained_counts core new id new_is) on))
 retained_there core m id (Err error) none is same cause =
     subst (λ (x : Remembered). Serves core (Retain id) (Refused error) (record core { memory = x })) (sym same) (either_serves core (Retain id) error tt cause)
@@ -75,24 +75,24 @@ retained_serves old core m id result same none is unchanged cause =
 
 pub count_serves : (core : Held) (call : Call) (n : ℕ) → call ≡ KeyspaceCount → n ≡ length core.memory.keyspaces.living → Serves core call (Number n) core
 count_serves core call n asked is =
-    subst (λ (c : Call). Serves core c (Number n) core) (sym asked) (answer_serves core KeyspaceCount (Number n) (is, refl) refl (λ s. refl) (λ s sync. sync))
+    subst (λ (c : Call). Serves core c (Number n) core) (sym asked) (answer_serves core KeyspaceCount (Number n) (is, refl) refl refl (λ s. refl) (λ s sync. sync))
 
 pub exists_serves : (core : Held) (call : Call) (name given : Bytes) (exists : Bool) → call ≡ KeyspaceExists name → given ≡ name → exists ≡ has_name (store_in core) given → Serves core call (Flag exists) core
 exists_serves core call name given exists asked same is =
     let is_here : exists ≡ has_name (store_in core) name = is ∙ ap (has_name (store_in core)) same in
-    subst (λ (c : Call). Serves core c (Flag exists) core) (sym asked) (answer_serves core (KeyspaceExists name) (Flag exists) (is_here, refl) refl (λ s. refl) (λ s sync. sync))
+    subst (λ (c : Call). Serves core c (Flag exists) core) (sym asked) (answer_serves core (KeyspaceExists name) (Flag exists) (is_here, refl) refl refl (λ s. refl) (λ s sync. sync))
 
 pub seqno_serves : (core : Held) (call : Call) (n : ℕ) → call ≡ Seqno → n ≡ core.memory.next → Serves core call (Number n) core
 seqno_serves core call n asked is =
-    subst (λ (c : Call). Serves core c (Number n) core) (sym asked) (answer_serves core Seqno (Number n) (is, refl) refl (λ s. refl) (λ s sync. sync))
+    subst (λ (c : Call). Serves core c (Number n) core) (sym asked) (answer_serves core Seqno (Number n) (is, refl) refl refl (λ s. refl) (λ s sync. sync))
 
 pub visible_serves : (core : Held) (call : Call) (n : ℕ) → call ≡ VisibleSeqno → n ≡ core.memory.next → Serves core call (Number n) core
 visible_serves core call n asked is =
-    subst (λ (c : Call). Serves core c (Number n) core) (sym asked) (answer_serves core VisibleSeqno (Number n) (is, refl) refl (λ s. refl) (λ s sync. sync))
+    subst (λ (c : Call). Serves core c (Number n) core) (sym asked) (answer_serves core VisibleSeqno (Number n) (is, refl) refl refl (λ s. refl) (λ s sync. sync))
 
 pub space_serves : (core : Held) (call : Call) (n : ℕ) → call ≡ JournalDiskSpace → n ≡ core.journal.len → Serves core call (Number n) core
 space_serves core call n asked is =
-    subst (λ (c : Call). Serves core c (Number n) core) (sym asked) (answer_serves core JournalDiskSpace (Number n) (is, refl) refl (λ s. refl) (λ s sync. sync))
+    subst (λ (c : Call). Serves core c (Number n) core) (sym asked) (answer_serves core JournalDiskSpace (Number n) (is, refl) refl refl (λ s. refl) (λ s sync. sync))
 
 -- ---- names
 
@@ -103,5 +103,5 @@ names_owes core (Err error) all sorted only = subst (λ (e : Error). Owes core L
 
 pub names_serves : (core : Held) (result : Result (Vec Bytes Global) Error) → IfOk result (λ names. IsPermutation (values (store_in core).names) names.items) → IfOk result (λ names. IsSorted byte_order names.items)
     → IsOkUnless result OutOfMemory → Serves core ListKeyspaceNames (names_reply result) core
-names_serves core (Ok names) all sorted only = answer_serves core ListKeyspaceNames (Names names) (all, sorted, refl) refl (λ s. refl) (λ s sync. sync)
+names_serves core (Ok names) all sorted only = answer_serves core ListKeyspaceNames (Names names) (all, sorted, refl) refl refl (λ s. refl) (λ s sync. sync)
 names_serves core (Err error) all sorted only = subst (λ (e : Error). Serves core ListKeyspaceNames (Refused e) core) (sym only) (memory_serves core ListKeyspaceNames tt refl)

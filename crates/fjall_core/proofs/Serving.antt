@@ -2,6 +2,7 @@
 use Rattle.std.proofs.Common.{◌≡◌, false, List, [], Option, None, Some, refl, sym, ◌∙◌, ap, subst}
 use Rattle.std.proofs.lemmas.Bool.{true≢false}
 use Rattle.fjall_base.specs.Store.{Command}
+use Rattle.fjall_base.specs.Disk.{Meaning}
 use Rattle.fjall_base.specs.declared.error.Error.{Error}
 use Rattle.fjall_base.specs.declared.error.Error.TheVariants.{Io, OutOfMemory, ValueTooLong}
 use Rattle.fjall_machine.specs.declared.call.Call.{Call}
@@ -11,26 +12,28 @@ use Rattle.fjall_machine.specs.Machine.{State, TakesMemory, TooLong}
 use Rattle.fjall_machine.specs.Remembered.{IsDueOrMemory, facts_of}
 use Rattle.fjall_core.specs.Holding.{Held}
 use Rattle.fjall_core.specs.Durables.{Durable, Passes}
-use Rattle.fjall_core.specs.Crashes.{CallPasses, IsSync, attempt}
+use Rattle.fjall_core.specs.Crashes.{BlamesDevice, CallLeaves, IsSync, OnlyDevice, attempt}
 use Rattle.fjall_core.specs.Standing.{OnDisk, Owes, OwesRefusal, Serves, StandsFor, StandsOn, held_due, is_io, store_in}
 use Rattle.fjall_core.proofs.Amids.{passes_still}
 use Rattle.fjall_core.proofs.Dues.{is_fault, never_due, no_attempt, no_sync}
 use Rattle.fjall_core.proofs.Owing.{owes_step}
+use Rattle.fjall_core.proofs.Devices.{only_by, refusal_blames}
 use Rattle.fjall_core.proofs.Writes.{Leads}
 
 -- the core stands on some disk now, to which such a call leads
 abbrev pub Led : Held → State → Durable → Call → Reply → Type 0
-Led new s d call reply = (e : Durable) × StandsOn new e × CallPasses s d call reply e
+Led new s d call reply = (e : Durable) × StandsOn new e × CallLeaves s d call reply e
 
 -- what a call owes, what it did to the disk, and where it leads, is what it serves
-pub serves_by : (old new : Held) (call : Call) (reply : Reply) → Owes old call reply new → OnDisk old call reply new → ((s : State) (d : Durable) → StandsFor old s → StandsOn old d → Led new s d call reply) → Serves old call reply new
-serves_by old new call reply owes disk led = record {
+pub serves_by : (old new : Held) (call : Call) (reply : Reply) → Owes old call reply new → OnDisk old call reply new → ((s : State) (d : Durable) → StandsFor old s → StandsOn old d → OnlyDevice call reply old.disk new.disk) → ((s : State) (d : Durable) → StandsFor old s → StandsOn old d → Led new s d call reply) → Serves old call reply new
+serves_by old new call reply owes disk device led = record {
   step = λ s stands. owes_step old new call reply s owes stands;
   disk = disk;
   crash = λ s d stands on.
       let stepped = owes_step old new call reply s owes stands in
       let way = led s d stands on in
-      (stepped.0, way.0, stepped.1, way.1, stepped.2, way.2);
+      let blamed = subst (λ (m : Meaning). OnlyDevice call reply m way.0.meaning) (sym on.same) (subst (λ (m : Meaning). OnlyDevice call reply old.disk m) (sym way.1.same) (device s d stands on)) in
+      (stepped.0, way.0, stepped.1, way.1, stepped.2, (way.2.0, way.2.1, blamed));
 }
 
 -- a way that these commands lead, of a call that tried just them and was no sync
@@ -51,6 +54,7 @@ untouched core call error other = refl
 -- a refusal that is no fault and changes nothing
 refusal_serves : (core : Held) (call : Call) (error : Error) → is_io error ≡ false → Owes core call (Refused error) core → Serves core call (Refused error) core
 refusal_serves core call error other owes = serves_by core core call (Refused error) owes (untouched core call error other)
+    (λ s d stands on. only_by call (Refused error) core.disk core.disk (refusal_blames error core.disk other))
     (λ s d stands on. still_led core core s d call (Refused error) (no_attempt s call error other) (no_sync s call error) refl on)
 
 pub due_owes : (core : Held) (call : Call) (error : Error) → held_due core call ≡ Some error → Owes core call (Refused error) core
@@ -92,6 +96,6 @@ either_serves core call error takes is = by_due (held_due core call) refl is
 -- ---- reads
 
 -- an answer that changes nothing, of a call that asks for no command
-pub answer_serves : (core : Held) (call : Call) (reply : Reply) → Owes core call reply core → OnDisk core call reply core → ((s : State) → attempt s call reply ≡ []) → ((s : State) → IsSync s call reply → ⊥) → Serves core call reply core
-answer_serves core call reply owes disk none unsynced =
-    serves_by core core call reply owes disk (λ s d stands on. still_led core core s d call reply (none s) (unsynced s) refl on)
+pub answer_serves : (core : Held) (call : Call) (reply : Reply) → Owes core call reply core → OnDisk core call reply core → BlamesDevice reply core.disk core.disk → ((s : State) → attempt s call reply ≡ []) → ((s : State) → IsSync s call reply → ⊥) → Serves core call reply core
+answer_serves core call reply owes disk blames none unsynced =
+    serves_by core core call reply owes disk (λ s d stands on. only_by call reply core.disk core.disk blames) (λ s d stands on. still_led core core s d call reply (none s) (unsynced s) refl on)

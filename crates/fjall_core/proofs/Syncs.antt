@@ -120,7 +120,7 @@ persist_leads old new Buffer d well hands out stands =
     let led = buffer_leads old new d well hands out stands in
     (led.0, led.1, led.2, λ s none. absurd none)
 persist_leads old new SyncData d well hands out stands =
-    let led = sync_settles old new d well hands (record { leaves = out.leaves; lies = out.lies; elsewhere = out.elsewhere }) stands in
+    let led = sync_settles old new d well hands (record { leaves = out.leaves; lies = out.lies; elsewhere = out.elsewhere; served = out.served }) stands in
     (led.0, led.1, led.2, λ s _. led.3)
 persist_leads old new SyncAll d well hands out stands =
     let led = sync_settles old new d well hands out stands in

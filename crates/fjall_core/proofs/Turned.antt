@@ -15,7 +15,7 @@ use Rattle.fjall_opening.specs.Folders.{past_record}
 use Rattle.fjall_places.specs.Halves.{Tree}
 use Rattle.fjall_places.specs.Places.{LiesInTree}
 use Rattle.fjall_changes.specs.declared.creation.Creation.{Creation}
-use Rattle.fjall_changes.specs.Changes.{HasEither, IsCreation, with_home, without_home}
+use Rattle.fjall_changes.specs.Changes.{HasEither, HasRoom, IsCreation, with_home, without_home}
 use Rattle.fjall_core.specs.Turns.{HandedOut, Made, Turns, Unmade}
 
 -- what came of the change, behind a sync that was done
@@ -30,28 +30,32 @@ not_done e = absurd (true≢false (sym e))
 module _ (mid new : Meaning) (creation : Creation) (within : Within (codes "keyspaces") mid new)
     (leaves : (records : List Fields) (t : Tree) (name : List ℕ) (options : List (List ℕ)) (number : ℕ) → let next = with_home name options number creation.update.catalog t in
     LiesInTree (state_in mid) records t → IsCreation t.last next.keyspaces t.keyspaces.next number creation → AreKeyspaces next.keyspaces → past_record (fields t.last) ≤ number → t.keyspaces.next < 2 ^ 64
-    → LeavesOnly mid new (HasEither t next)) where
+    → LeavesOnly mid new (HasEither t next))
+    (served : (records : List Fields) (t : Tree) (name : List ℕ) (options : List (List ℕ)) (number : ℕ) → let next = with_home name options number creation.update.catalog t in
+    LiesInTree (state_in mid) records t → IsCreation t.last next.keyspaces t.keyspaces.next number creation → AreKeyspaces next.keyspaces → past_record (fields t.last) ≤ number → t.keyspaces.next < 2 ^ 64
+    → HasRoom (state_in mid) t.keyspaces.next → new.misuses ≡ mid.misuses) where
   pub made_any : Made mid new creation false
-  made_any = record { within = within; leaves = leaves; lies = λ e. not_done e }
+  made_any = record { within = within; leaves = leaves; lies = λ e. not_done e; served = served }
 
   pub made_done : (r : Result Unit Error)
       → ((records : List Fields) (t : Tree) (name : List ℕ) (options : List (List ℕ)) (number : ℕ) → let next = with_home name options number creation.update.catalog t in
       LiesInTree (state_in mid) records t → IsCreation t.last next.keyspaces t.keyspaces.next number creation → AreKeyspaces next.keyspaces → past_record (fields t.last) ≤ number → t.keyspaces.next < 2 ^ 64
       → OnOk r (LiesInTree (state_in new) (records ++ fields creation.update.catalog ∷ []) next))
       → OnOk r (Made mid new creation true)
-  made_done (Ok _) lies = record { within = within; leaves = leaves; lies = λ e. lies }
+  made_done (Ok _) lies = record { within = within; leaves = leaves; lies = λ e. lies; served = served }
   made_done (Err error) lies = tt
 
 module _ (mid new : Meaning) (update : Update) (within : Within (codes "keyspaces") mid new)
     (leaves : (records : List Fields) (t : Tree) (id number : ℕ) → let next = without_home id update.catalog t in
-    LiesInTree (state_in mid) records t → IsUpdate t.last (without_keyspace id t.keyspaces) number update → past_record (fields t.last) ≤ number → LeavesOnly mid new (HasEither t next)) where
+    LiesInTree (state_in mid) records t → IsUpdate t.last (without_keyspace id t.keyspaces) number update → past_record (fields t.last) ≤ number → LeavesOnly mid new (HasEither t next))
+    (served : (records : List Fields) (t : Tree) (id number : ℕ) → LiesInTree (state_in mid) records t → IsUpdate t.last (without_keyspace id t.keyspaces) number update → past_record (fields t.last) ≤ number → new.misuses ≡ mid.misuses) where
   pub unmade_any : Unmade mid new update false
-  unmade_any = record { within = within; leaves = leaves; lies = λ e. not_done e }
+  unmade_any = record { within = within; leaves = leaves; lies = λ e. not_done e; served = served }
 
   pub unmade_done : (r : Result Unit Error)
       → ((records : List Fields) (t : Tree) (id number : ℕ) → let next = without_home id update.catalog t in
       LiesInTree (state_in mid) records t → IsUpdate t.last (without_keyspace id t.keyspaces) number update → past_record (fields t.last) ≤ number
       → OnOk r (LiesInTree (state_in new) (records ++ fields update.catalog ∷ []) next))
       → OnOk r (Unmade mid new update true)
-  unmade_done (Ok _) lies = record { within = within; leaves = leaves; lies = λ e. lies }
+  unmade_done (Ok _) lies = record { within = within; leaves = leaves; lies = λ e. lies; served = served }
   unmade_done (Err error) lies = tt

@@ -1,14 +1,16 @@
 -- Runs of calls over a disk that may crash, and what the syncs among them make safe.
-use Rattle.std.specs.Prelude.{◌≡◌, ℕ, zero, suc, List, [], ◌∷◌, ◌++◌, take, Option, Some, None, IsSome, true, false, if◌then◌else◌}
+use Rattle.std.specs.Prelude.{◌≡◌, ℕ, ◌<◌, ◌^◌, zero, suc, List, [], ◌∷◌, ◌++◌, take, Option, Some, None, IsSome, true, false, if◌then◌else◌}
 use Rattle.fjall_base.specs.Store.{Command, Create, Delete, fold, kept}
-use Rattle.fjall_base.specs.Disk.{Image, IsImage, Meaning, Took, LeavesOnly, state_in}
+use Rattle.fjall_base.specs.Disk.{DeviceFailed, Image, IsImage, Meaning, Took, LeavesOnly, state_in}
 use Rattle.fjall_base.specs.Disk as disk
 use Rattle.fjall_base.specs.declared.error.Error.TheVariants.{Io}
 use Rattle.fjall_journal.specs.declared.persist_mode.PersistMode.TheVariants.{SyncData, SyncAll}
 use Rattle.fjall_machine.specs.declared.call.Call.{Call}
-use Rattle.fjall_machine.specs.declared.call.Call.TheVariants.{DeleteKeyspace, Insert, Keyspace, Persist, Remove, RemoveWeak}
+use Rattle.fjall_machine.specs.declared.call.Call.TheVariants.{DeleteKeyspace, Insert, Keyspace, Persist, Release, Remove, RemoveWeak}
 use Rattle.fjall_machine.specs.declared.call.Reply.{Reply}
 use Rattle.fjall_machine.specs.declared.call.Reply.TheVariants.{Done, Number, Refused}
+use Rattle.fjall_regions.specs.Regions.{HoldsOnly}
+use Rattle.fjall_recovery.specs.Names.{current_name, keyspace_folder}
 use Rattle.fjall_versions.specs.Replays.{option_pairs}
 use Rattle.fjall_opening.specs.Folders.{StandsFor}
 use Rattle.fjall_machine.specs.Histories.{extended}
@@ -39,9 +41,29 @@ IsSync s (Keyspace name options) (Number id) = has_name (present s) name ≡ fal
 IsSync s (DeleteKeyspace id) Done = is_living (present s) id ≡ true
 IsSync s call reply = ⊥
 
+-- `Io` is answered only where the device failed, and no call of the disk was one that no disk can serve
+abbrev pub BlamesDevice : Reply → Meaning → Meaning → Type 0
+BlamesDevice (Refused (Io kind)) old new = DeviceFailed old new
+BlamesDevice reply old new = new.misuses ≡ old.misuses
+
+-- Each keyspace's folder but tree 0's, where it is there, holds no more than the file of its records; no file stands in its place, and
+-- no folder in that of its file.
+abbrev pub IsTidy : disk.State → Type 0
+IsTidy state = (id : ℕ) → 0 < id → id < 2 ^ 64 → HoldsOnly state (keyspace_folder id) (current_name id ∷ [])
+
+-- The same; of the calls that make a keyspace's folder or remove it, where nothing stands in the way.
+abbrev pub OnlyDevice : Call → Reply → Meaning → Meaning → Type 0
+OnlyDevice (Keyspace name options) reply old new = IsTidy (state_in old) → BlamesDevice reply old new
+OnlyDevice (Release id) reply old new = IsTidy (state_in old) → BlamesDevice reply old new
+OnlyDevice call reply old new = BlamesDevice reply old new
+
 -- what one call in that state leaves, and where it was a sync that succeeded, nothing is pending
+abbrev pub CallLeaves : State → Durable → Call → Reply → Durable → Type 0
+CallLeaves s old call reply new = Passes old (attempt s call reply) new × (IsSync s call reply → new.pending ≡ [])
+
+-- the same, and the disk is to blame for `Io` alone
 abbrev pub CallPasses : State → Durable → Call → Reply → Durable → Type 0
-CallPasses s old call reply new = Passes old (attempt s call reply) new × (IsSync s call reply → new.pending ≡ [])
+CallPasses s old call reply new = Passes old (attempt s call reply) new × (IsSync s call reply → new.pending ≡ []) × OnlyDevice call reply old.meaning new.meaning
 
 -- These replies to these calls, one step after another, on a disk that goes through what such steps leave; the commands
 -- tried in order.

@@ -28,7 +28,7 @@ use Rattle.fjall_machine.specs.Machine.{State, Step, Run, TakesMemory, ChangesDi
 use Rattle.fjall_machine.specs.Remembered.{IsLawful, Remembered, facts_of, version_of, with_version, with_creation, with_deletion, retained, released, poisoned}
 use Rattle.fjall_machine.specs.Remembered as memory
 use Rattle.fjall_core.specs.Durables.{Durable, StandsAmid, Passes, Rests, Lies, MakesPresent}
-use Rattle.fjall_core.specs.Crashes.{CallPasses, RunOn, Tried, IsSyncAt, SafeAt}
+use Rattle.fjall_core.specs.Crashes.{BlamesDevice, CallPasses, RunOn, Tried, IsSyncAt, SafeAt}
 use Rattle.fjall_core.specs.Holding.{Held}
 
 -- the store that stands in memory
@@ -270,6 +270,7 @@ pub record Closes (s : State) (d : Durable) (result : Result Unit Error) (disk :
   pub same : after.meaning ≡ disk
   pub passes : Passes d [] after
   pub closed : OnOk result (HoldsStore (state_in disk) (kept (present s)))
+  pub device : BlamesDevice (reply_of result) d.meaning disk
 
 -- the same from whatever state, base and pending the core stood for and on
 abbrev pub ClosesSafely : Held → Result Unit Error → Meaning → Type 0

@@ -6,7 +6,8 @@ use Rattle.fjall_base.specs.declared.error.Error.{Error}
 use Rattle.fjall_base.specs.declared.error.Error.TheVariants.{Io, OutOfMemory}
 use Rattle.fjall_journal.specs.declared.entry.ValueType.{ValueType}
 use Rattle.fjall_journal.specs.Batches.{Written, batch_text}
-use Rattle.fjall_regions.specs.Regions.{Within}
+use Rattle.fjall_regions.specs.Regions.{HoldsOnly, Within}
+use Rattle.fjall_recovery.specs.Names.{current_name, keyspace_folder}
 use Rattle.fjall_journal.specs.declared.persist_mode.PersistMode.{PersistMode}
 use Rattle.fjall_journal.specs.declared.persist_mode.PersistMode.TheVariants.{SyncAll}
 use Rattle.fjall_journal.specs.Writer.{Journal, appending, filled, written_out}
@@ -21,7 +22,7 @@ use Rattle.fjall_places.specs.Halves.{HasTree, Tree, is_of_keyspaces}
 use Rattle.fjall_places.specs.Places.{Journaling, LiesInTree}
 use Rattle.fjall_journaling.specs.Journaling.{CanFollow, IsWriting, LeavesRoot, after_persist, with_batch}
 use Rattle.fjall_changes.specs.declared.creation.Creation.{Creation}
-use Rattle.fjall_changes.specs.Changes.{HasEither, IsCreation, with_home, without_home}
+use Rattle.fjall_changes.specs.Changes.{HasEither, HasRoom, IsCreation, with_home, without_home}
 use Rattle.fjall_changes.specs.Removals.{IsUnused}
 use Rattle.fjall_machine.specs.Remembered.{poisoned, with_version}
 use Rattle.fjall_core.specs.Holding.{Held}
@@ -32,6 +33,7 @@ pub record HandedOut (old new : Meaning) (before after : Journal) (mode : Persis
   pub leaves : (j : Journaling) → IsWriting (state_in old) before j → LeavesOnly old new (LeavesRoot (state_in old) j j.later)
   pub lies : done ≡ true → (j : Journaling) → IsWriting (state_in old) before j → IsWriting (state_in new) after (after_persist mode j)
   pub elsewhere : (j : Journaling) → IsWriting (state_in old) before j → (q : Name) → is_of_keyspaces q ≡ true → state_in new q ≡ state_in old q
+  pub served : (j : Journaling) → IsWriting (state_in old) before j → new.misuses ≡ old.misuses
 
 -- A keyspace was made: a crash meanwhile leaves the tree before or the one with it, and where it was done, that one lies
 -- on the disk.
@@ -43,6 +45,9 @@ pub record Made (mid new : Meaning) (creation : Creation) (done : Bool) : Type 0
   pub lies : done ≡ true → (records : List Fields) (t : Tree) (name : List ℕ) (options : List (List ℕ)) (number : ℕ) → let next = with_home name options number creation.update.catalog t in
       LiesInTree (state_in mid) records t → IsCreation t.last next.keyspaces t.keyspaces.next number creation → AreKeyspaces next.keyspaces → past_record (fields t.last) ≤ number → t.keyspaces.next < 2 ^ 64
       → LiesInTree (state_in new) (records ++ fields creation.update.catalog ∷ []) next
+  pub served : (records : List Fields) (t : Tree) (name : List ℕ) (options : List (List ℕ)) (number : ℕ) → let next = with_home name options number creation.update.catalog t in
+      LiesInTree (state_in mid) records t → IsCreation t.last next.keyspaces t.keyspaces.next number creation → AreKeyspaces next.keyspaces → past_record (fields t.last) ≤ number → t.keyspaces.next < 2 ^ 64
+      → HasRoom (state_in mid) t.keyspaces.next → new.misuses ≡ mid.misuses
 
 -- the same of a deletion
 pub record Unmade (mid new : Meaning) (update : Update) (done : Bool) : Type 0 where
@@ -52,6 +57,7 @@ pub record Unmade (mid new : Meaning) (update : Update) (done : Bool) : Type 0 w
   pub lies : done ≡ true → (records : List Fields) (t : Tree) (id number : ℕ) → let next = without_home id update.catalog t in
       LiesInTree (state_in mid) records t → IsUpdate t.last (without_keyspace id t.keyspaces) number update → past_record (fields t.last) ≤ number
       → LiesInTree (state_in new) (records ++ fields update.catalog ∷ []) next
+  pub served : (records : List Fields) (t : Tree) (id number : ℕ) → LiesInTree (state_in mid) records t → IsUpdate t.last (without_keyspace id t.keyspaces) number update → past_record (fields t.last) ≤ number → new.misuses ≡ mid.misuses
 
 -- a sync of the journal, and then such a change
 pub record Turned (Change : Meaning → Meaning → Bool → Type 0) (old new : Meaning) (before after : Journal) (done : Bool) : Type 0 where
@@ -97,6 +103,7 @@ pub record FilesGone (id : ℕ) (old new : Meaning) : Type 0 where
   pub within : Within (codes "keyspaces") old new
   pub leaves : (records : List Fields) (t : Tree) → IsUnused id t.keyspaces → LiesInTree (state_in old) records t → LeavesOnly old new (λ image. HasTree image t)
   pub lies : (records : List Fields) (t : Tree) → IsUnused id t.keyspaces → LiesInTree (state_in old) records t → LiesInTree (state_in new) records t
+  pub served : (records : List Fields) (t : Tree) → LiesInTree (state_in old) records t → HoldsOnly (state_in old) (keyspace_folder id) (current_name id ∷ []) → new.misuses ≡ old.misuses
 
 -- the files of a deleted keyspace are removed, or a fault has poisoned the core, or nothing was changed
 abbrev pub Removes : Type 0 → Held → ℕ → Result Unit Error → Held → Type 0
@@ -111,6 +118,7 @@ pub record WentOut (old new : Meaning) (before after : Journal) (batch : Written
   pub leaves : (j : Journaling) → IsWriting (state_in old) before j → CanFollow j number kind → LeavesOnly old new (LeavesRoot (state_in old) j (j.later ++ batch ∷ []))
   pub lies : done ≡ true → (j : Journaling) → IsWriting (state_in old) before j → CanFollow j number kind → IsWriting (state_in new) after (with_batch j batch)
   pub elsewhere : (j : Journaling) → IsWriting (state_in old) before j → (q : Name) → is_of_keyspaces q ≡ true → state_in new q ≡ state_in old q
+  pub served : (j : Journaling) → IsWriting (state_in old) before j → new.misuses ≡ old.misuses
 
 -- one version more stands in memory, and its batch in the journal; or a fault has poisoned the core; or nothing changed
 abbrev pub Writes : Type 0 → Held → Version → Written → ValueType → Result Unit Error → Held → Type 0

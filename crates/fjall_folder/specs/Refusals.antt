@@ -10,7 +10,7 @@ use Rattle.fjall_base.specs.declared.error.Error.TheVariants.{Io, Locked, OutOfM
 
 -- all that is known of a disk over a folder: its count of faults
 abbrev pub meaning_of : ℕ → Meaning
-meaning_of count = record { places = []; steps = []; faults = count }
+meaning_of count = record { places = []; steps = []; faults = count; misuses = 0 }
 
 -- the refusal for an error's kind and number: it is the program that wants memory where no number of the system came with it
 abbrev pub refusal_by : ErrorKind → Option ℤ → Error

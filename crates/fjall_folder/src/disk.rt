@@ -1,6 +1,6 @@
 //! The disk over a folder of the file system.
 
-ghost use Rattle.std.specs.Prelude.{◌≡◌, false, IfErr, IfOk};
+ghost use Rattle.std.specs.Prelude.{◌≡◌, false, refl, IfErr, IfOk};
 ghost use Rattle.fjall_base.specs.Disk.{HasCause, OnlyFaults};
 ghost use Rattle.fjall_folder.specs.Names.{AreEntries, is_usable, is_usable_folder};
 ghost use Rattle.fjall_folder.specs.Refusals.{CountsChange, CountsRead, IsOpeningRefusal, RefusesUnless, meaning_of};
@@ -176,4 +176,6 @@ impl Disk for FolderDisk {
         let answer = self.folder.sync_folder(name);
         self.faults.of_change(answer)
     }
+
+    ghost housed = { λ disk honest. record { each = λ name some inside. absurd (some refl) } };
 }

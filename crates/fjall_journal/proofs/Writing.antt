@@ -1,7 +1,8 @@
 -- What a writer's calls took of the disk, put together.
 use Rattle.std.proofs.Common.{◌≡◌, ◌≢◌, inl, inr, ℕ, ◌+◌, ◌^◌, ◌<◌, false, List, [], ◌∷◌, ◌++◌, length, Result, Ok, Err, OnOk, OnErr, refl, sym, ap, subst, ◌∙◌, append_assoc, arith}
 use Rattle.std.proofs.lemmas.List.{append-nil}
-use Rattle.fjall_base.specs.Disk.{Name, State, Meaning, Step, Sync, change, after, state_in, Took, TookOrNot, TookPart}
+use Rattle.fjall_base.specs.Disk.{Name, State, Meaning, Step, Sync, IsFile, change, after, state_in, Took, TookOrNot, TookPart}
+use Rattle.fjall_base.proofs.Served.{file_as_was, file_stays}
 use Rattle.fjall_journal.specs.Writer.{Journal, counted, written_out, appending, syncing, persist_steps, WriteTook, PersistTook, making_file, MakingTook}
 use Rattle.fjall_base.specs.Errors.{IsFault}
 use Rattle.fjall_base.specs.declared.error.Error.{Error}
@@ -75,3 +76,8 @@ write_left error old new n name b bytes x y n-is b-is fault took = absurd fault
 
 pub not_buffer : (mode : PersistMode) → sameb the_type mode Buffer ≡ false → mode ≢ Buffer
 not_buffer mode told same = let bad = sym told ∙ ap (λ (m : PersistMode). sameb the_type m Buffer) same in absurd cc
+
+-- the file is still there once the buffer is written out
+pub out_stays : (old mid : Meaning) (name bytes : List ℕ) → Took old mid (appending name bytes) → IsFile (state_in old name).now → IsFile (state_in mid name).now
+out_stays old mid name [] took is = file_as_was old mid name took is
+out_stays old mid name (b ∷ bytes) took is = file_stays old mid name (b ∷ bytes) took is

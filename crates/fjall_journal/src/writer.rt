@@ -1,7 +1,7 @@
 //! The append side of a journal: batches go into a buffer, and the buffer to the end of a file.
 
 ghost use Rattle.std.specs.Prelude.{◌≡◌, ◌⊎◌, ◌+◌, ◌++◌, [], ◌∷◌, length, take, OnOk, OnErr, IfOk, IfErr, IsOk, IsErrOf, IsOkUnless, IsTrue, MatchOption, Err};
-ghost use Rattle.fjall_base.specs.Disk.{Sync, Took, TookPart, HasCause, OnlyFaults};
+ghost use Rattle.fjall_base.specs.Disk.{CanCreate, IsFile, Sync, Took, TookPart, HasCause, OnlyFaults, state_in};
 ghost use Rattle.fjall_journal.specs.Spelling.{item_refusal};
 ghost use Rattle.fjall_journal.specs.Batches.{batch_text, of_item, IsWritten};
 ghost use Rattle.fjall_journal.specs.Writer.{counted, written_out, appending, after_write, write_steps, persist_steps, WriteTook, PersistTook, making_file, MakingTook};
@@ -95,6 +95,7 @@ impl Writer {
         ensures ok { IfOk result (λ w. w ≡ record { name = name.now; buffer = []; len = 0 }) }
         ensures took { IsTrue D.honest → OnOk result (Took (D.meaning disk.old) (D.meaning disk.new) (making_file (D.meaning disk.old) name.now ++ Sync name.now ∷ [])) }
         ensures part { IsTrue D.honest → OnErr result (MakingTook (D.meaning disk.old) (D.meaning disk.new) name.now) }
+        ensures served { IsTrue D.honest → CanCreate (state_in (D.meaning disk.old)) name.now → (D.meaning disk.new).misuses ≡ (D.meaning disk.old).misuses }
         ensures cause { HasCause (D.meaning disk.old) (D.meaning disk.new) result }
     {
         let writer = Writer::from_file(alloc, name, 0)?;
@@ -135,6 +136,7 @@ impl Writer {
         ensures took { IsTrue D.honest → OnOk result (Took (D.meaning disk.old) (D.meaning disk.new) (appending self.old.name self.old.buffer)) }
         ensures part { IsTrue D.honest → OnErr result (TookPart (D.meaning disk.old) (D.meaning disk.new) self.old.name self.old.buffer) }
         ensures succeeds { self.old.buffer ≡ [] → IsOk result }
+        ensures served { IsTrue D.honest → IsFile (state_in (D.meaning disk.old) self.old.name).now → (D.meaning disk.new).misuses ≡ (D.meaning disk.old).misuses }
         ensures cause { OnlyFaults (D.meaning disk.old) (D.meaning disk.new) result }
     {
         if self.buffer.is_empty() {
@@ -164,6 +166,7 @@ impl Writer {
         ensures took { IsTrue D.honest → OnOk result (Took (D.meaning disk.old) (D.meaning disk.new) (write_steps self.old (batch_text (of_item keyspace_id key.now value.now value_type seqno)))) }
         ensures part { IsTrue D.honest → IfErr result (λ e. WriteTook e (D.meaning disk.old) (D.meaning disk.new) self.old.name (self.old.buffer ++ batch_text (of_item keyspace_id key.now value.now value_type seqno))) }
         ensures untouched { IsErrOf result Error.OutOfMemory → D.meaning disk.new ≡ D.meaning disk.old }
+        ensures served { IsTrue D.honest → IsFile (state_in (D.meaning disk.old) self.old.name).now → (D.meaning disk.new).misuses ≡ (D.meaning disk.old).misuses }
         ensures cause { MatchOption (item_refusal key.now value.now) (HasCause (D.meaning disk.old) (D.meaning disk.new) result) (λ e. (result ≡ Err e) × (D.meaning disk.new ≡ D.meaning disk.old)) }
     {
         let before = self.buffer.len();
@@ -184,6 +187,7 @@ impl Writer {
         ensures took { IsTrue D.honest → OnOk result (Took (D.meaning disk.old) (D.meaning disk.new) (persist_steps self.old mode)) }
         ensures left { IsTrue D.honest → OnErr result (PersistTook self.old self.new mode (D.meaning disk.old) (D.meaning disk.new)) }
         ensures succeeds { mode ≡ PersistMode.Buffer → self.old.buffer ≡ [] → IsOk result }
+        ensures served { IsTrue D.honest → IsFile (state_in (D.meaning disk.old) self.old.name).now → (D.meaning disk.new).misuses ≡ (D.meaning disk.old).misuses }
         ensures cause { OnlyFaults (D.meaning disk.old) (D.meaning disk.new) result }
     {
         self.write_out(disk)?;

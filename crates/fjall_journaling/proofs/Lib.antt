@@ -4,3 +4,4 @@ pub mod Lying
 pub mod Leaving
 pub mod Writing
 pub mod Results
+pub mod Filed

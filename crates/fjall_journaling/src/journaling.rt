@@ -29,6 +29,7 @@ pub fn write_through<D: Disk>(
     ensures ok { OnOk result (journal.new ≡ written_out (filled journal.old (batch_text (of_item keyspace_id key.now value.now value_type seqno)))) }
     ensures memory { IsErrOf result Error.OutOfMemory → journal.new ≡ journal.old }
     ensures untouched { IsErrOf result Error.OutOfMemory → D.meaning disk.new ≡ D.meaning disk.old }
+    ensures served { IsTrue D.honest → (j : Journaling) → IsWriting (state_in (D.meaning disk.old)) journal.old j → (D.meaning disk.new).misuses ≡ (D.meaning disk.old).misuses }
     ensures cause { HasCause (D.meaning disk.old) (D.meaning disk.new) result }
     ensures took { IsTrue D.honest → OnOk result (Took (D.meaning disk.old) (D.meaning disk.new) (appending journal.old.name (journal.old.buffer ++ batch_text (of_item keyspace_id key.now value.now value_type seqno)))) }
     ensures part { IsTrue D.honest → OnErr result (TookPart (D.meaning disk.old) (D.meaning disk.new) journal.old.name (journal.old.buffer ++ batch_text (of_item keyspace_id key.now value.now value_type seqno))) }
@@ -52,6 +53,7 @@ pub fn hand_over<D: Disk>(journal: &mut Writer, disk: &mut D, mode: PersistMode)
     ensures took { IsTrue D.honest → OnOk result (Took (D.meaning disk.old) (D.meaning disk.new) (persist_steps journal.old mode)) }
     ensures left { IsTrue D.honest → OnErr result (PersistTook journal.old journal.new mode (D.meaning disk.old) (D.meaning disk.new)) }
     ensures succeeds { mode ≡ PersistMode.Buffer → journal.old.buffer ≡ [] → IsOk result }
+    ensures served { IsTrue D.honest → (j : Journaling) → IsWriting (state_in (D.meaning disk.old)) journal.old j → (D.meaning disk.new).misuses ≡ (D.meaning disk.old).misuses }
     ensures cause { OnlyFaults (D.meaning disk.old) (D.meaning disk.new) result }
     ensures any_moment { IsTrue D.honest → (j : Journaling) → IsWriting (state_in (D.meaning disk.old)) journal.old j
         → LeavesOnly (D.meaning disk.old) (D.meaning disk.new) (LeavesRoot (state_in (D.meaning disk.old)) j j.later) }

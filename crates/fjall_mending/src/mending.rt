@@ -20,6 +20,7 @@ use std::alloc::Global;
 pub fn plan_mending<D: Disk>(alloc: Global, disk: &mut D, found: &Finished) -> Result<Plan>
     ensures plan { IsTrue D.honest → IfOk result (IsMendingOf (standing (state_in (D.meaning disk.old))) found.now) }
     ensures same { IsTrue D.honest → Took (D.meaning disk.old) (D.meaning disk.new) [] }
+    ensures served { IsTrue D.honest → (D.meaning disk.new).misuses ≡ (D.meaning disk.old).misuses }
     ensures cause { HasCause (D.meaning disk.old) (D.meaning disk.new) result }
 {
     let tree = read_tree_end(alloc, disk)?;

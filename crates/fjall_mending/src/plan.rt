@@ -138,6 +138,7 @@ pub(crate) fn read_tree_end<D: Disk>(alloc: Global, disk: &mut D) -> Result<File
     ensures end { IsTrue D.honest → IfOk result (λ end. IsTreeEnd (standing (state_in (D.meaning disk.old))) (end_of end)) }
     ensures named { IfOk result (λ end. string_bytes end.name ≡ current_name 0) }
     ensures same { IsTrue D.honest → Took (D.meaning disk.old) (D.meaning disk.new) [] }
+    ensures served { IsTrue D.honest → (D.meaning disk.new).misuses ≡ (D.meaning disk.old).misuses }
     ensures cause { HasCause (D.meaning disk.old) (D.meaning disk.new) result }
 {
     let name = current_name(alloc, 0)?;

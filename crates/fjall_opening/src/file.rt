@@ -11,6 +11,7 @@ use std::alloc::Global;
 pub(crate) fn read_text<D: Disk>(alloc: Global, disk: &mut D, name: &str) -> Result<Vec<u8>>
     ensures text { IsTrue D.honest → IfOk result (λ text. text.items ≡ text_in (standing (state_in (D.meaning disk.old)) name.now)) }
     ensures same { IsTrue D.honest → Took (D.meaning disk.old) (D.meaning disk.new) [] }
+    ensures served { IsTrue D.honest → (D.meaning disk.new).misuses ≡ (D.meaning disk.old).misuses }
     ensures cause { HasCause (D.meaning disk.old) (D.meaning disk.new) result }
 {
     match disk.read(alloc, name)? {

@@ -88,6 +88,7 @@ fn read_tree<D: Disk>(alloc: Global, disk: &mut D, folder_ids: &[u64]) -> Result
     ensures made { IfOk result (λ found. AreMade found.catalog found.keyspaces) }
     ensures folder { IsTrue D.honest → AreFolderIds (standing (state_in (D.meaning disk.old))) folder_ids.now → OnOk result (standing (state_in (D.meaning disk.old)) (keyspace_folder 0) ≡ Folder) }
     ensures same { IsTrue D.honest → Took (D.meaning disk.old) (D.meaning disk.new) [] }
+    ensures served { IsTrue D.honest → (D.meaning disk.new).misuses ≡ (D.meaning disk.old).misuses }
     ensures later { (D.meaning disk.old).faults ≤ (D.meaning disk.new).faults }
     ensures risen { IfErr result (HasRisen (D.meaning disk.old).faults (D.meaning disk.new).faults) }
     ensures cause { IsTrue D.honest → AreFolderIds (standing (state_in (D.meaning disk.old))) folder_ids.now → IfErr result (IsDue (TreeRefuses (standing (state_in (D.meaning disk.old))))) }
@@ -109,6 +110,7 @@ fn read_tree<D: Disk>(alloc: Global, disk: &mut D, folder_ids: &[u64]) -> Result
 fn read_finished<D: Disk>(alloc: Global, disk: &mut D, journal_ids: Vec<u64>) -> Result<Finished>
     ensures found { IsTrue D.honest → AreJournalIds (standing (state_in (D.meaning disk.old))) journal_ids.items → IfOk result (IsFinished (standing (state_in (D.meaning disk.old)))) }
     ensures same { IsTrue D.honest → Took (D.meaning disk.old) (D.meaning disk.new) [] }
+    ensures served { IsTrue D.honest → (D.meaning disk.new).misuses ≡ (D.meaning disk.old).misuses }
     ensures later { (D.meaning disk.old).faults ≤ (D.meaning disk.new).faults }
     ensures risen { IfErr result (HasRisen (D.meaning disk.old).faults (D.meaning disk.new).faults) }
     ensures cause { IsTrue D.honest → AreJournalIds (standing (state_in (D.meaning disk.old))) journal_ids.items → IfErr result (IsDue (FinishedRefuses (standing (state_in (D.meaning disk.old))))) }
@@ -132,6 +134,7 @@ fn read_finished<D: Disk>(alloc: Global, disk: &mut D, journal_ids: Vec<u64>) ->
 fn read_version<D: Disk>(alloc: Global, disk: &mut D) -> Result<Marker>
     ensures tells { IsTrue D.honest → IfOk result (λ marker. marker_tells (marker_bytes (standing (state_in (D.meaning disk.old)))) ≡ Ok marker) }
     ensures same { IsTrue D.honest → Took (D.meaning disk.old) (D.meaning disk.new) [] }
+    ensures served { IsTrue D.honest → (D.meaning disk.new).misuses ≡ (D.meaning disk.old).misuses }
     ensures later { (D.meaning disk.old).faults ≤ (D.meaning disk.new).faults }
     ensures risen { IfErr result (HasRisen (D.meaning disk.old).faults (D.meaning disk.new).faults) }
     ensures cause { IsTrue D.honest → IfErr result (IsDue (λ error. marker_tells (marker_bytes (standing (state_in (D.meaning disk.old)))) ≡ Err error)) }
@@ -152,6 +155,7 @@ fn read_version<D: Disk>(alloc: Global, disk: &mut D) -> Result<Marker>
 pub fn read_folder<D: Disk>(alloc: Global, disk: &mut D) -> Result<Option<Finished>>
     ensures found { IsTrue D.honest → IfOk result (λ folder. ReadsFolder (standing (state_in (D.meaning disk.old))) folder) }
     ensures same { IsTrue D.honest → Took (D.meaning disk.old) (D.meaning disk.new) [] }
+    ensures served { IsTrue D.honest → (D.meaning disk.new).misuses ≡ (D.meaning disk.old).misuses }
     ensures later { (D.meaning disk.old).faults ≤ (D.meaning disk.new).faults }
     ensures risen { IfErr result (HasRisen (D.meaning disk.old).faults (D.meaning disk.new).faults) }
     ensures cause { IsTrue D.honest → IfErr result (IsDue (FolderRefuses (standing (state_in (D.meaning disk.old))))) }

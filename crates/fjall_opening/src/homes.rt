@@ -41,6 +41,7 @@ fn read_records<D: Disk>(alloc: Global, disk: &mut D, id: u64) -> Result<Home>
     ensures read { IsTrue D.honest → IfOk result (λ home. IsReadFrom (records_text (standing (state_in (D.meaning disk.old))) id) home) }
     ensures named { IfOk result (λ home. home.id ≡ id) }
     ensures same { IsTrue D.honest → Took (D.meaning disk.old) (D.meaning disk.new) [] }
+    ensures served { IsTrue D.honest → (D.meaning disk.new).misuses ≡ (D.meaning disk.old).misuses }
     ensures later { (D.meaning disk.old).faults ≤ (D.meaning disk.new).faults }
     ensures risen { IfErr result (HasRisen (D.meaning disk.old).faults (D.meaning disk.new).faults) }
     ensures cause { IsTrue D.honest → IfErr result (IsDue (λ error. (error ≡ Error.Storage StorageError.RecordDamaged) × HasNoRecord (records_text (standing (state_in (D.meaning disk.old))) id))) }
@@ -66,6 +67,7 @@ fn read_records<D: Disk>(alloc: Global, disk: &mut D, id: u64) -> Result<Home>
 fn read_home<D: Disk>(alloc: Global, disk: &mut D, folders: &[u64], id: u64) -> Result<Home>
     ensures read { IsTrue D.honest → AreFolderIds (standing (state_in (D.meaning disk.old))) folders.now → IfOk result (IsRead (standing (state_in (D.meaning disk.old))) id) }
     ensures same { IsTrue D.honest → Took (D.meaning disk.old) (D.meaning disk.new) [] }
+    ensures served { IsTrue D.honest → (D.meaning disk.new).misuses ≡ (D.meaning disk.old).misuses }
     ensures later { (D.meaning disk.old).faults ≤ (D.meaning disk.new).faults }
     ensures risen { IfErr result (HasRisen (D.meaning disk.old).faults (D.meaning disk.new).faults) }
     ensures cause { IsTrue D.honest → AreFolderIds (standing (state_in (D.meaning disk.old))) folders.now → IfErr result (IsDue (HomeRefuses (standing (state_in (D.meaning disk.old))) id)) }
@@ -87,6 +89,7 @@ pub(crate) fn read_homes<D: Disk>(
 ) -> Result<Vec<Home>>
     ensures read { IsTrue D.honest → AreFolderIds (standing (state_in (D.meaning disk.old))) folders.now → IfOk result (λ homes. AreHomesRead (standing (state_in (D.meaning disk.old))) living.now homes.items) }
     ensures same { IsTrue D.honest → Took (D.meaning disk.old) (D.meaning disk.new) [] }
+    ensures served { IsTrue D.honest → (D.meaning disk.new).misuses ≡ (D.meaning disk.old).misuses }
     ensures later { (D.meaning disk.old).faults ≤ (D.meaning disk.new).faults }
     ensures risen { IfErr result (HasRisen (D.meaning disk.old).faults (D.meaning disk.new).faults) }
     ensures cause { IsTrue D.honest → AreFolderIds (standing (state_in (D.meaning disk.old))) folders.now → IfErr result (IsDue (HomesRefuse (standing (state_in (D.meaning disk.old))) living.now)) }

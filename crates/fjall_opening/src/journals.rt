@@ -57,6 +57,7 @@ fn check_active(tail: Tail) -> Result<bool>
 pub(crate) fn read_one<D: Disk>(alloc: Global, disk: &mut D, id: u64) -> Result<Contents>
     ensures found { IsTrue D.honest → IfOk result (λ c. IsReadAs (journal_text (standing (state_in (D.meaning disk.old))) id) (map view c.batches.items) c.end c.tail) }
     ensures same { IsTrue D.honest → Took (D.meaning disk.old) (D.meaning disk.new) [] }
+    ensures served { IsTrue D.honest → (D.meaning disk.new).misuses ≡ (D.meaning disk.old).misuses }
     ensures later { (D.meaning disk.old).faults ≤ (D.meaning disk.new).faults }
     ensures risen { IfErr result (HasRisen (D.meaning disk.old).faults (D.meaning disk.new).faults) }
     ensures only { IfErr result (IsDue (λ error. ⊥)) }
@@ -106,6 +107,7 @@ fn read_sealed<D: Disk>(alloc: Global, disk: &mut D, ids: &[u64]) -> Result<Jour
     ensures torn { IfOk result (λ found. found.torn ≡ false) }
     ensures behind { IsTrue D.honest → (active : ℕ) (error : Error) → IfOk result (λ found. JournalsRefuse (standing (state_in (D.meaning disk.old))) found.least (active ∷ []) error → JournalsRefuse (standing (state_in (D.meaning disk.old))) 0 (ids.now ++ active ∷ []) error) }
     ensures same { IsTrue D.honest → Took (D.meaning disk.old) (D.meaning disk.new) [] }
+    ensures served { IsTrue D.honest → (D.meaning disk.new).misuses ≡ (D.meaning disk.old).misuses }
     ensures later { (D.meaning disk.old).faults ≤ (D.meaning disk.new).faults }
     ensures risen { IfErr result (HasRisen (D.meaning disk.old).faults (D.meaning disk.new).faults) }
     ensures cause { IsTrue D.honest → (active : ℕ) → IfErr result (IsDue (JournalsRefuse (standing (state_in (D.meaning disk.old))) 0 (ids.now ++ active ∷ []))) }
@@ -127,6 +129,7 @@ fn read_sealed<D: Disk>(alloc: Global, disk: &mut D, ids: &[u64]) -> Result<Jour
 pub fn read_journals<D: Disk>(alloc: Global, disk: &mut D, ids: &[u64]) -> Result<Journals>
     ensures found { IsTrue D.honest → IfOk result (λ found. AreFound (standing (state_in (D.meaning disk.old))) ids.now (map view found.batches.items) found.least found.end found.torn) }
     ensures same { IsTrue D.honest → Took (D.meaning disk.old) (D.meaning disk.new) [] }
+    ensures served { IsTrue D.honest → (D.meaning disk.new).misuses ≡ (D.meaning disk.old).misuses }
     ensures later { (D.meaning disk.old).faults ≤ (D.meaning disk.new).faults }
     ensures risen { IfErr result (HasRisen (D.meaning disk.old).faults (D.meaning disk.new).faults) }
     ensures cause { IsTrue D.honest → IfErr result (IsDue (JournalsRefuse (standing (state_in (D.meaning disk.old))) 0 ids.now)) }

@@ -17,6 +17,7 @@ pub(crate) fn list_journals<D: Disk>(alloc: Global, disk: &mut D) -> Result<Vec<
     ensures ids { IsTrue D.honest → IfOk result (λ ids. AreJournalIds (standing (state_in (D.meaning disk.old))) ids.items) }
     ensures named { IsTrue D.honest → OnOk result (JournalsAreNamed (standing (state_in (D.meaning disk.old)))) }
     ensures same { IsTrue D.honest → Took (D.meaning disk.old) (D.meaning disk.new) [] }
+    ensures served { IsTrue D.honest → (D.meaning disk.new).misuses ≡ (D.meaning disk.old).misuses }
     ensures later { (D.meaning disk.old).faults ≤ (D.meaning disk.new).faults }
     ensures risen { IfErr result (HasRisen (D.meaning disk.old).faults (D.meaning disk.new).faults) }
     ensures cause { IsTrue D.honest → IfErr result (IsDue (λ error. (error ≡ Error.JournalRecovery JournalRecoveryError.InvalidFileName) × (JournalsAreNamed (standing (state_in (D.meaning disk.old))) → ⊥))) }
@@ -30,6 +31,7 @@ pub(crate) fn list_keyspaces<D: Disk>(alloc: Global, disk: &mut D) -> Result<Vec
     ensures ids { IsTrue D.honest → IfOk result (λ ids. AreFolderIds (standing (state_in (D.meaning disk.old))) ids.items) }
     ensures named { IsTrue D.honest → OnOk result (KeyspacesAreNamed (standing (state_in (D.meaning disk.old)))) }
     ensures same { IsTrue D.honest → Took (D.meaning disk.old) (D.meaning disk.new) [] }
+    ensures served { IsTrue D.honest → (D.meaning disk.new).misuses ≡ (D.meaning disk.old).misuses }
     ensures later { (D.meaning disk.old).faults ≤ (D.meaning disk.new).faults }
     ensures risen { IfErr result (HasRisen (D.meaning disk.old).faults (D.meaning disk.new).faults) }
     ensures cause { IsTrue D.honest → IfErr result (IsDue (λ error. (error ≡ Error.Unrecoverable) × (KeyspacesAreNamed (standing (state_in (D.meaning disk.old))) → ⊥))) }

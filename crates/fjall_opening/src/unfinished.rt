@@ -21,6 +21,7 @@ use std::alloc::Global;
 fn check_journals<D: Disk>(alloc: Global, disk: &mut D, ids: &[u64]) -> Result<()>
     ensures empty { IsTrue D.honest → AreJournalIds (standing (state_in (D.meaning disk.old))) ids.now → OnOk result (AreEmpty (standing (state_in (D.meaning disk.old)))) }
     ensures same { IsTrue D.honest → Took (D.meaning disk.old) (D.meaning disk.new) [] }
+    ensures served { IsTrue D.honest → (D.meaning disk.new).misuses ≡ (D.meaning disk.old).misuses }
     ensures later { (D.meaning disk.old).faults ≤ (D.meaning disk.new).faults }
     ensures risen { IfErr result (HasRisen (D.meaning disk.old).faults (D.meaning disk.new).faults) }
     ensures cause { IsTrue D.honest → AreJournalIds (standing (state_in (D.meaning disk.old))) ids.now → IfErr result (IsDue (λ error. (error ≡ Error.Unrecoverable) × (AreEmpty (standing (state_in (D.meaning disk.old))) → ⊥))) }
@@ -45,6 +46,7 @@ fn are_equal(bytes: &[u8], others: &[u8]) -> bool
 fn check_tree<D: Disk>(alloc: Global, disk: &mut D) -> Result<()>
     ensures begun { IsTrue D.honest → OnOk result (IsBegun (records_in (standing (state_in (D.meaning disk.old))))) }
     ensures same { IsTrue D.honest → Took (D.meaning disk.old) (D.meaning disk.new) [] }
+    ensures served { IsTrue D.honest → (D.meaning disk.new).misuses ≡ (D.meaning disk.old).misuses }
     ensures later { (D.meaning disk.old).faults ≤ (D.meaning disk.new).faults }
     ensures risen { IfErr result (HasRisen (D.meaning disk.old).faults (D.meaning disk.new).faults) }
     ensures cause { IsTrue D.honest → IfErr result (IsDue (BegunRefuses (records_in (standing (state_in (D.meaning disk.old)))))) }
@@ -72,6 +74,7 @@ pub(crate) fn check_unfinished<D: Disk>(
     ensures named { IsTrue D.honest → OnOk result (KeyspacesAreNamed (standing (state_in (D.meaning disk.old)))) }
     ensures begun { IsTrue D.honest → OnOk result (IsBegun (records_in (standing (state_in (D.meaning disk.old))))) }
     ensures same { IsTrue D.honest → Took (D.meaning disk.old) (D.meaning disk.new) [] }
+    ensures served { IsTrue D.honest → (D.meaning disk.new).misuses ≡ (D.meaning disk.old).misuses }
     ensures later { (D.meaning disk.old).faults ≤ (D.meaning disk.new).faults }
     ensures risen { IfErr result (HasRisen (D.meaning disk.old).faults (D.meaning disk.new).faults) }
     ensures cause { IsTrue D.honest → AreJournalIds (standing (state_in (D.meaning disk.old))) journal_ids.now → IfErr result (IsDue (UnfinishedRefuses (standing (state_in (D.meaning disk.old))))) }

@@ -4,3 +4,4 @@ pub mod Under
 pub mod Changes
 pub mod Parts
 pub mod Made
+pub mod Removed

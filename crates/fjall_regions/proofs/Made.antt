@@ -1,9 +1,9 @@
 -- A folder and a file while they are made.
-use Rattle.std.proofs.Common.{◌≡◌, ℕ, true, false, List, [], ◌∷◌, ◌++◌, Result, Ok, Err, refl, sym, ◌∙◌, ap, subst, append_assoc}
+use Rattle.std.proofs.Common.{◌≡◌, inl, inr, ⊎_elim, ℕ, true, false, List, [], ◌∷◌, ◌++◌, Result, Ok, Err, refl, sym, ◌∙◌, ap, subst, append_assoc}
 use Rattle.std.specs.Prelude.{OnOk, OnErr}
 use Rattle.std.specs.Str.{bytes_eq}
 use Rattle.fjall_base.specs.declared.error.Error.{Error}
-use Rattle.fjall_base.specs.Disk.{Name, Entry, Missing, File, Folder, Place, State, Step, Meaning, Took, TookOrNot, TookPart, Put, Append, Sync, SyncFolder, making, removing, IsNoFile, appended, all_synced, after, folder_of, state_in}
+use Rattle.fjall_base.specs.Disk.{Name, Entry, Missing, File, Folder, Place, State, Step, Meaning, Took, TookOrNot, TookPart, Put, Append, Sync, SyncFolder, making, removing, CanCreate, IsNoFile, IsNoFolder, IsThere, standing, appended, all_synced, after, folder_of, state_in}
 use Rattle.fjall_base.proofs.Moments.{after-append}
 use Rattle.fjall_base.proofs.States.{differs, put-now, put-other, settle-in}
 use Rattle.fjall_regions.specs.Regions.{is_under, Within, IsMade, IsSafe}
@@ -87,6 +87,24 @@ module _ (folder file : Name) (inside : folder_of file ≡ folder) where
   safe_file old mid new bytes (Ok done) full took =
       ap (λ (s : State). s file) took.state ∙ settle-in (state_in mid) folder file inside ∙ ap (λ (e : Entry). record { now = e; older = [] }) full
   safe_file old mid new bytes (Err e) full took = tt
+
+  -- the file may be made in the folder that was just made
+  pub can_fill : (old m1 : Meaning) → (folder ≡ [] → ⊥) → Took old m1 (making folder Folder (state_in old folder).now) → (state_in m1 folder).now ≡ Folder → IsNoFolder (state_in old file).now → CanCreate (state_in m1) file
+  can_fill old m1 some took there kind =
+      let other : bytes_eq file folder ≡ false = differs file folder (not_its_folder folder file some inside) in
+      record {
+        named = λ e. some (sym inside ∙ ap (λ (n : Name). folder_of n) e);
+        housed = subst (λ (f : Name). IsThere (standing (state_in m1)) f) (sym inside) (inr there);
+        kind = subst (λ (p : Place). IsNoFolder p.now) (sym (making_other old m1 folder file Folder (state_in old folder).now other took)) kind;
+      }
+
+-- the folder stands as before while its file is made
+pub still_there : (folder file : Name) → folder_of file ≡ folder → (old mid : Meaning) → (file ≡ [] → ⊥) → IsThere (standing (state_in old)) folder → Within file old mid → IsThere (standing (state_in mid)) folder
+still_there [] file inside old mid named there stays = inl refl
+still_there (c ∷ cs) file inside old mid named there stays =
+    let some : c ∷ cs ≡ [] → ⊥ = λ e. cc in
+    let out : is_under file (c ∷ cs) ≡ false = shorter_out file (c ∷ cs) (folder_is_shorter (c ∷ cs) file some inside) in
+    ⊎_elim (λ e. inl e) (λ now. inr (ap (λ (p : Place). p.now) (within_state file named old mid stays (c ∷ cs) out) ∙ now)) there
 
 pub settled_within : (folder : Name) (old new : Meaning) (r : Result Unit Error) → OnOk r (Took old new (SyncFolder folder ∷ [])) → OnErr r (Took old new []) → Within folder old new
 settled_within folder old new (Ok done) ok err = within_on folder old old new _ (within_start folder old) ok (under_self folder, tt)

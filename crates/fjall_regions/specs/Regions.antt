@@ -1,6 +1,6 @@
 -- Changes of a disk that stay within a folder, and what a crash may leave in a region of the names.
-use Rattle.std.specs.Prelude.{◌≡◌, ℕ, Bool, true, false, List, [], ◌∷◌, ◌++◌, ◌==◌, if◌then◌else◌}
-use Rattle.fjall_base.specs.Disk.{Name, State, Image, Crash, IsThere, SomeSurvivesBy, Missing, File, Folder, folder_of, Step, Put, Append, Sync, Loosen, Cut, SyncFolder, Meaning, Took}
+use Rattle.std.specs.Prelude.{◌≡◌, ◌≢◌, All, Any, ℕ, Bool, true, false, List, [], ◌∷◌, ◌++◌, ◌==◌, if◌then◌else◌}
+use Rattle.fjall_base.specs.Disk.{Name, State, Image, Crash, IsThere, SomeSurvivesBy, Missing, File, Folder, folder_of, Step, Put, Append, Sync, Loosen, Cut, SyncFolder, Meaning, Took, IsNoFile, IsNoFolder}
 
 -- a name in a folder other than the root
 abbrev pub join : Name → Name → Name
@@ -45,3 +45,9 @@ IsSafe state file bytes = state file ≡ record { now = File bytes []; older = [
 pub record IsMade (state : State) (folder file : Name) (bytes : List ℕ) : Type 0 where
   pub folder_now : (state folder).now ≡ Folder
   pub file_now : (state file).now ≡ File bytes []
+
+-- The folder, where it is there, holds files of these names alone; what stands at these names is no folder.
+pub record HoldsOnly (state : State) (folder : Name) (files : List Name) : Type 0 where
+  pub kind : IsNoFile (state folder).now
+  pub each : All (λ file. IsNoFolder (state file).now) files
+  pub whole : (q : Name) → folder_of q ≡ folder → (state q).now ≢ Missing → Any (λ file. file ≡ q) files

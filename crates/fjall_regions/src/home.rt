@@ -1,8 +1,8 @@
 //! A folder and its files, made, filled and removed.
 
-ghost use Rattle.std.specs.Prelude.{◌≡◌, ◌≢◌, ◌∷◌, [], true, All, IsTrue, OnOk, string_bytes};
-ghost use Rattle.fjall_base.specs.Disk.{Name, Append, Sync, File, Missing, OnlyFaults, Took, folder_of, state_in};
-ghost use Rattle.fjall_regions.specs.Regions.{IsMade, IsSafe, Within, is_under};
+ghost use Rattle.std.specs.Prelude.{◌≡◌, ◌≢◌, ◌∷◌, [], true, map, All, IsTrue, OnOk, string_bytes};
+ghost use Rattle.fjall_base.specs.Disk.{Name, Append, Sync, File, Missing, OnlyFaults, Took, CanCreate, CanMakeFolder, IsFile, IsNoFolder, folder_of, state_in};
+ghost use Rattle.fjall_regions.specs.Regions.{HoldsOnly, IsMade, IsSafe, Within, is_under};
 
 use fjall_base::{Disk, Result};
 
@@ -12,6 +12,7 @@ use fjall_base::{Disk, Result};
 pub fn append_synced<D: Disk>(disk: &mut D, file: &str, bytes: &[u8]) -> Result<()>
     ensures took { IsTrue D.honest → OnOk result (Took (D.meaning disk.old) (D.meaning disk.new) (Append file.now bytes.now ∷ Sync file.now ∷ [])) }
     ensures within { IsTrue D.honest → (folder : Name) → is_under folder file.now ≡ true → Within folder (D.meaning disk.old) (D.meaning disk.new) }
+    ensures served { IsTrue D.honest → IsFile (state_in (D.meaning disk.old) file.now).now → (D.meaning disk.new).misuses ≡ (D.meaning disk.old).misuses }
     ensures cause { OnlyFaults (D.meaning disk.old) (D.meaning disk.new) result }
 {
     disk.append(file, bytes)?;
@@ -22,6 +23,7 @@ pub fn append_synced<D: Disk>(disk: &mut D, file: &str, bytes: &[u8]) -> Result<
 pub fn make_file<D: Disk>(disk: &mut D, file: &str, bytes: &[u8]) -> Result<()>
     ensures made { IsTrue D.honest → (state_in (D.meaning disk.old) file.now).now ≡ Missing → OnOk result ((state_in (D.meaning disk.new) file.now).now ≡ File bytes.now []) }
     ensures within { IsTrue D.honest → (folder : Name) → is_under folder file.now ≡ true → Within folder (D.meaning disk.old) (D.meaning disk.new) }
+    ensures served { IsTrue D.honest → CanCreate (state_in (D.meaning disk.old)) file.now → (D.meaning disk.new).misuses ≡ (D.meaning disk.old).misuses }
     ensures cause { OnlyFaults (D.meaning disk.old) (D.meaning disk.new) result }
 {
     disk.create(file)?;
@@ -35,6 +37,7 @@ pub fn make_home<D: Disk>(disk: &mut D, folder: &str, file: &str, bytes: &[u8]) 
     requires inside { folder_of file.now ≡ folder.now }
     ensures made { IsTrue D.honest → (state_in (D.meaning disk.old) file.now).now ≡ Missing → OnOk result (IsMade (state_in (D.meaning disk.new)) folder.now file.now bytes.now) }
     ensures within { IsTrue D.honest → Within folder.now (D.meaning disk.old) (D.meaning disk.new) }
+    ensures served { IsTrue D.honest → CanMakeFolder (state_in (D.meaning disk.old)) folder.now → IsNoFolder (state_in (D.meaning disk.old) file.now).now → (D.meaning disk.new).misuses ≡ (D.meaning disk.old).misuses }
     ensures cause { OnlyFaults (D.meaning disk.old) (D.meaning disk.new) result }
 {
     disk.make_folder(folder)?;
@@ -48,6 +51,7 @@ pub fn put_file<D: Disk>(disk: &mut D, folder: &str, file: &str, bytes: &[u8]) -
     requires inside { folder_of file.now ≡ folder.now }
     ensures safe { IsTrue D.honest → (state_in (D.meaning disk.old) file.now).now ≡ Missing → OnOk result (IsSafe (state_in (D.meaning disk.new)) file.now bytes.now) }
     ensures within { IsTrue D.honest → folder.now ≢ [] → Within folder.now (D.meaning disk.old) (D.meaning disk.new) }
+    ensures served { IsTrue D.honest → CanCreate (state_in (D.meaning disk.old)) file.now → (D.meaning disk.new).misuses ≡ (D.meaning disk.old).misuses }
     ensures cause { OnlyFaults (D.meaning disk.old) (D.meaning disk.new) result }
 {
     make_file(disk, file, bytes)?;
@@ -62,6 +66,7 @@ pub fn remove_home<D: Disk>(disk: &mut D, folder: &str, files: &[String]) -> Res
     requires inside { All (λ file. folder_of (string_bytes file) ≡ folder.now) files.now }
     ensures gone { IsTrue D.honest → OnOk result ((state_in (D.meaning disk.new) folder.now).now ≡ Missing) }
     ensures within { IsTrue D.honest → folder.now ≢ [] → Within folder.now (D.meaning disk.old) (D.meaning disk.new) }
+    ensures served { IsTrue D.honest → HoldsOnly (state_in (D.meaning disk.old)) folder.now (map string_bytes files.now) → (D.meaning disk.new).misuses ≡ (D.meaning disk.old).misuses }
     ensures cause { OnlyFaults (D.meaning disk.old) (D.meaning disk.new) result }
 {
     for file in files {

@@ -37,7 +37,7 @@ use Rattle.fjall_places.proofs.Holding.{folder_stands, tree_of}
 use Rattle.fjall_beginning.proofs.Beginning as Beginning
 use Rattle.fjall_repair.specs.declared.opened.Opened.{Opened}
 use Rattle.fjall_repair.specs.Sweeps.{IsSwept}
-use Rattle.fjall_repair.specs.Opened.{ComesBack, HasNumbers, IsHeldUp, IsOpenedFrom, IsRepaired, IsUnopened, Opens, Takes, records_of}
+use Rattle.fjall_repair.specs.Opened.{ComesBack, HasNumbers, IsHeldUp, IsOpenedFrom, IsRepaired, IsUnopened, StandsForSome, Opens, Takes, records_of}
 
 -- ---- before the first change
 
@@ -159,14 +159,14 @@ swept_on old mid new (Err e) same swept = tt
 -- ---- why it isn't opened
 
 pub unopened : (old new : Meaning) (error : Error) → IsDue (FolderRefuses (standing (state_in old))) error → Took old new [] → IsUnopened old new error
-unopened old new (Io kind) due took = tt
+unopened old new (Io kind) due took = inl took
 unopened old new error due took = (due, took)
 
-pub held_up : {X : Type 0} (old mid new : Meaning) (result : Result X Error) → Took old mid [] → IfErr result (IsHeldUp mid new) → IfErr result (IsUnopened old new)
-held_up old mid new (Ok x) took held = tt
-held_up old mid new (Err (Io kind)) took held = tt
-held_up old mid new (Err OutOfMemory) took held = (tt, took_none old mid new [] took held)
-held_up old mid new (Err error) took held = absurd held
+pub held_up : {X : Type 0} (old mid new : Meaning) (result : Result X Error) → StandsForSome (standing (state_in old)) → Took old mid [] → IfErr result (IsHeldUp mid new) → IfErr result (IsUnopened old new)
+held_up old mid new (Ok x) stands took held = tt
+held_up old mid new (Err (Io kind)) stands took held = inr stands
+held_up old mid new (Err OutOfMemory) stands took held = (tt, took_none old mid new [] took held)
+held_up old mid new (Err error) stands took held = absurd held
 
 -- before anything was changed
 pub held_early : (old new : Meaning) (error : Error) → IsDue (λ error. ⊥) error → Took old new [] → IsHeldUp old new error

@@ -1,5 +1,5 @@
 -- A database that was opened.
-use Rattle.std.specs.Prelude.{◌≡◌, ℕ, ◌<◌, ◌^◌, All, IfSome, List, [], ◌∷◌, length, map, Option, None, Some}
+use Rattle.std.specs.Prelude.{◌≡◌, ◌⊎◌, ℕ, ◌<◌, ◌^◌, All, IfSome, List, [], ◌∷◌, length, map, Option, None, Some}
 use Rattle.fjall_base.specs.Disk.{Image, Meaning, Name, State, Took, standing, state_in}
 use Rattle.fjall_base.specs.declared.error.Error.{Error}
 use Rattle.fjall_base.specs.declared.error.Error.TheVariants.{Io, OutOfMemory}
@@ -12,7 +12,8 @@ use Rattle.fjall_catalog.specs.declared.catalog.Catalog.{Catalog}
 use Rattle.fjall_catalog.specs.Catalog.{fields, first_catalog}
 use Rattle.fjall_versions.specs.Versions.{store_of as store_behind, versions_behind}
 use Rattle.fjall_opening.specs.declared.folder.Finished.{Finished}
-use Rattle.fjall_opening.specs.Folders.{Contents, number_of, store_of}
+use Rattle.fjall_base.specs.Store.{Store}
+use Rattle.fjall_opening.specs.Folders.{Contents, StandsFor, number_of, store_of}
 use Rattle.fjall_opening.specs.Journals.{batches_in}
 use Rattle.fjall_opening.specs.Refusals.{FolderRefuses, IsDue}
 use Rattle.fjall_places.specs.Halves.{Tree}
@@ -97,7 +98,12 @@ IsHeldUp old new (Io kind) = Unit {0}
 IsHeldUp old new OutOfMemory = Took old new []
 IsHeldUp old new error = ⊥
 
--- the disk failed, or memory ran out or the folder is refused, before anything was changed
+-- the folder stands for some store
+abbrev pub StandsForSome : Image → Type 0
+StandsForSome image = (store : Store) × StandsFor image store
+
+-- The disk failed, or memory ran out or the folder is refused, before anything was changed. Where the disk failed and
+-- something was changed, the folder is one that stands for a store.
 abbrev pub IsUnopened : Meaning → Meaning → Error → Type 0
-IsUnopened old new (Io kind) = Unit {0}
+IsUnopened old new (Io kind) = Took old new [] ⊎ StandsForSome (standing (state_in old))
 IsUnopened old new error = IsDue (FolderRefuses (standing (state_in old))) error × Took old new []

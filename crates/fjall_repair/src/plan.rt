@@ -76,6 +76,7 @@ fn list_tables<D: Disk>(
     ensures found { IsTrue D.honest → IfOk result (λ names. AreTables (state_in (D.meaning disk.old)) id named (map string_bytes names.items)) }
     ensures fits { id < 2 ^ 64 }
     ensures same { IsTrue D.honest → Took (D.meaning disk.old) (D.meaning disk.new) [] }
+    ensures served { IsTrue D.honest → (D.meaning disk.new).misuses ≡ (D.meaning disk.old).misuses }
     ensures later { (D.meaning disk.old).faults ≤ (D.meaning disk.new).faults }
     ensures risen { IfErr result (HasRisen (D.meaning disk.old).faults (D.meaning disk.new).faults) }
     ensures only { IfErr result (IsDue (λ error. ⊥)) }
@@ -98,6 +99,7 @@ fn list_all_tables<D: Disk>(
     ensures tree { IsTrue D.honest → IfOk result (λ names. FindsTables (state_in (D.meaning disk.old)) named (map string_bytes names.items)) }
     ensures others { IsTrue D.honest → IfOk result (λ names. FindsTablesOf (state_in (D.meaning disk.old)) living.now (map string_bytes names.items)) }
     ensures same { IsTrue D.honest → Took (D.meaning disk.old) (D.meaning disk.new) [] }
+    ensures served { IsTrue D.honest → (D.meaning disk.new).misuses ≡ (D.meaning disk.old).misuses }
     ensures later { (D.meaning disk.old).faults ≤ (D.meaning disk.new).faults }
     ensures risen { IfErr result (HasRisen (D.meaning disk.old).faults (D.meaning disk.new).faults) }
     ensures only { IfErr result (IsDue (λ error. ⊥)) }
@@ -130,6 +132,7 @@ fn list_home<D: Disk>(alloc: Global, disk: &mut D, id: u64) -> Result<UnnamedHom
     ensures fits { id < 2 ^ 64 }
     ensures inside { IsTrue D.honest → IfOk result (λ home. All (λ file. folder_of (string_bytes file) ≡ folder_at id) home.files.items) }
     ensures same { IsTrue D.honest → Took (D.meaning disk.old) (D.meaning disk.new) [] }
+    ensures served { IsTrue D.honest → (D.meaning disk.new).misuses ≡ (D.meaning disk.old).misuses }
     ensures later { (D.meaning disk.old).faults ≤ (D.meaning disk.new).faults }
     ensures risen { IfErr result (HasRisen (D.meaning disk.old).faults (D.meaning disk.new).faults) }
     ensures only { IfErr result (IsDue (λ error. ⊥)) }
@@ -150,6 +153,7 @@ fn list_homes<D: Disk>(
     ensures unnamed { IsTrue D.honest → IfOk result (λ homes. All (IsUnnamedHome living.now) homes.items) }
     ensures found { IsTrue D.honest → IfOk result (λ homes. FindsHomes (state_in (D.meaning disk.old)) living.now ids.now homes.items) }
     ensures same { IsTrue D.honest → Took (D.meaning disk.old) (D.meaning disk.new) [] }
+    ensures served { IsTrue D.honest → (D.meaning disk.new).misuses ≡ (D.meaning disk.old).misuses }
     ensures later { (D.meaning disk.old).faults ≤ (D.meaning disk.new).faults }
     ensures risen { IfErr result (HasRisen (D.meaning disk.old).faults (D.meaning disk.new).faults) }
     ensures only { IfErr result (IsDue (λ error. ⊥)) }
@@ -179,6 +183,7 @@ pub fn plan_sweep<D: Disk>(
     ensures right { IsTrue D.honest → IfOk result (IsPlan named_table living.now) }
     ensures whole { IsTrue D.honest → IfOk result (FindsAll (state_in (D.meaning disk.old)) named_table living.now folder_ids.now) }
     ensures same { IsTrue D.honest → Took (D.meaning disk.old) (D.meaning disk.new) [] }
+    ensures served { IsTrue D.honest → (D.meaning disk.new).misuses ≡ (D.meaning disk.old).misuses }
     ensures later { (D.meaning disk.old).faults ≤ (D.meaning disk.new).faults }
     ensures risen { IfErr result (HasRisen (D.meaning disk.old).faults (D.meaning disk.new).faults) }
     ensures only { IfErr result (IsDue (λ error. ⊥)) }

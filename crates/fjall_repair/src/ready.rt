@@ -56,6 +56,7 @@ pub(crate) struct ToMend {
 fn list_folders<D: Disk>(alloc: Global, disk: &mut D) -> Result<Vec<u64>>
     ensures ids { IsTrue D.honest → IfOk result (λ ids. AreFolderIds (standing (state_in (D.meaning disk.old))) ids.items) }
     ensures same { IsTrue D.honest → Took (D.meaning disk.old) (D.meaning disk.new) [] }
+    ensures served { IsTrue D.honest → (D.meaning disk.new).misuses ≡ (D.meaning disk.old).misuses }
     ensures later { (D.meaning disk.old).faults ≤ (D.meaning disk.new).faults }
     ensures risen { IfErr result (HasRisen (D.meaning disk.old).faults (D.meaning disk.new).faults) }
     ensures only { IsTrue D.honest → KeyspacesAreNamed (standing (state_in (D.meaning disk.old))) → IfErr result (IsDue (λ error. ⊥)) }
@@ -90,6 +91,7 @@ pub(crate) fn ready_to_begin<D: Disk>(alloc: Global, disk: &mut D) -> Result<ToB
     ensures number { IfOk result (λ r. r.opened.number ≡ 0) }
     ensures lawful { IfOk result (λ r. IsLawful r.opened) }
     ensures same { IsTrue D.honest → Took (D.meaning disk.old) (D.meaning disk.new) [] }
+    ensures served { IsTrue D.honest → (D.meaning disk.new).misuses ≡ (D.meaning disk.old).misuses }
     ensures later { (D.meaning disk.old).faults ≤ (D.meaning disk.new).faults }
     ensures risen { IfErr result (HasRisen (D.meaning disk.old).faults (D.meaning disk.new).faults) }
     ensures due { IsTrue D.honest → IsUnfinished (standing (state_in (D.meaning disk.old))) → IfErr result (IsDue (λ error. ⊥)) }
@@ -159,6 +161,7 @@ pub(crate) fn ready_to_mend<D: Disk>(alloc: Global, disk: &mut D, found: Finishe
     ensures number { All HasNumbers (records_of found) → IfOk result (λ r. r.opened.number ≡ max found.journals.least (past_records (records_of found))) }
     ensures lawful { IfOk result (λ r. IsLawful r.opened) }
     ensures same { IsTrue D.honest → Took (D.meaning disk.old) (D.meaning disk.new) [] }
+    ensures served { IsTrue D.honest → (D.meaning disk.new).misuses ≡ (D.meaning disk.old).misuses }
     ensures later { (D.meaning disk.old).faults ≤ (D.meaning disk.new).faults }
     ensures risen { IfErr result (HasRisen (D.meaning disk.old).faults (D.meaning disk.new).faults) }
     ensures due { IsTrue D.honest → (image : Image) → IsFinished image found → IfErr result (IsDue (λ error. ⊥)) }

@@ -30,7 +30,7 @@ pub record OpenedOn (honest : Bool) (disk : Meaning) (core : Held) : Type 0 wher
 
 -- nothing was ever put on the disk
 abbrev pub IsNew : Meaning → Type 0
-IsNew disk = disk ≡ record { places = []; steps = []; faults = 0 }
+IsNew disk = disk ≡ record { places = []; steps = []; faults = 0; misuses = 0 }
 
 -- a core that a session begins with: in memory, over a new disk, which holds no keyspace
 pub record Begins (honest : Bool) (core : Held) : Type 0 where

@@ -6,6 +6,9 @@ use Rattle.fjall_tree.specs.Records.{record_text}
 use Rattle.fjall_catalog.specs.Catalog.{fields}
 use Rattle.fjall_catalog.proofs.Naming.{current_zero, current_under}
 use Rattle.fjall_catalog.proofs.Commits as Commits
+use Rattle.fjall_base.specs.Disk.{state_in}
+use Rattle.fjall_base.proofs.Served.{file_stays}
+use Rattle.fjall_catalog.proofs.Serving.{both_kind, current_there, part_kind}
 use Rattle.fjall_catalog.proofs.writing.commit.Goals as goal
 
 pub returns-in_err-append-clause-within : goal.returns-in_err-append-clause-within
@@ -47,3 +50,20 @@ returns-clause-ok g c honest records old s t number are update written =
     Commits.committed records old s c.args.update.now.catalog t update.is_record (sym update.next_keyspace_id) are (m c.args.disk.now) (m c.append.new.self) (m c.sync.new.self) c.sync.result written
     (subst (λ (n : Name). Took (m c.args.disk.now) (m c.append.new.self) (Append n text ∷ [])) (sym current_zero) took)
     (subst (λ (n : Name). OnOk c.sync.result (Took (m c.append.new.self) (m c.sync.new.self) (Sync n ∷ []))) (sym current_zero) (c.sync.ensures.ok honest))
+
+pub returns-in_err-append-clause-kinds : goal.returns-in_err-append-clause-kinds
+returns-in_err-append-clause-kinds g c honest q is = part_kind _ _ at q _ (c.in_err-append.ensures.err honest) is
+
+pub returns-clause-kinds : goal.returns-clause-kinds
+returns-clause-kinds g c honest q is =
+    let m : _ → Meaning = g.D.Disk.meaning in
+    both_kind (m c.args.disk.now) (m c.append.new.self) (m c.sync.new.self) at q _ c.sync.result (c.in_ok-append.ensures.ok honest) (c.sync.ensures.ok honest) (c.sync.ensures.err honest) is
+
+pub returns-in_err-append-clause-served : goal.returns-in_err-append-clause-served
+returns-in_err-append-clause-served g c honest records old next s t written = (c.in_err-append.ensures.judged honest).served (current_there (state_in (g.D.Disk.meaning c.args.disk.now)) records old s written.rests)
+
+pub returns-clause-served : goal.returns-clause-served
+returns-clause-served g c honest records old next s t written =
+    let m : _ → Meaning = g.D.Disk.meaning in
+    let file = current_there (state_in (m c.args.disk.now)) records old s written.rests in
+    (c.sync.ensures.judged honest).served (file_stays (m c.args.disk.now) (m c.append.new.self) at _ (c.in_ok-append.ensures.ok honest) file) ∙ (c.in_ok-append.ensures.judged honest).served file

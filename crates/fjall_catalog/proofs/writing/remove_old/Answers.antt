@@ -1,9 +1,11 @@
-use Rattle.std.proofs.Common.{◌≡◌, Some, true, ap, sym, ◌∙◌, string_bytes}
+use Rattle.std.proofs.Common.{◌≡◌, Some, Option, true, ap, sym, ◌∙◌, string_bytes, subst}
 use Rattle.std.specs.Option.{option_map}
-use Rattle.fjall_base.specs.Disk.{Meaning, Name}
+use Rattle.std.specs.Prelude.{IfSome}
+use Rattle.fjall_base.specs.Disk.{IsNoFolder, Meaning, Name, state_in}
+use Rattle.fjall_tree.specs.declared.record.TableInfo.{TableInfo}
 use Rattle.fjall_regions.specs.Regions.{is_under}
 use Rattle.fjall_regions.proofs.Made.{removed_within}
-use Rattle.fjall_recovery.specs.Names.{keyspace_folder}
+use Rattle.fjall_recovery.specs.Names.{keyspace_folder, table_name}
 use Rattle.fjall_keyspaces.specs.Entries.{entries_of}
 use Rattle.fjall_catalog.proofs.Naming.{table_under}
 use Rattle.fjall_catalog.proofs.Runs as Runs
@@ -39,3 +41,10 @@ returns-clause-ready g c honest records old t number update is ready =
     let apart = Runs.new_apart old.next_table_id u.catalog.next_table_id file.t.id (entries_of t.living) u.catalog.table u.table update.table small.1 in
     Runs.removed_ready records u.catalog t c.as_str.result.now file.t.id file.name_is small.0 apart.0 apart.1 (m c.args.disk.now) (m c.remove.new.self) ready
     (removed_within c.as_str.result.now (m c.args.disk.now) (m c.remove.new.self) c.remove.result (c.remove.ensures.ok honest) (c.remove.ensures.err honest))
+
+pub returns-clause-served : goal.returns-clause-served
+returns-clause-served g c honest old t number update kind =
+    let state = state_in (g.D.Disk.meaning c.args.disk.now) in
+    let file = Runs.old_file old _ c.as_str.result.now (ap (λ n. option_map string_bytes n) c.in-Some.is ∙ ap (λ l. Some l) (sym c.as_str.ensures.value)) update.old_table in
+    let here = subst (λ (table : Option TableInfo). IfSome table (λ i. IsNoFolder (state (table_name 0 i.id)).now)) file.named_is kind in
+    (c.remove.ensures.judged honest).served (subst (λ (n : Name). IsNoFolder (state n).now) (sym file.name_is) here)

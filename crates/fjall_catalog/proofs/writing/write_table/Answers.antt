@@ -7,6 +7,7 @@ use Rattle.fjall_recovery.specs.Names.{keyspace_folder, table_name}
 use Rattle.fjall_keyspaces.specs.Entries.{entries_of}
 use Rattle.fjall_catalog.proofs.Naming.{folder_zero}
 use Rattle.fjall_catalog.proofs.Runs as Runs
+use Rattle.fjall_catalog.proofs.Serving.{can_make, folder_there}
 use Rattle.fjall_catalog.proofs.writing.write_table.Goals as goal
 
 pub returns-in_default-clause-any_moment : goal.returns-in_default-clause-any_moment
@@ -68,3 +69,21 @@ returns-clause-ok g c honest records old s t number ready update =
     ap (λ (n : Name). (state_in (m c.make_file.new.disk) n).now) (sym at) ∙ made ∙ ap (λ (l : List ℕ). File l []) c.deref.ensures.value in
     Runs.table_written (m c.args.disk.now) (m c.make_file.new.disk) (m c.sync_folder.new.self) records old s u.catalog t new.t c.in-Some.table.bytes.items (codes "keyspaces/0") c.sync_folder.result
     (sym folder_zero) new.named_is new.is.id_is new.after_is new.is.below new.is.is ready (subst (λ (n : Name). Within n (m c.args.disk.now) (m c.make_file.new.disk)) at run) still full (c.sync_folder.ensures.ok honest)
+
+pub returns-in_err-make_file-clause-served : goal.returns-in_err-make_file-clause-served
+returns-in_err-make_file-clause-served g c honest records old s t number ready update =
+    let u = c.args.update.now in
+    let new = Runs.new_file old.next_table_id u.catalog.next_table_id (entries_of t.living) u.catalog.table c.in-Some.table u.table c.in-Some.is update.table in
+    let at : c.as_str.result.now ≡ table_name 0 old.next_table_id = c.as_str.ensures.value ∙ new.is.name in
+    c.in_err-make_file.ensures.served honest (can_make old c.as_str.result.now at new.is.below records s (state_in (g.D.Disk.meaning c.args.disk.now)) ready)
+
+pub returns-clause-served : goal.returns-clause-served
+returns-clause-served g c honest records old s t number ready update =
+    let m : _ → Meaning = g.D.Disk.meaning in
+    let u = c.args.update.now in
+    let name = c.as_str.result.now in
+    let new = Runs.new_file old.next_table_id u.catalog.next_table_id (entries_of t.living) u.catalog.table c.in-Some.table u.table c.in-Some.is update.table in
+    let at : name ≡ table_name 0 old.next_table_id = c.as_str.ensures.value ∙ new.is.name in
+    let still = Runs.begun old name at new.is.below records s (m c.args.disk.now) (m c.make_file.new.disk) ready.rests (c.in_ok-make_file.ensures.within honest name (under_self name)) in
+    (c.sync_folder.ensures.judged honest).served (folder_there (state_in (m c.make_file.new.disk)) records old s still.rests)
+    ∙ c.in_ok-make_file.ensures.served honest (can_make old name at new.is.below records s (state_in (m c.args.disk.now)) ready)

@@ -1,9 +1,10 @@
-use Rattle.std.proofs.Common.{[], ◌∷◌, ◌++◌}
+use Rattle.std.proofs.Common.{[], ◌∷◌, ◌++◌, ◌∙◌}
 use Rattle.fjall_base.specs.Disk.{Meaning, state_in}
 use Rattle.fjall_regions.proofs.Made.{within_both}
 use Rattle.fjall_recovery.specs.Names.{keyspace_folder}
 use Rattle.fjall_catalog.specs.Catalog.{fields}
 use Rattle.fjall_places.specs.Places.{LiesInTree}
+use Rattle.fjall_catalog.proofs.Serving.{kinds_on, safe_kind}
 use Rattle.fjall_changes.proofs.Changed as Changed
 use Rattle.fjall_changes.proofs.change.change_tree.Goals as goal
 
@@ -70,3 +71,23 @@ returns-clause-ok g c honest records t next number lies new at update =
     let still = c.remove_old.ensures.ready honest (records ++ fields last ∷ []) t.last next.keyspaces number update is_last done in
     Changed.on_ok c.remove_old.result (LiesInTree (state_in (m c.remove_old.new.disk)) (records ++ fields last ∷ []) next)
     (Changed.ended records t next last at (m c.args.disk.now) lies new (m c.remove_old.new.disk) removed still)
+
+pub returns-in_err-write_table-clause-served : goal.returns-in_err-write_table-clause-served
+returns-in_err-write_table-clause-served g c honest records t next number lies new at update =
+    c.in_err-write_table.ensures.served honest records t.last t.keyspaces next.keyspaces number (Changed.ready records t next c.args.update.now.catalog at (g.D.Disk.meaning c.args.disk.now) lies new) update
+
+pub returns-in_err-commit-clause-served : goal.returns-in_err-commit-clause-served
+returns-in_err-commit-clause-served g c honest records t next number lies new at update =
+    let ready = Changed.ready records t next c.args.update.now.catalog at (g.D.Disk.meaning c.args.disk.now) lies new in
+    let written = c.in_ok-write_table.ensures.ok honest records t.last t.keyspaces next.keyspaces number ready update in
+    c.in_err-commit.ensures.served honest records t.last c.args.update.now.catalog t.keyspaces next.keyspaces written ∙ c.in_ok-write_table.ensures.served honest records t.last t.keyspaces next.keyspaces number ready update
+
+pub returns-clause-served : goal.returns-clause-served
+returns-clause-served g c honest records t next number lies new at update =
+    let m : _ → Meaning = g.D.Disk.meaning in
+    let last = c.args.update.now.catalog in
+    let ready = Changed.ready records t next last at (m c.args.disk.now) lies new in
+    let written = c.in_ok-write_table.ensures.ok honest records t.last t.keyspaces next.keyspaces number ready update in
+    let kind = kinds_on (state_in (m c.write_table.new.disk)) (state_in (m c.commit.new.disk)) t.last.table (c.in_ok-commit.ensures.kinds honest) (safe_kind (state_in (m c.write_table.new.disk)) t.last.table _ written.rests.entries) in
+    c.remove_old.ensures.served honest t.last next.keyspaces number update kind
+    ∙ c.in_ok-commit.ensures.served honest records t.last last t.keyspaces next.keyspaces written ∙ c.in_ok-write_table.ensures.served honest records t.last t.keyspaces next.keyspaces number ready update

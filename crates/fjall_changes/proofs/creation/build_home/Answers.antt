@@ -1,5 +1,12 @@
 use Rattle.std.proofs.Common.{[], ◌∷◌, ◌∙◌, subst}
 use Rattle.fjall_base.specs.Disk.{Meaning, Name, SyncFolder, Took, state_in}
+use Rattle.std.proofs.Common.{inr, ap, sym}
+use Rattle.fjall_base.specs.Disk.{IsNoFolder, IsThere, Place, folder_of, standing}
+use Rattle.fjall_places.proofs.Trees.{folder_of-home}
+use Rattle.fjall_regions.proofs.Made.{within_both}
+use Rattle.fjall_recovery.specs.Names.{keyspace_folder, current_name}
+use Rattle.fjall_opening.proofs.Listed.{in_keyspaces}
+use Rattle.fjall_changes.proofs.Served.{can_make_home, keyspaces_there}
 use Rattle.fjall_changes.proofs.Apart.{within_keyspaces}
 use Rattle.fjall_changes.proofs.Building as Building
 use Rattle.fjall_changes.proofs.creation.build_home.Goals as goal
@@ -69,3 +76,39 @@ returns-clause-home g c honest old s id number small is =
     Building.home_safe id number (m c.write_home.new.disk) (m c.sync_folder.new.self) (m c.sync_folder-2.new.self) c.deref.result.now c.sync_folder-2.result small
     (Building.number_small old s number c.args.creation.now.update is.update) (c.deref.ensures.value ∙ is.record_text) made
     (subst (λ (n : Name). Took (m c.write_home.new.disk) (m c.sync_folder.new.self) (SyncFolder n ∷ [])) at (c.in_ok-sync_folder.ensures.ok honest)) (c.sync_folder-2.ensures.ok honest)
+
+-- ---- which calls a disk can serve
+
+pub returns-in_err-write_home-clause-served : goal.returns-in_err-write_home-clause-served
+returns-in_err-write_home-clause-served g c honest records t old s id number small lies is room =
+    let m : _ → Meaning = g.D.Disk.meaning in
+    let at = c.as_str-folder.ensures.value ∙ is.folder in
+    let at_current = c.as_str.ensures.value ∙ is.current in
+    let inside = ap (λ (n : Name). folder_of n) at_current ∙ folder_of-home id ∙ sym at in
+    let can = can_make_home id c.as_str-folder.result.now at (in_keyspaces id small) (state_in (m c.args.disk.now)) records t lies room in
+    let kind = subst (λ (n : Name). IsNoFolder (state_in (m c.args.disk.now) n).now) (sym at_current) room.current in
+    c.in_err-write_home.ensures.served honest inside can kind
+
+pub returns-in_err-sync_folder-clause-served : goal.returns-in_err-sync_folder-clause-served
+returns-in_err-sync_folder-clause-served g c honest records t old s id number small lies is room =
+    let m : _ → Meaning = g.D.Disk.meaning in
+    let at = c.as_str-folder.ensures.value ∙ is.folder in
+    let at_current = c.as_str.ensures.value ∙ is.current in
+    let inside = ap (λ (n : Name). folder_of n) at_current ∙ folder_of-home id ∙ sym at in
+    let can = can_make_home id c.as_str-folder.result.now at (in_keyspaces id small) (state_in (m c.args.disk.now)) records t lies room in
+    let kind = subst (λ (n : Name). IsNoFolder (state_in (m c.args.disk.now) n).now) (sym at_current) room.current in
+    (c.in_err-sync_folder.ensures.judged honest).served (inr (c.in_ok-write_home.ensures.made honest inside).folder_now) ∙ c.in_ok-write_home.ensures.served honest inside can kind
+
+pub returns-clause-served : goal.returns-clause-served
+returns-clause-served g c honest records t old s id number small lies is room =
+    let m : _ → Meaning = g.D.Disk.meaning in
+    let at = c.as_str-folder.ensures.value ∙ is.folder in
+    let at_current = c.as_str.ensures.value ∙ is.current in
+    let inside = ap (λ (n : Name). folder_of n) at_current ∙ folder_of-home id ∙ sym at in
+    let can = can_make_home id c.as_str-folder.result.now at (in_keyspaces id small) (state_in (m c.args.disk.now)) records t lies room in
+    let kind = subst (λ (n : Name). IsNoFolder (state_in (m c.args.disk.now) n).now) (sym at_current) room.current in
+    let run = Building.within_as id c.as_str-folder.result.now c.as_str.result.now at at_current _ _ (c.in_ok-write_home.ensures.within honest) in
+    let synced = Building.synced_as id c.as_str-folder.result.now at _ _ (c.in_ok-sync_folder.ensures.ok honest) in
+    let both = within_both (keyspace_folder id) (m c.args.disk.now) (m c.write_home.new.disk) (m c.sync_folder.new.self) run synced in
+    (c.sync_folder-2.ensures.judged honest).served (keyspaces_there id (m c.args.disk.now) (m c.sync_folder.new.self) records t lies both)
+    ∙ (c.in_ok-sync_folder.ensures.judged honest).served (inr (c.in_ok-write_home.ensures.made honest inside).folder_now) ∙ c.in_ok-write_home.ensures.served honest inside can kind

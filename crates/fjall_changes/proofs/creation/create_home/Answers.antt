@@ -1,4 +1,4 @@
-use Rattle.std.proofs.Common.{codes, inl, refl}
+use Rattle.std.proofs.Common.{codes, inl, refl, ◌∙◌}
 use Rattle.fjall_base.specs.Disk.{Meaning, state_in}
 use Rattle.fjall_base.proofs.Moments.{runs_on, weaken}
 use Rattle.fjall_regions.proofs.Made.{within_both}
@@ -43,3 +43,18 @@ returns-clause-ok g c honest records t name options number lies is are later fit
     let home = c.in_ok-build_home.ensures.home honest t.last next.keyspaces t.keyspaces.next number fits is in
     let housed = with_housed (state_in (m c.build_home.new.disk)) records t still number later name options c.args.creation.now.update is.update are home in
     c.change_tree.ensures.ok honest records t next number still housed refl is.update
+
+pub returns-in_err-build_home-clause-served : goal.returns-in_err-build_home-clause-served
+returns-in_err-build_home-clause-served g c honest records t name options number lies is are later fits room =
+    let next = with_home name options number c.args.creation.now.update.catalog t in
+    c.in_err-build_home.ensures.served honest records t t.last next.keyspaces t.keyspaces.next number fits lies is room
+
+pub returns-clause-served : goal.returns-clause-served
+returns-clause-served g c honest records t name options number lies is are later fits room =
+    let m : _ → Meaning = g.D.Disk.meaning in
+    let next = with_home name options number c.args.creation.now.update.catalog t in
+    let unused = next_unused (state_in (m c.args.disk.now)) records t lies fits in
+    let still = c.in_ok-build_home.ensures.lies honest records t t.last next.keyspaces t.keyspaces.next number lies unused is in
+    let home = c.in_ok-build_home.ensures.home honest t.last next.keyspaces t.keyspaces.next number fits is in
+    let housed = with_housed (state_in (m c.build_home.new.disk)) records t still number later name options c.args.creation.now.update is.update are home in
+    c.change_tree.ensures.served honest records t next number still housed refl is.update ∙ c.in_ok-build_home.ensures.served honest records t t.last next.keyspaces t.keyspaces.next number fits lies is room

@@ -1,6 +1,9 @@
 use Rattle.fjall_base.specs.Disk.{Folder, Meaning}
 use Rattle.fjall_regions.proofs.Under.{under_self}
 use Rattle.fjall_regions.proofs.Made.{making_within, removing_within, within_both, within_none}
+use Rattle.std.proofs.Common.{◌∙◌}
+use Rattle.fjall_regions.proofs.Made.{can_fill}
+use Rattle.fjall_changes.proofs.Served.{still_can}
 use Rattle.fjall_changes.proofs.Building as Building
 use Rattle.fjall_changes.proofs.creation.write_home.Goals as goal
 
@@ -29,3 +32,22 @@ returns-clause-made g c honest inside =
     Building.made c.args.folder.now c.args.current.now (m c.make_folder.new.self) (m c.remove.new.self) (m c.make_file.new.disk) c.args.record_text.now c.make_file.result inside
     (c.in_ok-make_folder.ensures.named honest) (c.in_ok-make_folder.ensures.folder honest) (c.in_ok-remove.ensures.ok honest) (c.make_file.ensures.made honest)
     (c.make_file.ensures.within honest c.args.current.now (under_self c.args.current.now))
+
+pub returns-in_err-make_folder-clause-served : goal.returns-in_err-make_folder-clause-served
+returns-in_err-make_folder-clause-served g c honest inside can kind = (c.in_err-make_folder.ensures.judged honest).served can
+
+pub returns-in_err-remove-clause-served : goal.returns-in_err-remove-clause-served
+returns-in_err-remove-clause-served g c honest inside can kind =
+    let m : _ → Meaning = g.D.Disk.meaning in
+    let first = c.in_ok-make_folder.ensures in
+    let fill = can_fill c.args.folder.now c.args.current.now inside (m c.args.disk.now) (m c.make_folder.new.self) (first.named honest) (first.ok honest) (first.folder honest) kind in
+    (c.in_err-remove.ensures.judged honest).served fill.kind ∙ (first.judged honest).served can
+
+pub returns-clause-served : goal.returns-clause-served
+returns-clause-served g c honest inside can kind =
+    let m : _ → Meaning = g.D.Disk.meaning in
+    let first = c.in_ok-make_folder.ensures in
+    let fill = can_fill c.args.folder.now c.args.current.now inside (m c.args.disk.now) (m c.make_folder.new.self) (first.named honest) (first.ok honest) (first.folder honest) kind in
+    c.make_file.ensures.served honest
+    (still_can c.args.folder.now c.args.current.now inside (first.named honest) (m c.make_folder.new.self) (m c.remove.new.self) (c.in_ok-remove.ensures.ok honest) (first.folder honest) fill)
+    ∙ (c.in_ok-remove.ensures.judged honest).served fill.kind ∙ (first.judged honest).served can

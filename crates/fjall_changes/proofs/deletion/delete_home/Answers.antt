@@ -19,3 +19,8 @@ returns-clause-ok g c honest records t id number lies update later =
     let m : _ → Meaning = g.D.Disk.meaning in
     let u = c.args.update.now in
     c.change_tree.ensures.ok honest records t (without_home id u.catalog t) number lies (without_housed (state_in (m c.args.disk.now)) records t lies number later id u update) refl update
+
+pub returns-clause-served : goal.returns-clause-served
+returns-clause-served g c honest records t id number lies update later =
+    let u = c.args.update.now in
+    c.change_tree.ensures.served honest records t (without_home id u.catalog t) number lies (without_housed (state_in (g.D.Disk.meaning c.args.disk.now)) records t lies number later id u update) refl update

@@ -1,4 +1,9 @@
-use Rattle.std.proofs.Common.{map, ◌∙◌, ap, string_bytes}
+use Rattle.std.proofs.Common.{map, ◌∙◌, List, ap, sym, subst, string_bytes}
+use Rattle.fjall_base.specs.Disk.{CanRemoveFolder, Meaning, Name, state_in}
+use Rattle.fjall_regions.specs.Regions.{HoldsOnly}
+use Rattle.fjall_regions.proofs.Made.{within_both}
+use Rattle.fjall_regions.proofs.Removed.{emptied}
+use Rattle.fjall_changes.proofs.Served.{keyspaces_there}
 use Rattle.fjall_recovery.specs.Names.{keyspace_folder}
 use Rattle.fjall_changes.proofs.Apart.{within_keyspaces}
 use Rattle.fjall_changes.proofs.Building as Building
@@ -64,3 +69,35 @@ pub returns-clause-stays_gone : goal.returns-clause-stays_gone
 returns-clause-stays_gone g c honest id small is =
     Building.stays_gone_as id small _ _ c.sync_folder.result (c.sync_folder.ensures.ok honest)
     (Building.gone_as id c.as_str.result.now (c.as_str.ensures.value ∙ is.folder) _ _ _ c.sync_folder.result (c.in_ok-remove_folder.ensures.ok honest) (c.sync_folder.ensures.ok honest))
+
+-- ---- which calls a disk can serve
+
+pub returns-in_err-remove_files-clause-served : goal.returns-in_err-remove_files-clause-served
+returns-in_err-remove_files-clause-served g c honest records t id is lies holds =
+    let m : _ → Meaning = g.D.Disk.meaning in
+    let files = ap (λ l. map string_bytes l) c.deref.ensures.value ∙ is.files in
+    let here = subst (λ (l : List Name). HoldsOnly (state_in (m c.args.disk.now)) (keyspace_folder id) l) (sym files) holds in
+    c.in_err-remove_files.ensures.served honest (keyspace_folder id) here
+
+pub returns-in_err-remove_folder-clause-served : goal.returns-in_err-remove_folder-clause-served
+returns-in_err-remove_folder-clause-served g c honest records t id is lies holds =
+    let m : _ → Meaning = g.D.Disk.meaning in
+    let files = ap (λ l. map string_bytes l) c.deref.ensures.value ∙ is.files in
+    let here = subst (λ (l : List Name). HoldsOnly (state_in (m c.args.disk.now)) (keyspace_folder id) l) (sym files) holds in
+    let empty = emptied (state_in (m c.remove_files.new.disk)) (keyspace_folder id) (c.in_ok-remove_files.ensures.emptied honest (keyspace_folder id) here) in
+    let can = subst (λ (n : Name). CanRemoveFolder (state_in (m c.remove_files.new.disk)) n) (sym (c.as_str.ensures.value ∙ is.folder)) empty in
+    let first = c.in_ok-remove_files.ensures.served honest (keyspace_folder id) here in
+    (c.in_err-remove_folder.ensures.judged honest).served can ∙ first
+
+pub returns-clause-served : goal.returns-clause-served
+returns-clause-served g c honest records t id is lies holds =
+    let m : _ → Meaning = g.D.Disk.meaning in
+    let files = ap (λ l. map string_bytes l) c.deref.ensures.value ∙ is.files in
+    let here = subst (λ (l : List Name). HoldsOnly (state_in (m c.args.disk.now)) (keyspace_folder id) l) (sym files) holds in
+    let empty = emptied (state_in (m c.remove_files.new.disk)) (keyspace_folder id) (c.in_ok-remove_files.ensures.emptied honest (keyspace_folder id) here) in
+    let can = subst (λ (n : Name). CanRemoveFolder (state_in (m c.remove_files.new.disk)) n) (sym (c.as_str.ensures.value ∙ is.folder)) empty in
+    let first = c.in_ok-remove_files.ensures.served honest (keyspace_folder id) here in
+    let run = c.in_ok-remove_files.ensures.within honest (keyspace_folder id) (Building.files_under id _ files) in
+    let removed = Building.removed_as id c.as_str.result.now (c.as_str.ensures.value ∙ is.folder) _ _ (c.in_ok-remove_folder.ensures.ok honest) in
+    let both = within_both (keyspace_folder id) (m c.args.disk.now) (m c.remove_files.new.disk) (m c.remove_folder.new.self) run removed in
+    (c.sync_folder.ensures.judged honest).served (keyspaces_there id (m c.args.disk.now) (m c.remove_folder.new.self) records t lies both) ∙ (c.in_ok-remove_folder.ensures.judged honest).served can ∙ first

@@ -11,7 +11,8 @@ returns-clause-turns g c honest old s id number is =
     let creation = c.args.creation.now in
     let within = c.create_home.ensures.within honest old s id number is in
     let leaves = c.create_home.ensures.any_moment honest in
+    let served = c.create_home.ensures.served honest in
     turn (λ a b done. Made a b creation done) (m c.args.disk.now) mid new c.args.journal.now c.hand_over.new.journal c.create_home.result
-    (record { leaves = c.in_ok-hand_over.ensures.any_moment honest; lies = λ _. c.in_ok-hand_over.ensures.lies honest; elsewhere = c.in_ok-hand_over.ensures.elsewhere honest })
-    (made_done mid new creation within leaves c.create_home.result (c.create_home.ensures.ok honest))
-    (made_any mid new creation within leaves)
+    (record { leaves = c.in_ok-hand_over.ensures.any_moment honest; lies = λ _. c.in_ok-hand_over.ensures.lies honest; elsewhere = c.in_ok-hand_over.ensures.elsewhere honest; served = c.in_ok-hand_over.ensures.served honest })
+    (made_done mid new creation within leaves served c.create_home.result (c.create_home.ensures.ok honest))
+    (made_any mid new creation within leaves served)

@@ -4,6 +4,7 @@ use Rattle.fjall_journal.specs.Writer.{Journal}
 use Rattle.fjall_places.specs.Halves.{is_of_keyspaces}
 use Rattle.fjall_journaling.specs.Journaling.{IsWriting, LeavesRoot, after_persist}
 use Rattle.fjall_journaling.proofs.Leaving.{persist_leaves, failed_leaves, persist_out, persist_apart, failed_apart}
+use Rattle.fjall_journaling.proofs.Filed.{writing_file}
 use Rattle.fjall_journaling.proofs.Results.{either_way, on_both}
 use Rattle.fjall_journaling.proofs.journaling.hand_over.Goals as goal
 
@@ -31,3 +32,6 @@ returns-clause-elsewhere g c = λ h j writing.
     let new = g.D.Disk.meaning c.persist.new.disk in
     either_way c.persist.result ((q : Name) → is_of_keyspaces q ≡ true → state_in new q ≡ state_in old q) (c.persist.ensures.took h) (c.persist.ensures.left h)
     (persist_apart old new writer j writing c.args.mode) (failed_apart old new writer j writing c.persist.new.self c.args.mode)
+
+pub returns-clause-served : goal.returns-clause-served
+returns-clause-served g c = λ h j writing. c.persist.ensures.served h (writing_file (state_in (g.D.Disk.meaning c.args.disk.now)) c.args.journal.now j writing)

@@ -1,11 +1,12 @@
-use Rattle.std.proofs.Common.{◌≡◌, ◌∙◌, ◌++◌, ap, length, nat_le, refl, subst}
-use Rattle.fjall_base.specs.Disk.{Took, TookPart, state_in}
+use Rattle.std.proofs.Common.{◌≡◌, ◌∙◌, ◌++◌, ℕ, List, ap, length, nat_le, refl, subst, sym}
+use Rattle.fjall_base.specs.Disk.{IsFile, Took, TookPart, state_in}
 use Rattle.fjall_journal.specs.Batches.{batch_text, of_item}
 use Rattle.fjall_journal.specs.Writer.{Journal, PersistTook, appending, persist_steps}
 use Rattle.fjall_journal.specs.declared.persist_mode.PersistMode.TheVariants.{Buffer}
 use Rattle.fjall_journaling.specs.Journaling.{IsWriting, with_batch}
 use Rattle.fjall_journaling.proofs.Changes.{whole_part, write_part}
 use Rattle.fjall_journaling.proofs.Leaving.{part_apart}
+use Rattle.fjall_journaling.proofs.Filed.{writing_file, written_file}
 use Rattle.fjall_journaling.proofs.Results.{either_way, on_both, on_err, on_ok}
 use Rattle.fjall_journaling.proofs.Writing.{after_name, batch_leaves, batch_out, half_written, whole_written}
 use Rattle.fjall_journaling.proofs.journaling.write_through.Goals as goal
@@ -79,3 +80,17 @@ returns-clause-elsewhere g c = λ h j writing.
     let bytes = writer.buffer ++ batch_text (of_item c.args.keyspace_id c.args.key.now c.args.value.now c.args.value_type c.args.seqno) in
     part_apart old new writer j writing bytes
     (either_way c.persist.result (TookPart old new writer.name bytes) (returns-clause-took g c h) (returns-clause-part g c h) (whole_part old new writer.name bytes) (λ part. part))
+
+pub returns-in_err-write_raw-clause-served : goal.returns-in_err-write_raw-clause-served
+returns-in_err-write_raw-clause-served g c = λ h j writing. c.in_err-write_raw.ensures.served h (writing_file (state_in (g.D.Disk.meaning c.args.disk.now)) c.args.journal.now j writing)
+
+pub returns-clause-served : goal.returns-clause-served
+returns-clause-served g c = λ h j writing.
+    let writer = c.args.journal.now in
+    let text = batch_text (of_item c.args.keyspace_id c.args.key.now c.args.value.now c.args.value_type c.args.seqno) in
+    let mid = g.D.Disk.meaning c.write_raw.new.disk in
+    let file = writing_file (state_in (g.D.Disk.meaning c.args.disk.now)) writer j writing in
+    let full = nat_le 8192 (length (writer.buffer ++ text)) in
+    let name = ap (λ (w : Journal). w.name) c.in_ok-write_raw.ensures.ok ∙ after_name full writer text in
+    let still = written_file full writer text (g.D.Disk.meaning c.args.disk.now) mid (c.in_ok-write_raw.ensures.took h) file in
+    c.persist.ensures.served h (subst (λ (n : List ℕ). IsFile (state_in mid n).now) (sym name) still) ∙ c.in_ok-write_raw.ensures.served h file

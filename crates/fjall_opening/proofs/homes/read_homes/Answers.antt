@@ -1,4 +1,4 @@
-use Rattle.std.proofs.Common.{◌+◌, [], take, ap, arith, subst, sym}
+use Rattle.std.proofs.Common.{◌∙◌, ◌+◌, [], take, ap, arith, subst, sym}
 use Rattle.std.proofs.lemmas.Result.{err_from_is_err_and}
 use Rattle.fjall_base.specs.Disk.{Image, standing, state_in}
 use Rattle.fjall_journal.proofs.Writing.{took_none}
@@ -30,6 +30,7 @@ loop-keyspace-preserved g c =
           (home_read image _ c.args.living.now c.loop-keyspace.keyspace-index _ c.keyspace-item.result c.keyspace-item.is c.loop-keyspace-test.true same c.loop-keyspace.homes.items c.in_ok-home.home (so_far.read honest folders)
           (one.read honest (subst (λ (i : Image). AreFolderIds i c.args.folders.now) (sym same) folders)));
       same = λ honest. took_none _ _ _ [] (so_far.same honest) (one.same honest);
+      served = λ honest. one.served honest ∙ so_far.served honest;
       later = omega (arith, faults, more);
       cause = λ honest folders error refused.
           let same = ap standing (so_far.same honest).state in

@@ -36,6 +36,7 @@ loop-id-preserved g c =
       found = λ honest. turn_found (standing (state_in (g.D.Disk.meaning c.args.disk.now))) _ c.args.ids.now c.loop-id.id-index _ _ _ _ _ _ _ c.loop-id-test.true (ap standing (so_far.same honest).state) (so_far.found honest) (read.found honest) clean taken.batches taken.sound taken.least;
       torn = taken.torn ∙ so_far.torn;
       same = λ honest. took_none _ _ _ [] (so_far.same honest) (read.same honest);
+      served = λ honest. read.served honest ∙ so_far.served honest;
       later = omega (arith, faults, more);
       cause = λ honest active error refused.
           turn_on (standing (state_in (g.D.Disk.meaning c.args.disk.now))) c.args.ids.now c.loop-id.id-index c.loop-id.journals.least active c.loop-id-test.true (so_far.cause honest active)

@@ -12,6 +12,7 @@ invariant-loop-id g l = record {
   found : IsTrue g.D.Disk.honest → AreSealed (standing (state_in (g.D.Disk.meaning l.fn.disk))) (take l.id-index l.ids) (map view l.journals.batches.items) l.journals.least;
   torn : l.journals.torn ≡ false;
   same : IsTrue g.D.Disk.honest → Took (g.D.Disk.meaning l.fn.disk) (g.D.Disk.meaning l.disk) [];
+  served : IsTrue g.D.Disk.honest → (g.D.Disk.meaning l.disk).misuses ≡ (g.D.Disk.meaning l.fn.disk).misuses;
   later : (g.D.Disk.meaning l.fn.disk).faults ≤ (g.D.Disk.meaning l.disk).faults;
   cause : IsTrue g.D.Disk.honest → (active : ℕ) (error : Error)
       → JournalsRefuse (standing (state_in (g.D.Disk.meaning l.fn.disk))) l.journals.least (drop l.id-index l.ids ++ active ∷ []) error

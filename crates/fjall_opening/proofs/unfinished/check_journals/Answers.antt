@@ -1,4 +1,4 @@
-use Rattle.std.proofs.Common.{◌≤◌, ℕ, [], ap, get_or, length, refl, subst, sym, take, arith}
+use Rattle.std.proofs.Common.{◌∙◌, ◌≤◌, ℕ, [], ap, get_or, length, refl, subst, sym, take, arith}
 use Rattle.std.proofs.lemmas.List.{take_all}
 use Rattle.fjall_base.specs.Disk.{Image, standing, state_in}
 use Rattle.fjall_journal.specs.Batches.{NoneAt}
@@ -30,6 +30,7 @@ loop-id-preserved g c =
           let id = get_or c.args.ids.now c.loop-id.id-index 0 in
           none_more image c.args.ids.now c.loop-id.id-index c.loop-id-test.true (so_far.empty honest) (subst (λ (i : Image). NoneAt (journal_text i id)) same (read_none _ _ _ _ (read.found honest) (omega (arith, start))));
       same = λ honest. took_none _ _ _ [] (so_far.same honest) (read.same honest);
+      served = λ honest. read.served honest ∙ so_far.served honest;
       later = omega (arith, faults, more);
     }
 

@@ -1,4 +1,6 @@
+use Rattle.std.proofs.Common.{◌∙◌}
 use Rattle.fjall_base.specs.Disk.{Meaning}
+use Rattle.fjall_base.proofs.Served.{file_stays}
 use Rattle.fjall_regions.proofs.Made.{appended_within, both_took, part_within, synced_within, within_both}
 use Rattle.fjall_regions.proofs.home.append_synced.Goals as goal
 
@@ -13,3 +15,10 @@ returns-clause-within g c honest folder under =
     let m : _ → Meaning = g.D.Disk.meaning in
     within_both folder (m c.args.disk.now) (m c.append.new.self) (m c.sync.new.self) (appended_within folder c.args.file.now _ _ c.args.bytes.now under (c.in_ok-append.ensures.ok honest))
     (synced_within folder c.args.file.now _ _ c.sync.result under (c.sync.ensures.ok honest) (c.sync.ensures.err honest))
+
+pub returns-in_err-append-clause-served : goal.returns-in_err-append-clause-served
+returns-in_err-append-clause-served g c honest file = (c.in_err-append.ensures.judged honest).served file
+
+pub returns-clause-served : goal.returns-clause-served
+returns-clause-served g c honest file =
+    (c.sync.ensures.judged honest).served (file_stays _ _ c.args.file.now c.args.bytes.now (c.in_ok-append.ensures.ok honest) file) ∙ (c.in_ok-append.ensures.judged honest).served file

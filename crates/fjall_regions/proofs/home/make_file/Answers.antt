@@ -1,5 +1,5 @@
 use Rattle.fjall_base.specs.Disk.{File, Meaning}
-use Rattle.std.proofs.Common.{[]}
+use Rattle.std.proofs.Common.{[], ◌∙◌}
 use Rattle.fjall_regions.proofs.Made.{made_file, making_within, within_both, within_none}
 use Rattle.fjall_regions.proofs.home.make_file.Goals as goal
 
@@ -16,3 +16,9 @@ returns-clause-within g c honest folder under =
     let m : _ → Meaning = g.D.Disk.meaning in
     within_both folder (m c.args.disk.now) (m c.create.new.self) (m c.append_synced.new.disk) (making_within folder c.args.file.now (File [] []) _ _ under (c.in_ok-create.ensures.ok honest))
     (c.append_synced.ensures.within honest folder under)
+
+pub returns-in_err-create-clause-served : goal.returns-in_err-create-clause-served
+returns-in_err-create-clause-served g c honest can = (c.in_err-create.ensures.judged honest).served can
+
+pub returns-clause-served : goal.returns-clause-served
+returns-clause-served g c honest can = c.append_synced.ensures.served honest (c.in_ok-create.ensures.file honest) ∙ (c.in_ok-create.ensures.judged honest).served can

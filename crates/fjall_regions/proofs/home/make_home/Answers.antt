@@ -1,6 +1,7 @@
 use Rattle.fjall_base.specs.Disk.{Folder, Meaning}
 use Rattle.fjall_regions.proofs.Under.{in_folder, under_self}
-use Rattle.fjall_regions.proofs.Made.{made_home, making_within, within_both, within_none}
+use Rattle.std.proofs.Common.{◌∙◌}
+use Rattle.fjall_regions.proofs.Made.{can_fill, made_home, making_within, within_both, within_none}
 use Rattle.fjall_regions.proofs.home.make_home.Goals as goal
 
 pub returns-in_err-make_folder-clause-within : goal.returns-in_err-make_folder-clause-within
@@ -19,3 +20,13 @@ returns-clause-within g c honest =
     within_both c.args.folder.now (m c.args.disk.now) (m c.make_folder.new.self) (m c.make_file.new.disk)
     (making_within c.args.folder.now c.args.folder.now Folder _ _ (under_self c.args.folder.now) (c.in_ok-make_folder.ensures.ok honest))
     (c.make_file.ensures.within honest c.args.folder.now (in_folder c.args.folder.now c.args.file.now (c.in_ok-make_folder.ensures.named honest) c.requires.inside))
+
+pub returns-in_err-make_folder-clause-served : goal.returns-in_err-make_folder-clause-served
+returns-in_err-make_folder-clause-served g c honest can kind = (c.in_err-make_folder.ensures.judged honest).served can
+
+pub returns-clause-served : goal.returns-clause-served
+returns-clause-served g c honest can kind =
+    let m : _ → Meaning = g.D.Disk.meaning in
+    c.make_file.ensures.served honest
+    (can_fill c.args.folder.now c.args.file.now c.requires.inside (m c.args.disk.now) (m c.make_folder.new.self) (c.in_ok-make_folder.ensures.named honest) (c.in_ok-make_folder.ensures.ok honest) (c.in_ok-make_folder.ensures.folder honest) kind)
+    ∙ (c.in_ok-make_folder.ensures.judged honest).served can

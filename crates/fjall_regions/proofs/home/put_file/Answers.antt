@@ -1,6 +1,8 @@
 use Rattle.fjall_base.specs.Disk.{Meaning}
-use Rattle.fjall_regions.proofs.Under.{in_folder}
-use Rattle.fjall_regions.proofs.Made.{safe_file, settled_within, within_both}
+use Rattle.std.proofs.Common.{◌∙◌, subst}
+use Rattle.fjall_base.specs.Disk.{Name, IsThere, standing, state_in}
+use Rattle.fjall_regions.proofs.Under.{in_folder, under_self}
+use Rattle.fjall_regions.proofs.Made.{still_there, safe_file, settled_within, within_both}
 use Rattle.fjall_regions.proofs.home.put_file.Goals as goal
 
 pub returns-in_err-make_file-clause-within : goal.returns-in_err-make_file-clause-within
@@ -18,3 +20,14 @@ returns-clause-within g c honest some =
     within_both c.args.folder.now (m c.args.disk.now) (m c.make_file.new.disk) (m c.sync_folder.new.self)
     (c.make_file.ensures.within honest c.args.folder.now (in_folder c.args.folder.now c.args.file.now some c.requires.inside))
     (settled_within c.args.folder.now _ _ c.sync_folder.result (c.sync_folder.ensures.ok honest) (c.sync_folder.ensures.err honest))
+
+pub returns-in_err-make_file-clause-served : goal.returns-in_err-make_file-clause-served
+returns-in_err-make_file-clause-served g c honest can = c.in_err-make_file.ensures.served honest can
+
+pub returns-clause-served : goal.returns-clause-served
+returns-clause-served g c honest can =
+    let m : _ → Meaning = g.D.Disk.meaning in
+    let there = subst (λ (f : Name). IsThere (standing (state_in (m c.args.disk.now))) f) c.requires.inside can.housed in
+    (c.sync_folder.ensures.judged honest).served
+    (still_there c.args.folder.now c.args.file.now c.requires.inside (m c.args.disk.now) (m c.make_file.new.disk) can.named there (c.in_ok-make_file.ensures.within honest c.args.file.now (under_self c.args.file.now)))
+    ∙ c.in_ok-make_file.ensures.served honest can

@@ -1,7 +1,10 @@
-use Rattle.std.proofs.Common.{◌≡◌, ◌∙◌, ap, arith}
+use Rattle.std.proofs.Common.{◌≡◌, ◌∙◌, List, [], map, ap, arith, subst}
+use Rattle.std.proofs.lemmas.List.{drop_all}
 use Rattle.std.specs.Prelude.{string_bytes}
-use Rattle.fjall_base.specs.Disk.{Meaning, Name, folder_of}
+use Rattle.fjall_base.specs.Disk.{Meaning, Name, folder_of, state_in}
+use Rattle.fjall_regions.specs.Regions.{HoldsOnly}
 use Rattle.fjall_regions.proofs.Made.{gone, one_removed, removed_within, within_both}
+use Rattle.fjall_regions.proofs.Removed.{emptied, next_kind, next_removed}
 use Rattle.fjall_regions.proofs.home.remove_home.Goals as goal
 
 pub loop-file-preserved : goal.loop-file-preserved
@@ -11,8 +14,28 @@ loop-file-preserved g c =
     let inside : folder_of c.as_str.result.now ≡ c.args.folder.now = ap (λ (n : Name). folder_of n) c.as_str.ensures.value ∙ at in
     let faults = c.loop-file.invariant.later in let more = c.in_ok-remove.ensures.cause.later in record {
       within = λ honest some. one_removed c.args.folder.now c.as_str.result.now (m c.args.disk.now) (m c.loop-file.disk) (m c.remove.new.self) some inside (c.loop-file.invariant.within honest some) (c.in_ok-remove.ensures.ok honest);
+      served = λ honest holds.
+          let so_far = c.loop-file.invariant.served honest holds in
+          let can = next_kind string_bytes c.args.folder.now c.as_str.result.now c.args.files.now c.loop-file.file-index c.file-item.result (state_in (m c.loop-file.disk)) c.loop-file-test.true c.file-item.is c.as_str.ensures.value so_far.1 in (
+            (c.in_ok-remove.ensures.judged honest).served can ∙ so_far.0,
+            next_removed string_bytes c.args.folder.now c.as_str.result.now c.args.files.now c.loop-file.file-index c.file-item.result (m c.loop-file.disk) (m c.remove.new.self) c.loop-file-test.true c.file-item.is c.as_str.ensures.value (c.in_ok-remove.ensures.ok honest) so_far.1,
+          );
       later = omega (arith, faults, more);
     }
+
+pub returns-in_err-remove-clause-served : goal.returns-in_err-remove-clause-served
+returns-in_err-remove-clause-served g c honest holds =
+    let m : _ → Meaning = g.D.Disk.meaning in
+    let so_far = c.loop-file.invariant.served honest holds in
+    let can = next_kind string_bytes c.args.folder.now c.as_str.result.now c.args.files.now c.loop-file.file-index c.file-item.result (state_in (m c.loop-file.disk)) c.loop-file-test.true c.file-item.is c.as_str.ensures.value so_far.1 in
+    (c.in_err-remove.ensures.judged honest).served can ∙ so_far.0
+
+pub returns-clause-served : goal.returns-clause-served
+returns-clause-served g c honest holds =
+    let m : _ → Meaning = g.D.Disk.meaning in
+    let so_far = c.loop-file.invariant.served honest holds in
+    let none = ap (λ l. map string_bytes l) (drop_all c.loop-file.file-index c.args.files.now c.loop-file-test.false) in
+    (c.remove_folder.ensures.judged honest).served (emptied (state_in (m c.loop-file.disk)) c.args.folder.now (subst (λ (l : List Name). HoldsOnly (state_in (m c.loop-file.disk)) c.args.folder.now l) none so_far.1)) ∙ so_far.0
 
 pub returns-clause-gone : goal.returns-clause-gone
 returns-clause-gone g c honest = gone c.args.folder.now _ _ c.remove_folder.result (c.remove_folder.ensures.kind honest) (c.remove_folder.ensures.ok honest)

@@ -1,3 +1,5 @@
+use Rattle.std.proofs.Common.{Bool, MatchBool, subst}
+use Rattle.fjall_base.specs.Disk.{IsFile, IsLong, state_in}
 use Rattle.fjall_regions.proofs.Trimmed.{any_cut, any_sync, cut_place_as, sync_place_as, after_cut, after_sync}
 use Rattle.fjall_regions.proofs.trim.end_file.Goals as goal
 
@@ -18,3 +20,13 @@ returns-else-cut-clause-elsewhere g c honest = after_sync _ _ c.args.file.now c.
 
 pub returns-else-cut-clause-any_moment : goal.returns-else-cut-clause-any_moment
 returns-else-cut-clause-any_moment g c honest = any_sync _ _ c.args.file.now c.args.len c.sync.result (c.sync.ensures.ok honest) (c.sync.ensures.err honest)
+
+pub returns-then-cut-clause-served : goal.returns-then-cut-clause-served
+returns-then-cut-clause-served g c honest can =
+    let there = (state_in (g.D.Disk.meaning c.args.disk.now) c.args.file.now).now in
+    (c.cut_sync.ensures.judged honest).served (subst (λ (b : Bool). MatchBool b (IsLong c.args.len there) (IsFile there)) c.if-cut.true can)
+
+pub returns-else-cut-clause-served : goal.returns-else-cut-clause-served
+returns-else-cut-clause-served g c honest can =
+    let there = (state_in (g.D.Disk.meaning c.args.disk.now) c.args.file.now).now in
+    (c.sync.ensures.judged honest).served (subst (λ (b : Bool). MatchBool b (IsLong c.args.len there) (IsFile there)) c.if-cut.false can)

@@ -5,6 +5,7 @@ use Rattle.fjall_base.specs.Disk.{Image, LeavesOnly, Meaning, State, standing, s
 use Rattle.fjall_base.proofs.Moments.{stays}
 use Rattle.fjall_opening.specs.Folders.{Contents, IsFinished, ReadsFolder, StandsFor}
 use Rattle.fjall_places.specs.Held.{Holds, store_held}
+use Rattle.fjall_places.proofs.Holding.{folder_stands}
 use Rattle.fjall_beginning.specs.Making.{ComesBackUnfinished}
 use Rattle.fjall_repair.specs.Opened.{ComesBack, Opens}
 use Rattle.fjall_repair.proofs.Openings.{finished_is, held_up, holds_on, opened_from, run_on, stands_now, swept_on, unfinished_is, unopened}
@@ -59,7 +60,7 @@ returns-in-Some-clause-due g c honest =
     let image : Image = standing (state_in (m c.args.disk.now)) in
     let read : ReadsFolder image (Some c.in-Some.found) = subst (ReadsFolder image) c.in-Some.is (c.in_ok-found.ensures.found honest) in
     let same = c.in_ok-found.ensures.same honest in
-    held_up (m c.args.disk.now) (m c.read_folder.new.disk) (m c.open_finished.new.disk) c.open_finished.result same
+    held_up (m c.args.disk.now) (m c.read_folder.new.disk) (m c.open_finished.new.disk) c.open_finished.result (store_held (Some read.1.0), folder_stands image (Some read.1.0) read.1.1) same
     (c.open_finished.ensures.due honest read.1.0 (subst (λ (s : State). IsFinished (standing s) c.in-Some.found) (sym same.state) read.0) read.1.2)
 
 pub returns-in-None-clause-opened : goal.returns-in-None-clause-opened
@@ -98,7 +99,7 @@ returns-in-None-clause-due g c honest =
     let image : Image = standing (state_in (m c.args.disk.now)) in
     let read : ReadsFolder image None = subst (ReadsFolder image) c.in-None.is (c.in_ok-found.ensures.found honest) in
     let same = c.in_ok-found.ensures.same honest in
-    held_up (m c.args.disk.now) (m c.read_folder.new.disk) (m c.open_unfinished.new.disk) c.open_unfinished.result same
+    held_up (m c.args.disk.now) (m c.read_folder.new.disk) (m c.open_unfinished.new.disk) c.open_unfinished.result (store_held None, folder_stands image None read) same
     (c.open_unfinished.ensures.due honest (subst (λ (s : State). ReadsFolder (standing s) None) (sym same.state) read))
 
 pub returns-in-Some-clause-swept : goal.returns-in-Some-clause-swept

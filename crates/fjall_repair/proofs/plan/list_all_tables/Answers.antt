@@ -1,4 +1,4 @@
-use Rattle.std.proofs.Common.{[], refl, lit<, arith}
+use Rattle.std.proofs.Common.{[], ◌∙◌, refl, lit<, arith}
 use Rattle.fjall_base.specs.Disk.{State, state_in}
 use Rattle.fjall_journal.proofs.Writing.{took_none}
 use Rattle.fjall_repair.proofs.Listings.{finds_all, finds_none, in_tree, more_found, more_of, more_unnamed, unnamed_tables}
@@ -13,6 +13,7 @@ loop-keyspace-init g c =
       tree = λ honest. (first.found honest).whole;
       others = λ honest. finds_none state _;
       same = λ honest. first.same honest;
+      served = λ honest. first.served honest;
       later = first.later;
     }
 
@@ -31,6 +32,7 @@ loop-keyspace-preserved g c =
       others = λ honest. more_of c.args.living.now c.loop-keyspace.keyspace-index _ c.keyspace-item.result c.keyspace-item.is c.loop-keyspace-test.true state now (so_far.same honest).state c.args.named
           c.loop-keyspace.names.items c.in_ok-more.more.items c.append.new.self.items one.fits (one.found honest) c.in_ok-append.ensures.items (so_far.others honest);
       same = λ honest. took_none _ _ _ [] (so_far.same honest) (one.same honest);
+      served = λ honest. one.served honest ∙ so_far.served honest;
       later = omega (arith, faults, more);
     }
 

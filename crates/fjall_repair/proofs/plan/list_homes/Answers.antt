@@ -13,6 +13,7 @@ loop-id-init g c = record {
   unnamed = λ honest. subst (All (IsUnnamedHome c.args.living.now)) (sym c.new-homes.ensures.items) (All-nil (IsUnnamedHome c.args.living.now));
   found = λ honest. homes_none _ _ _;
   same = λ honest. stays _;
+  served = λ honest. refl;
   later = omega arith;
 }
 
@@ -32,6 +33,7 @@ loop-id-preserved g c = elim c.if-not-is_named.branch [
         found = λ honest. home_found state now (so_far.same honest).state c.args.living.now c.args.ids.now c.loop-id.id-index 0 (get_or c.args.ids.now c.loop-id.id-index 0) refl c.loop-id-test.true
             c.loop-id.homes.items c.if-not-is_named.homes.items w.in_ok-list_home.field-0 new_is (λ named. true≢false (sym (c.is_named.ensures.1 named) ∙ w.if-not-is_named.true)) (one.found honest) (so_far.found honest);
         same = λ honest. subst (λ d. Took (m c.args.disk.now) (m d) []) (sym w.disk-is) (took_none _ _ _ [] (so_far.same honest) (one.same honest));
+        served = λ honest. ap (λ d. (m d).misuses) w.disk-is ∙ one.served honest ∙ so_far.served honest;
         later = omega (arith, faults, more, disk_is);
       }
   | else-not-is_named w ↦
@@ -46,6 +48,7 @@ loop-id-preserved g c = elim c.if-not-is_named.branch [
         found = λ honest. subst (FindsHomes state c.args.living.now _) (sym homes_is) (named_passed state now (so_far.same honest).state c.args.living.now c.args.ids.now c.loop-id.id-index 0 (get_or c.args.ids.now c.loop-id.id-index 0) refl c.loop-id-test.true
             c.loop-id.homes.items (c.is_named.ensures.0 w.if-not-is_named.false) (so_far.found honest));
         same = λ honest. subst (λ d. Took (m c.args.disk.now) (m d) []) (sym w.disk-is) (so_far.same honest);
+        served = λ honest. ap (λ d. (m d).misuses) w.disk-is ∙ so_far.served honest;
         later = omega (arith, faults, disk_is);
       }
 ]

@@ -1,4 +1,4 @@
-use Rattle.std.proofs.Common.{◌≤◌, [], All, take}
+use Rattle.std.proofs.Common.{◌≡◌, ◌≤◌, [], All, take}
 use Rattle.std.specs.Prelude.{IsTrue}
 use Rattle.fjall_base.specs.Disk.{Took, state_in}
 use Rattle.fjall_repair.specs.Sweeps.{FindsHomes, IsUnnamedHome}
@@ -9,5 +9,6 @@ invariant-loop-id g l = record {
   unnamed : IsTrue g.D.Disk.honest → All (IsUnnamedHome l.living) l.homes.items;
   found : IsTrue g.D.Disk.honest → FindsHomes (state_in (g.D.Disk.meaning l.fn.disk)) l.living (take l.id-index l.ids) l.homes.items;
   same : IsTrue g.D.Disk.honest → Took (g.D.Disk.meaning l.fn.disk) (g.D.Disk.meaning l.disk) [];
+  served : IsTrue g.D.Disk.honest → (g.D.Disk.meaning l.disk).misuses ≡ (g.D.Disk.meaning l.fn.disk).misuses;
   later : (g.D.Disk.meaning l.fn.disk).faults ≤ (g.D.Disk.meaning l.disk).faults;
 }

@@ -18,6 +18,7 @@ returns-in-Ok g c =
           within = c.in-Ok.ensures.within h c.args.id is;
           leaves = λ records t unused lies. c.in-Ok.ensures.any_moment h records t c.args.id is unused lies;
           lies = λ records t unused lies. c.in-Ok.ensures.lies h records t c.args.id is unused lies;
+          served = λ records t lies holds. c.in-Ok.ensures.served h records t c.args.id is lies holds;
         },
       );
     }
@@ -34,5 +35,6 @@ returns g c =
             within = c.in-Err.ensures.within h c.args.id is;
             leaves = λ records t unused lies. c.in-Err.ensures.any_moment h records t c.args.id is unused lies;
             lies = λ records t unused lies. c.in-Err.ensures.lies h records t c.args.id is unused lies;
+            served = λ records t lies holds. c.in-Err.ensures.served h records t c.args.id is lies holds;
           }));
     }

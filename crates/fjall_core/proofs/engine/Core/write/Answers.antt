@@ -18,7 +18,7 @@ returns-in-Err g c =
       writes = subst (λ (h : Held). Writes (IsTrue g.D.Disk.honest) h c.args.version (of_item c.args.id c.args.key.now c.args.value.now c.args.value_type h.memory.next) c.args.value_type (Err c.in-Err.error) c.poison_by.new.self) c.self.view_is
           (write_failed (IsTrue g.D.Disk.honest) old c.args.version c.args.id c.args.key.now c.args.value.now c.args.value_type c.seqno-seqno.result c.seqno-seqno.ensures mid c.poison_by.new.self c.in-Err.error
           (λ i. record { disk = mid.disk; journal = mid.journal; catalog = old.catalog; memory = back i }) c.poison_by.ensures c.in-Err.ensures.cause.cause (λ e. c.in-Err.ensures.memory (ap Err e)) (λ e. c.in-Err.ensures.untouched (ap Err e)) c.in-Err.ensures.part
-          (λ h. record { leaves = c.in-Err.ensures.any_moment h; lies = λ e. let bad : ⊥ = cc in absurd bad; elsewhere = c.in-Err.ensures.elsewhere h }));
+          (λ h. record { leaves = c.in-Err.ensures.any_moment h; lies = λ e. let bad : ⊥ = cc in absurd bad; elsewhere = c.in-Err.ensures.elsewhere h; served = c.in-Err.ensures.served h }));
     }
 
 pub returns : goal.returns
@@ -30,5 +30,5 @@ returns g c =
       writes = subst (λ (h : Held). Writes (IsTrue g.D.Disk.honest) h c.args.version (of_item c.args.id c.args.key.now c.args.value.now c.args.value_type h.memory.next) c.args.value_type (Ok tt) new) c.self.view_is
           (write_done (IsTrue g.D.Disk.honest) old c.args.version c.args.id c.args.key.now c.args.value.now c.args.value_type c.seqno-seqno.result c.seqno-seqno.ensures new
           (λ i. record { disk = new.disk; journal = c.in_default.ensures.ok i; catalog = old.catalog; memory = c.in_ok-remember.ensures.ok i }) c.in_default.ensures.cause.later c.in_default.ensures.took
-          (λ h. record { leaves = c.in_default.ensures.any_moment h; lies = λ e. c.in_default.ensures.lies h; elsewhere = c.in_default.ensures.elsewhere h }));
+          (λ h. record { leaves = c.in_default.ensures.any_moment h; lies = λ e. c.in_default.ensures.lies h; elsewhere = c.in_default.ensures.elsewhere h; served = c.in_default.ensures.served h }));
     }
