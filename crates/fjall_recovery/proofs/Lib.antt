@@ -5,4 +5,5 @@ mod Folders
 mod Headers
 mod Collecting
 mod Refusing
-mod Distinct
+pub mod Distinct
+pub mod Tidying

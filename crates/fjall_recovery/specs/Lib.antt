@@ -2,3 +2,4 @@ pub mod Marker
 pub mod Names
 pub mod Lists
 pub mod Sought
+pub mod Tidy

@@ -5,3 +5,4 @@ pub mod Changes
 pub mod Parts
 pub mod Made
 pub mod Removed
+pub mod Fitting
