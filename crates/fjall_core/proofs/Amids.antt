@@ -39,7 +39,7 @@ pub amid_least : (base : Store) (least all : List Command) (image : Image) → S
 amid_least base least all image s = record { front = s.front; holds = none_first s.front; within = s.within; stands = s.stands }
 
 -- the images after a run that passed to there, as the images of the run
-amid_passed : (d e : Durable) (tried more : List Command) (image : Image) → Passes d tried e → StandsAmid e.base [] (e.pending ++ more) image → StandsAmid d.base [] (d.pending ++ (tried ++ more)) image
+pub amid_passed : (d e : Durable) (tried more : List Command) (image : Image) → Passes d tried e → StandsAmid e.base [] (e.pending ++ more) image → StandsAmid d.base [] (d.pending ++ (tried ++ more)) image
 amid_passed d e tried more image p s =
     let all : p.safe ++ (e.pending ++ more) ≡ d.pending ++ (tried ++ more) =
     sym (append_assoc p.safe e.pending more) ∙ ap (λ (l : List Command). l ++ more) p.rest ∙ append_assoc d.pending tried more in

@@ -26,3 +26,4 @@ mod Deleting
 mod Closings
 mod Opening
 mod Kept
+mod Lives

@@ -1,7 +1,8 @@
 -- A core over a folder that was opened.
-use Rattle.std.proofs.Common.{◌≡◌, ℕ, List, [], map, Option, refl, sym, ◌∙◌, ap, subst}
+use Rattle.std.proofs.Common.{◌≡◌, ℕ, List, [], map, take, Option, refl, sym, ◌∙◌, ap, subst}
+use Rattle.std.proofs.Math.Seq.{take-nil}
 use Rattle.fjall_base.specs.Store.{Store, kept}
-use Rattle.fjall_base.specs.Disk.{Image, LeavesOnly, Meaning, state_in}
+use Rattle.fjall_base.specs.Disk.{File, Image, LeavesOnly, Meaning, state_in}
 use Rattle.fjall_base.specs.declared.error.Error.{Error}
 use Rattle.fjall_base.specs.declared.error.Error.TheVariants.{Io}
 use Rattle.fjall_journal.specs.Batches.{Written, shown}
@@ -12,7 +13,8 @@ use Rattle.fjall_versions.proofs.Keeping.{nothing_to_keep}
 use Rattle.fjall_opening.specs.Folders.{Contents, StandsFor, number_of, store_of}
 use Rattle.fjall_opening.specs.Journals.{batches_in}
 use Rattle.fjall_places.specs.Held.{Holds, number_held, store_held}
-use Rattle.fjall_places.specs.Places.{contents_with}
+use Rattle.fjall_recovery.specs.Names.{journal_name}
+use Rattle.fjall_places.specs.Places.{contents_with, texts_of}
 use Rattle.fjall_journaling.proofs.Lying.{begins}
 use Rattle.fjall_repair.specs.declared.opened.Opened.{Opened}
 use Rattle.fjall_repair.specs.Opened.{ComesBack, IsOpenedFrom, IsUnopened}
@@ -23,7 +25,7 @@ use Rattle.fjall_machine.specs.Machine.{opened_state}
 use Rattle.fjall_machine.proofs.Standing.{an_opening_stands}
 use Rattle.fjall_core.specs.Holding.{Held}
 use Rattle.fjall_core.specs.Durables.{Durable, Lies}
-use Rattle.fjall_core.specs.Openings.{IsDueTo, KeepsStore, Opens, OpensAs, OpensOn, parts_of}
+use Rattle.fjall_core.specs.Openings.{IsAtEnd, IsDueTo, KeepsStore, Opens, OpensAs, OpensOn, parts_of}
 use Rattle.fjall_core.proofs.Leading.{lies_rest}
 
 -- what a core holds over a folder that was opened
@@ -78,10 +80,25 @@ module _ (disk : Meaning) (folder : Option Contents) (o : Opened) (is : repair.O
     next = is.number ∙ ap (λ (b : List Written). number_of (contents_with is.j is.t b)) (sym is.later);
   }
 
+  -- the active journal's file holds the batches, all of them synced
+  all_there : state_in disk (journal_name is.j.active) ≡ record { now = File (texts_of is.j.whole) []; older = [] }
+  all_there =
+      let none : take is.j.cut (texts_of is.j.later) ≡ [] = ap (λ (b : List Written). take is.j.cut (texts_of b)) is.later ∙ take-nil is.j.cut in
+      is.root.active ∙ ap (λ (rest : List ℕ). record { now = File (texts_of is.j.whole) rest; older = [] }) none
+
+  at_end : IsAtEnd (state_in disk) o.journal
+  at_end = record {
+    text = texts_of is.j.whole;
+    file = ap (λ (w : Journal). state_in disk w.name) is.journal ∙ all_there;
+    len = ap (λ (w : Journal). w.len) is.journal;
+    buffer = ap (λ (w : Journal). w.buffer) is.journal;
+  }
+
   pub opens_as : (store : Store) → repair.IsLawful o → store ≡ store_held folder → OpensAs (core_of disk o) store
   opens_as store lawful same = subst (λ (s : Store). OpensAs (core_of disk o) s) (sym same) (record {
     next = number_held folder;
     state = opens disk o (store_held folder) (number_held folder) lawful (is.made ∙ is.store) is.same;
+    journal = at_end;
     base = record { same = refl; rests = lies_rest (core_of disk o) here lies; lies = λ well. lies; present = ap kept (sym held ∙ sym is.made) };
   })
 
@@ -91,5 +108,5 @@ keeps old new each store (folder, holds, back, same) = subst (λ (s : Store). Le
 
 -- why it isn't opened
 pub due_to : (old new : Meaning) (error : Error) → IsUnopened old new error → IsDueTo old new error
-due_to old new (Io kind) is = tt
+due_to old new (Io kind) is = is
 due_to old new error is = is

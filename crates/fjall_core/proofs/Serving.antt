@@ -27,7 +27,6 @@ Led new s d call reply = (e : Durable) × StandsOn new e × CallLeaves s d call 
 -- what a call owes, what it did to the disk, and where it leads, is what it serves
 pub serves_by : (old new : Held) (call : Call) (reply : Reply) → Owes old call reply new → OnDisk old call reply new → ((s : State) (d : Durable) → StandsFor old s → StandsOn old d → OnlyDevice call reply old.disk new.disk) → ((s : State) (d : Durable) → StandsFor old s → StandsOn old d → Led new s d call reply) → Serves old call reply new
 serves_by old new call reply owes disk device led = record {
-  step = λ s stands. owes_step old new call reply s owes stands;
   disk = disk;
   crash = λ s d stands on.
       let stepped = owes_step old new call reply s owes stands in

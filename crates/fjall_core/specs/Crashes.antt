@@ -4,11 +4,12 @@ use Rattle.fjall_base.specs.Store.{Command, Create, Delete, fold, kept}
 use Rattle.fjall_base.specs.Disk.{DeviceFailed, Image, IsImage, Meaning, Took, LeavesOnly, state_in}
 use Rattle.fjall_base.specs.Disk as disk
 use Rattle.fjall_base.specs.declared.error.Error.TheVariants.{Io}
-use Rattle.fjall_journal.specs.declared.persist_mode.PersistMode.TheVariants.{SyncData, SyncAll}
+use Rattle.fjall_journal.specs.declared.persist_mode.PersistMode.{PersistMode}
+use Rattle.fjall_journal.specs.declared.persist_mode.PersistMode.TheVariants.{Buffer, SyncData, SyncAll}
 use Rattle.fjall_machine.specs.declared.call.Call.{Call}
-use Rattle.fjall_machine.specs.declared.call.Call.TheVariants.{DeleteKeyspace, Insert, Keyspace, Persist, Release, Remove, RemoveWeak}
+use Rattle.fjall_machine.specs.declared.call.Call.TheVariants.{DeleteKeyspace, GetAt, Insert, JournalDiskSpace, Keyspace, KeyspaceCount, KeyspaceExists, ListKeyspaceNames, PageAt, Persist, Release, Remove, RemoveWeak, Retain, Seqno, VisibleSeqno}
 use Rattle.fjall_machine.specs.declared.call.Reply.{Reply}
-use Rattle.fjall_machine.specs.declared.call.Reply.TheVariants.{Done, Number, Refused}
+use Rattle.fjall_machine.specs.declared.call.Reply.TheVariants.{Done, Flag, Names, Number, Pairs, Refused, Value}
 use Rattle.fjall_regions.specs.Regions.{HoldsOnly}
 use Rattle.fjall_recovery.specs.Names.{current_name, keyspace_folder}
 use Rattle.fjall_versions.specs.Replays.{option_pairs}
@@ -24,22 +25,56 @@ asked s (DeleteKeyspace id) = if is_living (present s) id then (Delete id ∷ []
 asked s (Insert id key value) = write_of id key (Some value) ∷ []
 asked s (Remove id key) = write_of id key None ∷ []
 asked s (RemoveWeak id key) = write_of id key None ∷ []
-asked s call = []
+asked s (Retain id) = []
+asked s (Release id) = []
+asked s (GetAt view id key) = []
+asked s (PageAt view id range back max) = []
+asked s (Persist mode) = []
+asked s KeyspaceCount = []
+asked s ListKeyspaceNames = []
+asked s (KeyspaceExists name) = []
+asked s Seqno = []
+asked s VisibleSeqno = []
+asked s JournalDiskSpace = []
 
 -- what a call in that state tried to do: its command, where it was accepted or a fault of the disk refused it
 abbrev pub attempt : State → Call → Reply → List Command
 attempt s call Done = asked s call
 attempt s call (Number n) = asked s call
 attempt s call (Refused (Io kind)) = asked s call
-attempt s call reply = []
+attempt s call (Refused error) = []
+attempt s call (Value found) = []
+attempt s call (Pairs found) = []
+attempt s call (Names names) = []
+attempt s call (Flag flag) = []
 
--- in that state, a sync of all that was accepted which succeeded: a creation or a deletion is one too
+-- the modes of a persist that sync the journal
+abbrev pub IsSyncMode : PersistMode → Type 0
+IsSyncMode Buffer = ⊥
+IsSyncMode SyncData = Unit {0}
+IsSyncMode SyncAll = Unit {0}
+
+-- In that state, a sync of all that was accepted which succeeded: a creation or a deletion is one too. Each call is listed.
 abbrev pub IsSync : State → Call → Reply → Type 0
-IsSync s (Persist SyncData) Done = Unit {0}
-IsSync s (Persist SyncAll) Done = Unit {0}
+IsSync s (Persist mode) Done = IsSyncMode mode
+IsSync s (Persist mode) reply = ⊥
 IsSync s (Keyspace name options) (Number id) = has_name (present s) name ≡ false
+IsSync s (Keyspace name options) reply = ⊥
 IsSync s (DeleteKeyspace id) Done = is_living (present s) id ≡ true
-IsSync s call reply = ⊥
+IsSync s (DeleteKeyspace id) reply = ⊥
+IsSync s (Retain id) reply = ⊥
+IsSync s (Release id) reply = ⊥
+IsSync s (Insert id key value) reply = ⊥
+IsSync s (Remove id key) reply = ⊥
+IsSync s (RemoveWeak id key) reply = ⊥
+IsSync s (GetAt view id key) reply = ⊥
+IsSync s (PageAt view id range back max) reply = ⊥
+IsSync s KeyspaceCount reply = ⊥
+IsSync s ListKeyspaceNames reply = ⊥
+IsSync s (KeyspaceExists name) reply = ⊥
+IsSync s Seqno reply = ⊥
+IsSync s VisibleSeqno reply = ⊥
+IsSync s JournalDiskSpace reply = ⊥
 
 -- `Io` is answered only where the device failed, and no call of the disk was one that no disk can serve
 abbrev pub BlamesDevice : Reply → Meaning → Meaning → Type 0

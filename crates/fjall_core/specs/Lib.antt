@@ -4,3 +4,4 @@ pub mod Durables
 pub mod Crashes
 pub mod Standing
 pub mod Openings
+pub mod Lives

@@ -1,13 +1,16 @@
 -- What opening makes of a disk.
-use Rattle.std.specs.Prelude.{ℕ, [], length, Option}
+use Rattle.std.specs.Prelude.{◌≡◌, ◌⊎◌, ℕ, List, [], length, Option}
 use Rattle.fjall_base.specs.Store.{Store}
-use Rattle.fjall_base.specs.Disk.{Image, LeavesOnly, Meaning, Took, standing, state_in}
+use Rattle.fjall_base.specs.Disk.{Image, LeavesOnly, Meaning, State, Took, standing, state_in}
 use Rattle.fjall_base.specs.declared.error.Error.{Error}
 use Rattle.fjall_base.specs.declared.error.Error.TheVariants.{Io}
+use Rattle.fjall_regions.specs.Regions.{IsSafe}
+use Rattle.fjall_journal.specs.Writer.{Journal}
 use Rattle.fjall_opening.specs.Folders as folders
 use Rattle.fjall_opening.specs.Folders.{Contents}
 use Rattle.fjall_opening.specs.Refusals.{FolderRefuses, IsDue}
 use Rattle.fjall_places.specs.Held.{IsFolder, number_held, store_held}
+use Rattle.fjall_repair.specs.Opened.{StandsForSome}
 use Rattle.fjall_machine.specs.Machine.{Parts, opened_state}
 use Rattle.fjall_core.specs.Holding.{Held}
 use Rattle.fjall_core.specs.Standing.{HoldsStore, StandsFor, StandsOn}
@@ -25,17 +28,25 @@ abbrev pub OpensOn : Image → Held → Type 0
 OpensOn image core = (folder : Option Contents) × IsFolder image folder × Opens core (store_held folder) (number_held folder)
 
 -- Over a disk that returns what it holds, a refusal but `Io` is due to the folder or to want of memory, and the disk
--- holds what it held.
+-- holds what it held; after `Io` it does so too, or what stood there stands for a store.
 abbrev pub IsDueTo : Meaning → Meaning → Error → Type 0
-IsDueTo old new (Io kind) = Unit {0}
+IsDueTo old new (Io kind) = Took old new [] ⊎ StandsForSome (standing (state_in old))
 IsDueTo old new error = IsDue (FolderRefuses (standing (state_in old))) error × Took old new []
 
 -- whatever store the disk held, a crash at each moment from old to new leaves that store
 abbrev pub KeepsStore : Meaning → Meaning → Type 0
 KeepsStore old new = (store : Store) → HoldsStore (state_in old) store → LeavesOnly old new (λ image. folders.StandsFor image store)
 
+-- The writer goes on at the end of its file, all of which is synced, and its length is the file's; nothing waits.
+pub record IsAtEnd (state : State) (writer : Journal) : Type 0 where
+  pub text : List ℕ
+  pub file : IsSafe state writer.name text
+  pub len : writer.len ≡ length text
+  pub buffer : writer.buffer ≡ []
+
 -- A core that was just opened stands for this store, with it as its base, and nothing is pending.
 pub record OpensAs (core : Held) (store : Store) : Type 0 where
   pub next : ℕ
   pub state : Opens core store next
+  pub journal : IsAtEnd (state_in core.disk) core.journal
   pub base : StandsOn core (record { meaning = core.disk; base = store; pending = [] })

@@ -188,11 +188,14 @@ OnDisk old (RemoveWeak id key) Done new = Took old.disk new.disk (appending old.
 OnDisk old (Persist mode) Done new = Took old.disk new.disk (persist_steps old.journal mode)
 OnDisk old call reply new = new.disk ≡ old.disk
 
--- One call over a disk that returns what it holds. Whichever state the core stood for, it steps to one that it stands
--- for now, and the disk took what such a call writes. Whatever base and pending it stood on, a crash during the call or
+-- Whichever state the core stood for, the call steps to one that it stands for now.
+abbrev pub Steps : Held → Call → Reply → Held → Type 0
+Steps old call reply new = (s : State) → StandsFor old s → (t : State) × StandsFor new t × Step s call reply t
+
+-- One call over a disk that returns what it holds. The disk took what such a call writes. Whatever state the core stood
+-- for, and whatever base and pending it stood on, it goes on by a step of the machine, and a crash during the call or
 -- after it leaves what such a step may leave.
 pub record Serves (old : Held) (call : Call) (reply : Reply) (new : Held) : Type 0 where
-  pub step : (s : State) → StandsFor old s → (t : State) × StandsFor new t × Step s call reply t
   pub disk : OnDisk old call reply new
   pub crash : (s : State) (d : Durable) → StandsFor old s → StandsOn old d
       → (t : State) × (e : Durable) × StandsFor new t × StandsOn new e × Step s call reply t × CallPasses s d call reply e

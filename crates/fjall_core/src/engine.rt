@@ -465,7 +465,7 @@ impl<D: Disk> Core<D> {
     /// Serves calls in order, and answers a reply for each. Only where the list of replies finds no memory is the
     /// whole list refused, before its first call.
     pub fn run(&mut self, calls: Vec<Call>) -> Result<Vec<Reply>>
-        ensures runs { IsTrue D.honest → IfOk result (λ replies. Runs self.old calls.items replies.items self.new) }
+        ensures runs { IfOk result (λ replies. Runs self.old calls.items replies.items self.new) }
         ensures crash { IsTrue D.honest → IfOk result (λ replies. RunsSafely self.old calls.items replies.items self.new) }
         ensures owes { IfOk result (λ replies. OwesAll self.old calls.items replies.items self.new) }
         ensures err { OnErr result (self.new ≡ self.old) }

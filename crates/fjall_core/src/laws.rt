@@ -2,12 +2,16 @@
 
 ghost use Rattle.std.specs.Prelude.{◌≡◌, List, []};
 ghost use Rattle.fjall_base.specs.Store.{Command, Store, fold, kept};
-ghost use Rattle.fjall_base.specs.Disk.{Image, IsImage, Leaves, Missing, Name, State, Step, disk_of};
+ghost use Rattle.fjall_base.specs.Disk.{Image, IsImage, Leaves, Meaning, Missing, Name, State, Step, disk_of, state_in};
 ghost use Rattle.fjall_keyspaces.specs.Keyspaces.{no_keyspaces};
 ghost use Rattle.fjall_versions.specs.Replays.{bare};
 ghost use Rattle.fjall_opening.specs.Folders.{StandsFor};
 ghost use Rattle.fjall_core.specs.Durables.{IsBeginning, StandsAmid};
-ghost use Rattle.fjall_core.specs.Standing.{HoldsStore};
+ghost use Rattle.fjall_core.specs.Holding.{Held};
+ghost use Rattle.fjall_core.specs.Lives.{AreLeftOf, IsLeftOf, Life, Lived, Lives, all_left};
+ghost use Rattle.fjall_core.specs.Standing.{HoldsStore, Owes, OwesAll, Runs, Steps};
+ghost use Rattle.fjall_machine.specs.declared.call.Call.{Call};
+ghost use Rattle.fjall_machine.specs.declared.call.Reply.{Reply};
 
 /// A disk that a crash left, at whichever moment of these steps, holds the store that its image stands for.
 pub fn crash_holds()
@@ -29,4 +33,28 @@ pub fn holds_through_crash()
 /// A disk on which nothing was ever put holds a store without keyspaces.
 pub fn new_disk_holds()
     ensures { (state : State) → ((name : Name) → state name ≡ record { now = Missing; older = [] }) → HoldsStore state (bare no_keyspaces) }
+{}
+
+/// One life of an engine: what it leaves of the disk, wherever it was cut off, is the store that it opened as, with a beginning
+/// of what it tried, and that beginning has all that a sync followed which succeeded.
+pub fn a_life_holds()
+    ensures { (old : Meaning) (store : Store) (life : Life) (new : State) → HoldsStore (state_in old) store → Lived old store life new
+        → (front : List Command) × IsLeftOf life front × HoldsStore new (kept (fold store front)) }
+{}
+
+/// Lives one after another, each cut off at any moment: what opens at the end is the fold of a beginning of what each of them
+/// tried, in order, over all of them, and holds all that a successful sync followed.
+pub fn lives_hold()
+    ensures { (first : State) (start : Store) (lives : List Life) (new : State) → HoldsStore first start → Lives first lives new
+        → (fronts : List (List Command)) × AreLeftOf lives fronts × HoldsStore new (kept (fold start (all_left fronts))) }
+{}
+
+/// What a call owes whatever the disk is makes it a step of the machine.
+pub fn an_owed_call_steps()
+    ensures { (old new : Held) (call : Call) (reply : Reply) → Owes old call reply new → Steps old call reply new }
+{}
+
+/// What calls owe whatever the disk is makes them a run of the machine.
+pub fn owed_calls_run()
+    ensures { (old new : Held) (calls : List Call) (replies : List Reply) → OwesAll old calls replies new → Runs old calls replies new }
 {}

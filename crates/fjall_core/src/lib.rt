@@ -11,4 +11,7 @@ pub use engine::Core;
 pub use fjall_journal::PersistMode;
 pub use fjall_machine::{Call, Reply, View};
 pub use fjall_versions::{KeyRange, Version};
-pub use laws::{a_crash_amid_holds, crash_holds, holds_through_crash, new_disk_holds};
+pub use laws::{
+    a_crash_amid_holds, a_life_holds, an_owed_call_steps, crash_holds, holds_through_crash,
+    lives_hold, new_disk_holds, owed_calls_run,
+};

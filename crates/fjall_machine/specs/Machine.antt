@@ -173,31 +173,53 @@ due_in f (RemoveWeak id key) = first_due (write_refusals f id key [])
 due_in f (GetAt view id key) = first_due (read_refusals f id)
 due_in f (PageAt view id range back max) = first_due (read_refusals f id)
 due_in f (Persist mode) = first_due ((f.poisoned, Poisoned) ∷ [])
-due_in f call = None
+due_in f KeyspaceCount = None
+due_in f ListKeyspaceNames = None
+due_in f (KeyspaceExists name) = None
+due_in f Seqno = None
+due_in f VisibleSeqno = None
+due_in f JournalDiskSpace = None
 
 abbrev pub due : State → Call → Option Error
 due s call = due_in (facts s) call
 
--- a call that takes memory
+-- A call that takes memory. Each call is listed, so that none is forgotten that is added.
 abbrev pub TakesMemory : Call → Type 0
+TakesMemory (Keyspace name options) = Unit {0}
+TakesMemory (DeleteKeyspace id) = Unit {0}
+TakesMemory (Retain id) = Unit {0}
+TakesMemory (Release id) = Unit {0}
+TakesMemory (Insert id key value) = Unit {0}
+TakesMemory (Remove id key) = Unit {0}
+TakesMemory (RemoveWeak id key) = Unit {0}
+TakesMemory (GetAt view id key) = Unit {0}
+TakesMemory (PageAt view id range back max) = Unit {0}
 TakesMemory (Persist mode) = ⊥
 TakesMemory KeyspaceCount = ⊥
+TakesMemory ListKeyspaceNames = Unit {0}
 TakesMemory (KeyspaceExists name) = ⊥
 TakesMemory Seqno = ⊥
 TakesMemory VisibleSeqno = ⊥
 TakesMemory JournalDiskSpace = ⊥
-TakesMemory call = Unit {0}
 
 -- a call that changes the disk
 abbrev pub ChangesDisk : Call → Type 0
 ChangesDisk (Keyspace name options) = Unit {0}
 ChangesDisk (DeleteKeyspace id) = Unit {0}
+ChangesDisk (Retain id) = ⊥
 ChangesDisk (Release id) = Unit {0}
 ChangesDisk (Insert id key value) = Unit {0}
 ChangesDisk (Remove id key) = Unit {0}
 ChangesDisk (RemoveWeak id key) = Unit {0}
+ChangesDisk (GetAt view id key) = ⊥
+ChangesDisk (PageAt view id range back max) = ⊥
 ChangesDisk (Persist mode) = Unit {0}
-ChangesDisk call = ⊥
+ChangesDisk KeyspaceCount = ⊥
+ChangesDisk ListKeyspaceNames = ⊥
+ChangesDisk (KeyspaceExists name) = ⊥
+ChangesDisk Seqno = ⊥
+ChangesDisk VisibleSeqno = ⊥
+ChangesDisk JournalDiskSpace = ⊥
 
 -- after a fault in a call that changes the disk the engine is poisoned, and its parts are not known
 pub record IsPoisoned (old new : State) : Type 0 where
@@ -214,7 +236,20 @@ HasLongOption s = (id : ℕ) × (options : Options) × (get s.options id ≡ Som
 abbrev pub TooLong : Store → Call → Type 0
 TooLong s (Keyspace name options) = HasLongOption (kept (apply s (Create name (option_pairs options))))
 TooLong s (DeleteKeyspace id) = HasLongOption (kept (apply s (Delete id)))
-TooLong s call = ⊥
+TooLong s (Retain id) = ⊥
+TooLong s (Release id) = ⊥
+TooLong s (Insert id key value) = ⊥
+TooLong s (Remove id key) = ⊥
+TooLong s (RemoveWeak id key) = ⊥
+TooLong s (GetAt view id key) = ⊥
+TooLong s (PageAt view id range back max) = ⊥
+TooLong s (Persist mode) = ⊥
+TooLong s KeyspaceCount = ⊥
+TooLong s ListKeyspaceNames = ⊥
+TooLong s (KeyspaceExists name) = ⊥
+TooLong s Seqno = ⊥
+TooLong s VisibleSeqno = ⊥
+TooLong s JournalDiskSpace = ⊥
 
 -- where none is due, memory may run out, the disk fail, or an option's value be too long to be stored
 abbrev pub MayFail : Call → Error → State → State → Type 0

@@ -45,7 +45,7 @@ unwrap-requires g c =
     search rules
 
 pub returns-clause-runs : goal.returns-clause-runs
-returns-clause-runs g c = λ _ s stands.
+returns-clause-runs g c = λ s stands.
     let at = c.loop-call in
     let calls = c.args.calls.items in
     let road = YieldsList-from_vec {s = c.into_iter-call-iterator.result} calls (search rules) (search rules) in
