@@ -10,3 +10,5 @@ pub mod Plannings
 pub mod Awaiting
 pub mod Marking
 pub mod Beginning
+pub mod Served
+pub mod Backs

@@ -2,13 +2,14 @@
 use Rattle.std.specs.Prelude.{◌≡◌, ◌≢◌, ◌⊎◌, ℕ, ◌<◌, ◌^◌, Bool, true, false, List, [], ◌∷◌, take, codes, Option, Some, Ok}
 use Rattle.std.specs.List.{AllByRecursion}
 use Rattle.fjall_base.specs.declared.error.FormatVersion.TheVariants.{V3}
-use Rattle.fjall_base.specs.Disk.{Name, Entry, File, Folder, State, Image, IsFile, SomeSurvives, Step, Put, Append, Sync, Loosen, Cut, SyncFolder, Meaning, Took, LeavesOnly, folder_of, state_in}
+use Rattle.fjall_base.specs.Disk.{Name, Entry, File, Folder, State, Image, IsFile, Step, Put, Append, Sync, Loosen, Cut, SyncFolder, Meaning, Took, LeavesOnly, folder_of, state_in}
 use Rattle.fjall_journal.specs.Batches.{NoneAt}
 use Rattle.fjall_recovery.specs.declared.marker.Marker.TheVariants.{Unfinished}
 use Rattle.fjall_recovery.specs.Marker.{header, marker_tells}
 use Rattle.fjall_recovery.specs.Names.{IsMisnamed, IsNameOf, journal_name, keyspace_folder, current_name, table_name}
-use Rattle.fjall_opening.specs.Folders.{IsBegun, IsUnfinished, file_bytes}
+use Rattle.fjall_opening.specs.Folders.{IsBegun, file_bytes}
 use Rattle.fjall_opening.specs.Journals.{text_in}
+pub use Rattle.fjall_places.specs.Amid.{AreLeft, ComesBackUnfinished}
 
 -- What a marker may be: missing or cut short, and, while it is written, also whole.
 abbrev pub MayMark : Bool → Option (List ℕ) → Type 0
@@ -33,15 +34,6 @@ pub record IsKept (marking : Bool) (state : State) : Type 0 where
   pub now : (name : Name) → MayStand marking name (state name).now
   pub older : (name : Name) → AllByRecursion (MayStand marking name) (state name).older
 
--- Each of these entries is what a crash may leave at its name, where the folder that the name is in is there or comes back.
-abbrev pub AreLeft : State → Image → Type 0
-AreLeft state image = (name : Name) → SomeSurvives ((state name).now ∷ (state name).older) (image name)
-
--- A folder whose making was cut short is all that a crash may leave, and all that may come back where a folder is made
--- that is not there.
-abbrev pub ComesBackUnfinished : State → Type 0
-ComesBackUnfinished state = (image : Image) → AreLeft state image → IsUnfinished image
-
 -- the step changes what stands at this name
 abbrev pub ChangesAt : Name → Step → Type 0
 ChangesAt name (Put q entry) = q ≡ name
@@ -60,6 +52,10 @@ pub record StaysAt (name : Name) (old new : Meaning) : Type 0 where
 -- What stands at the name of a table is what stood there.
 abbrev pub KeepsTables : State → State → Type 0
 KeepsTables old new = (id n : ℕ) → id < 2 ^ 64 → n < 2 ^ 64 → (new (table_name id n)).now ≡ (old (table_name id n)).now
+
+-- What stands at the name of a keyspace's records, but those of tree 0, is what stood there.
+abbrev pub KeepsHomes : State → State → Type 0
+KeepsHomes old new = (id : ℕ) → 0 < id → id < 2 ^ 64 → (new (current_name id)).now ≡ (old (current_name id)).now
 
 -- The disk went on, and a folder that was made is still one that is made, also whatever a crash at any moment leaves.
 pub record GoesOn (marking : Bool) (old new : Meaning) : Type 0 where

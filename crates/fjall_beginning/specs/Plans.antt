@@ -24,7 +24,7 @@ first_text = record_text (fields first_catalog)
 -- what a file has of the bytes that it is to hold
 abbrev pub IsFound : Found → List ℕ → List ℕ → Type 0
 IsFound Nothing bytes text = text ≡ []
-IsFound Other bytes text = Unit {0}
+IsFound Other bytes text = text ≢ []
 IsFound Whole bytes text = text ≡ bytes
 
 -- These are the ids of the journals that are to be, ascending: those that are there, or 0 alone.

@@ -1,12 +1,13 @@
 //! A database begun, or its making gone on with.
 
-ghost use Rattle.std.specs.Prelude.{◌≡◌, codes, false, IsTrue, OnOk};
+ghost use Rattle.std.specs.Prelude.{◌≡◌, [], codes, false, IsTrue, OnOk};
 ghost use Rattle.fjall_base.specs.Disk.{LeavesOnly, OnlyFaults, standing, state_in};
 ghost use Rattle.fjall_keyspaces.specs.Keyspaces.{no_keyspaces};
+ghost use Rattle.fjall_recovery.specs.Tidy.{IsTidy, StaysTidy};
 ghost use Rattle.fjall_versions.specs.Replays.{bare};
-ghost use Rattle.fjall_opening.specs.Folders.{IsUnfinished, StandsFor};
+ghost use Rattle.fjall_opening.specs.Folders.{Contents, IsSound, IsUnfinished, StandsFor};
 ghost use Rattle.fjall_beginning.specs.Begun.{IsBegunOn};
-ghost use Rattle.fjall_beginning.specs.Making.{ComesBackUnfinished, GoesOn, IsMaking, KeepsTables};
+ghost use Rattle.fjall_beginning.specs.Making.{ComesBackUnfinished, GoesOn, IsMaking, KeepsHomes, KeepsTables};
 ghost use Rattle.fjall_beginning.specs.Plans.{AwaitsMarker, IsPlan};
 
 use crate::journals::empty_journals;
@@ -22,6 +23,9 @@ fn prepare<D: Disk>(disk: &mut D, plan: &Plan) -> Result<()>
         → OnOk result (AwaitsMarker (state_in (D.meaning disk.new)) fits.sealed plan.now.active) }
     ensures marker { IsTrue D.honest → IsPlan (standing (state_in (D.meaning disk.old))) plan.now → OnOk result (standing (state_in (D.meaning disk.new)) (codes "version") ≡ standing (state_in (D.meaning disk.old)) (codes "version")) }
     ensures cause { OnlyFaults (D.meaning disk.old) (D.meaning disk.new) result }
+    ensures kinds { IsTrue D.honest → IsPlan (standing (state_in (D.meaning disk.old))) plan.now → StaysTidy (D.meaning disk.old) (D.meaning disk.new) }
+    ensures homes { IsTrue D.honest → IsPlan (standing (state_in (D.meaning disk.old))) plan.now → KeepsHomes (state_in (D.meaning disk.old)) (state_in (D.meaning disk.new)) }
+    ensures served { IsTrue D.honest → IsTidy (state_in (D.meaning disk.old)) → IsPlan (standing (state_in (D.meaning disk.old))) plan.now → (D.meaning disk.new).misuses ≡ (D.meaning disk.old).misuses }
 {
     make_tree(disk, plan.records, &plan.first)?;
     empty_journals(disk, &plan.journals)?;
@@ -42,6 +46,15 @@ pub fn begin<D: Disk>(disk: &mut D, plan: &Plan) -> Result<()>
     // No table comes or goes, whatever the answer.
     ensures tables { IsTrue D.honest → IsPlan (standing (state_in (D.meaning disk.old))) plan.now → KeepsTables (state_in (D.meaning disk.old)) (state_in (D.meaning disk.new)) }
     ensures cause { OnlyFaults (D.meaning disk.old) (D.meaning disk.new) result }
+    ensures kinds { IsTrue D.honest → IsPlan (standing (state_in (D.meaning disk.old))) plan.now → StaysTidy (D.meaning disk.old) (D.meaning disk.new) }
+    // The records of all other keyspaces stay as they are.
+    ensures homes { IsTrue D.honest → IsPlan (standing (state_in (D.meaning disk.old))) plan.now → KeepsHomes (state_in (D.meaning disk.old)) (state_in (D.meaning disk.new)) }
+    ensures served { IsTrue D.honest → IsTidy (state_in (D.meaning disk.old)) → IsPlan (standing (state_in (D.meaning disk.old))) plan.now → (D.meaning disk.new).misuses ≡ (D.meaning disk.old).misuses }
+    // Where what stands is unfinished still, so is whatever may come back; where it is finished, it has a journal.
+    ensures back { IsTrue D.honest → IsPlan (standing (state_in (D.meaning disk.old))) plan.now → ComesBackUnfinished (state_in (D.meaning disk.old))
+        → IsUnfinished (standing (state_in (D.meaning disk.new))) → ComesBackUnfinished (state_in (D.meaning disk.new)) }
+    ensures journal { IsTrue D.honest → IsPlan (standing (state_in (D.meaning disk.old))) plan.now → ComesBackUnfinished (state_in (D.meaning disk.old))
+        → (c : Contents) → IsSound (standing (state_in (D.meaning disk.new))) c → c.journals ≡ [] → ⊥ }
 {
     prepare(disk, plan)?;
     mark(disk, plan.marker, &plan.header)

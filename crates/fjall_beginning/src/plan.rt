@@ -7,7 +7,7 @@ ghost use Rattle.fjall_recovery.specs.Marker.{header as header_of};
 ghost use Rattle.fjall_recovery.specs.Names.{journal_name as name_of_journal};
 ghost use Rattle.fjall_opening.specs.Journals.{AreJournalIds, text_in};
 ghost use Rattle.fjall_opening.specs.Naming.{JournalsAreNamed};
-ghost use Rattle.fjall_opening.specs.Refusals.{HasRisen, IsDue};
+ghost use Rattle.fjall_opening.specs.Refusals.{HasRisen, IsDue, IsOpeningRefusal};
 ghost use Rattle.fjall_beginning.specs.Begun.{IsActive};
 ghost use Rattle.fjall_beginning.specs.Plans.{AreToBe, IsFound, IsPlan};
 
@@ -82,6 +82,7 @@ fn list_ids<D: Disk>(alloc: Global, disk: &mut D) -> Result<Vec<u64>>
     ensures later { (D.meaning disk.old).faults ≤ (D.meaning disk.new).faults }
     ensures risen { IfErr result (HasRisen (D.meaning disk.old).faults (D.meaning disk.new).faults) }
     ensures cause { IsTrue D.honest → JournalsAreNamed (standing (state_in (D.meaning disk.old))) → IfErr result (IsDue (λ error. ⊥)) }
+    ensures listed { IfErr result IsOpeningRefusal }
 {
     let listed = disk.list(alloc, "")?;
     journals(alloc, &listed)
@@ -96,6 +97,7 @@ fn journal_ids<D: Disk>(alloc: Global, disk: &mut D) -> Result<Vec<u64>>
     ensures later { (D.meaning disk.old).faults ≤ (D.meaning disk.new).faults }
     ensures risen { IfErr result (HasRisen (D.meaning disk.old).faults (D.meaning disk.new).faults) }
     ensures cause { IsTrue D.honest → JournalsAreNamed (standing (state_in (D.meaning disk.old))) → IfErr result (IsDue (λ error. ⊥)) }
+    ensures listed { IfErr result IsOpeningRefusal }
 {
     let mut ids = list_ids(alloc, disk)?;
     if ids.len() == 0 {
@@ -150,6 +152,7 @@ pub fn plan_beginning<D: Disk>(alloc: Global, disk: &mut D) -> Result<Plan>
     ensures later { (D.meaning disk.old).faults ≤ (D.meaning disk.new).faults }
     ensures risen { IfErr result (HasRisen (D.meaning disk.old).faults (D.meaning disk.new).faults) }
     ensures cause { IsTrue D.honest → JournalsAreNamed (standing (state_in (D.meaning disk.old))) → IfErr result (IsDue (λ error. ⊥)) }
+    ensures listed { IfErr result IsOpeningRefusal }
 {
     let ids = journal_ids(alloc, disk)?;
     let journals = journal_names(alloc, &ids)?;

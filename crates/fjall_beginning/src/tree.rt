@@ -4,8 +4,9 @@ ghost use Rattle.std.specs.Prelude.{◌≡◌, [], codes, false, IsTrue, OnOk};
 ghost use Rattle.fjall_base.specs.Disk.{File, Folder, OnlyFaults, standing, state_in};
 ghost use Rattle.fjall_regions.specs.Regions.{Within};
 ghost use Rattle.fjall_recovery.specs.Names.{current_name, keyspace_folder};
+ghost use Rattle.fjall_recovery.specs.Tidy.{IsTidy, StaysTidy};
 ghost use Rattle.fjall_catalog.specs.Catalog.{records_in};
-ghost use Rattle.fjall_beginning.specs.Making.{GoesOn};
+ghost use Rattle.fjall_beginning.specs.Making.{GoesOn, KeepsHomes};
 ghost use Rattle.fjall_beginning.specs.Plans.{HasFirstTree, IsFound, first_text};
 
 use crate::file::complete_file;
@@ -29,6 +30,9 @@ fn make_folders<D: Disk>(disk: &mut D) -> Result<()>
     ensures inner { IsTrue D.honest → OnOk result ((state_in (D.meaning disk.new) (keyspace_folder 0)).now ≡ Folder) }
     ensures records { IsTrue D.honest → records_in (standing (state_in (D.meaning disk.new))) ≡ records_in (standing (state_in (D.meaning disk.old))) }
     ensures cause { OnlyFaults (D.meaning disk.old) (D.meaning disk.new) result }
+    ensures kinds { IsTrue D.honest → StaysTidy (D.meaning disk.old) (D.meaning disk.new) }
+    ensures homes { IsTrue D.honest → KeepsHomes (state_in (D.meaning disk.old)) (state_in (D.meaning disk.new)) }
+    ensures served { IsTrue D.honest → IsTidy (state_in (D.meaning disk.old)) → (D.meaning disk.new).misuses ≡ (D.meaning disk.old).misuses }
 {
     disk.make_folder(KEYSPACES)?;
     disk.make_folder(FOLDER)
@@ -41,6 +45,9 @@ fn sync_folders<D: Disk>(disk: &mut D) -> Result<()>
     ensures settled { IsTrue D.honest → (state_in (D.meaning disk.old) (codes "keyspaces")).now ≡ Folder → (state_in (D.meaning disk.old) (keyspace_folder 0)).now ≡ Folder
         → (state_in (D.meaning disk.old) (current_name 0)).now ≡ File first_text [] → OnOk result (HasFirstTree (state_in (D.meaning disk.new))) }
     ensures cause { OnlyFaults (D.meaning disk.old) (D.meaning disk.new) result }
+    ensures kinds { IsTrue D.honest → StaysTidy (D.meaning disk.old) (D.meaning disk.new) }
+    ensures homes { IsTrue D.honest → KeepsHomes (state_in (D.meaning disk.old)) (state_in (D.meaning disk.new)) }
+    ensures served { IsTrue D.honest → (state_in (D.meaning disk.old) (codes "keyspaces")).now ≡ Folder → (state_in (D.meaning disk.old) (keyspace_folder 0)).now ≡ Folder → (D.meaning disk.new).misuses ≡ (D.meaning disk.old).misuses }
 {
     disk.sync_folder(FOLDER)?;
     disk.sync_folder(KEYSPACES)
@@ -52,6 +59,9 @@ pub(crate) fn make_tree<D: Disk>(disk: &mut D, found: Found, text: &[u8]) -> Res
     ensures within { IsTrue D.honest → Within (codes "keyspaces") (D.meaning disk.old) (D.meaning disk.new) }
     ensures made { IsTrue D.honest → text.now ≡ first_text → IsFound found first_text (records_in (standing (state_in (D.meaning disk.old)))) → OnOk result (HasFirstTree (state_in (D.meaning disk.new))) }
     ensures cause { OnlyFaults (D.meaning disk.old) (D.meaning disk.new) result }
+    ensures kinds { IsTrue D.honest → StaysTidy (D.meaning disk.old) (D.meaning disk.new) }
+    ensures homes { IsTrue D.honest → KeepsHomes (state_in (D.meaning disk.old)) (state_in (D.meaning disk.new)) }
+    ensures served { IsTrue D.honest → IsTidy (state_in (D.meaning disk.old)) → text.now ≡ first_text → IsFound found first_text (records_in (standing (state_in (D.meaning disk.old)))) → (D.meaning disk.new).misuses ≡ (D.meaning disk.old).misuses }
 {
     make_folders(disk)?;
     complete_file(disk, CURRENT, found, text)?;

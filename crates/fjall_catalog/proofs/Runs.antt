@@ -6,7 +6,7 @@ use Rattle.std.proofs.lemmas.Slice.Eq.{bytes_eq-Decides}
 use Rattle.std.proofs.lemmas.List.Elements.{All-head}
 use Rattle.fjall_base.specs.declared.error.Error.{Error}
 use Rattle.fjall_base.specs.Disk.{Name, Entry, Missing, File, Folder, Place, State, Image, IsImage, SyncFolder, Meaning, Took, LeavesOnly, state_in, settle, folder_of, removing}
-use Rattle.fjall_base.proofs.States.{settle-in, settle-out}
+use Rattle.fjall_base.proofs.States.{put-now, settle-in, settle-out}
 use Rattle.fjall_base.proofs.Moments.{started, stays, steps_on}
 use Rattle.fjall_regions.specs.Regions.{is_under, IsSafe, Within}
 use Rattle.fjall_regions.proofs.Under.{folder_is_shorter, in_folder, shorter_out}
@@ -22,7 +22,7 @@ use Rattle.fjall_keyspaces.specs.Entries.{entries_of}
 use Rattle.fjall_catalog.specs.declared.catalog.Catalog.{Catalog}
 use Rattle.fjall_catalog.specs.Catalog.{fields, listed, IsTableOf, Says, only, AreSafe, Rests, IsFree, IsReady}
 use Rattle.fjall_catalog.specs.declared.update.TableFile.{TableFile}
-use Rattle.fjall_catalog.specs.Updates.{IsTableWritten, IsNewTable, IsWritten}
+use Rattle.fjall_catalog.specs.Updates.{IsTableGone, IsTableWritten, IsNewTable, IsWritten}
 use Rattle.fjall_catalog.proofs.Naming.{bool_cases, folder_zero, some_folder, folder_of-current, folder_of-table, tables_apart, no_current, beside}
 use Rattle.fjall_catalog.proofs.Resting.{At, last_record, rests_along, says_in, table_id}
 
@@ -275,3 +275,24 @@ table_small c t named_is is = (
 pub removed_there : (folder name : Name) (old new : Meaning) (r : Result Unit Error) → is_under folder name ≡ true → OnOk r (Took old new (removing name (state_in old name).now)) → OnErr r (Took old new []) → Within folder old new
 removed_there folder name old new (Ok done) under ok err = removing_within folder name old new under ok
 removed_there folder name old new (Err e) under ok err = within_none folder old new err
+
+-- What is removed, where it is there, is missing then.
+pub missing_now : (name : Name) (old new : Meaning) (there : Entry) → (state_in old name).now ≡ there → Took old new (removing name there) → (state_in new name).now ≡ Missing
+missing_now name old new Missing is took = ap (λ (s : State). (s name).now) took.state ∙ is
+missing_now name old new (File synced unsynced) is took = put-now (state_in old) (state_in new) name Missing took.state
+missing_now name old new Folder is took = put-now (state_in old) (state_in new) name Missing took.state
+
+-- A catalog that names no table has none to be removed.
+pub none_gone : (state : State) (c : Catalog) (found : Option (List ℕ)) → ((name : List ℕ) → found ≡ Some name → ⊥) → found ≡ option_map (λ t. table_name 0 t.id) c.table → IsTableGone state c
+none_gone state c found none at = of c.table at
+  where
+    of : (table : Option TableInfo) → found ≡ option_map (λ t. table_name 0 t.id) table → IfSome table (λ t. (state (table_name 0 t.id)).now ≡ Missing)
+    of None at = tt
+    of (Some t) at = absurd (none (table_name 0 t.id) at)
+
+-- The old table's file is missing once it was removed.
+pub table_gone : (c : Catalog) (name : List ℕ) → OldFile c name → (old new : Meaning) (r : Result Unit Error) → OnOk r (Took old new (removing name (state_in old name).now)) → OnOk r (IsTableGone (state_in new) c)
+table_gone c name file old new (Err e) took = tt
+table_gone c name file old new (Ok done) took =
+    subst (λ (table : Option TableInfo). IfSome table (λ t. (state_in new (table_name 0 t.id)).now ≡ Missing)) (sym file.named_is)
+    (subst (λ (n : Name). (state_in new n).now ≡ Missing) file.name_is (missing_now name old new (state_in old name).now refl took))

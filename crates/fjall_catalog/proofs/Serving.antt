@@ -9,6 +9,8 @@ use Rattle.fjall_tree.specs.Records.{Fields}
 use Rattle.fjall_keyspaces.specs.Keyspaces.{Keyspaces}
 use Rattle.fjall_catalog.specs.declared.catalog.Catalog.{Catalog}
 use Rattle.fjall_recovery.specs.Names.{keyspace_folder, current_name, table_name}
+use Rattle.fjall_recovery.specs.Tidy.{FitsAt}
+use Rattle.fjall_regions.proofs.Fitting.{fits_table}
 use Rattle.std.specs.Prelude.{Option, None, Some, IfSome}
 use Rattle.fjall_tree.specs.declared.record.TableInfo.{TableInfo}
 use Rattle.fjall_keyspaces.specs.declared.entry.MetaEntry.{MetaEntry}
@@ -71,6 +73,10 @@ module _ (c : Catalog) (name : Name) (at : name ≡ table_name 0 c.next_table_id
     housed = subst (λ (f : Name). IsThere (standing state) f) (sym (name_inside c name at small)) (inr (ap (λ (p : Place). p.now) ready.rests.folder));
     kind = subst (λ (e : Entry). IsNoFolder e) (sym (name_missing c name at small records s state ready)) tt;
   }
+
+  -- a file may stand there
+  pub fits_next : FitsAt name (File [] [])
+  fits_next = subst (λ (n : Name). FitsAt n (File [] [])) (sym at) (fits_table c.next_table_id (omega arith) [] [])
 
 -- where a table is safe no folder stands
 pub safe_kind : (state : State) (table : Option TableInfo) (entries : List MetaEntry) → AreSafe state table entries → IfSome table (λ t. IsNoFolder (state (table_name 0 t.id)).now)

@@ -63,3 +63,10 @@ IsRefusal image before after error = ⊥
 abbrev pub IsFaultIfIo : ℕ → ℕ → Error → Type 0
 IsFaultIfIo before after (Io kind) = Rose before after
 IsFaultIfIo before after error = ⊤
+
+-- what a catalog may be refused with, over any disk at all: a fault of the disk, want of memory, or damage
+abbrev pub IsCatalogRefusal : Error → Type 0
+IsCatalogRefusal (Io kind) = ⊤
+IsCatalogRefusal OutOfMemory = ⊤
+IsCatalogRefusal (Storage cause) = ⊤
+IsCatalogRefusal error = ⊥

@@ -1,9 +1,9 @@
 -- A change of the catalog: what is prepared of it, and how far it has come.
-use Rattle.std.specs.Prelude.{◌≡◌, ◌⊎◌, ℕ, ◌+◌, ◌<◌, ◌≤◌, ◌-◌, ◌^◌, ⊤, List, [], ◌∷◌, ◌++◌, length, Any, Option, Some, None, string_bytes}
+use Rattle.std.specs.Prelude.{◌≡◌, ◌⊎◌, ℕ, ◌+◌, ◌<◌, ◌≤◌, ◌-◌, ◌^◌, ⊤, List, [], ◌∷◌, ◌++◌, length, Any, IfSome, Option, Some, None, string_bytes}
 use Rattle.std.specs.Option.{option_map}
 use Rattle.fjall_base.specs.declared.error.Error.{Error}
 use Rattle.fjall_base.specs.declared.error.Error.TheVariants.{NumbersUsedUp, OutOfMemory, ValueTooLong}
-use Rattle.fjall_base.specs.Disk.{State, Image}
+use Rattle.fjall_base.specs.Disk.{Missing, State, Image}
 use Rattle.fjall_tree.specs.declared.record.TableInfo.{TableInfo}
 use Rattle.fjall_tree.specs.Records.{Fields, IsRecord, record_text}
 use Rattle.fjall_recovery.specs.Names.{table_name}
@@ -77,3 +77,9 @@ pub record IsWritten (state : State) (records : List Fields) (last : Catalog) (s
 -- the change counts or doesn't
 abbrev pub SaysEither : List Fields → Catalog → Keyspaces → Catalog → Keyspaces → Image → Type 0
 SaysEither records last s next t image = Says image records last s ⊎ Says image (records ++ fields next ∷ []) next t
+
+-- ---- afterwards
+
+-- nothing stands where the table of this catalog was; where it names none there is none to stand
+abbrev pub IsTableGone : State → Catalog → Type 0
+IsTableGone state old = IfSome old.table (λ t. (state (table_name 0 t.id)).now ≡ Missing)

@@ -8,7 +8,7 @@ ghost use Rattle.fjall_tree.specs.Reading.{DamagedWhere};
 ghost use Rattle.fjall_tree.specs.Records.{Fields, IsRecords};
 ghost use Rattle.fjall_keyspaces.specs.Keyspaces.{Keyspaces};
 ghost use Rattle.fjall_catalog.specs.Catalog.{records_in, HoldsEntries, Says, IsAtLevel1};
-ghost use Rattle.fjall_catalog.specs.Refusals.{HasLast, HasNoLast, IsRefusal, IsTableRefused, IsFaultIfIo};
+ghost use Rattle.fjall_catalog.specs.Refusals.{HasLast, HasNoLast, IsRefusal, IsTableRefused, IsFaultIfIo, IsCatalogRefusal};
 
 use crate::catalog::{Catalog, catalog_of};
 use crate::table::decode_entries;
@@ -71,6 +71,7 @@ fn read_entries<D: Disk>(
     ensures refused { IsTrue D.honest → IfErr result (IsTableRefused (standing (state_in (D.meaning disk.old))) table (D.meaning disk.old).faults (D.meaning disk.new).faults) }
     ensures later { (D.meaning disk.old).faults ≤ (D.meaning disk.new).faults }
     ensures fault { IfErr result (IsFaultIfIo (D.meaning disk.old).faults (D.meaning disk.new).faults) }
+    ensures listed { IfErr result IsCatalogRefusal }
 {
     let Some(info) = table else {
         return Ok(Vec::new(alloc));
@@ -102,6 +103,7 @@ pub fn read_catalog<D: Disk>(alloc: Global, disk: &mut D) -> Result<Found>
     ensures refused { IsTrue D.honest → IfErr result (IsRefusal (standing (state_in (D.meaning disk.old))) (D.meaning disk.old).faults (D.meaning disk.new).faults) }
     ensures later { (D.meaning disk.old).faults ≤ (D.meaning disk.new).faults }
     ensures fault { IfErr result (IsFaultIfIo (D.meaning disk.old).faults (D.meaning disk.new).faults) }
+    ensures listed { IfErr result IsCatalogRefusal }
 {
     let Some(bytes) = disk.read(alloc, CURRENT)? else {
         return Err(Error::Storage(StorageError::RecordDamaged));

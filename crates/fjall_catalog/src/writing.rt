@@ -5,9 +5,10 @@ ghost use Rattle.fjall_base.specs.Disk.{IsNoFolder, LeavesOnly, Name, OnlyFaults
 ghost use Rattle.fjall_regions.specs.Regions.{Within};
 ghost use Rattle.fjall_tree.specs.Records.{Fields, IsRecord};
 ghost use Rattle.fjall_recovery.specs.Names.{keyspace_folder, table_name};
+ghost use Rattle.fjall_recovery.specs.Tidy.{StaysTidy};
 ghost use Rattle.fjall_keyspaces.specs.Keyspaces.{AreKeyspaces, Keyspaces};
 ghost use Rattle.fjall_catalog.specs.Catalog.{fields, Says, IsReady};
-ghost use Rattle.fjall_catalog.specs.Updates.{IsUpdate, IsWritten, SaysEither};
+ghost use Rattle.fjall_catalog.specs.Updates.{IsTableGone, IsUpdate, IsWritten, SaysEither};
 
 use crate::catalog::Catalog;
 use crate::update::Update;
@@ -32,6 +33,7 @@ pub fn write_table<D: Disk>(disk: &mut D, update: &Update) -> Result<()>
     ensures served { IsTrue D.honest → (records : List Fields) (old : Catalog) (s t : Keyspaces) (number : ℕ) → IsReady (state_in (D.meaning disk.old)) records old s → IsUpdate old t number update.now
         → (D.meaning disk.new).misuses ≡ (D.meaning disk.old).misuses }
     ensures cause { OnlyFaults (D.meaning disk.old) (D.meaning disk.new) result }
+    ensures kinds { IsTrue D.honest → (old : Catalog) (t : Keyspaces) (number : ℕ) → IsUpdate old t number update.now → StaysTidy (D.meaning disk.old) (D.meaning disk.new) }
 {
     let Some(table) = &update.table else {
         return Ok(());
@@ -50,9 +52,10 @@ pub fn commit<D: Disk>(disk: &mut D, update: &Update) -> Result<()>
     ensures ok { IsTrue D.honest → (records : List Fields) (old : Catalog) (s t : Keyspaces) (number : ℕ) → AreKeyspaces t → IsUpdate old t number update.now
         → IsWritten (state_in (D.meaning disk.old)) records old s update.now.catalog t
         → OnOk result (IsReady (state_in (D.meaning disk.new)) (records ++ fields update.now.catalog ∷ []) update.now.catalog t) }
-    ensures kinds { IsTrue D.honest → (q : Name) → IsNoFolder (state_in (D.meaning disk.old) q).now → IsNoFolder (state_in (D.meaning disk.new) q).now }
+    ensures no_folder { IsTrue D.honest → (q : Name) → IsNoFolder (state_in (D.meaning disk.old) q).now → IsNoFolder (state_in (D.meaning disk.new) q).now }
     ensures served { IsTrue D.honest → (records : List Fields) (old next : Catalog) (s t : Keyspaces) → IsWritten (state_in (D.meaning disk.old)) records old s next t → (D.meaning disk.new).misuses ≡ (D.meaning disk.old).misuses }
     ensures cause { OnlyFaults (D.meaning disk.old) (D.meaning disk.new) result }
+    ensures kinds { IsTrue D.honest → StaysTidy (D.meaning disk.old) (D.meaning disk.new) }
 {
     disk.append(CURRENT, &update.record_text)?;
     disk.sync(CURRENT)
@@ -72,6 +75,8 @@ pub fn remove_old<D: Disk>(disk: &mut D, update: &Update) -> Result<()>
     ensures served { IsTrue D.honest → (old : Catalog) (t : Keyspaces) (number : ℕ) → IsUpdate old t number update.now → IfSome old.table (λ table. IsNoFolder (state_in (D.meaning disk.old) (table_name 0 table.id)).now)
         → (D.meaning disk.new).misuses ≡ (D.meaning disk.old).misuses }
     ensures cause { OnlyFaults (D.meaning disk.old) (D.meaning disk.new) result }
+    ensures gone { IsTrue D.honest → (old : Catalog) (t : Keyspaces) (number : ℕ) → IsUpdate old t number update.now → OnOk result (IsTableGone (state_in (D.meaning disk.new)) old) }
+    ensures kinds { IsTrue D.honest → StaysTidy (D.meaning disk.old) (D.meaning disk.new) }
 {
     let Some(name) = &update.old_table else {
         return Ok(());

@@ -7,9 +7,10 @@ use Rattle.std.proofs.lemmas.List.Concat.{flat_map-cons}
 use Rattle.std.proofs.lemmas.List.Elements.{All-cons, All-nil}
 use Rattle.std.proofs.lemmas.Slice.Eq.{bytes_eq-Decides}
 use Rattle.fjall_base.specs.declared.error.Error.{Error}
-use Rattle.fjall_base.specs.Disk.{Name, Entry, Missing, File, Folder, Place, State, Image, Meaning, LeavesOnly, Survives, SyncFolder, Took, folder_of, removing, settle, state_in}
+use Rattle.fjall_base.specs.Crash.{IsHoused}
+use Rattle.fjall_base.specs.Disk.{Name, Entry, Missing, File, Folder, Place, State, Image, IsEmpty, Meaning, LeavesOnly, Survives, SyncFolder, Took, folder_of, removing, settle, state_in}
 use Rattle.fjall_base.proofs.Moments.{started, stays, steps_on, runs_on}
-use Rattle.fjall_base.proofs.States.{put-now, settle-in}
+use Rattle.fjall_base.proofs.States.{settle-in}
 use Rattle.fjall_regions.specs.Regions.{IsImageIn, IsMade, IsSafe, Within, is_under}
 use Rattle.fjall_regions.proofs.Under.{folder_is_shorter, shorter_out, under_self}
 use Rattle.fjall_regions.proofs.Changes.{SameOutside, settle-now, within_state}
@@ -28,12 +29,13 @@ use Rattle.fjall_catalog.proofs.Meanings.{regions_say}
 use Rattle.fjall_catalog.proofs.Naming.{bool_cases, table_under}
 use Rattle.fjall_catalog.proofs.Resting.{folder_left, rests_along}
 use Rattle.fjall_catalog.proofs.Runs as Runs
+use Rattle.fjall_catalog.proofs.Runs.{missing_now}
 use Rattle.fjall_catalog.proofs.Shapes.{first_fits}
 use Rattle.fjall_opening.specs.Homes.{HasLast}
 use Rattle.fjall_opening.proofs.Listed.{in_keyspaces}
 use Rattle.fjall_places.specs.Halves.{HasTree, Tree}
 use Rattle.fjall_places.specs.Places.{HasSafeHome, LiesInTree}
-use Rattle.fjall_changes.specs.Removals.{IsUnused}
+use Rattle.fjall_changes.specs.Removals.{IsRemoved, IsUnused}
 use Rattle.fjall_changes.proofs.Apart.{outside, outside_test, not_under, some_home, folder_of-current, current_under, other_home, keyspaces_outside, within_keyspaces}
 use Rattle.fjall_changes.proofs.Beside.{AreOthers, Beside, beside_along, beside_settled, settled_at, tree_left}
 
@@ -158,11 +160,6 @@ ended_within id old m1 m2 new r first second ok err =
 
 -- ---- the new home
 
-missing_now : (name : Name) (old new : Meaning) (there : Entry) → (state_in old name).now ≡ there → Took old new (removing name there) → (state_in new name).now ≡ Missing
-missing_now name old new Missing is took = ap (λ (s : State). (s name).now) took.state ∙ is
-missing_now name old new (File synced unsynced) is took = put-now (state_in old) (state_in new) name Missing took.state
-missing_now name old new Folder is took = put-now (state_in old) (state_in new) name Missing took.state
-
 pub made : (folder current : Name) (m1 m2 new : Meaning) (text : List ℕ) (r : Result Unit Error) → folder_of current ≡ folder → (folder ≡ [] → ⊥) → (state_in m1 folder).now ≡ Folder
     → Took m1 m2 (removing current (state_in m1 current).now) → ((state_in m2 current).now ≡ Missing → OnOk r ((state_in new current).now ≡ File text [])) → Within current m2 new → OnOk r (IsMade (state_in new) folder current text)
 made folder current m1 m2 new text (Err e) inside some there taken filling run = tt
@@ -258,3 +255,22 @@ stays_gone_as id small mid new (Err e) sync gone = tt
 stays_gone_as id small mid new (Ok done) sync gone =
     let settled : state_in new (keyspace_folder id) ≡ only (state_in mid (keyspace_folder id)).now = ap (λ (s : State). s (keyspace_folder id)) sync.state ∙ settle-in (state_in mid) (codes "keyspaces") (keyspace_folder id) (in_keyspaces id small) in
     settled ∙ ap (λ (e : Entry). only e) (sym (ap (λ (p : Place). p.now) settled) ∙ gone)
+
+-- In a folder that isn't there nothing stands.
+pub nothing_inside : (state : State) (folder : Name) → (folder ≡ [] → ⊥) → IsHoused state → (state folder).now ≡ Missing → IsEmpty state folder
+nothing_inside state folder some housed gone name inside = of (state name).now refl
+  where
+    there : (state name).now ≢ Missing → ⊥
+    there some_entry =
+        let at : (state folder).now ≡ Folder = subst (λ (f : Name). (state f).now ≡ Folder) inside (housed.each name some_entry (λ root. some (sym inside ∙ root))) in
+        let no : Missing ≡ Folder = sym gone ∙ at in cc
+
+    of : (entry : Entry) → (state name).now ≡ entry → (state name).now ≡ Missing
+    of Missing is = is
+    of (File synced unsynced) is = absurd (there (λ e. let no : File synced unsynced ≡ Missing = sym is ∙ e in cc))
+    of Folder is = absurd (there (λ e. let no : Folder ≡ Missing = sym is ∙ e in cc))
+
+-- Where the folder is missing for good, nothing of the keyspace is left.
+pub all_removed : (id : ℕ) (state : State) (r : Result Unit Error) → IsHoused state → OnOk r (state (keyspace_folder id) ≡ only Missing) → OnOk r (IsRemoved id state)
+all_removed id state (Err e) housed gone = tt
+all_removed id state (Ok done) housed gone = record { folder = gone; inside = nothing_inside state (keyspace_folder id) (some_home id) housed (ap (λ (p : Place). p.now) gone) }

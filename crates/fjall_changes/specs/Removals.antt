@@ -1,7 +1,9 @@
 -- A deleted keyspace's files while they are removed.
 use Rattle.std.specs.Prelude.{◌≡◌, ◌≢◌, ℕ, ◌<◌, ◌^◌, [], ◌∷◌, All, map, string_bytes}
+use Rattle.fjall_base.specs.Disk.{IsEmpty, Missing, State}
 use Rattle.fjall_keyspaces.specs.Keyspaces.{Keyspaces}
 use Rattle.fjall_recovery.specs.Names.{keyspace_folder, current_name}
+use Rattle.fjall_catalog.specs.Catalog.{only}
 use Rattle.fjall_changes.specs.declared.removal.Removal.{Removal}
 
 -- what is prepared of a removal: the names of the keyspace's folder and of its file
@@ -14,3 +16,8 @@ pub record IsUnused (id : ℕ) (s : Keyspaces) : Type 0 where
   pub positive : 0 < id
   pub fits : id < 2 ^ 64
   pub unused : All (λ k. k.id ≢ id) s.living
+
+-- nothing stands in the place of the keyspace's folder, and no crash brings one back; nothing stands right in it
+pub record IsRemoved (id : ℕ) (state : State) : Type 0 where
+  pub folder : state (keyspace_folder id) ≡ only Missing
+  pub inside : IsEmpty state (keyspace_folder id)

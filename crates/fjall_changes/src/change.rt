@@ -5,10 +5,11 @@ ghost use Rattle.fjall_base.specs.Disk.{LeavesOnly, OnlyFaults, state_in};
 ghost use Rattle.fjall_regions.specs.Regions.{Within};
 ghost use Rattle.fjall_tree.specs.Records.{Fields};
 ghost use Rattle.fjall_recovery.specs.Names.{keyspace_folder};
+ghost use Rattle.fjall_recovery.specs.Tidy.{StaysTidy};
 ghost use Rattle.fjall_keyspaces.specs.Keyspaces.{Keyspaces};
 ghost use Rattle.fjall_catalog.specs.declared.catalog.Catalog.{Catalog};
 ghost use Rattle.fjall_catalog.specs.Catalog.{fields};
-ghost use Rattle.fjall_catalog.specs.Updates.{IsUpdate};
+ghost use Rattle.fjall_catalog.specs.Updates.{IsTableGone, IsUpdate};
 ghost use Rattle.fjall_places.specs.Halves.{Tree};
 ghost use Rattle.fjall_places.specs.Places.{LiesInTree};
 ghost use Rattle.fjall_changes.specs.Changes.{AreHoused, HasEither};
@@ -27,6 +28,8 @@ pub(crate) fn change_tree<D: Disk>(disk: &mut D, update: &Update) -> Result<()>
     ensures served { IsTrue D.honest → (records : List Fields) (t next : Tree) (number : ℕ) → LiesInTree (state_in (D.meaning disk.old)) records t → AreHoused (state_in (D.meaning disk.old)) next
         → next.last ≡ update.now.catalog → IsUpdate t.last next.keyspaces number update.now → (D.meaning disk.new).misuses ≡ (D.meaning disk.old).misuses }
     ensures cause { OnlyFaults (D.meaning disk.old) (D.meaning disk.new) result }
+    ensures gone { IsTrue D.honest → (old : Catalog) (s : Keyspaces) (number : ℕ) → IsUpdate old s number update.now → OnOk result (IsTableGone (state_in (D.meaning disk.new)) old) }
+    ensures kinds { IsTrue D.honest → (old : Catalog) (s : Keyspaces) (number : ℕ) → IsUpdate old s number update.now → StaysTidy (D.meaning disk.old) (D.meaning disk.new) }
 {
     write_table(disk, update)?;
     commit(disk, update)?;

@@ -1,13 +1,14 @@
 //! A keyspace that is made: its folder and its first record are safe before the catalog names it.
 
 ghost use Rattle.std.specs.Prelude.{◌≡◌, ◌<◌, ◌≤◌, ◌^◌, ◌++◌, ◌∷◌, [], true, ℕ, List, IfErr, IfOk, IsTrue, OnOk, codes};
-ghost use Rattle.fjall_base.specs.Disk.{CanMakeFolder, IsNoFolder, LeavesOnly, OnlyFaults, folder_of, state_in};
+ghost use Rattle.fjall_base.specs.Disk.{CanMakeFolder, File, Folder, IsNoFolder, LeavesOnly, OnlyFaults, folder_of, state_in};
 ghost use Rattle.fjall_regions.specs.Regions.{IsMade, Within, is_under};
 ghost use Rattle.fjall_tree.specs.Records.{Fields};
+ghost use Rattle.fjall_recovery.specs.Tidy.{FitsAt, StaysTidy};
 ghost use Rattle.fjall_keyspaces.specs.Keyspaces.{AreKeyspaces, Keyspaces};
 ghost use Rattle.fjall_catalog.specs.declared.catalog.Catalog.{Catalog};
 ghost use Rattle.fjall_catalog.specs.Catalog.{fields, first_of};
-ghost use Rattle.fjall_catalog.specs.Updates.{IsPreparingRefusal};
+ghost use Rattle.fjall_catalog.specs.Updates.{IsPreparingRefusal, IsTableGone};
 ghost use Rattle.fjall_opening.specs.Folders.{past_record};
 ghost use Rattle.fjall_places.specs.Halves.{HasTree, Tree};
 ghost use Rattle.fjall_places.specs.Places.{HasSafeHome, LiesInTree};
@@ -68,6 +69,7 @@ fn write_home<D: Disk>(disk: &mut D, folder: &str, current: &str, record_text: &
     ensures within { IsTrue D.honest → is_under folder.now current.now ≡ true → Within folder.now (D.meaning disk.old) (D.meaning disk.new) }
     ensures served { IsTrue D.honest → folder_of current.now ≡ folder.now → CanMakeFolder (state_in (D.meaning disk.old)) folder.now → IsNoFolder (state_in (D.meaning disk.old) current.now).now → (D.meaning disk.new).misuses ≡ (D.meaning disk.old).misuses }
     ensures cause { OnlyFaults (D.meaning disk.old) (D.meaning disk.new) result }
+    ensures kinds { IsTrue D.honest → FitsAt folder.now Folder → FitsAt current.now (File [] []) → StaysTidy (D.meaning disk.old) (D.meaning disk.new) }
 {
     disk.make_folder(folder)?;
     disk.remove(current)?;
@@ -89,6 +91,7 @@ fn build_home<D: Disk>(disk: &mut D, creation: &Creation) -> Result<()>
     ensures served { IsTrue D.honest → (records : List Fields) (t : Tree) (old : Catalog) (s : Keyspaces) (id number : ℕ) → id < 2 ^ 64 → LiesInTree (state_in (D.meaning disk.old)) records t → IsCreation old s id number creation.now
         → HasRoom (state_in (D.meaning disk.old)) id → (D.meaning disk.new).misuses ≡ (D.meaning disk.old).misuses }
     ensures cause { OnlyFaults (D.meaning disk.old) (D.meaning disk.new) result }
+    ensures kinds { IsTrue D.honest → (old : Catalog) (s : Keyspaces) (id number : ℕ) → id < 2 ^ 64 → IsCreation old s id number creation.now → StaysTidy (D.meaning disk.old) (D.meaning disk.new) }
 {
     let folder = creation.folder.as_str();
     write_home(
@@ -119,6 +122,9 @@ pub fn create_home<D: Disk>(disk: &mut D, creation: &Creation) -> Result<()>
         LiesInTree (state_in (D.meaning disk.old)) records t → IsCreation t.last next.keyspaces t.keyspaces.next number creation.now → AreKeyspaces next.keyspaces → past_record (fields t.last) ≤ number
         → t.keyspaces.next < 2 ^ 64 → HasRoom (state_in (D.meaning disk.old)) t.keyspaces.next → (D.meaning disk.new).misuses ≡ (D.meaning disk.old).misuses }
     ensures cause { OnlyFaults (D.meaning disk.old) (D.meaning disk.new) result }
+    // The old table of tree 0 is gone.
+    ensures gone { IsTrue D.honest → (old : Catalog) (s : Keyspaces) (id number : ℕ) → IsCreation old s id number creation.now → OnOk result (IsTableGone (state_in (D.meaning disk.new)) old) }
+    ensures kinds { IsTrue D.honest → (old : Catalog) (s : Keyspaces) (id number : ℕ) → id < 2 ^ 64 → IsCreation old s id number creation.now → StaysTidy (D.meaning disk.old) (D.meaning disk.new) }
 {
     build_home(disk, creation)?;
     change_tree(disk, &creation.update)

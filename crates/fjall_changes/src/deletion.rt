@@ -4,10 +4,11 @@ ghost use Rattle.std.specs.Prelude.{◌≡◌, ◌≤◌, ◌++◌, ◌∷◌, [
 ghost use Rattle.fjall_base.specs.Disk.{LeavesOnly, OnlyFaults, state_in};
 ghost use Rattle.fjall_regions.specs.Regions.{Within};
 ghost use Rattle.fjall_tree.specs.Records.{Fields};
+ghost use Rattle.fjall_recovery.specs.Tidy.{StaysTidy};
 ghost use Rattle.fjall_keyspaces.specs.Keyspaces.{Keyspaces, without_keyspace};
 ghost use Rattle.fjall_catalog.specs.declared.catalog.Catalog.{Catalog};
 ghost use Rattle.fjall_catalog.specs.Catalog.{fields};
-ghost use Rattle.fjall_catalog.specs.Updates.{IsUpdate};
+ghost use Rattle.fjall_catalog.specs.Updates.{IsTableGone, IsUpdate};
 ghost use Rattle.fjall_opening.specs.Folders.{past_record};
 ghost use Rattle.fjall_places.specs.Halves.{Tree};
 ghost use Rattle.fjall_places.specs.Places.{LiesInTree};
@@ -33,6 +34,9 @@ pub fn delete_home<D: Disk>(disk: &mut D, update: &Update) -> Result<()>
     ensures served { IsTrue D.honest → (records : List Fields) (t : Tree) (id number : ℕ) → LiesInTree (state_in (D.meaning disk.old)) records t → IsUpdate t.last (without_keyspace id t.keyspaces) number update.now → past_record (fields t.last) ≤ number
         → (D.meaning disk.new).misuses ≡ (D.meaning disk.old).misuses }
     ensures cause { OnlyFaults (D.meaning disk.old) (D.meaning disk.new) result }
+    // The old table of tree 0 is gone.
+    ensures gone { IsTrue D.honest → (old : Catalog) (s : Keyspaces) (number : ℕ) → IsUpdate old s number update.now → OnOk result (IsTableGone (state_in (D.meaning disk.new)) old) }
+    ensures kinds { IsTrue D.honest → (old : Catalog) (s : Keyspaces) (number : ℕ) → IsUpdate old s number update.now → StaysTidy (D.meaning disk.old) (D.meaning disk.new) }
 {
     change_tree(disk, update)
 }

@@ -5,10 +5,11 @@ ghost use Rattle.fjall_base.specs.Disk.{LeavesOnly, Missing, Name, OnlyFaults, s
 ghost use Rattle.fjall_regions.specs.Regions.{HoldsOnly, Within, is_under};
 ghost use Rattle.fjall_tree.specs.Records.{Fields};
 ghost use Rattle.fjall_recovery.specs.Names.{current_name, keyspace_folder};
+ghost use Rattle.fjall_recovery.specs.Tidy.{StaysTidy};
 ghost use Rattle.fjall_catalog.specs.Catalog.{only};
 ghost use Rattle.fjall_places.specs.Halves.{HasTree, Tree};
 ghost use Rattle.fjall_places.specs.Places.{LiesInTree};
-ghost use Rattle.fjall_changes.specs.Removals.{IsRemoval, IsUnused};
+ghost use Rattle.fjall_changes.specs.Removals.{IsRemoval, IsRemoved, IsUnused};
 
 use crate::creation::KEYSPACES;
 use fjall_base::{Disk, Error, Result};
@@ -44,6 +45,7 @@ fn remove_files<D: Disk>(disk: &mut D, files: &[String]) -> Result<()>
     ensures served { IsTrue D.honest → (folder : Name) → HoldsOnly (state_in (D.meaning disk.old)) folder (map string_bytes files.now) → (D.meaning disk.new).misuses ≡ (D.meaning disk.old).misuses }
     ensures emptied { IsTrue D.honest → (folder : Name) → HoldsOnly (state_in (D.meaning disk.old)) folder (map string_bytes files.now) → OnOk result (HoldsOnly (state_in (D.meaning disk.new)) folder []) }
     ensures cause { OnlyFaults (D.meaning disk.old) (D.meaning disk.new) result }
+    ensures kinds { IsTrue D.honest → StaysTidy (D.meaning disk.old) (D.meaning disk.new) }
 {
     for file in files {
         disk.remove(file.as_str())?;
@@ -69,6 +71,9 @@ pub fn remove_keyspace<D: Disk>(disk: &mut D, removal: &Removal) -> Result<()>
     ensures served { IsTrue D.honest → (records : List Fields) (t : Tree) (id : ℕ) → IsRemoval id removal.now → LiesInTree (state_in (D.meaning disk.old)) records t
         → HoldsOnly (state_in (D.meaning disk.old)) (keyspace_folder id) (current_name id ∷ []) → (D.meaning disk.new).misuses ≡ (D.meaning disk.old).misuses }
     ensures cause { OnlyFaults (D.meaning disk.old) (D.meaning disk.new) result }
+    // Neither the folder is left nor anything in it.
+    ensures removed { IsTrue D.honest → (id : ℕ) → id < 2 ^ 64 → IsRemoval id removal.now → OnOk result (IsRemoved id (state_in (D.meaning disk.new))) }
+    ensures kinds { IsTrue D.honest → StaysTidy (D.meaning disk.old) (D.meaning disk.new) }
 {
     remove_files(disk, &removal.files)?;
     disk.remove_folder(removal.folder.as_str())?;

@@ -5,6 +5,8 @@ use Rattle.fjall_base.specs.Store.{Store, Command, fold, kept}
 use Rattle.fjall_base.specs.Disk.{Image, IsImage, Meaning, Took, LeavesOnly, state_in, after}
 use Rattle.fjall_base.specs.Disk as disk
 use Rattle.fjall_base.proofs.Moments.{after-append, started, runs_on, weaken}
+use Rattle.fjall_recovery.specs.Tidy.{StaysTidy}
+use Rattle.fjall_recovery.proofs.Tidying.{stays_both, stays_start}
 use Rattle.fjall_machine.specs.declared.call.Call.{Call}
 use Rattle.fjall_machine.specs.declared.call.Reply.{Reply}
 use Rattle.fjall_machine.specs.Machine.{State, Step}
@@ -75,6 +77,13 @@ run_passes s t d e (c ∷ calls) (r ∷ replies) tried here (mid, on, rest, step
     subst (λ l. Passes d l e) (sym is) (passes_on d on e (attempt s c r) rest call.0 (run_passes mid t on e calls replies rest call.0.rests run))
 run_passes s t d e [] (r ∷ replies) tried here run = absurd run
 run_passes s t d e (c ∷ calls) [] tried here run = absurd run
+
+-- and puts at each name only what may stand there
+pub run_kinds : (s t : State) (d e : Durable) (calls : List Call) (replies : List Reply) (tried : List Command) → RunOn s d calls replies tried t e → StaysTidy d.meaning e.meaning
+run_kinds s t d e [] [] tried run = subst (λ (x : Durable). StaysTidy d.meaning x.meaning) (sym run.2) (stays_start d.meaning)
+run_kinds s t d e (c ∷ calls) (r ∷ replies) tried (mid, on, rest, step, call, is, run) = stays_both d.meaning on.meaning e.meaning call.3 (run_kinds mid t on e calls replies rest run)
+run_kinds s t d e [] (r ∷ replies) tried run = absurd run
+run_kinds s t d e (c ∷ calls) [] tried run = absurd run
 
 -- one call more
 pub run-push : (s m t : State) (d n e : Durable) (calls : List Call) (replies : List Reply) (tried : List Command) (c : Call) (r : Reply) → RunOn s d calls replies tried m n → Step m c r t → CallPasses m n c r e

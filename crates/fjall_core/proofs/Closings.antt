@@ -8,6 +8,9 @@ use Rattle.fjall_journal.specs.declared.persist_mode.PersistMode.TheVariants.{Sy
 use Rattle.fjall_journal.specs.Writer.{Journal, persist_steps}
 use Rattle.fjall_places.specs.Places.{contents_with}
 use Rattle.fjall_places.proofs.Holding.{a_rest_holds}
+use Rattle.fjall_recovery.specs.Tidy.{StaysTidy}
+use Rattle.fjall_recovery.proofs.Tidying.{tidy_on}
+use Rattle.fjall_journaling.proofs.Tidied.{persist_stays}
 use Rattle.fjall_journaling.proofs.Leaving.{persist_apart, persist_leaves, persist_out}
 use Rattle.fjall_machine.specs.declared.call.Call.TheVariants.{Persist}
 use Rattle.fjall_machine.specs.declared.call.Reply.TheVariants.{Refused}
@@ -39,6 +42,7 @@ synced_out old new hands took served = record {
   lies = λ _ j writing. persist_out old.disk new.disk old.journal j writing SyncAll new.journal took (ap (λ (w : Journal). w.name) hands.journal) (ap (λ (w : Journal). w.buffer) hands.journal);
   elsewhere = λ j writing. persist_apart old.disk new.disk old.journal j writing SyncAll took;
   served = λ j writing. served;
+  kinds = persist_stays old.disk new.disk old.journal SyncAll took;
 }
 
 -- nothing waits for a sync any more, so that the disk holds what it stands for
@@ -54,12 +58,16 @@ synced_closes old new s base pending well hands out stands on =
       same = refl;
       passes = synced_passes old new base pending (hand_leaves old new SyncAll true base pending lies out) (lies_rest new (held_on new (fold base pending) []) after);
       closed = (
-        Some (contents_with after.journals after.tree []),
-        a_rest_holds (state_in new.disk) after.journals after.records after.tree none after.writing.root after.in_tree.rests,
-        tt,
-        stands.remembered.present ∙ sym (present_of old (held_on old base pending) false well on) ∙ after.made,
+        (
+          Some (contents_with after.journals after.tree []),
+          a_rest_holds (state_in new.disk) after.journals after.records after.tree none after.writing.root after.in_tree.rests,
+          tt,
+          stands.remembered.present ∙ sym (present_of old (held_on old base pending) false well on) ∙ after.made,
+        ),
+        tidy_on old.disk new.disk out.kinds on.tidy,
       );
       device = out.served lies.journals lies.writing;
+      kinds = out.kinds;
     }
 
 -- closing leaves what it may
@@ -73,4 +81,4 @@ closing old new (Ok _) s d (none, hands) serves stands on =
     (synced_closes old new s d.base d.pending well hands (synced_out old new hands serves.disk served) stands (subst (λ (x : Durable). StandsOn old x) here on))
 closing old new (Err error) s d owes serves stands on =
     let led = serves.crash s d stands on in
-    record { after = led.1; same = led.3.same; passes = subst (λ (l : List Command). Passes d l led.1) (no_command s error) led.5.0; closed = tt; device = subst (λ (m : Meaning). BlamesDevice (Refused error) d.meaning m) led.3.same led.5.2 }
+    record { after = led.1; same = led.3.same; passes = subst (λ (l : List Command). Passes d l led.1) (no_command s error) led.5.0; closed = tt; device = subst (λ (m : Meaning). BlamesDevice (Refused error) d.meaning m) led.3.same led.5.2; kinds = subst (λ (m : Meaning). StaysTidy d.meaning m) led.3.same led.5.3 }

@@ -1,5 +1,5 @@
 -- What a deletion makes of a core.
-use Rattle.std.proofs.Common.{◌≡◌, inl, inr, ⊎_elim, ℕ, ◌<◌, ◌≤◌, ◌^◌, Bool, true, false, if◌then◌else◌, [], ◌∷◌, None, Ok, Err, refl, sym, ◌∙◌, ap, subst, arith}
+use Rattle.std.proofs.Common.{◌≡◌, inl, inr, ⊎_elim, MatchBool, ℕ, ◌<◌, ◌≤◌, ◌^◌, Bool, true, false, if◌then◌else◌, [], ◌∷◌, None, Ok, Err, refl, sym, ◌∙◌, ap, subst, arith}
 use Rattle.fjall_base.specs.Store.{Delete, apply, fold, kept}
 use Rattle.fjall_base.specs.Disk.{Meaning}
 use Rattle.fjall_base.specs.Errors.{Rose}
@@ -17,15 +17,17 @@ use Rattle.fjall_machine.specs.Machine.{HasLongOption, State, is_living, present
 use Rattle.fjall_machine.specs.Remembered.{IsLawful, facts_of, poisoned, with_deletion}
 use Rattle.fjall_machine.proofs.Dues.{may_delete}
 use Rattle.fjall_machine.proofs.Lawful.{deletion_is_lawful}
+use Rattle.fjall_recovery.specs.Tidy.{StaysTidy}
+use Rattle.fjall_recovery.proofs.Tidying.{stays_both, stays_start}
 use Rattle.fjall_core.specs.Holding.{Held}
 use Rattle.fjall_core.specs.Durables.{Durable, Passes}
-use Rattle.fjall_core.specs.Standing.{Deletes, Owes, OwesRefusal, Poisons, Serves, StandsFor, StandsOn, held_due, is_io, store_in}
+use Rattle.fjall_core.specs.Standing.{Deletes, Owes, OwesRefusal, Poisons, ReplacesTable, Serves, StandsFor, StandsOn, held_due, is_io, store_in}
 use Rattle.fjall_core.specs.Turns.{Turned, Unmakes}
 use Rattle.fjall_core.specs.Turns as turns
 use Rattle.fjall_core.proofs.Changing.{Becomes, deletion_changed, deletion_served}
 use Rattle.fjall_core.proofs.Devices.{served_on}
 use Rattle.fjall_core.proofs.Keyspacing.{between, stays}
-use Rattle.fjall_core.proofs.Serving.{led_by, long_owes, long_serves, memory_owes, memory_serves, serves_by, still_led}
+use Rattle.fjall_core.proofs.Serving.{Led, led_by, long_owes, long_serves, memory_owes, memory_serves, replaces_table, serves_by, still_led}
 use Rattle.std.proofs.lemmas.Bool.{true≢false}
 use Rattle.fjall_core.proofs.Syncs.{HandedOut, sync_empty, sync_lies}
 use Rattle.fjall_core.proofs.Writes.{held_on}
@@ -79,15 +81,21 @@ module _ (old : Held) (id : ℕ) (none : held_due old (DeleteKeyspace id) ≡ No
   deleted_serves honest made new lawful all is true_ =
       let turned = all.4 true_ in
       let disk : new.disk ≡ made.disk = ap (λ (h : Held). h.disk) is in
-      serves_by old new (DeleteKeyspace id) Done (deleted_owes honest made new lawful all is) tt
-      (λ s d stands on. served_by made new turned.mid all.0 true all.1 (subst (λ m. turns.Unmade turned.mid m all.0 true) (sym disk) turned.changed) turned.synced d on) (λ s d stands on.
+      let changed = subst (λ m. turns.Unmade turned.mid m all.0 true) (sym disk) turned.changed in
+      let well = ap (λ (h : Held). h.memory.poisoned) is ∙ room.well in
+      let led : (s : State) (d : Durable) → StandsFor old s → StandsOn old d → Led new s d (DeleteKeyspace id) Done = λ s d stands on.
       let core : Becomes (between old made turned.mid) new (with_deletion id old.memory) all.0.catalog true =
       record { memory_is = λ _. ap (λ (h : Held). h.memory) is; catalog_is = λ _. ap (λ (h : Held). h.catalog) is ∙ ap (λ (h : Held). h.catalog) all.2; journal_is = λ _. ap (λ (h : Held). h.journal) is } in
       let settled = alter_settles old (between old made turned.mid) new d (Delete id) room.well (stays old made turned.mid) turned.synced
-      (changes_by made new turned.mid all.0 true all.1 (subst (λ m. turns.Unmade turned.mid m all.0 true) (sym disk) turned.changed) core)
-      (ap (λ (h : Held). h.memory.poisoned) is ∙ room.well)
+      (changes_by made new turned.mid all.0 true all.1 changed core)
+      well
       (sym (Keeping.deletion_of_versions id old.memory.keyspaces old.memory.versions) ∙ ap (λ (h : Held). kept (store_in h)) (sym is)) on in
-      (settled.0, settled.1, (subst (λ l. Passes d l settled.0) (sym (asks_one s stands)) settled.2, λ sync. settled.3)))
+      (settled.0, settled.1, (subst (λ l. Passes d l settled.0) (sym (asks_one s stands)) settled.2, λ sync. settled.3)) in
+      serves_by old new (DeleteKeyspace id) Done (deleted_owes honest made new lawful all is)
+      (subst (λ (b : Bool). MatchBool b (ReplacesTable old new) (new.disk ≡ old.disk)) (sym living)
+      (replaces_table old new (DeleteKeyspace id) Done (changed.gone refl old.catalog _ old.memory.next all.1) well led))
+      (subst (λ (m : Meaning). StaysTidy old.disk m) (sym disk) (stays_both old.disk turned.mid made.disk turned.synced.kinds turned.changed.kinds))
+      (λ s d stands on. served_by made new turned.mid all.0 true all.1 changed turned.synced d on) led
 
   -- ---- refused
 
@@ -120,6 +128,7 @@ module _ (old : Held) (id : ℕ) (none : held_due old (DeleteKeyspace id) ≡ No
       let fault = poisons_of honest made new kind all back in
       let disk : new.disk ≡ made.disk = ap (λ (h : Held). h.disk) back in
       serves_by old new (DeleteKeyspace id) (Refused (Io kind)) (undeleted_owes honest made new (Io kind) lawful all back) tt
+      (subst (λ (m : Meaning). StaysTidy old.disk m) (sym disk) (⊎_elim (λ unsynced. unsynced.kinds) (λ turned. stays_both old.disk turned.mid made.disk turned.synced.kinds turned.changed.kinds) (all.5 true_)))
       (λ s d stands on. record {
         rose = fault.faults;
         served = ⊎_elim
@@ -141,6 +150,7 @@ module _ (old : Held) (id : ℕ) (none : held_due old (DeleteKeyspace id) ≡ No
 
 -- a keyspace that is deleted already
 pub gone_serves : (core : Held) (id : ℕ) → held_due core (DeleteKeyspace id) ≡ None → is_living (store_in core) id ≡ false → Serves core (DeleteKeyspace id) Done core
-gone_serves core id none gone = serves_by core core (DeleteKeyspace id) Done (none, inl (gone, refl)) tt (λ _ _ _ _. refl) (λ s d stands on.
+gone_serves core id none gone = serves_by core core (DeleteKeyspace id) Done (none, inl (gone, refl))
+    (subst (λ (b : Bool). MatchBool b (ReplacesTable core core) (core.disk ≡ core.disk)) (sym gone) refl) (stays_start core.disk) (λ _ _ _ _. refl) (λ s d stands on.
     let here : is_living (present s) id ≡ false = (λ i. is_living (stands.remembered.present i) id) ∙ gone in
     still_led core core s d (DeleteKeyspace id) Done (ap (λ b. if b then (Delete id ∷ []) else []) here) (λ sync. true≢false (sym sync ∙ here)) refl on)

@@ -1,35 +1,34 @@
 -- `Io` only where the device failed.
-use Rattle.std.proofs.Common.{◌≡◌, ℕ, ◌<◌, ◌^◌, true, false, [], ◌∷◌, refl, sym, subst}
-use Rattle.std.proofs.lemmas.List.Elements.{All-head}
+use Rattle.std.proofs.Common.{◌≡◌, ℕ, ◌<◌, ◌^◌, true, false, refl, sym, subst}
 use Rattle.std.proofs.lemmas.Bool.{true≢false}
 use Rattle.fjall_base.specs.Disk.{DeviceFailed, IsNoFile, IsNoFolder, Meaning, Name, Place, state_in}
 use Rattle.fjall_recovery.specs.Names.{current_name, keyspace_folder}
+use Rattle.fjall_recovery.specs.Tidy.{IsTidy}
+use Rattle.fjall_regions.proofs.Fitting.{current_kind, folder_kind}
 use Rattle.fjall_places.specs.Halves.{is_of_keyspaces}
 use Rattle.fjall_places.proofs.Named.{current_within, folder_within}
 use Rattle.fjall_changes.specs.Changes.{HasRoom}
 use Rattle.fjall_base.specs.Errors.{Rose}
 use Rattle.fjall_base.specs.declared.error.Error.{Error}
 use Rattle.fjall_base.specs.declared.error.Error.TheVariants.{Io}
+use Rattle.fjall_opening.specs.Refusals.{HasRisen}
 use Rattle.fjall_places.specs.Places.{Journaling}
 use Rattle.fjall_journaling.specs.Journaling.{IsWriting}
-use Rattle.fjall_machine.specs.declared.call.Call.{Call}
-use Rattle.fjall_machine.specs.declared.call.Call.TheVariants.{Keyspace, Release}
-use Rattle.fjall_machine.specs.declared.call.Reply.{Reply}
 use Rattle.fjall_machine.specs.declared.call.Reply.TheVariants.{Refused}
 use Rattle.fjall_core.specs.Holding.{Held}
 use Rattle.fjall_core.specs.Durables.{Durable}
-use Rattle.fjall_core.specs.Crashes.{BlamesDevice, IsTidy, OnlyDevice}
+use Rattle.fjall_core.specs.Crashes.{BlamesDevice}
 use Rattle.fjall_core.specs.Standing.{StandsOn, is_io}
-
-pub only_by : (call : Call) (reply : Reply) (old new : Meaning) → BlamesDevice reply old new → OnlyDevice call reply old new
-only_by (Keyspace name options) reply old new blames = λ tidy. blames
-only_by (Release id) reply old new blames = λ tidy. blames
-only_by call reply old new blames = blames
 
 -- a refusal that is no fault, and changes nothing
 pub refusal_blames : (error : Error) (disk : Meaning) → is_io error ≡ false → BlamesDevice (Refused error) disk disk
 refusal_blames (Io kind) disk other = absurd (true≢false other)
 refusal_blames error disk other = refl
+
+-- a refusal for which faults rose, if it is `Io`
+pub risen_blames : (error : Error) (old new : Meaning) → HasRisen old.faults new.faults error → new.misuses ≡ old.misuses → BlamesDevice (Refused error) old new
+risen_blames (Io kind) old new risen served = record { rose = risen; served = served }
+risen_blames error old new risen served = served
 
 -- what holds of the active journal's disk holds where the core stands
 pub served_on : (old : Held) (new : Meaning) (d : Durable) → old.memory.poisoned ≡ false → ((j : Journaling) → IsWriting (state_in old.disk) old.journal j → new.misuses ≡ old.disk.misuses) → StandsOn old d → new.misuses ≡ old.disk.misuses
@@ -42,8 +41,8 @@ pub failed_on : (old : Held) (new : Meaning) (d : Durable) → old.memory.poison
 failed_on old new d well rose served on = record { rose = rose; served = served_on old new d well served on }
 
 -- where the disk is tidy there is room for a keyspace, also once the journal was synced
-pub room_on : (old mid : Meaning) (id : ℕ) → 0 < id → id < 2 ^ 64 → IsTidy (state_in old) → ((q : Name) → is_of_keyspaces q ≡ true → state_in mid q ≡ state_in old q) → HasRoom (state_in mid) id
-room_on old mid id some small tidy same = record {
-  folder = subst (λ (p : Place). IsNoFile p.now) (sym (same (keyspace_folder id) (folder_within id))) (tidy id some small).kind;
-  current = subst (λ (p : Place). IsNoFolder p.now) (sym (same (current_name id) (current_within id))) (All-head (λ n. IsNoFolder (state_in old n).now) (current_name id) [] (tidy id some small).each);
+pub room_on : (old mid : Meaning) (id : ℕ) → id < 2 ^ 64 → IsTidy (state_in old) → ((q : Name) → is_of_keyspaces q ≡ true → state_in mid q ≡ state_in old q) → HasRoom (state_in mid) id
+room_on old mid id small tidy same = record {
+  folder = subst (λ (p : Place). IsNoFile p.now) (sym (same (keyspace_folder id) (folder_within id))) (folder_kind (state_in old) id small tidy);
+  current = subst (λ (p : Place). IsNoFolder p.now) (sym (same (current_name id) (current_within id))) (current_kind (state_in old) id small tidy);
 }

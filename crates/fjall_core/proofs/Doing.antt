@@ -1,26 +1,28 @@
 -- What the parts of a call make of it.
-use Rattle.std.proofs.Common.{◌≡◌, ℕ, [], ◌∷◌, ◌++◌, Option, None, Result, Ok, Err, refl, sym, ◌∙◌, ap, subst}
+use Rattle.std.proofs.Common.{◌≡◌, ℕ, true, [], ◌∷◌, ◌++◌, length, Option, None, Result, Ok, Err, refl, sym, ◌∙◌, ap, subst, length-append}
 use Rattle.fjall_base.specs.Pairs.{Bytes}
-use Rattle.fjall_base.specs.Disk.{Took, TookPart}
+use Rattle.fjall_base.specs.Disk.{TookPart}
 use Rattle.fjall_base.specs.declared.error.Error.{Error}
 use Rattle.fjall_base.specs.declared.error.Error.TheVariants.{Io}
 use Rattle.fjall_journal.specs.declared.entry.ValueType.{ValueType}
-use Rattle.fjall_journal.specs.Batches.{of_item}
-use Rattle.fjall_journal.specs.Writer.{appending}
+use Rattle.fjall_journal.specs.Batches.{Written, of_item}
+use Rattle.fjall_journal.specs.Writer.{goes_out}
+use Rattle.fjall_recovery.proofs.Tidying.{stays_part}
+use Rattle.fjall_journaling.proofs.Writing.{command_part}
 use Rattle.fjall_versions.specs.declared.version.Version.{Version}
 use Rattle.fjall_machine.specs.declared.call.Reply.{Reply}
 use Rattle.fjall_machine.specs.declared.call.Reply.TheVariants.{Done, Refused}
 use Rattle.fjall_machine.specs.Allowed.{MayWrite}
 use Rattle.fjall_machine.specs.Changes.{call_of}
 use Rattle.fjall_machine.specs.Ops.{Op, Put, Remove, RemoveWeak, bytes_in, kind_of, op_text, value_in}
-use Rattle.fjall_machine.specs.Machine.{ChangesDisk, State, TakesMemory, first_due, write_of, write_refusals}
+use Rattle.fjall_machine.specs.Machine.{ChangesDisk, State, TakesMemory, first_due, leaves_buffer, write_of, write_refusals}
 use Rattle.fjall_machine.specs.Remembered.{facts_of, version_of}
 use Rattle.fjall_machine.proofs.Dues.{may_write}
-use Rattle.fjall_core.specs.Holding.{Held}
+use Rattle.fjall_core.specs.Holding.{Held, by_hand}
 use Rattle.fjall_core.specs.Crashes.{IsSync, attempt}
-use Rattle.fjall_core.specs.Standing.{Grows, OnDisk, Owes, OwesRefusal, Serves, StandsFor, held_due, reply_of}
-use Rattle.fjall_core.specs.Turns.{Writes}
-use Rattle.fjall_core.proofs.Devices.{failed_on, only_by, served_on}
+use Rattle.fjall_core.specs.Standing.{Grows, OnDisk, Owes, OwesRefusal, Serves, StandsFor, WroteOut, held_due, reply_of}
+use Rattle.fjall_core.specs.Turns.{Writes, is_out}
+use Rattle.fjall_core.proofs.Devices.{failed_on, served_on}
 use Rattle.fjall_core.proofs.Serving.{led_by, memory_owes, memory_serves, serves_by}
 use Rattle.fjall_core.proofs.Writes.{IsAdmitted, torn_leads, write_leads}
 
@@ -37,10 +39,18 @@ op_takes id key (Put value) = tt
 op_takes id key Remove = tt
 op_takes id key RemoveWeak = tt
 
-op_changes : (id : ℕ) (key : Bytes) (o : Op) → ChangesDisk (call_of id key o)
-op_changes id key (Put value) = tt
-op_changes id key Remove = tt
-op_changes id key RemoveWeak = tt
+-- the batch of a write
+abbrev pub batch_of : Held → ℕ → Bytes → Op → Written
+batch_of core id key o = of_item id key (bytes_in o) (kind_of o) core.memory.next
+
+-- where it goes out, it leaves the buffer
+op_leaves : (core : Held) (id : ℕ) (key : Bytes) (o : Op) → is_out core id (batch_of core id key o) ≡ true → leaves_buffer (facts_of core.memory core.catalog.next_table_id) (length core.journal.buffer) id key o ≡ true
+op_leaves core id key o out = ap (goes_out (by_hand core id)) (sym (length-append core.journal.buffer (op_text id key o core.memory.next))) ∙ out
+
+op_changes : (core : Held) (id : ℕ) (key : Bytes) (o : Op) → is_out core id (batch_of core id key o) ≡ true → ChangesDisk (facts_of core.memory core.catalog.next_table_id) (length core.journal.buffer) (call_of id key o)
+op_changes core id key (Put value) out = op_leaves core id key (Put value) out
+op_changes core id key Remove out = op_leaves core id key Remove out
+op_changes core id key RemoveWeak out = op_leaves core id key RemoveWeak out
 
 -- a write that nothing refuses can be made
 pub may : (core : Held) (id : ℕ) (key : Bytes) (o : Op) → held_due core (call_of id key o) ≡ None → MayWrite (facts_of core.memory core.catalog.next_table_id) id key (bytes_in o)
@@ -52,7 +62,7 @@ admits core s id key o none stands =
     record { well = allowed.well; living = allowed.living; room = allowed.numbered; lawful = stands.remembered.lawful }
 
 -- what the disk took of a write, told of its call
-op_disk : (old new : Held) (id : ℕ) (key : Bytes) (o : Op) → Took old.disk new.disk (appending old.journal.name (old.journal.buffer ++ op_text id key o old.memory.next)) → OnDisk old (call_of id key o) Done new
+op_disk : (old new : Held) (id : ℕ) (key : Bytes) (o : Op) → WroteOut old id key o new → OnDisk old (call_of id key o) Done new
 op_disk old new id key (Put value) took = took
 op_disk old new id key Remove took = took
 op_disk old new id key RemoveWeak took = took
@@ -86,9 +96,9 @@ op_unsynced s id key RemoveWeak reply sync = sync
 pub written_owes : (honest : Type 0) (old new : Held) (id : ℕ) (key : Bytes) (o : Op) (result : Result Unit Error) → held_due old (call_of id key o) ≡ None
     → Writes honest old (version_of old.memory.next id key o) (of_item id key (bytes_in o) (kind_of o) old.memory.next) (kind_of o) result new → Owes old (call_of id key o) (reply_of result) new
 written_owes honest old new id key o (Ok _) none all =
-    op_grows old new id key o none (record { memory_is = ap (λ (h : Held). h.memory) all.0; catalog = ap (λ (h : Held). h.catalog) all.0; journal = ap (λ (h : Held). h.journal) all.0; faults = all.1 })
+    op_grows old new id key o none (record { memory_is = ap (λ (h : Held). h.memory) all.0; catalog = ap (λ (h : Held). h.catalog) all.0; journal = ap (λ (h : Held). h.journal) all.0; faults = all.1; waits = all.4 })
 written_owes honest old new id key o (Err (Io kind)) none all =
-    subst (λ first. OwesRefusal first old (call_of id key o) (Io kind) new) (sym none) (op_changes id key o, record { memory_is = all.0; faults = all.1 })
+    subst (λ first. OwesRefusal first old (call_of id key o) (Io kind) new) (sym none) (op_changes old id key o all.4, record { memory_is = all.0; faults = all.1 })
 written_owes honest old new id key o (Err error) none all =
     subst (λ (h : Held). Owes old (call_of id key o) (Refused error) h) (sym all.0) (subst (λ e. Owes old (call_of id key o) (Refused e) old) (sym all.1) (memory_owes old (call_of id key o) (op_takes id key o) none))
 
@@ -99,17 +109,19 @@ written_serves honest old new id key o (Ok _) none all true_ =
     let out = all.3 true_ in
     let is = all.0 in
     let grows : Grows old (version_of old.memory.next id key o) (op_text id key o old.memory.next) new =
-    record { memory_is = ap (λ (h : Held). h.memory) is; catalog = ap (λ (h : Held). h.catalog) is; journal = ap (λ (h : Held). h.journal) is; faults = all.1 } in
-    serves_by old new (call_of id key o) Done owes (op_disk old new id key o (all.2 true_)) (λ s d stands on. only_by (call_of id key o) Done old.disk new.disk (served_on old new.disk d (may old id key o none).well out.served on)) (λ s d stands on.
+    record { memory_is = ap (λ (h : Held). h.memory) is; catalog = ap (λ (h : Held). h.catalog) is; journal = ap (λ (h : Held). h.journal) is; faults = all.1; waits = all.4 } in
+    serves_by old new (call_of id key o) Done owes (op_disk old new id key o (all.2 true_))
+    (stays_part old.disk new.disk old.journal.name (old.journal.buffer ++ op_text id key o old.memory.next) (command_part (by_hand old id) old.journal (op_text id key o old.memory.next) old.disk new.disk (all.2 true_)))
+    (λ s d stands on. served_on old new.disk d (may old id key o none).well out.served on) (λ s d stands on.
     led_by new s d (call_of id key o) Done (write_of id key (value_in o) ∷ []) (op_attempt s id key o) (op_unsynced s id key o Done)
-    (write_leads old new id key o d (admits old s id key o none stands) grows (record { leaves = out.leaves; lies = out.lies; elsewhere = out.elsewhere }) on))
+    (write_leads old new id key o (is_out old id (batch_of old id key o)) d (admits old s id key o none stands) grows (record { leaves = out.leaves; lies = out.lies; elsewhere = out.elsewhere }) on))
 written_serves honest old new id key o (Err (Io kind)) none all true_ =
     let owes = written_owes honest old new id key o (Err (Io kind)) none all in
     let out = all.3 true_ in
-    serves_by old new (call_of id key o) (Refused (Io kind)) owes (op_part old new id key o kind (all.2 true_))
-    (λ s d stands on. only_by (call_of id key o) (Refused (Io kind)) old.disk new.disk (failed_on old new.disk d (may old id key o none).well all.1 out.served on)) (λ s d stands on.
+    serves_by old new (call_of id key o) (Refused (Io kind)) owes (op_part old new id key o kind (all.2 true_)) (stays_part old.disk new.disk old.journal.name (old.journal.buffer ++ op_text id key o old.memory.next) (all.2 true_))
+    (λ s d stands on. failed_on old new.disk d (may old id key o none).well all.1 out.served on) (λ s d stands on.
     led_by new s d (call_of id key o) (Refused (Io kind)) (write_of id key (value_in o) ∷ []) (op_tried s id key o kind) (op_unsynced s id key o (Refused (Io kind)))
-    (torn_leads old new id key o d (admits old s id key o none stands) (record { memory_is = all.0; faults = all.1 }) (record { leaves = out.leaves; lies = out.lies; elsewhere = out.elsewhere }) on))
+    (torn_leads old new id key o (is_out old id (batch_of old id key o)) d (admits old s id key o none stands) (record { memory_is = all.0; faults = all.1 }) (record { leaves = out.leaves; lies = out.lies; elsewhere = out.elsewhere }) on))
 written_serves honest old new id key o (Err error) none all true_ =
     subst (λ (h : Held). Serves old (call_of id key o) (Refused error) h) (sym all.0) (subst (λ e. Serves old (call_of id key o) (Refused e) old) (sym all.1) (memory_serves old (call_of id key o) (op_takes id key o) none))
 

@@ -4,6 +4,7 @@ mod Tries
 mod Running
 mod Leading
 mod Along
+mod Stood
 mod Writes
 mod Syncs
 mod Rooted
@@ -27,3 +28,4 @@ mod Closings
 mod Opening
 mod Kept
 mod Lives
+pub mod Reopening

@@ -2,7 +2,7 @@
 use Rattle.std.proofs.Common.{◌≡◌, inl, inr, ℕ, true, false, List, [], ◌∷◌, ◌++◌, map, Option, Some, None, IsSome, Ok, refl, sym, ◌∙◌, ap, subst, append_assoc}
 use Rattle.std.proofs.lemmas.List.{append-nil, append_cancel_left}
 use Rattle.std.proofs.lemmas.Bool.{true≢false}
-use Rattle.std.specs.List.{flat_map}
+use Rattle.std.specs.List.{AllByRecursion, flat_map}
 use Rattle.fjall_base.specs.Store.{Command, Store, fold, kept}
 use Rattle.fjall_base.specs.Disk.{Image, Leaves, Meaning, State, Step, Took, disk_of, standing, state_in}
 use Rattle.fjall_keyspaces.specs.Keyspaces.{no_keyspaces}
@@ -11,6 +11,9 @@ use Rattle.fjall_versions.proofs.Keeping.{nothing_to_keep}
 use Rattle.fjall_versions.proofs.Kept.{kept_along, kept_twice}
 use Rattle.fjall_versions.proofs.Slots.{fold-append}
 use Rattle.fjall_journal.specs.Batches.{shown}
+use Rattle.fjall_regions.proofs.Made.{took_both}
+use Rattle.fjall_recovery.specs.Tidy.{IsTidy, IsTidyStep, StaysTidy}
+use Rattle.fjall_recovery.proofs.Tidying.{each_tidy, stays_by, tidy_on}
 use Rattle.fjall_opening.specs.Folders.{Contents, StandsFor}
 use Rattle.fjall_opening.specs.Journals.{batches_in}
 use Rattle.fjall_opening.proofs.Alone.{one_store}
@@ -35,12 +38,12 @@ use Rattle.fjall_core.proofs.Owing.{owes_run, owes_step}
 
 -- a store that is held is all kept
 pub held_is_kept : (state : State) (store : Store) → HoldsStore state store → kept store ≡ store
-held_is_kept state store (Some c, holds, back, same) = subst (λ (s : Store). kept s ≡ s) (sym same) (nothing_to_keep c.keyspaces (map shown (batches_in c.journals)))
-held_is_kept state store (None, holds, back, same) = subst (λ (s : Store). kept s ≡ s) (sym same) (nothing_to_keep no_keyspaces [])
+held_is_kept state store ((Some c, holds, back, same), tidy) = subst (λ (s : Store). kept s ≡ s) (sym same) (nothing_to_keep c.keyspaces (map shown (batches_in c.journals)))
+held_is_kept state store ((None, holds, back, same), tidy) = subst (λ (s : Store). kept s ≡ s) (sym same) (nothing_to_keep no_keyspaces [])
 
 -- a disk holds one store at most
 pub one_held : (state : State) (s t : Store) → HoldsStore state s → HoldsStore state t → s ≡ t
-one_held state s t (f, holds, back, same) (g, others, back', also) =
+one_held state s t ((f, holds, back, same), tidy) ((g, others, back', also), tidy') =
     one_store (standing state) s t (subst (StandsFor (standing state)) (sym same) (folder_stands (standing state) f holds.now)) (subst (StandsFor (standing state)) (sym also) (folder_stands (standing state) g others.now))
 
 -- ---- one life
@@ -52,9 +55,9 @@ pub record Left (synced tried : List Command) (store : Store) (new : State) : Ty
   pub within : IsBeginning front tried
   pub holds : HoldsStore new (kept (fold store front))
 
-left_amid : (state : State) (added : List Step) (image : Image) (store : Store) (synced tried : List Command) → Leaves state added image → StandsAmid store synced tried image → Left synced tried store (disk_of image)
-left_amid state added image store synced tried left amid =
-    let back = a_crash_amid_holds state added image store synced tried left amid in
+left_amid : (state : State) (added : List Step) (image : Image) (store : Store) (synced tried : List Command) → IsTidy state → AllByRecursion IsTidyStep added → Leaves state added image → StandsAmid store synced tried image → Left synced tried store (disk_of image)
+left_amid state added image store synced tried tidy each left amid =
+    let back = a_crash_amid_holds state added image store synced tried tidy each left amid in
     record { front = back.0; safe = back.1; within = back.2; holds = back.3 }
 
 -- the steps between two disks are one list
@@ -63,6 +66,16 @@ same_steps old new one other took also = append_cancel_left old.steps one other 
 
 leaves_as : (old new : Meaning) (one other : List Step) (image : Image) → Took old new one → Took old new other → Leaves (state_in old) one image → Leaves (state_in old) other image
 leaves_as old new one other image took also left = subst (λ (l : List Step). Leaves (state_in old) l image) (same_steps old new one other took also) left
+
+first_of_both : (first more : List Step) → AllByRecursion IsTidyStep (first ++ more) → AllByRecursion IsTidyStep first × AllByRecursion IsTidyStep more
+first_of_both [] more all = (tt, all)
+first_of_both (step ∷ first) more all = let rest = first_of_both first more all.1 in ((all.0, rest.0), rest.1)
+
+-- a moment between is tidy, and so are the steps behind it
+tidy_between : (old mid new : Meaning) (first late : List Step) → IsTidy (state_in old) → StaysTidy old new → Took old mid first → Took mid new late → IsTidy (state_in mid) × AllByRecursion IsTidyStep late
+tidy_between old mid new first late tidy kinds took then =
+    let both = first_of_both first late (each_tidy old new (first ++ late) kinds (took_both old mid new first late took then)) in
+    (tidy_on old mid (stays_by old mid first took both.0) tidy, both.1)
 
 -- what was accepted since is the fold
 all_present : (core : Held) (store : Store) (opens : OpensAs core store) (tried : List Command) (t : machine.State) → Tried (start_of core store opens) tried t → t.poisoned ≡ false → present t ≡ fold store tried
@@ -73,17 +86,18 @@ all_present core store opens tried t tries well = by tries.refused tries.all tri
     by (Some command) all fault = absurd (true≢false (sym (fault refl) ∙ well))
 
 pub lived : (old : Meaning) (store : Store) (life : Life) (new : State) → HoldsStore (state_in old) store → Lived old store life new → Left life.synced life.tried store new
-lived old store life new held (CutInOpening to added image keeps took left) =
-    let leaves = keeps store held in
+lived old store life new held (CutInOpening to added image keeps kinds took left) =
+    let leaves = keeps store held.0 in
     let stands = leaves.each image (leaves_as old to added leaves.added image took leaves.took left) in
-    record { front = []; safe = ([], refl); within = ([], refl); holds = subst (HoldsStore (disk_of image)) (sym (held_is_kept (state_in old) store held)) (crash_holds (state_in old) added image store left stands) }
+    record { front = []; safe = ([], refl); within = ([], refl); holds = subst (HoldsStore (disk_of image)) (sym (held_is_kept (state_in old) store held)) (crash_holds (state_in old) added image store held.1 (each_tidy old to added kinds took) left stands) }
 lived old store life new held (CutInCalls core to calls replies added image opens run took left) =
     let moments = run.any_moment in
-    left_amid (state_in core.disk) added image store [] run.tried left (moments.each image (leaves_as core.disk to.disk added moments.added image took moments.took left))
+    left_amid (state_in core.disk) added image store [] run.tried opens.base.tidy (each_tidy core.disk to.disk added run.kinds took) left (moments.each image (leaves_as core.disk to.disk added moments.added image took moments.took left))
 lived old store life new held (CutBehindSync core to calls replies i late image opens run sync took left) =
     let at = run.synced i sync in
     let moments = at.safe.since in
-    left_amid (state_in at.safe.moment) late image store at.before run.tried left (moments.each image (leaves_as at.safe.moment to.disk late moments.added image took moments.took left))
+    let tidy = tidy_between core.disk at.safe.moment to.disk at.safe.added late opens.base.tidy run.kinds at.safe.passed took in
+    left_amid (state_in at.safe.moment) late image store at.before run.tried tidy.0 tidy.1 left (moments.each image (leaves_as at.safe.moment to.disk late moments.added image took moments.took left))
 lived old store life new held (CutInClosing core to calls replies result disk added image opens run safely took left) =
     let closes = safely run.state run.durable run.stands run.on in
     let moments = closes.passes.leaves in
@@ -93,7 +107,9 @@ lived old store life new held (CutInClosing core to calls replies result disk ad
     let there : Took run.durable.meaning disk added = subst (λ (m : Meaning). Took m disk added) (sym meaning) took in
     let left_there : Leaves (state_in run.durable.meaning) added image = subst (λ (m : Meaning). Leaves (state_in m) added image) (sym meaning) left in
     let amid = moments.each image (leaves_as run.durable.meaning disk added moments.added image there here left_there) in
-    left_amid (state_in to.disk) added image store [] run.tried left
+    let tidy : IsTidy (state_in to.disk) = subst (λ (m : Meaning). IsTidy (state_in m)) meaning run.on.tidy in
+    let kinds : StaysTidy to.disk disk = subst (λ (m : Meaning). StaysTidy m disk) meaning closes.kinds in
+    left_amid (state_in to.disk) added image store [] run.tried tidy (each_tidy to.disk disk added kinds took) left
     (subst (λ (l : List Command). StandsAmid store [] l image) (append-nil run.tried) (amid_passed (begun core store) run.durable run.tried [] image passed amid))
 lived old store life new held (Closed core to calls replies disk opens run owes safely) =
     let closes = safely run.state run.durable run.stands run.on in

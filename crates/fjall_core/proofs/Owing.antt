@@ -10,7 +10,7 @@ use Rattle.fjall_base.specs.Pairs.{Bytes, KeyRange, page, pairs_between}
 use Rattle.fjall_base.specs.Store.{Create, Delete}
 use Rattle.fjall_base.specs.declared.error.Error.{Error}
 use Rattle.fjall_base.specs.declared.error.Error.TheVariants.{Io, OutOfMemory, ValueTooLong}
-use Rattle.fjall_journal.specs.Writer.{Journal, counted, filled}
+use Rattle.fjall_journal.specs.Writer.{Journal, after_command, counted, filled, goes_out}
 use Rattle.fjall_journal.specs.Writer as writer
 use Rattle.fjall_meta.specs.Options.{AreOptions}
 use Rattle.fjall_keyspaces.specs.declared.living.LivingKeyspace.{LivingKeyspace}
@@ -28,13 +28,14 @@ use Rattle.fjall_machine.specs.declared.call.Reply.TheVariants.{Done, Value, Pai
 use Rattle.fjall_machine.specs.Histories as history
 use Rattle.fjall_machine.specs.Ops.{Op, op_text, value_in}
 use Rattle.fjall_machine.specs.Ops as op
-use Rattle.fjall_machine.specs.Machine.{creation_refusals, first_due, has_name, write_refusals, State, Parts, Step, Run, Refuses, MayFail, TooLong, accepted, created, deleted, due, is_living, present, read_refusals, written_out}
+use Rattle.fjall_machine.specs.Machine.{creation_refusals, first_due, has_name, write_refusals, State, Parts, Step, Run, Refuses, ChangesDisk, MayFail, TooLong, accepted, created, deleted, due, facts, is_living, leaves_buffer, present, read_refusals, written, written_out}
 use Rattle.fjall_machine.specs.Machine as machine
 use Rattle.fjall_machine.specs.Remembered.{IsLawful, Remembered, facts_of, poisoned, version_of}
 use Rattle.fjall_machine.specs.Remembered as memory
+use Rattle.fjall_machine.proofs.ByHand.{options_agree}
 use Rattle.fjall_machine.proofs.Dues.{may_create, may_write}
 use Rattle.fjall_machine.proofs.Standing as law
-use Rattle.fjall_core.specs.Holding.{Held}
+use Rattle.fjall_core.specs.Holding.{Held, by_hand}
 use Rattle.fjall_core.specs.Standing.{StandsFor, Owes, OwesAll, OwesRefusal, OwesFailure, OwesWrite, Poisons, Grows, HandsOver, Alters, Counts, Creates, Deletes, held_due, store_in}
 
 -- the machine may step so, to a state that the core stands for now
@@ -72,8 +73,21 @@ same_long old s (Keyspace name options) stands long = subst machine.HasLongOptio
 same_long old s (DeleteKeyspace id) stands long = subst machine.HasLongOption (kept_along (store_in old) (present s) (Delete id ∷ []) (sym stands.remembered.present)) long
 same_long old s call stands long = absurd long
 
+-- a write leaves the buffer of a state as it does the core's
+same_leaves : (old : Held) (s : State) → StandsFor old s → (id : ℕ) (key : Bytes) (o : Op) → leaves_buffer (facts s) s.parts.buffer id key o ≡ leaves_buffer (facts_of old.memory old.catalog.next_table_id) (length old.journal.buffer) id key o
+same_leaves old s stands id key o =
+    let hand = options_agree old.memory old.catalog.next_table_id s stands.remembered id in
+    λ i. goes_out (hand i) (stands.buffer i + length (op_text id key o (stands.remembered.number i)))
+
+-- what changes the core's disk does so for the state
+same_changes : (old : Held) (s : State) (call : Call) → StandsFor old s → ChangesDisk (facts_of old.memory old.catalog.next_table_id) (length old.journal.buffer) call → ChangesDisk (facts s) s.parts.buffer call
+same_changes old s (Insert id key value) stands out = same_leaves old s stands id key (op.Put value) ∙ out
+same_changes old s (Remove id key) stands out = same_leaves old s stands id key op.Remove ∙ out
+same_changes old s (RemoveWeak id key) stands out = same_leaves old s stands id key op.RemoveWeak ∙ out
+same_changes old s call stands changes = changes
+
 failure_steps : (old new : Held) (s : State) (call : Call) (error : Error) → StandsFor old s → OwesFailure old call error new → (t : State) × StandsFor new t × MayFail call error s t
-failure_steps old new s call (Io kind) stands (changes, fault) = (poisoned_state new s, poisoned_stands old new s fault stands, (changes, law.a_fault_poisons s (parts_held new)))
+failure_steps old new s call (Io kind) stands (changes, fault) = (poisoned_state new s, poisoned_stands old new s fault stands, (same_changes old s call stands changes, law.a_fault_poisons s (parts_held new)))
 failure_steps old new s call OutOfMemory stands (takes, same) = (s, still old new s same stands, (takes, refl))
 failure_steps old new s call ValueTooLong stands (long, same) = (s, still old new s same stands, (same_long old s call stands long, refl))
 failure_steps old new s call error stands none = absurd none
@@ -88,17 +102,26 @@ refusal_steps old new s call error None stands failure = failure_steps old new s
 journal_more : (j : Journal) (parts : Parts) (text : List ℕ) → parts.journal ≡ j.len → parts.buffer ≡ length j.buffer → (written_out parts (length text)).journal ≡ (writer.written_out (filled j text)).len
 journal_more j parts text journal buffer = ap counted (let all = length-append j.buffer text in let sum : parts.journal + (parts.buffer + length text) ≡ j.len + length (j.buffer ++ text) = omega (arith, all, journal, buffer) in sum)
 
+-- lengths after a write, whether it went out or waits
+parts_after : (out : Bool) (j : Journal) (parts : Parts) (text : List ℕ) → parts.journal ≡ j.len → parts.buffer ≡ length j.buffer
+    → ((written out parts (length text)).journal ≡ (if out then writer.written_out (filled j text) else filled j text).len) × ((written out parts (length text)).buffer ≡ length (if out then writer.written_out (filled j text) else filled j text).buffer)
+parts_after true j parts text journal buffer = (journal_more j parts text journal buffer, refl)
+parts_after false j parts text journal buffer = (journal, let all = length-append j.buffer text in omega (arith, all, buffer))
+
 grown_stands : (old new : Held) (s : State) (id : ℕ) (key : Bytes) (o : Op) → is_living (store_in old) id ≡ true → Grows old (version_of old.memory.next id key o) (op_text id key o old.memory.next) new → StandsFor old s
     → StandsFor new (accepted s id key o)
 grown_stands old new s id key o living grows stands =
     let text = op_text id key o old.memory.next in
     let same : op_text id key o (history.number s.history) ≡ text = ap (op_text id key o) stands.remembered.number in
+    let out : leaves_buffer (facts s) s.parts.buffer id key o ≡ goes_out (by_hand old id) (length (old.journal.buffer ++ text)) =
+    same_leaves old s stands id key o ∙ ap (goes_out (by_hand old id)) (sym (length-append old.journal.buffer text)) in
+    let after = parts_after (goes_out (by_hand old id) (length (old.journal.buffer ++ text))) old.journal s.parts text stands.journal stands.buffer in
     record {
       remembered = subst (λ (m : Remembered). memory.StandsFor m new.catalog.next_table_id (accepted s id key o)) (sym grows.memory_is)
           (subst (λ c. memory.StandsFor (memory.with_version (version_of old.memory.next id key o) old.memory) c (accepted s id key o)) (ap (λ c. c.next_table_id) (sym grows.catalog))
           (law.a_write_stands old.memory old.catalog.next_table_id s stands.remembered id key o living));
-      journal = ap (λ l. (written_out s.parts (length l)).journal) same ∙ journal_more old.journal s.parts text stands.journal stands.buffer ∙ ap (λ (j : Journal). j.len) (sym grows.journal);
-      buffer = ap (λ (j : Journal). length j.buffer) (sym grows.journal);
+      journal = (λ i. (written (out i) s.parts (length (same i))).journal) ∙ after.0 ∙ ap (λ (j : Journal). j.len) (sym grows.journal);
+      buffer = (λ i. (written (out i) s.parts (length (same i))).buffer) ∙ after.1 ∙ ap (λ (j : Journal). length j.buffer) (sym grows.journal);
     }
 
 -- a write that nothing refuses is into a keyspace that lives

@@ -1,5 +1,5 @@
 -- What a release makes of a core.
-use Rattle.std.proofs.Common.{◌≡◌, ◌≢◌, ℕ, ◌<◌, ◌≤◌, ◌^◌, ◌==◌, ◌||◌, ◌&&◌, nat_le, not, Bool, true, false, List, [], ◌∷◌, Option, None, Some, All, Ok, Err, refl, sym, ◌∙◌, ap, subst, arith, codes}
+use Rattle.std.proofs.Common.{◌≡◌, ◌≢◌, ◌⊎◌, inl, inr, MatchBool, ℕ, ◌<◌, ◌≤◌, ◌^◌, ◌==◌, ◌||◌, ◌&&◌, nat_le, not, Bool, true, false, List, [], ◌∷◌, Option, None, Some, All, Ok, Err, refl, sym, ◌∙◌, ap, subst, arith, codes}
 use Rattle.std.proofs.lemmas.Bool.{true≢false}
 use Rattle.std.proofs.lemmas.Bool.Decides.{nat_tests}
 use Rattle.std.proofs.lemmas.List.Elements.{All-cons, All-nil}
@@ -10,12 +10,14 @@ use Rattle.fjall_base.specs.Disk.{Meaning, state_in}
 use Rattle.fjall_base.specs.declared.error.Error.{Error}
 use Rattle.fjall_base.specs.declared.error.Error.TheVariants.{Io, UnknownKeyspace}
 use Rattle.fjall_regions.specs.Regions.{Within}
-use Rattle.fjall_regions.proofs.Changes.{within_start}
+use Rattle.fjall_regions.proofs.Fitting.{holds_records}
+use Rattle.fjall_recovery.specs.Tidy.{StaysTidy}
+use Rattle.fjall_recovery.proofs.Tidying.{stays_start}
 use Rattle.fjall_keyspaces.specs.declared.living.LivingKeyspace.{LivingKeyspace}
 use Rattle.fjall_keyspaces.specs.Keyspaces.{AreKeyspaces, Keyspaces, keyspace_at}
 use Rattle.fjall_versions.specs.Versions.{store_of}
 use Rattle.fjall_versions.proofs.Naming.{living_names, rest_is_bare}
-use Rattle.fjall_changes.specs.Removals.{IsUnused}
+use Rattle.fjall_changes.specs.Removals.{IsRemoved, IsUnused}
 use Rattle.fjall_machine.specs.declared.call.Call.TheVariants.{Release}
 use Rattle.fjall_machine.specs.declared.call.Reply.TheVariants.{Done, Refused}
 use Rattle.fjall_machine.specs.Machine.{State, handles_of, is_living, is_unknown}
@@ -24,8 +26,8 @@ use Rattle.fjall_machine.proofs.Dues.{none_due}
 use Rattle.fjall_machine.proofs.Standing as law
 use Rattle.fjall_core.specs.Holding.{Held}
 use Rattle.fjall_core.specs.Durables.{Durable}
-use Rattle.fjall_core.specs.Crashes.{IsTidy}
 use Rattle.fjall_core.specs.Standing.{Counts, Owes, OwesRefusal, Serves, StandsFor, StandsOn, held_due, store_in}
+use Rattle.fjall_core.proofs.Stood.{tidy_disk}
 use Rattle.fjall_core.proofs.Writes.{held_on}
 use Rattle.fjall_core.specs.Turns.{FilesGone, Removes}
 use Rattle.fjall_core.proofs.Serving.{led_by, memory_owes, memory_serves, serves_by}
@@ -94,21 +96,32 @@ recounts_of old new s id stands counts =
 pub released_owes : (old new : Held) (id : ℕ) → held_due old (Release id) ≡ None → Counts old (released id old.memory) new → Owes old (Release id) Done new
 released_owes old new id none counts = (none, counts)
 
+-- what is done to the disk where the files are to go, and where they aren't
+gone_on_disk : (A B : Type 0) (last poisoned : Bool) → last ≡ true → poisoned ≡ false → A → MatchBool (last && not poisoned) A B
+gone_on_disk A B last poisoned is well a = subst (λ b. MatchBool b A B) (sym (ap (λ b. b && not poisoned) is ∙ ap (λ b. true && not b) well)) a
+
+kept_on_disk : (A B : Type 0) (last poisoned : Bool) → (last ≡ false) ⊎ (poisoned ≡ true) → B → MatchBool (last && not poisoned) A B
+kept_on_disk A B false poisoned why b = b
+kept_on_disk A B true true why b = b
+kept_on_disk A B true false (inl other) b = absurd (true≢false other)
+kept_on_disk A B true false (inr ill) b = absurd (true≢false (sym ill))
+
 -- handles counted, on a disk that stays as it is
-pub counted_serves : (old new : Held) (id : ℕ) → held_due old (Release id) ≡ None → Counts old (released id old.memory) new → new.disk ≡ old.disk → Serves old (Release id) Done new
-counted_serves old new id none counts same =
-    serves_by old new (Release id) Done (none, counts) (subst (λ disk. Within (codes "keyspaces") old.disk disk) (sym same) (within_start (codes "keyspaces") old.disk)) (λ s d stands on tidy. ap (λ (m : Meaning). m.misuses) same) (λ s d stands on.
+pub counted_serves : (old new : Held) (id : ℕ) → held_due old (Release id) ≡ None → (is_last old.memory id ≡ false) ⊎ (old.memory.poisoned ≡ true) → Counts old (released id old.memory) new → new.disk ≡ old.disk → Serves old (Release id) Done new
+counted_serves old new id none why counts same =
+    serves_by old new (Release id) Done (none, counts) (kept_on_disk (IsRemoved id (state_in new.disk) × Within (codes "keyspaces") old.disk new.disk) (new.disk ≡ old.disk) (is_last old.memory id) old.memory.poisoned why same)
+    (subst (λ disk. StaysTidy old.disk disk) (sym same) (stays_start old.disk)) (λ s d stands on. ap (λ (m : Meaning). m.misuses) same) (λ s d stands on.
     led_by new s d (Release id) Done [] refl (λ sync. sync) (recount_leads old new d same (recounts_of old new s id stands counts) on))
 
 unused_by : (old : Held) (s : State) (id : ℕ) → StandsFor old s → held_due old (Release id) ≡ None → is_last old.memory id ≡ true → IsUnused id old.memory.keyspaces
 unused_by old s id stands none last = unused_of old.memory id stands.remembered.lawful.keyspaces (known old id none) (deleted old.memory id last)
 
 -- wherever the core stood, no call was one that no disk can serve
-release_served : (old new : Held) (id : ℕ) → FilesGone id old.disk new.disk → IsUnused id old.memory.keyspaces → old.memory.poisoned ≡ false → (d : Durable) → StandsOn old d → IsTidy (state_in old.disk) → new.disk.misuses ≡ old.disk.misuses
-release_served old new id gone unused well d on tidy =
+release_served : (old new : Held) (id : ℕ) → FilesGone id old.disk new.disk → IsUnused id old.memory.keyspaces → old.memory.poisoned ≡ false → (d : Durable) → StandsOn old d → new.disk.misuses ≡ old.disk.misuses
+release_served old new id gone unused well d on =
     let here : d ≡ held_on old d.base d.pending = λ i. record { meaning = on.same i; base = d.base; pending = d.pending } in
     let lies = (subst (λ (x : Durable). StandsOn old x) here on).lies well in
-    gone.served lies.records lies.tree lies.in_tree (tidy id unused.positive unused.fits)
+    gone.served lies.records lies.tree lies.in_tree (holds_records (state_in old.disk) id unused.positive unused.fits (tidy_disk old d on))
 
 removed_of : (old new : Held) (s : State) (id : ℕ) → StandsFor old s → held_due old (Release id) ≡ None → is_last old.memory id ≡ true → FilesGone id old.disk new.disk → Removed old new
 removed_of old new s id stands none last gone =
@@ -120,10 +133,12 @@ removed_of old new s id stands none last gone =
     }
 
 -- files removed, and then handles counted
-pub removed_serves : (old new : Held) (id : ℕ) → held_due old (Release id) ≡ None → is_last old.memory id ≡ true → old.memory.poisoned ≡ false → Counts old (released id old.memory) new → FilesGone id old.disk new.disk → Serves old (Release id) Done new
-removed_serves old new id none last well counts gone =
-    serves_by old new (Release id) Done (none, counts) gone.within
-    (λ s d stands on tidy. release_served old new id gone (unused_by old s id stands none last) well d on tidy) (λ s d stands on.
+pub removed_serves : (old new : Held) (id : ℕ) → held_due old (Release id) ≡ None → is_last old.memory id ≡ true → old.memory.poisoned ≡ false → Counts old (released id old.memory) new → FilesGone id old.disk new.disk → IsRemoved id (state_in new.disk)
+    → Serves old (Release id) Done new
+removed_serves old new id none last well counts gone removed =
+    serves_by old new (Release id) Done (none, counts)
+    (gone_on_disk (IsRemoved id (state_in new.disk) × Within (codes "keyspaces") old.disk new.disk) (new.disk ≡ old.disk) (is_last old.memory id) old.memory.poisoned last well (removed, gone.within)) gone.kinds
+    (λ s d stands on. release_served old new id gone (unused_by old s id stands none last) well d on) (λ s d stands on.
     led_by new s d (Release id) Done [] refl (λ sync. sync) (removed_leads old new d well (recounts_of old new s id stands counts) (removed_of old new s id stands none last gone) on))
 
 -- a removal that was refused
@@ -135,8 +150,8 @@ unremoved_owes honest old new id error none all =
 pub unremoved_serves : (honest : Type 0) (old new : Held) (id : ℕ) (error : Error) → held_due old (Release id) ≡ None → is_last old.memory id ≡ true → old.memory.poisoned ≡ false → Removes honest old id (Err error) new → honest
     → Serves old (Release id) (Refused error) new
 unremoved_serves honest old new id (Io kind) none last well all true_ =
-    serves_by old new (Release id) (Refused (Io kind)) (unremoved_owes honest old new id (Io kind) none all) (all.2 true_).within
-    (λ s d stands on tidy. record { rose = all.1; served = release_served old new id (all.2 true_) (unused_by old s id stands none last) well d on tidy }) (λ s d stands on.
+    serves_by old new (Release id) (Refused (Io kind)) (unremoved_owes honest old new id (Io kind) none all) (all.2 true_).within (all.2 true_).kinds
+    (λ s d stands on. record { rose = all.1; served = release_served old new id (all.2 true_) (unused_by old s id stands none last) well d on }) (λ s d stands on.
     led_by new s d (Release id) (Refused (Io kind)) [] refl (λ sync. sync)
     (unremoved_leads old new d well (record { memory_is = ap (λ (h : Held). h.memory) all.0; faults = all.1 }) (removed_of old new s id stands none last (all.2 true_)) on))
 unremoved_serves honest old new id error none last well all true_ =
@@ -157,4 +172,4 @@ then_owes honest old mid new id none all is = (none, counts_then honest old mid 
 pub then_serves : (honest : Type 0) (old mid new : Held) (id : ℕ) → held_due old (Release id) ≡ None → is_last old.memory id ≡ true → old.memory.poisoned ≡ false → Removes honest old id (Ok tt) mid → new ≡ record mid { memory = released id mid.memory } → honest
     → Serves old (Release id) Done new
 then_serves honest old mid new id none last well all is true_ =
-    removed_serves old new id none last well (counts_then honest old mid new id all is) (subst (λ (h : Held). FilesGone id old.disk h.disk) (sym is) (all.2 true_))
+    removed_serves old new id none last well (counts_then honest old mid new id all is) (subst (λ (h : Held). FilesGone id old.disk h.disk) (sym is) (all.2 true_)) (subst (λ (h : Held). IsRemoved id (state_in h.disk)) (sym is) (all.3 true_))

@@ -13,6 +13,7 @@ use Rattle.fjall_machine.specs.declared.call.Call.TheVariants.{GetAt, PageAt, Re
 use Rattle.fjall_machine.specs.declared.call.Reply.TheVariants.{Done, Flag, Names, Number, Pairs, Value, Refused}
 use Rattle.fjall_machine.specs.Machine.{due_in, first_due, has_name, read_refusals}
 use Rattle.fjall_machine.specs.Remembered.{IsDueOrMemory, Remembered, facts_of, retained}
+use Rattle.fjall_recovery.proofs.Tidying.{stays_start}
 use Rattle.fjall_core.specs.Holding.{Held}
 use Rattle.fjall_core.specs.Standing.{Owes, Serves, names_reply, pairs_reply, reply_of, store_in, value_reply}
 use Rattle.fjall_core.proofs.Serving.{answer_serves, either_serves, led_by, memory_owes, memory_serves, serves_by}
@@ -60,7 +61,7 @@ retained_there : (core : Held) (m : Remembered) (id : ℕ) (result : Result Unit
 retained_there core m id (Ok _) none is same cause =
     let new : Held = record core { memory = m } in
     let new_is : new ≡ with_handle core id = ap (λ (x : Remembered). record core { memory = x }) is in
-    serves_by core new (Retain id) Done (none, new_is) refl (λ s d stands on. refl)
+    serves_by core new (Retain id) Done (none, new_is) refl (stays_start core.disk) (λ s d stands on. refl)
     (λ s d stands on. led_by new s d (Retain id) Done [] refl (λ sync. sync) (recount_leads core new d refl (retained_counts core new id new_is) on))
 retained_there core m id (Err error) none is same cause =
     subst (λ (x : Remembered). Serves core (Retain id) (Refused error) (record core { memory = x })) (sym same) (either_serves core (Retain id) error tt cause)

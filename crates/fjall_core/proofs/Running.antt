@@ -3,6 +3,7 @@ use Rattle.std.proofs.Common.{◌≡◌, ℕ, ◌+◌, ◌<◌, List, [], ◌∷
 use Rattle.std.proofs.lemmas.List.{take_more}
 use Rattle.fjall_base.specs.Store.{Command}
 use Rattle.fjall_base.specs.Disk.{LeavesOnly}
+use Rattle.fjall_recovery.specs.Tidy.{StaysTidy}
 use Rattle.fjall_machine.specs.declared.call.Call.{Call}
 use Rattle.fjall_machine.specs.declared.call.Reply.{Reply}
 use Rattle.fjall_machine.specs.Machine.{State}
@@ -10,7 +11,7 @@ use Rattle.fjall_core.specs.Holding.{Held}
 use Rattle.fjall_core.specs.Durables.{Durable, StandsAmid}
 use Rattle.fjall_core.specs.Crashes.{attempt, RunOn, SafeAt}
 use Rattle.fjall_core.specs.Standing.{StandsFor, StandsOn, Serves, RunsOn}
-use Rattle.fjall_core.proofs.Amids.{run_passes, run_safe, run-push}
+use Rattle.fjall_core.proofs.Amids.{run_kinds, run_passes, run_safe, run-push}
 use Rattle.fjall_core.proofs.Tries.{run_tries}
 
 -- a run so far: the state that the core is in now and what it stands on
@@ -59,4 +60,5 @@ ends old new s d calls replies on end =
       any_moment = subst (λ h. LeavesOnly h new.disk (StandsAmid d.base [] (d.pending ++ end.tried))) on.same
           (subst (λ h. LeavesOnly d.meaning h (StandsAmid d.base [] (d.pending ++ end.tried))) end.on.same passes.leaves);
       synced = λ i sync. subst (λ h. SafeAt s d calls replies i end.tried h) end.on.same (run_safe s end.state d end.durable calls replies end.tried i end.run sync);
+      kinds = subst (λ h. StaysTidy h new.disk) on.same (subst (λ h. StaysTidy d.meaning h) end.on.same (run_kinds s end.state d end.durable calls replies end.tried end.run));
     }

@@ -24,6 +24,7 @@ use Rattle.fjall_core.specs.Turns as turns
 use Rattle.fjall_core.specs.Crashes.{IsSync}
 use Rattle.fjall_core.specs.Standing.{HandsOver, Poisons, StandsOn}
 use Rattle.fjall_core.specs.Standing as standing
+use Rattle.fjall_core.proofs.Stood.{StoodOn}
 use Rattle.fjall_core.proofs.Along.{tree_along}
 use Rattle.fjall_core.proofs.Leading.{kept_with, root_amid}
 use Rattle.fjall_core.proofs.Writes.{Leads, Settles, held_on, leads_on, settles_on, present_of, stands_ill, stands_well}
@@ -115,12 +116,12 @@ buffer_leads old new d well hands out = leads_on old new d [] (λ base pending o
 
 -- a persist that was done, and where it synced, nothing is pending
 pub persist_leads : (old new : Held) (mode : PersistMode) (d : Durable) → old.memory.poisoned ≡ false → HandsOver old new → HandedOut old new mode true → StandsOn old d
-    → (e : Durable) × StandsOn new e × Passes d [] e × ((s : Machine.State) → IsSync s (Persist mode) Done → e.pending ≡ [])
+    → (e : Durable) × StoodOn new e × Passes d [] e × ((s : Machine.State) → IsSync s (Persist mode) Done → e.pending ≡ [])
 persist_leads old new Buffer d well hands out stands =
     let led = buffer_leads old new d well hands out stands in
     (led.0, led.1, led.2, λ s none. absurd none)
 persist_leads old new SyncData d well hands out stands =
-    let led = sync_settles old new d well hands (record { leaves = out.leaves; lies = out.lies; elsewhere = out.elsewhere; served = out.served }) stands in
+    let led = sync_settles old new d well hands (record { leaves = out.leaves; lies = out.lies; elsewhere = out.elsewhere; served = out.served; kinds = out.kinds }) stands in
     (led.0, led.1, led.2, λ s _. led.3)
 persist_leads old new SyncAll d well hands out stands =
     let led = sync_settles old new d well hands out stands in

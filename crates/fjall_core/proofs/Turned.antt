@@ -1,5 +1,5 @@
 -- A sync of the journal and a change of the keyspaces behind it.
-use Rattle.std.proofs.Common.{◌≡◌, ◌<◌, ◌≤◌, ◌^◌, inr, ℕ, Bool, true, false, List, [], ◌∷◌, ◌++◌, codes, Result, Ok, Err, OnOk, sym}
+use Rattle.std.proofs.Common.{◌≡◌, ◌<◌, ◌≤◌, ◌^◌, inl, inr, ℕ, Bool, true, false, List, [], ◌∷◌, ◌++◌, codes, Result, Ok, Err, OnOk, subst, sym}
 use Rattle.std.proofs.lemmas.Bool.{true≢false}
 use Rattle.fjall_base.specs.Disk.{LeavesOnly, Meaning, state_in}
 use Rattle.fjall_base.specs.declared.error.Error.{Error}
@@ -7,10 +7,12 @@ use Rattle.fjall_regions.specs.Regions.{Within}
 use Rattle.fjall_journal.specs.declared.persist_mode.PersistMode.TheVariants.{SyncAll}
 use Rattle.fjall_journal.specs.Writer.{Journal}
 use Rattle.fjall_tree.specs.Records.{Fields}
-use Rattle.fjall_keyspaces.specs.Keyspaces.{AreKeyspaces, without_keyspace}
+use Rattle.fjall_recovery.specs.Tidy.{StaysTidy}
+use Rattle.fjall_keyspaces.specs.Keyspaces.{AreKeyspaces, Keyspaces, without_keyspace}
+use Rattle.fjall_catalog.specs.declared.catalog.Catalog.{Catalog}
 use Rattle.fjall_catalog.specs.declared.update.Update.{Update}
 use Rattle.fjall_catalog.specs.Catalog.{fields}
-use Rattle.fjall_catalog.specs.Updates.{IsUpdate}
+use Rattle.fjall_catalog.specs.Updates.{IsTableGone, IsUpdate}
 use Rattle.fjall_opening.specs.Folders.{past_record}
 use Rattle.fjall_places.specs.Halves.{Tree}
 use Rattle.fjall_places.specs.Places.{LiesInTree}
@@ -24,6 +26,10 @@ pub turn : (Change : Meaning → Meaning → Bool → Type 0) (old mid new : Mea
 turn Change old mid new before after (Ok _) synced done any = record { mid = mid; synced = synced; changed = done }
 turn Change old mid new before after (Err error) synced done any = inr (record { mid = mid; synced = synced; changed = any })
 
+-- a sync that failed, before any change
+pub unturned : (Change : Meaning → Meaning → Bool → Type 0) (old new : Meaning) (before after : Journal) (r : Result Unit Error) (error : Error) → r ≡ Err error → HandedOut old new before after SyncAll false → Turns Change old new before after r
+unturned Change old new before after r error is failed = subst (λ (x : Result Unit Error). Turns Change old new before after x) (sym is) (inl failed)
+
 pub not_done : {A : Type 0} → false ≡ true → A
 not_done e = absurd (true≢false (sym e))
 
@@ -33,29 +39,33 @@ module _ (mid new : Meaning) (creation : Creation) (within : Within (codes "keys
     → LeavesOnly mid new (HasEither t next))
     (served : (records : List Fields) (t : Tree) (name : List ℕ) (options : List (List ℕ)) (number : ℕ) → let next = with_home name options number creation.update.catalog t in
     LiesInTree (state_in mid) records t → IsCreation t.last next.keyspaces t.keyspaces.next number creation → AreKeyspaces next.keyspaces → past_record (fields t.last) ≤ number → t.keyspaces.next < 2 ^ 64
-    → HasRoom (state_in mid) t.keyspaces.next → new.misuses ≡ mid.misuses) where
+    → HasRoom (state_in mid) t.keyspaces.next → new.misuses ≡ mid.misuses)
+    (kinds : (old : Catalog) (s : Keyspaces) (id number : ℕ) → id < 2 ^ 64 → IsCreation old s id number creation → StaysTidy mid new) where
   pub made_any : Made mid new creation false
-  made_any = record { within = within; leaves = leaves; lies = λ e. not_done e; served = served }
+  made_any = record { within = within; leaves = leaves; lies = λ e. not_done e; served = served; gone = λ e. not_done e; kinds = kinds }
 
   pub made_done : (r : Result Unit Error)
       → ((records : List Fields) (t : Tree) (name : List ℕ) (options : List (List ℕ)) (number : ℕ) → let next = with_home name options number creation.update.catalog t in
       LiesInTree (state_in mid) records t → IsCreation t.last next.keyspaces t.keyspaces.next number creation → AreKeyspaces next.keyspaces → past_record (fields t.last) ≤ number → t.keyspaces.next < 2 ^ 64
       → OnOk r (LiesInTree (state_in new) (records ++ fields creation.update.catalog ∷ []) next))
+      → ((old : Catalog) (s : Keyspaces) (id number : ℕ) → IsCreation old s id number creation → OnOk r (IsTableGone (state_in new) old))
       → OnOk r (Made mid new creation true)
-  made_done (Ok _) lies = record { within = within; leaves = leaves; lies = λ e. lies; served = served }
-  made_done (Err error) lies = tt
+  made_done (Ok _) lies gone = record { within = within; leaves = leaves; lies = λ e. lies; served = served; gone = λ e. gone; kinds = kinds }
+  made_done (Err error) lies gone = tt
 
 module _ (mid new : Meaning) (update : Update) (within : Within (codes "keyspaces") mid new)
     (leaves : (records : List Fields) (t : Tree) (id number : ℕ) → let next = without_home id update.catalog t in
     LiesInTree (state_in mid) records t → IsUpdate t.last (without_keyspace id t.keyspaces) number update → past_record (fields t.last) ≤ number → LeavesOnly mid new (HasEither t next))
-    (served : (records : List Fields) (t : Tree) (id number : ℕ) → LiesInTree (state_in mid) records t → IsUpdate t.last (without_keyspace id t.keyspaces) number update → past_record (fields t.last) ≤ number → new.misuses ≡ mid.misuses) where
+    (served : (records : List Fields) (t : Tree) (id number : ℕ) → LiesInTree (state_in mid) records t → IsUpdate t.last (without_keyspace id t.keyspaces) number update → past_record (fields t.last) ≤ number → new.misuses ≡ mid.misuses)
+    (kinds : StaysTidy mid new) where
   pub unmade_any : Unmade mid new update false
-  unmade_any = record { within = within; leaves = leaves; lies = λ e. not_done e; served = served }
+  unmade_any = record { within = within; leaves = leaves; lies = λ e. not_done e; served = served; gone = λ e. not_done e; kinds = kinds }
 
   pub unmade_done : (r : Result Unit Error)
       → ((records : List Fields) (t : Tree) (id number : ℕ) → let next = without_home id update.catalog t in
       LiesInTree (state_in mid) records t → IsUpdate t.last (without_keyspace id t.keyspaces) number update → past_record (fields t.last) ≤ number
       → OnOk r (LiesInTree (state_in new) (records ++ fields update.catalog ∷ []) next))
+      → ((old : Catalog) (s : Keyspaces) (number : ℕ) → IsUpdate old s number update → OnOk r (IsTableGone (state_in new) old))
       → OnOk r (Unmade mid new update true)
-  unmade_done (Ok _) lies = record { within = within; leaves = leaves; lies = λ e. lies; served = served }
-  unmade_done (Err error) lies = tt
+  unmade_done (Ok _) lies gone = record { within = within; leaves = leaves; lies = λ e. lies; served = served; gone = λ e. gone; kinds = kinds }
+  unmade_done (Err error) lies gone = tt

@@ -28,12 +28,13 @@ use Rattle.fjall_machine.specs.Remembered.{IsLawful, Remembered, version_of, wit
 use Rattle.fjall_core.specs.Holding.{Held}
 use Rattle.fjall_core.specs.Durables.{Durable, Lies, MakesPresent, Passes, Rests, StandsAmid}
 use Rattle.fjall_core.specs.Standing.{Grows, Poisons, StandsOn, store_in}
+use Rattle.fjall_core.proofs.Stood.{StoodOn}
 use Rattle.fjall_core.proofs.Along.{SameKeyspaces, tree_along}
 use Rattle.fjall_core.proofs.Leading.{commands_more, lies_rest, root_amid}
 
 -- the core stands on some disk now, to which these commands lead
 abbrev pub Leads : Held → Durable → List Command → Type 0
-Leads new d tried = (e : Durable) × StandsOn new e × Passes d tried e
+Leads new d tried = (e : Durable) × StoodOn new e × Passes d tried e
 
 -- a core's disk with this base and this pending
 abbrev pub held_on : Held → Store → List Command → Durable
@@ -47,7 +48,7 @@ leads_on old new d tried leads stands =
 
 -- the same, and nothing is pending any more
 abbrev pub Settles : Held → Durable → List Command → Type 0
-Settles new d tried = (e : Durable) × StandsOn new e × Passes d tried e × (e.pending ≡ [])
+Settles new d tried = (e : Durable) × StoodOn new e × Passes d tried e × (e.pending ≡ [])
 
 pub settles_on : (old new : Held) (d : Durable) (tried : List Command) → ((base : Store) (pending : List Command) → StandsOn old (held_on old base pending) → Settles new (held_on old base pending) tried) → StandsOn old d → Settles new d tried
 settles_on old new d tried settles stands =
@@ -58,7 +59,7 @@ pub present_of : (core : Held) (d : Durable) (flag : Bool) → core.memory.poiso
 present_of core d flag is stands = subst (λ b. MakesPresent b d (store_in core)) is stands.present
 
 -- a core that no fault has poisoned stands where base and pending lie
-pub stands_well : (core : Held) (base : Store) (pending : List Command) → core.memory.poisoned ≡ false → Lies core (held_on core base pending) → kept (fold base pending) ≡ kept (store_in core) → StandsOn core (held_on core base pending)
+pub stands_well : (core : Held) (base : Store) (pending : List Command) → core.memory.poisoned ≡ false → Lies core (held_on core base pending) → kept (fold base pending) ≡ kept (store_in core) → StoodOn core (held_on core base pending)
 stands_well core base pending well lies present = record {
   same = refl;
   rests = lies_rest core (held_on core base pending) lies;
@@ -67,7 +68,7 @@ stands_well core base pending well lies present = record {
 }
 
 -- and one that a fault has poisoned where it rests
-pub stands_ill : (core : Held) (base : Store) (pending : List Command) → core.memory.poisoned ≡ true → Rests (held_on core base pending) → MakesPresent true (held_on core base pending) (store_in core) → StandsOn core (held_on core base pending)
+pub stands_ill : (core : Held) (base : Store) (pending : List Command) → core.memory.poisoned ≡ true → Rests (held_on core base pending) → MakesPresent true (held_on core base pending) (store_in core) → StoodOn core (held_on core base pending)
 stands_ill core base pending ill rests present = record {
   same = refl;
   rests = rests;
@@ -128,16 +129,16 @@ present_more old new base pending id key o is was =
     ∙ ap kept (sym (one_more_version old.memory.keyspaces old.memory.versions version))
     ∙ ap (λ (m : Remembered). kept (store_of m.keyspaces m.versions)) (sym is)
 
--- what a write did to the disk and to the journal's writer
-pub record WentOut (old new : Held) (batch : Written) (o : Op) (done : Bool) : Type 0 where
+-- what a write, which goes out or waits, did to the disk and to the journal's writer
+pub record WentOut (old new : Held) (batch : Written) (o : Op) (goes done : Bool) : Type 0 where
   pub leaves : (j : Journaling) → IsWriting (state_in old.disk) old.journal j → CanFollow j old.memory.next (kind_of o) → LeavesOnly old.disk new.disk (LeavesRoot (state_in old.disk) j (j.later ++ batch ∷ []))
-  pub lies : done ≡ true → (j : Journaling) → IsWriting (state_in old.disk) old.journal j → CanFollow j old.memory.next (kind_of o) → IsWriting (state_in new.disk) new.journal (with_batch j batch)
+  pub lies : done ≡ true → (j : Journaling) → IsWriting (state_in old.disk) old.journal j → CanFollow j old.memory.next (kind_of o) → IsWriting (state_in new.disk) new.journal (with_batch goes j batch)
   pub elsewhere : (j : Journaling) → IsWriting (state_in old.disk) old.journal j → SameKeyspaces (state_in old.disk) (state_in new.disk)
 
 -- what a crash during it or after it leaves
-write_leaves : (old new : Held) (base : Store) (pending : List Command) (id : ℕ) (key : Bytes) (o : Op) (done : Bool) → IsAdmitted old id → (lies : Lies old (held_on old base pending))
-    → WentOut old new (of_item id key (bytes_in o) (kind_of o) old.memory.next) o done → LeavesOnly old.disk new.disk (StandsAmid base [] (pending ++ write_of id key (value_in o) ∷ []))
-write_leaves old new base pending id key o done admitted lies out =
+write_leaves : (old new : Held) (base : Store) (pending : List Command) (id : ℕ) (key : Bytes) (o : Op) (goes done : Bool) → IsAdmitted old id → (lies : Lies old (held_on old base pending))
+    → WentOut old new (of_item id key (bytes_in o) (kind_of o) old.memory.next) o goes done → LeavesOnly old.disk new.disk (StandsAmid base [] (pending ++ write_of id key (value_in o) ∷ []))
+write_leaves old new base pending id key o goes done admitted lies out =
     let batch = of_item id key (bytes_in o) (kind_of o) old.memory.next in
     let commands : journal_commands lies.tree.keyspaces (map shown (batch ∷ [])) ≡ write_of id key (value_in o) ∷ [] =
     ap (λ (s : Keyspaces). journal_commands s (map shown (batch ∷ []))) lies.keyspaces ∙ batch_commands old id key o admitted in
@@ -146,19 +147,19 @@ write_leaves old new base pending id key o done admitted lies out =
     (out.leaves lies.journals lies.writing (it_follows old base pending o admitted.room lies)))
 
 -- where base and pending lie after it
-write_lies : (old new : Held) (base : Store) (pending : List Command) (id : ℕ) (key : Bytes) (o : Op) → IsAdmitted old id → Grows old (version_of old.memory.next id key o) (op_text id key o old.memory.next) new
-    → (lies : Lies old (held_on old base pending)) → WentOut old new (of_item id key (bytes_in o) (kind_of o) old.memory.next) o true → Lies new (held_on new base (pending ++ write_of id key (value_in o) ∷ []))
-write_lies old new base pending id key o admitted grows lies out =
+write_lies : (old new : Held) (base : Store) (pending : List Command) (id : ℕ) (key : Bytes) (o : Op) (goes : Bool) → IsAdmitted old id → Grows old (version_of old.memory.next id key o) (op_text id key o old.memory.next) new
+    → (lies : Lies old (held_on old base pending)) → WentOut old new (of_item id key (bytes_in o) (kind_of o) old.memory.next) o goes true → Lies new (held_on new base (pending ++ write_of id key (value_in o) ∷ []))
+write_lies old new base pending id key o goes admitted grows lies out =
     let batch = of_item id key (bytes_in o) (kind_of o) old.memory.next in
     let j = lies.journals in
     let t = lies.tree in
     let follows = it_follows old base pending o admitted.room lies in
     let commands : journal_commands t.keyspaces (map shown (batch ∷ [])) ≡ write_of id key (value_in o) ∷ [] =
     ap (λ (s : Keyspaces). journal_commands s (map shown (batch ∷ []))) lies.keyspaces ∙ batch_commands old id key o admitted in
-    let number = next-batch j batch in
+    let number = next-batch goes j batch in
     let past = past_records (fields t.last ∷ t.homes) in
     record {
-      journals = with_batch j batch;
+      journals = with_batch goes j batch;
       records = lies.records;
       tree = t;
       writing = out.lies refl j lies.writing follows;
@@ -176,23 +177,23 @@ write_passes : (old new : Held) (base : Store) (pending tried : List Command) �
 write_passes old new base pending tried leaves rests = record { leaves = leaves; safe = []; base = refl; rest = refl; rests = rests }
 
 -- a write that was done
-pub write_leads : (old new : Held) (id : ℕ) (key : Bytes) (o : Op) (d : Durable) → IsAdmitted old id → Grows old (version_of old.memory.next id key o) (op_text id key o old.memory.next) new
-    → WentOut old new (of_item id key (bytes_in o) (kind_of o) old.memory.next) o true → StandsOn old d → Leads new d (write_of id key (value_in o) ∷ [])
-write_leads old new id key o d admitted grows out = leads_on old new d (write_of id key (value_in o) ∷ []) (λ base pending stands.
+pub write_leads : (old new : Held) (id : ℕ) (key : Bytes) (o : Op) (goes : Bool) (d : Durable) → IsAdmitted old id → Grows old (version_of old.memory.next id key o) (op_text id key o old.memory.next) new
+    → WentOut old new (of_item id key (bytes_in o) (kind_of o) old.memory.next) o goes true → StandsOn old d → Leads new d (write_of id key (value_in o) ∷ [])
+write_leads old new id key o goes d admitted grows out = leads_on old new d (write_of id key (value_in o) ∷ []) (λ base pending stands.
     let command = write_of id key (value_in o) in
     let lies = stands.lies admitted.well in
-    let after = write_lies old new base pending id key o admitted grows lies out in
+    let after = write_lies old new base pending id key o goes admitted grows lies out in
     let well : new.memory.poisoned ≡ false = ap (λ (m : Remembered). m.poisoned) grows.memory_is ∙ admitted.well in
     let on = stands_well new base (pending ++ command ∷ []) well after (present_more old new base pending id key o grows.memory_is (present_of old (held_on old base pending) false admitted.well stands)) in
-    (held_on new base (pending ++ command ∷ []), on, write_passes old new base pending (command ∷ []) (write_leaves old new base pending id key o true admitted lies out) on.rests))
+    (held_on new base (pending ++ command ∷ []), on, write_passes old new base pending (command ∷ []) (write_leaves old new base pending id key o goes true admitted lies out) on.rests))
 
 -- a write that a fault refused
-pub torn_leads : (old new : Held) (id : ℕ) (key : Bytes) (o : Op) (d : Durable) → IsAdmitted old id → Poisons old new
-    → WentOut old new (of_item id key (bytes_in o) (kind_of o) old.memory.next) o false → StandsOn old d → Leads new d (write_of id key (value_in o) ∷ [])
-torn_leads old new id key o d admitted fault out = leads_on old new d (write_of id key (value_in o) ∷ []) (λ base pending stands.
+pub torn_leads : (old new : Held) (id : ℕ) (key : Bytes) (o : Op) (goes : Bool) (d : Durable) → IsAdmitted old id → Poisons old new
+    → WentOut old new (of_item id key (bytes_in o) (kind_of o) old.memory.next) o goes false → StandsOn old d → Leads new d (write_of id key (value_in o) ∷ [])
+torn_leads old new id key o goes d admitted fault out = leads_on old new d (write_of id key (value_in o) ∷ []) (λ base pending stands.
     let command = write_of id key (value_in o) in
     let lies = stands.lies admitted.well in
-    let leaves = write_leaves old new base pending id key o false admitted lies out in
+    let leaves = write_leaves old new base pending id key o goes false admitted lies out in
     let rests : Rests (held_on new base (pending ++ command ∷ [])) = at_end old.disk new.disk _ leaves in
     let was = present_of old (held_on old base pending) false admitted.well stands ∙ ap (λ (m : Remembered). kept (store_of m.keyspaces m.versions)) (sym fault.memory_is) in
     let on = stands_ill new base (pending ++ command ∷ []) (ap (λ (m : Remembered). m.poisoned) fault.memory_is) rests (inr (pending, command, refl, was)) in

@@ -10,8 +10,7 @@ use Rattle.fjall_machine.specs.declared.call.Call.{Call}
 use Rattle.fjall_machine.specs.declared.call.Call.TheVariants.{DeleteKeyspace, GetAt, Insert, JournalDiskSpace, Keyspace, KeyspaceCount, KeyspaceExists, ListKeyspaceNames, PageAt, Persist, Release, Remove, RemoveWeak, Retain, Seqno, VisibleSeqno}
 use Rattle.fjall_machine.specs.declared.call.Reply.{Reply}
 use Rattle.fjall_machine.specs.declared.call.Reply.TheVariants.{Done, Flag, Names, Number, Pairs, Refused, Value}
-use Rattle.fjall_regions.specs.Regions.{HoldsOnly}
-use Rattle.fjall_recovery.specs.Names.{current_name, keyspace_folder}
+use Rattle.fjall_recovery.specs.Tidy.{StaysTidy}
 use Rattle.fjall_versions.specs.Replays.{option_pairs}
 use Rattle.fjall_opening.specs.Folders.{StandsFor}
 use Rattle.fjall_machine.specs.Histories.{extended}
@@ -81,24 +80,14 @@ abbrev pub BlamesDevice : Reply → Meaning → Meaning → Type 0
 BlamesDevice (Refused (Io kind)) old new = DeviceFailed old new
 BlamesDevice reply old new = new.misuses ≡ old.misuses
 
--- Each keyspace's folder but tree 0's, where it is there, holds no more than the file of its records; no file stands in its place, and
--- no folder in that of its file.
-abbrev pub IsTidy : disk.State → Type 0
-IsTidy state = (id : ℕ) → 0 < id → id < 2 ^ 64 → HoldsOnly state (keyspace_folder id) (current_name id ∷ [])
-
--- The same; of the calls that make a keyspace's folder or remove it, where nothing stands in the way.
-abbrev pub OnlyDevice : Call → Reply → Meaning → Meaning → Type 0
-OnlyDevice (Keyspace name options) reply old new = IsTidy (state_in old) → BlamesDevice reply old new
-OnlyDevice (Release id) reply old new = IsTidy (state_in old) → BlamesDevice reply old new
-OnlyDevice call reply old new = BlamesDevice reply old new
-
 -- what one call in that state leaves, and where it was a sync that succeeded, nothing is pending
 abbrev pub CallLeaves : State → Durable → Call → Reply → Durable → Type 0
 CallLeaves s old call reply new = Passes old (attempt s call reply) new × (IsSync s call reply → new.pending ≡ [])
 
--- the same, and the disk is to blame for `Io` alone
+-- The same; the device is to blame for `Io`, and the call put at each name only what may stand there.
 abbrev pub CallPasses : State → Durable → Call → Reply → Durable → Type 0
-CallPasses s old call reply new = Passes old (attempt s call reply) new × (IsSync s call reply → new.pending ≡ []) × OnlyDevice call reply old.meaning new.meaning
+CallPasses s old call reply new =
+    Passes old (attempt s call reply) new × (IsSync s call reply → new.pending ≡ []) × BlamesDevice reply old.meaning new.meaning × StaysTidy old.meaning new.meaning
 
 -- These replies to these calls, one step after another, on a disk that goes through what such steps leave; the commands
 -- tried in order.

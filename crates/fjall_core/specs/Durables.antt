@@ -5,7 +5,8 @@ use Rattle.fjall_base.specs.Disk.{Image, IsImage, Meaning, LeavesOnly, state_in}
 use Rattle.fjall_journal.specs.Batches.{shown}
 use Rattle.fjall_tree.specs.Records.{Fields}
 use Rattle.fjall_versions.specs.Replays.{journal_commands}
-use Rattle.fjall_opening.specs.Folders.{StandsFor, number_of, store_of}
+use Rattle.fjall_opening.specs.Folders.{number_of, store_of}
+pub use Rattle.fjall_places.specs.Amid.{IsBeginning, StandsAmid}
 use Rattle.fjall_places.specs.Halves.{Tree}
 use Rattle.fjall_places.specs.Places.{Journaling, LiesInTree, contents_with}
 use Rattle.fjall_journaling.specs.Journaling.{IsWriting}
@@ -16,17 +17,6 @@ pub record Durable : Type 0 where
   pub meaning : Meaning
   pub base : Store
   pub pending : List Command
-
--- the second list begins with the first
-abbrev pub IsBeginning : List Command → List Command → Type 0
-IsBeginning front commands = (rest : List Command) × (front ++ rest ≡ commands)
-
--- The image stands for the base and a beginning of all these commands, which has at least those.
-pub record StandsAmid (base : Store) (least all : List Command) (image : Image) : Type 0 where
-  pub front : List Command
-  pub holds : IsBeginning least front
-  pub within : IsBeginning front all
-  pub stands : StandsFor image (kept (fold base front))
 
 -- a crash now leaves the base with a beginning of what is pending
 abbrev pub Rests : Durable → Type 0

@@ -4,6 +4,7 @@ use Rattle.std.specs.List.{flat_map}
 use Rattle.fjall_base.specs.Store.{Command, Store}
 use Rattle.fjall_base.specs.Disk.{Image, Leaves, Meaning, State, Step, Took, disk_of, state_in}
 use Rattle.fjall_base.specs.declared.error.Error.{Error}
+use Rattle.fjall_recovery.specs.Tidy.{StaysTidy}
 use Rattle.fjall_machine.specs.Machine as machine
 use Rattle.fjall_machine.specs.Machine.{opened_state}
 use Rattle.fjall_machine.specs.declared.call.Call.{Call}
@@ -33,7 +34,7 @@ pub record Life : Type 0 where
 -- One life of an engine on a disk that holds this store, and what it leaves of the disk: the power went at some moment of its
 -- opening, of its calls, of its calls since a sync that succeeded, or of its closing; or it was closed.
 pub data Lived (old : Meaning) (store : Store) : Life → State → Type 0 where
-  CutInOpening : (new : Meaning) (added : List Step) (image : Image) → KeepsStore old new → Took old new added → Leaves (state_in old) added image
+  CutInOpening : (new : Meaning) (added : List Step) (image : Image) → KeepsStore old new → StaysTidy old new → Took old new added → Leaves (state_in old) added image
       → Lived old store (record { tried = []; synced = [] }) (disk_of image)
   CutInCalls : (core new : Held) (calls : List Call) (replies : List Reply) (added : List Step) (image : Image) (opens : OpensAs core store) (run : Served core store opens calls replies new)
       → Took core.disk new.disk added → Leaves (state_in core.disk) added image → Lived old store (record { tried = run.tried; synced = [] }) (disk_of image)

@@ -1,5 +1,5 @@
 -- What a core stands for, and what its calls owe.
-use Rattle.std.specs.Prelude.{◌≡◌, ◌⊎◌, ℕ, ◌+◌, ◌≤◌, Bool, true, false, nat_le, if◌then◌else◌, List, [], ◌∷◌, ◌++◌, length, codes, Option, Some, None, Result, Ok, Err, OnOk, IsPermutation, IsSorted, Vec}
+use Rattle.std.specs.Prelude.{◌≡◌, ◌⊎◌, ℕ, ◌+◌, ◌≤◌, ◌&&◌, Bool, true, false, nat_le, not, if◌then◌else◌, List, [], ◌∷◌, ◌++◌, length, codes, IfSome, MatchBool, MatchOption, Option, Some, None, Result, Ok, Err, OnOk, IsPermutation, IsSorted, Vec}
 use Rattle.std.specs.FinMap.{len, values}
 use Rattle.std.specs.declared.alloc.Global.{Global}
 use Rattle.fjall_base.specs.Pairs.{Bytes, byte_order, page, pairs_between}
@@ -9,15 +9,20 @@ use Rattle.fjall_base.specs.Disk as disk
 use Rattle.fjall_base.specs.Errors.{Rose}
 use Rattle.fjall_base.specs.declared.error.Error.{Error}
 use Rattle.fjall_base.specs.declared.error.Error.TheVariants.{Io, OutOfMemory, Poisoned, ValueTooLong}
-use Rattle.fjall_regions.specs.Regions.{Within}
+use Rattle.fjall_regions.specs.Regions.{IsSafe, Within}
+use Rattle.fjall_recovery.specs.Tidy.{IsTidy, StaysTidy}
 use Rattle.fjall_journal.specs.declared.persist_mode.PersistMode.TheVariants.{SyncAll}
-use Rattle.fjall_journal.specs.Writer.{filled, written_out, appending, persist_steps}
+use Rattle.fjall_journal.specs.Writer.{after_command, command_steps, goes_out, persist_steps, written_out}
+use Rattle.fjall_recovery.specs.Names.{table_name}
 use Rattle.fjall_keyspaces.specs.Keyspaces.{id_of}
+use Rattle.fjall_catalog.specs.declared.catalog.Catalog.{Catalog}
+use Rattle.fjall_catalog.specs.Updates.{IsTableGone}
 use Rattle.fjall_versions.specs.declared.version.Version.{Version}
 use Rattle.fjall_versions.specs.Versions.{newest, pairs_in, store_of}
 use Rattle.fjall_opening.specs.Folders.{Contents}
 use Rattle.fjall_places.specs.Held.{Holds, store_held}
 use Rattle.fjall_repair.specs.Opened.{ComesBack}
+use Rattle.fjall_changes.specs.Removals.{IsRemoved}
 use Rattle.fjall_machine.specs.declared.call.Call.{Call}
 use Rattle.fjall_machine.specs.declared.call.Call.TheVariants.{Keyspace, DeleteKeyspace, Retain, Release, Insert, Remove, RemoveWeak, GetAt, PageAt, Persist, KeyspaceCount, ListKeyspaceNames, KeyspaceExists, Seqno, VisibleSeqno, JournalDiskSpace}
 use Rattle.fjall_machine.specs.declared.call.Reply.{Reply}
@@ -25,11 +30,11 @@ use Rattle.fjall_machine.specs.declared.call.Reply.TheVariants.{Done, Value, Pai
 use Rattle.fjall_machine.specs.Ops.{Op, op_text}
 use Rattle.fjall_machine.specs.Ops as op
 use Rattle.fjall_machine.specs.Machine.{State, Step, Run, TakesMemory, ChangesDisk, TooLong, present, due_in, has_name, is_living}
-use Rattle.fjall_machine.specs.Remembered.{IsLawful, Remembered, facts_of, version_of, with_version, with_creation, with_deletion, retained, released, poisoned}
+use Rattle.fjall_machine.specs.Remembered.{IsLawful, Remembered, facts_of, is_last, version_of, with_version, with_creation, with_deletion, retained, released, poisoned}
 use Rattle.fjall_machine.specs.Remembered as memory
 use Rattle.fjall_core.specs.Durables.{Durable, StandsAmid, Passes, Rests, Lies, MakesPresent}
 use Rattle.fjall_core.specs.Crashes.{BlamesDevice, CallPasses, RunOn, Tried, IsSyncAt, SafeAt}
-use Rattle.fjall_core.specs.Holding.{Held}
+use Rattle.fjall_core.specs.Holding.{Held, by_hand}
 
 -- the store that stands in memory
 abbrev pub store_in : Held → Store
@@ -42,12 +47,14 @@ pub record StandsFor (core : Held) (s : State) : Type 0 where
   pub buffer : s.parts.buffer ≡ length core.journal.buffer
 
 -- The core stands on this disk, with this base and this pending: whatever a crash leaves is the base with a beginning of
--- what is pending. While no fault has poisoned it, both lie on the disk as it knows.
+-- what is pending. While no fault has poisoned it, both lie on the disk as it knows. Nothing stands in the way of what it
+-- makes and removes.
 pub record StandsOn (core : Held) (d : Durable) : Type 0 where
   pub same : d.meaning ≡ core.disk
   pub rests : Rests d
   pub lies : core.memory.poisoned ≡ false → Lies core d
   pub present : MakesPresent core.memory.poisoned d (store_in core)
+  pub tidy : IsTidy (state_in d.meaning)
 
 -- ---- what calls owe, whatever the disk is
 
@@ -60,12 +67,14 @@ pub record Poisons (old new : Held) : Type 0 where
   pub memory_is : new.memory ≡ poisoned old.memory
   pub faults : Rose old.disk.faults new.disk.faults
 
--- One version more stands in memory, under the next number, and its batch's text is in the journal's file.
+-- One version more stands in memory, under the next number. Its batch's text is in the journal's file with all that waited
+-- or, where its keyspace persists by hand, waits too while that is less than 8,192 bytes, and the disk is left alone.
 pub record Grows (old : Held) (version : Version) (text : List ℕ) (new : Held) : Type 0 where
   pub memory_is : new.memory ≡ with_version version old.memory
   pub catalog : new.catalog ≡ old.catalog
-  pub journal : new.journal ≡ written_out (filled old.journal text)
+  pub journal : new.journal ≡ after_command (by_hand old version.keyspace_id) old.journal text
   pub faults : old.disk.faults ≤ new.disk.faults
+  pub waits : goes_out (by_hand old version.keyspace_id) (length (old.journal.buffer ++ text)) ≡ false → new.disk ≡ old.disk
 
 -- All that waited in the buffer is in the journal's file; memory is as before.
 pub record HandsOver (old new : Held) : Type 0 where
@@ -106,7 +115,7 @@ is_io error = false
 
 -- where no refusal is due, a fault may be told, or want of memory, or that an option's value is too long to be stored
 abbrev pub OwesFailure : Held → Call → Error → Held → Type 0
-OwesFailure old call (Io kind) new = ChangesDisk call × Poisons old new
+OwesFailure old call (Io kind) new = ChangesDisk (facts_of old.memory old.catalog.next_table_id) (length old.journal.buffer) call × Poisons old new
 OwesFailure old call OutOfMemory new = TakesMemory call × (new ≡ old)
 OwesFailure old call ValueTooLong new = TooLong (store_in old) call × (new ≡ old)
 OwesFailure old call error new = ⊥
@@ -173,18 +182,37 @@ DiskFailed old (RemoveWeak id key) new = TookWrite old id key op.RemoveWeak new
 DiskFailed old (Persist mode) new = TookPart old.disk new.disk old.journal.name old.journal.buffer ⊎ Took old.disk new.disk (persist_steps old.journal mode)
 DiskFailed old call new = ⊥
 
--- What the disk took of a call: of a removal changes in `keyspaces` alone; the batch's text behind what waited in the
--- buffer; the buffer and a sync where the mode asks for one; and else nothing. Of a creation and a deletion the clause on
--- crashes tells.
+-- the table that the catalog names is safe in tree 0's folder
+abbrev pub HasTable : disk.State → Catalog → Type 0
+HasTable state c = IfSome c.table (λ t. (bytes : List ℕ) × IsSafe state (table_name 0 t.id) bytes)
+
+-- Tree 0 has another table: the one of before stands there no more, and wherever the core stood, the one that the catalog
+-- names now is safe there.
+pub record ReplacesTable (old new : Held) : Type 0 where
+  pub gone : IsTableGone (state_in new.disk) old.catalog
+  pub there : (s : State) (d : Durable) → StandsFor old s → StandsOn old d → HasTable (state_in new.disk) new.catalog
+
+-- With the last handle of a deleted keyspace its folder is removed for good, unless the core is poisoned. With each other
+-- one nothing is done.
+abbrev pub RemovesLast : Held → ℕ → Held → Type 0
+RemovesLast old id new = MatchBool (is_last old.memory id && not old.memory.poisoned) (IsRemoved id (state_in new.disk) × Within (codes "keyspaces") old.disk new.disk) (new.disk ≡ old.disk)
+
+-- what a disk took of a write that was done: what waited in the buffer and the batch's text, or nothing where that waits too
+abbrev pub WroteOut : Held → ℕ → Bytes → Op → Held → Type 0
+WroteOut old id key o new = Took old.disk new.disk (command_steps (by_hand old id) old.journal (op_text id key o old.memory.next))
+
+-- What the disk took of a call: of a creation of a name that none had, and of a deletion of a keyspace that lived, another
+-- table of tree 0, where the clause on crashes tells the rest; of a release the removal of files; the batch's text behind
+-- what waited in the buffer, where it doesn't wait too; the buffer and a sync where the mode asks for one; and else nothing.
 abbrev pub OnDisk : Held → Call → Reply → Held → Type 0
 OnDisk old call (Refused (Io kind)) new = DiskFailed old call new
 OnDisk old call (Refused error) new = new.disk ≡ old.disk
-OnDisk old (Keyspace name options) (Number id) new = Unit {0}
-OnDisk old (DeleteKeyspace id) Done new = Unit {0}
-OnDisk old (Release id) Done new = Within (codes "keyspaces") old.disk new.disk
-OnDisk old (Insert id key value) Done new = Took old.disk new.disk (appending old.journal.name (old.journal.buffer ++ op_text id key (op.Put value) old.memory.next))
-OnDisk old (Remove id key) Done new = Took old.disk new.disk (appending old.journal.name (old.journal.buffer ++ op_text id key op.Remove old.memory.next))
-OnDisk old (RemoveWeak id key) Done new = Took old.disk new.disk (appending old.journal.name (old.journal.buffer ++ op_text id key op.RemoveWeak old.memory.next))
+OnDisk old (Keyspace name options) (Number id) new = MatchOption (id_of name old.memory.keyspaces.living) (ReplacesTable old new) (λ found. new.disk ≡ old.disk)
+OnDisk old (DeleteKeyspace id) Done new = MatchBool (is_living (store_in old) id) (ReplacesTable old new) (new.disk ≡ old.disk)
+OnDisk old (Release id) Done new = RemovesLast old id new
+OnDisk old (Insert id key value) Done new = WroteOut old id key (op.Put value) new
+OnDisk old (Remove id key) Done new = WroteOut old id key op.Remove new
+OnDisk old (RemoveWeak id key) Done new = WroteOut old id key op.RemoveWeak new
 OnDisk old (Persist mode) Done new = Took old.disk new.disk (persist_steps old.journal mode)
 OnDisk old call reply new = new.disk ≡ old.disk
 
@@ -230,7 +258,8 @@ abbrev pub Runs : Held → List Call → List Reply → Held → Type 0
 Runs old calls replies new = (s : State) → StandsFor old s → (t : State) × StandsFor new t × Run s calls replies t
 
 -- Calls one after another over a disk that may crash. At any moment a crash leaves the base with a beginning of what was
--- pending and what was tried. After a sync that succeeded it leaves all that was tried up to that call.
+-- pending and what was tried. After a sync that succeeded it leaves all that was tried up to that call. Each step put at a
+-- name only what may stand there.
 pub record RunsOn (old : Held) (calls : List Call) (replies : List Reply) (new : Held) (s : State) (d : Durable) : Type 0 where
   pub tried : List Command
   pub state : State
@@ -241,6 +270,7 @@ pub record RunsOn (old : Held) (calls : List Call) (replies : List Reply) (new :
   pub accepted : Tried s tried state
   pub any_moment : LeavesOnly old.disk new.disk (StandsAmid d.base [] (d.pending ++ tried))
   pub synced : (i : ℕ) → IsSyncAt s d calls replies tried state durable run i → SafeAt s d calls replies i tried new.disk
+  pub kinds : StaysTidy old.disk new.disk
 
 -- the same from whatever state, base and pending the core stood for and on
 abbrev pub RunsSafely : Held → List Call → List Reply → Held → Type 0
@@ -250,8 +280,12 @@ RunsSafely old calls replies new = (s : State) (d : Durable) → StandsFor old s
 
 -- The disk holds a folder of this store, whatever a crash leaves of it; where that folder's making was cut short, so is
 -- whatever may come back in a folder that is made anew.
+abbrev pub HoldsFolderOf : disk.State → Store → Type 0
+HoldsFolderOf state store = (folder : Option Contents) × Holds state folder × ComesBack state folder × (store ≡ store_held folder)
+
+-- the same, and nothing stands in the way of what an engine makes and removes
 abbrev pub HoldsStore : disk.State → Store → Type 0
-HoldsStore state store = (folder : Option Contents) × Holds state folder × ComesBack state folder × (store ≡ store_held folder)
+HoldsStore state store = HoldsFolderOf state store × IsTidy state
 
 -- What closing owes whatever the disk is: the cause of each refusal; a poisoned core leaves the disk alone.
 abbrev pub OwesClosing : Held → Result Unit Error → Meaning → Type 0
@@ -267,13 +301,14 @@ ClosesDisk old (Err (Io kind)) disk = TookPart old.disk disk old.journal.name ol
 ClosesDisk old (Err error) disk = disk ≡ old.disk
 
 -- What closing leaves: a crash during it leaves the base with a beginning of what was pending. Where it succeeds, the
--- disk holds the present store.
+-- disk holds the present store. Each step put at a name only what may stand there.
 pub record Closes (s : State) (d : Durable) (result : Result Unit Error) (disk : Meaning) : Type 0 where
   pub after : Durable
   pub same : after.meaning ≡ disk
   pub passes : Passes d [] after
   pub closed : OnOk result (HoldsStore (state_in disk) (kept (present s)))
   pub device : BlamesDevice (reply_of result) d.meaning disk
+  pub kinds : StaysTidy d.meaning disk
 
 -- the same from whatever state, base and pending the core stood for and on
 abbrev pub ClosesSafely : Held → Result Unit Error → Meaning → Type 0

@@ -1,9 +1,10 @@
 //! The core: one machine over a disk.
 
-ghost use Rattle.std.specs.Prelude.{◌≡◌, ◌≤◌, ◌<◌, ◌+◌, ◌^◌, ◌++◌, ◌∷◌, [], Some, None, Err, ℕ, IsTrue, IsErrOf, IfOk, IfErr, IsOkUnless, OnOk, OnErr, false, true, if◌then◌else◌, Result, length, List};
+ghost use Rattle.std.specs.Prelude.{◌≡◌, ◌≤◌, ◌<◌, ◌+◌, ◌^◌, ◌++◌, ◌∷◌, [], Some, None, Err, ℕ, IsTrue, IsErrAnd, IsErrOf, IfOk, IfErr, IsOkUnless, OnOk, OnErr, false, true, if◌then◌else◌, Result, length, List};
 ghost use Rattle.std.specs.FinMap.{len};
 ghost use Rattle.fjall_base.specs.Disk.{Meaning, standing, state_in};
-ghost use Rattle.fjall_base.specs.Store.{Store};
+ghost use Rattle.fjall_base.specs.declared.error.Error.{Error};
+ghost use Rattle.fjall_base.specs.Store.{Store, Command};
 ghost use Rattle.fjall_journal.specs.Spelling.{item_refusal};
 ghost use Rattle.fjall_journal.specs.Batches.{batch_text, of_item};
 ghost use Rattle.fjall_machine.specs.Changes.{op_of, call_of};
@@ -13,9 +14,11 @@ ghost use Rattle.fjall_machine.specs.declared.call.Call.TheVariants.{Keyspace, D
 ghost use Rattle.fjall_machine.specs.declared.call.Reply.TheVariants.{Flag, Number};
 ghost use Rattle.fjall_keyspaces.specs.Keyspaces.{id_of};
 ghost use Rattle.fjall_machine.specs.Remembered.{IsLawful, poisoned};
-ghost use Rattle.fjall_opening.specs.Refusals.{HasRisen};
+ghost use Rattle.fjall_opening.specs.Refusals.{AreOne, FolderRefuses, HasRisen, IsDue, IsOpeningRefusal};
 ghost use Rattle.fjall_repair.specs.Sweeps.{IsSwept};
-ghost use Rattle.fjall_core.specs.Openings.{IsDueTo, KeepsStore, Opens, OpensAs, OpensOn};
+ghost use Rattle.fjall_recovery.specs.Tidy.{IsTidy, StaysTidy};
+ghost use Rattle.fjall_core.specs.Crashes.{BlamesDevice};
+ghost use Rattle.fjall_core.specs.Openings.{IsDueTo, KeepsStore, Opens, OpensAs, OpensOn, HoldsPending, OpensAmid, StaysAmid};
 ghost use Rattle.fjall_core.specs.Turns.{Makes, Removes, Unmakes, Writes};
 ghost use Rattle.fjall_core.specs.Standing.{HoldsStore, StandsFor, held_due, is_io, Owes, OwesAll, Serves, Runs, RunsSafely, OwesClosing, ClosesDisk, ClosesSafely, names_reply, number_reply, pairs_reply, reply_of, store_in, value_reply};
 
@@ -68,12 +71,25 @@ impl<D: Disk> Core<D> {
         ensures any_moment { IsTrue D.honest → IfOk result (λ core. KeepsStore (D.meaning disk) core.disk) }
         ensures any_moment_err { IsTrue D.honest → IfErr result (λ refused. KeepsStore (D.meaning disk) (D.meaning refused.value)) }
         // Nothing is left that no record names.
-        ensures swept { IsTrue D.honest → IfOk result (λ core. IsSwept (state_in (D.meaning disk)) (state_in core.disk) core.memory.keyspaces.living) }
+        ensures swept { IsTrue D.honest → IfOk result (λ core. IsSwept (state_in (D.meaning disk)) (state_in core.disk) core.catalog core.memory.keyspaces.living) }
         ensures stands { IfOk result (λ core. (store : Store) × (next : ℕ) × Opens core store next) }
         ensures later { IfOk result (λ core. (D.meaning disk).faults ≤ core.disk.faults) }
         ensures later_err { IfErr result (λ refused. (D.meaning disk).faults ≤ (D.meaning refused.value).faults) }
         ensures risen { IfErr result (λ refused. HasRisen (D.meaning disk).faults (D.meaning refused.value).faults refused.error) }
         ensures due { IsTrue D.honest → IfErr result (λ refused. IsDueTo (D.meaning disk) (D.meaning refused.value) refused.error) }
+        // Where the folder is refused, this is refused with that error, unless memory runs out or the disk fails.
+        ensures refuses { IsTrue D.honest → (error : Error) → FolderRefuses (standing (state_in (D.meaning disk))) error → IsErrAnd result (λ refused. IsDue (AreOne error) refused.error) }
+        // Over any disk at all it is refused with one of these alone.
+        ensures listed { IfErr result (λ refused. IsOpeningRefusal refused.error) }
+        ensures kinds { IsTrue D.honest → IfOk result (λ core. StaysTidy (D.meaning disk) core.disk) }
+        ensures kinds_err { IsTrue D.honest → IfErr result (λ refused. StaysTidy (D.meaning disk) (D.meaning refused.value)) }
+        // Where nothing stands in the way, no call of the disk was one that no disk can serve.
+        ensures served { IsTrue D.honest → IsTidy (state_in (D.meaning disk)) → IfOk result (λ core. core.disk.misuses ≡ (D.meaning disk).misuses) }
+        ensures device { IsTrue D.honest → IsTidy (state_in (D.meaning disk)) → IfErr result (λ refused. BlamesDevice (reply_of (Err refused.error)) (D.meaning disk) (D.meaning refused.value)) }
+        // The same of a disk of which a crash may leave different stores, as a core without a fault leaves it, or an opening
+        // that was refused.
+        ensures amid { IsTrue D.honest → (base : Store) (pending : List Command) → HoldsPending (state_in (D.meaning disk)) base pending → IfOk result (λ core. OpensAmid (D.meaning disk) core base pending) }
+        ensures amid_err { IsTrue D.honest → (base : Store) (pending : List Command) → HoldsPending (state_in (D.meaning disk)) base pending → IfErr result (λ refused. StaysAmid (D.meaning disk) (D.meaning refused.value) base pending) }
     {
         drop(config);
         let mut disk = disk;
@@ -270,10 +286,12 @@ impl<D: Disk> Core<D> {
         ensures writes { Writes (IsTrue D.honest) self.old version (of_item id key.now value.now value_type self.old.memory.next) value_type result self.new }
     {
         let seqno = self.memory.seqno();
+        let by_hand = self.memory.persists_by_hand(id);
         self.memory.remember(version)?;
         let written = write_through(
             &mut self.journal,
             &mut self.disk,
+            by_hand,
             id,
             key,
             value,
@@ -301,8 +319,10 @@ impl<D: Disk> Core<D> {
         self.write(id, version, key, value, change.value_type())
     }
 
-    /// Gives a key of a keyspace a value, under the next number, and hands the command to the system. A crash may
-    /// still lose it until the journal is synced.
+    /// Gives a key of a keyspace a value, under the next number, and hands the command to the system, with all that
+    /// waited in the journal's buffer. Where the keyspace's option `manual_journal_persist` is set, the command waits in
+    /// the buffer while that has less than 8,192 bytes, and the disk is left alone. A crash may lose it until the journal
+    /// is synced.
     ///
     /// Refusals, the first that has its cause: `KeyEmpty`, `KeyTooLong` (above 65,535 bytes), `ValueTooLong` (above
     /// 4,294,967,295), `UnknownKeyspace`, `KeyspaceDeleted`, `Poisoned`, `NumbersUsedUp`, `OutOfMemory`, and `Io`,
@@ -331,8 +351,8 @@ impl<D: Disk> Core<D> {
         self.change(id, key, Change::RemoveWeak)
     }
 
-    /// Writes the journal's buffer out and, in the two sync modes, syncs the journal: what was accepted before then
-    /// outlives a crash.
+    /// Writes the journal's buffer out, in which commands wait of keyspaces that persist by hand, and in the two sync
+    /// modes syncs the journal: what was accepted before then outlives a crash.
     ///
     /// Refusals: `Poisoned`, and `Io`, after which the core is poisoned.
     pub fn persist(&mut self, mode: PersistMode) -> Result<()>

@@ -12,6 +12,7 @@ pub use fjall_journal::PersistMode;
 pub use fjall_machine::{Call, Reply, View};
 pub use fjall_versions::{KeyRange, Version};
 pub use laws::{
-    a_crash_amid_holds, a_life_holds, an_owed_call_steps, crash_holds, holds_through_crash,
+    a_core_holds_amid, a_crash_amid_holds, a_finished_disk_holds_amid, a_life_holds,
+    an_owed_call_steps, crash_holds, each_step_is_tidy, holds_store_amid, holds_through_crash,
     lives_hold, new_disk_holds, owed_calls_run,
 };

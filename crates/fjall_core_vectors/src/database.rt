@@ -34,6 +34,13 @@ impl<D: Disk> Database<D> {
         self.core.keyspace(name, options)
     }
 
+    /// The same, but that the writes of a keyspace that is made are persisted by hand.
+    pub fn keyspace_by_hand(&mut self, name: &[u8]) -> Result<u64> {
+        let options = KeyspaceCreateOptions::default(self.alloc)?;
+        self.core
+            .keyspace(name, options.manual_journal_persist(true))
+    }
+
     pub fn delete_keyspace(&mut self, id: u64) -> Result<()> {
         self.core.delete_keyspace(id)
     }

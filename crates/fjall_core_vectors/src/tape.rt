@@ -70,6 +70,8 @@ impl<D: Disk> Disk for Tape<D> {
 
     ghost meaning = { λ tape. D.meaning tape.disk };
 
+    ghost housed = { λ tape honest. D.housed tape.disk honest };
+
     fn faults(&self) -> u64 {
         self.disk.faults()
     }

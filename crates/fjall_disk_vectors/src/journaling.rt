@@ -28,6 +28,7 @@ fn a_batch_follows_what_waits(rt: HostRuntime) -> Result<(), Fail> {
     write_through(
         &mut journal,
         &mut disk,
+        false,
         3,
         b"k",
         b"",
@@ -39,6 +40,32 @@ fn a_batch_follows_what_waits(rt: HostRuntime) -> Result<(), Fail> {
     want.extend_from_slice(&INSERT)?;
     want.extend_from_slice(&REMOVAL)?;
     assert_eq!(rt; text.as_slice(), want.as_slice());
+    Ok(())
+}
+
+#[test]
+fn a_batch_by_hand_waits(rt: HostRuntime) -> Result<(), Fail> {
+    let alloc = rt.alloc();
+    let mut disk = MemoryDisk::new(alloc);
+    let mut journal = Writer::create_new(alloc, &mut disk, NAME)?;
+    let mut sizes = Vec::new(alloc);
+    for by_hand in [true, true, false] {
+        write_through(
+            &mut journal,
+            &mut disk,
+            by_hand,
+            3,
+            b"k",
+            b"v1",
+            ValueType::Value,
+            5,
+        )?;
+        sizes.push((journal.len(), journal.pos()))?;
+    }
+    assert_eq!(rt;
+        sizes.as_slice(),
+        [(0, 50), (0, 100), (150, 150)].as_slice()
+    );
     Ok(())
 }
 

@@ -1,5 +1,5 @@
 -- The append side of a journal: what a writer holds, and what its calls make of it and of the disk.
-use Rattle.std.specs.Prelude.{◌≡◌, ◌≢◌, ◌⊎◌, ℕ, ◌+◌, ◌-◌, ◌^◌, min, List, [], ◌∷◌, ◌++◌, length, nat_le, if◌then◌else◌}
+use Rattle.std.specs.Prelude.{◌≡◌, ◌≢◌, ◌⊎◌, ℕ, ◌+◌, ◌-◌, ◌^◌, min, Bool, not, ◌||◌, List, [], ◌∷◌, ◌++◌, length, nat_le, if◌then◌else◌}
 use Rattle.fjall_base.specs.Disk.{Name, Meaning, File, Step, Append, Sync, Took, TookPart, making, state_in}
 use Rattle.fjall_base.specs.declared.error.Error.{Error}
 use Rattle.fjall_base.specs.declared.error.Error.TheVariants.{Io}
@@ -36,6 +36,19 @@ after_write j text = if nat_le 8192 (length (j.buffer ++ text)) then written_out
 -- what a write of this text does to the disk
 abbrev pub write_steps : Journal → List ℕ → List Step
 write_steps j text = if nat_le 8192 (length (j.buffer ++ text)) then Append j.name (j.buffer ++ text) ∷ [] else []
+
+-- whether a command that leaves so many bytes in the buffer writes it out: where it is persisted by hand, from 8,192 bytes
+-- on, and else always
+abbrev pub goes_out : Bool → ℕ → Bool
+goes_out by_hand count = not by_hand || nat_le 8192 count
+
+-- the journal after a command of this text: its buffer is in the file, or the text waits in the buffer
+abbrev pub after_command : Bool → Journal → List ℕ → Journal
+after_command by_hand j text = if goes_out by_hand (length (j.buffer ++ text)) then written_out (filled j text) else filled j text
+
+-- what a command of this text does to the disk
+abbrev pub command_steps : Bool → Journal → List ℕ → List Step
+command_steps by_hand j text = if goes_out by_hand (length (j.buffer ++ text)) then appending j.name (j.buffer ++ text) else []
 
 -- a sync, where the mode asks for one
 abbrev pub syncing : Name → PersistMode → List Step

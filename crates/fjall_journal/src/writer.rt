@@ -1,6 +1,6 @@
 //! The append side of a journal: batches go into a buffer, and the buffer to the end of a file.
 
-ghost use Rattle.std.specs.Prelude.{◌≡◌, ◌⊎◌, ◌+◌, ◌++◌, [], ◌∷◌, length, take, OnOk, OnErr, IfOk, IfErr, IsOk, IsErrOf, IsOkUnless, IsTrue, MatchOption, Err};
+ghost use Rattle.std.specs.Prelude.{◌≡◌, ◌⊎◌, ◌+◌, ◌<◌, ◌++◌, [], ◌∷◌, length, take, OnOk, OnErr, IfOk, IfErr, IsOk, IsErrOf, IsOkUnless, IsTrue, MatchOption, None, Err};
 ghost use Rattle.fjall_base.specs.Disk.{CanCreate, IsFile, Sync, Took, TookPart, HasCause, OnlyFaults, state_in};
 ghost use Rattle.fjall_journal.specs.Spelling.{item_refusal};
 ghost use Rattle.fjall_journal.specs.Batches.{batch_text, of_item, IsWritten};
@@ -168,6 +168,9 @@ impl Writer {
         ensures untouched { IsErrOf result Error.OutOfMemory → D.meaning disk.new ≡ D.meaning disk.old }
         ensures served { IsTrue D.honest → IsFile (state_in (D.meaning disk.old) self.old.name).now → (D.meaning disk.new).misuses ≡ (D.meaning disk.old).misuses }
         ensures cause { MatchOption (item_refusal key.now value.now) (HasCause (D.meaning disk.old) (D.meaning disk.new) result) (λ e. (result ≡ Err e) × (D.meaning disk.new ≡ D.meaning disk.old)) }
+        // Below 8,192 bytes nothing goes to the disk, and no fault can come.
+        ensures waits { length (self.old.buffer ++ batch_text (of_item keyspace_id key.now value.now value_type seqno)) < 8192 → D.meaning disk.new ≡ D.meaning disk.old }
+        ensures faultless { length (self.old.buffer ++ batch_text (of_item keyspace_id key.now value.now value_type seqno)) < 8192 → item_refusal key.now value.now ≡ None → IsOkUnless result Error.OutOfMemory }
     {
         let before = self.buffer.len();
         let count = put_batch(&mut self.buffer, keyspace_id, key, value, value_type, seqno)?;

@@ -1,5 +1,5 @@
 -- The batches of a database's journals, and one more behind them.
-use Rattle.std.proofs.Common.{◌≡◌, ◌||◌, nat_lt, nat_le, ℕ, ◌+◌, ◌^◌, ◌<◌, ◌≤◌, false, if◌then◌else◌, List, [], ◌∷◌, ◌++◌, map, Option, None, Some, refl, sym, ◌∙◌, ap, arith, append_assoc}
+use Rattle.std.proofs.Common.{◌≡◌, ◌||◌, nat_lt, nat_le, ℕ, ◌+◌, ◌^◌, ◌<◌, ◌≤◌, Bool, false, if◌then◌else◌, List, [], ◌∷◌, ◌++◌, map, Option, None, Some, refl, sym, ◌∙◌, ap, arith, append_assoc}
 use Rattle.std.proofs.lemmas.List.{append-nil, map-append}
 use Rattle.std.proofs.lemmas.Bool.Decides.{nat_tests}
 use Rattle.std.proofs.lemmas.Grind.{flat_map-append}
@@ -29,8 +29,8 @@ batches-more j more =
 -- ---- one batch more
 
 -- the least number behind it
-pub next-batch : (j : Journaling) (batch : Written) → next_number (with_batch j batch) ≡ batch.number + 1
-next-batch j batch =
+pub next-batch : (out : Bool) (j : Journaling) (batch : Written) → next_number (with_batch out j batch) ≡ batch.number + 1
+next-batch out j batch =
     let before = batches_in (journals_with j j.later) in
     ap (λ (l : List Written). least_after 0 (map shown l)) (batches-more j (batch ∷ []))
     ∙ ap (least_after 0) (map-append shown before (batch ∷ [])) ∙ least_after-append 0 (map shown before) (shown batch ∷ [])

@@ -5,3 +5,4 @@ pub mod Leaving
 pub mod Writing
 pub mod Results
 pub mod Filed
+pub mod Tidied

@@ -6,7 +6,7 @@ use Rattle.std.proofs.lemmas.List.Folds.{list_any-append}
 use Rattle.std.proofs.lemmas.List.Kept.{AllPairs-from_increasing}
 use Rattle.std.proofs.lemmas.Bool.{true≢false}
 use Rattle.std.proofs.lemmas.Fmt.{decimal_injective}
-use Rattle.std.proofs.Math.Seq.{take-append-add}
+use Rattle.std.proofs.Math.Seq.{take-append-add, take-append_seam}
 use Rattle.std.specs.List.{AllByRecursion, AllPairs, list_any}
 use Rattle.std.specs.List.Sorted.{IsStrictlyIncreasing}
 use Rattle.fjall_base.specs.Disk.{State}
@@ -145,6 +145,19 @@ module _ (state new : State) (writer : journal.Journal) (j : Journaling) (more :
         root = more_in (length all) (place ∙ ap (place_of (texts_of j.whole)) (bytes ∙ sym full));
         name = name ∙ writing.name;
         exact = ap (λ (l : List ℕ). take (length all) all ++ l) empty ∙ append-nil (take (length all) all) ∙ full;
+      }
+
+  -- nothing went out: their texts wait behind the buffer's
+  pub waiting_goes_on : (now : journal.Journal) → new (journal_name j.active) ≡ state (journal_name j.active) → now.name ≡ writer.name → now.buffer ≡ writer.buffer ++ texts_of more
+      → IsWriting new now (record j { later = j.later ++ more; cut = length part })
+  waiting_goes_on now place name behind =
+      let all = texts_of (j.later ++ more) in
+      let parts : all ≡ part ++ (writer.buffer ++ texts_of more) = texts-append j.later more ∙ ap (λ (l : List ℕ). l ++ texts_of more) (sym writing.exact) ∙ append_assoc part writer.buffer (texts_of more) in
+      let front : take (length part) all ≡ part = ap (take (length part)) parts ∙ take-append_seam part (writer.buffer ++ texts_of more) in
+      record {
+        root = more_in (length part) (place ∙ writing.root.active ∙ ap (place_of (texts_of j.whole)) (sym front));
+        name = name ∙ writing.name;
+        exact = ap (λ (l : List ℕ). l ++ now.buffer) front ∙ ap (λ (l : List ℕ). part ++ l) behind ∙ sym parts;
       }
 
 -- a writer with nothing in its buffer, where all are synced

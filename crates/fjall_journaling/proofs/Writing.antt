@@ -1,20 +1,23 @@
 -- One batch more goes out, behind what waits.
-use Rattle.std.proofs.Common.{◌≡◌, ◌==◌, inl, inr, nat_le, ℕ, ◌^◌, ◌<◌, Bool, true, false, cond, if◌then◌else◌, List, [], ◌∷◌, ◌++◌, length, None, Some, refl, sym, subst, arith}
+use Rattle.std.proofs.Common.{◌≡◌, ◌==◌, inl, inr, nat_le, ℕ, ◌+◌, ◌^◌, ◌<◌, Bool, true, false, cond, if◌then◌else◌, List, [], ◌∷◌, ◌++◌, length, None, Some, refl, sym, ◌∙◌, ap, subst, arith}
 use Rattle.std.proofs.lemmas.List.{append-nil}
+use Rattle.std.proofs.lemmas.Bool.{true≢false}
 use Rattle.std.proofs.lemmas.Bool.Decides.{nat_tests}
 use Rattle.std.specs.List.{AllByRecursion}
-use Rattle.fjall_base.specs.Disk.{Append, Meaning, Took, TookPart, LeavesOnly, state_in}
+use Rattle.fjall_base.specs.Disk.{Append, Meaning, State, Took, TookPart, LeavesOnly, state_in}
 use Rattle.fjall_base.specs.declared.error.Error.{Error}
 use Rattle.fjall_journal.specs.declared.entry.ValueType.{ValueType}
 use Rattle.fjall_journal.specs.declared.persist_mode.PersistMode.TheVariants.{Buffer}
 use Rattle.fjall_journal.specs.Batches.{Written, IsWritten, batch_text, of_item}
 use Rattle.fjall_journal.specs.Spelling.{item_refusal}
-use Rattle.fjall_journal.specs.Writer.{Journal, after_write, appending, filled, persist_steps, write_steps, written_out, PersistTook}
+use Rattle.fjall_journal.specs.Writer.{Journal, after_write, appending, command_steps, counted, filled, goes_out, persist_steps, write_steps, written_out, PersistTook}
+use Rattle.fjall_recovery.specs.Names.{journal_name}
 use Rattle.fjall_places.specs.Places.{Journaling, texts_of}
 use Rattle.fjall_journaling.specs.Journaling.{CanFollow, IsWriting, LeavesRoot, with_batch}
 use Rattle.fjall_journaling.proofs.Batches.{batch_sound}
-use Rattle.fjall_journaling.proofs.Changes.{appending_is, took_on}
+use Rattle.fjall_journaling.proofs.Changes.{appending_is, took_on, whole_part}
 use Rattle.fjall_journaling.proofs.Leaving.{appended_all, leaves_part}
+use Rattle.fjall_journaling.proofs.Lying.{waiting_goes_on}
 
 -- ---- a write and the persist behind it
 
@@ -44,6 +47,44 @@ part_by false writer now text old mid new first some (inr (out, other, rest)) = 
 -- where the second half failed, some beginning went out at most
 pub half_written : (writer now : Journal) (text : List ℕ) (old mid new : Meaning) → Took old mid (write_steps writer text) → ((after_write writer text).buffer ≡ [] → ⊥) → PersistTook (after_write writer text) now Buffer mid new → TookPart old new writer.name (writer.buffer ++ text)
 half_written writer now text old mid new = part_by (nat_le 8192 (length (writer.buffer ++ text))) writer now text old mid new
+
+out_by : (full : Bool) (writer : Journal) (text : List ℕ) → written_out (cond full (written_out (filled writer text)) (filled writer text)) ≡ written_out (filled writer text)
+out_by true writer text = let same : counted (counted (writer.len + length (writer.buffer ++ text)) + 0) ≡ counted (writer.len + length (writer.buffer ++ text)) = omega arith in λ i. record { name = writer.name; buffer = []; len = same i }
+out_by false writer text = refl
+
+-- what went out already is written out
+pub twice_out : (writer : Journal) (text : List ℕ) → written_out (after_write writer text) ≡ written_out (filled writer text)
+twice_out writer text = out_by (nat_le 8192 (length (writer.buffer ++ text))) writer text
+
+-- ---- a write that is persisted by hand
+
+steps_by : (full : Bool) (writer : Journal) (text : List ℕ) → (full ≡ true → 0 < length (writer.buffer ++ text)) → cond full (Append writer.name (writer.buffer ++ text) ∷ []) [] ≡ cond full (appending writer.name (writer.buffer ++ text)) []
+steps_by true writer text some = appending_is writer.name (writer.buffer ++ text) (some refl)
+steps_by false writer text some = refl
+
+-- it does what the write does alone
+pub by_hand_steps : (writer : Journal) (text : List ℕ) → write_steps writer text ≡ command_steps true writer text
+by_hand_steps writer text = steps_by (nat_le 8192 (length (writer.buffer ++ text))) writer text (long (length (writer.buffer ++ text)))
+
+short : (n : ℕ) → nat_le 8192 n ≡ false → n < 8192
+short n test = grind (arith, nat_tests)
+
+-- what waits is less than 8,192 bytes
+pub waits_below : (by_hand : Bool) (n : ℕ) → goes_out by_hand n ≡ false → n < 8192
+waits_below true n test = short n test
+waits_below false n test = absurd (true≢false test)
+
+-- and is persisted by hand
+pub waits_by_hand : (by_hand : Bool) (n : ℕ) → by_hand ≡ false → goes_out by_hand n ≡ false → ⊥
+waits_by_hand by_hand n other test = true≢false (sym (ap (λ b. goes_out b n) other) ∙ test)
+
+part_of : (out : Bool) (old new : Meaning) (name bytes : List ℕ) → Took old new (cond out (appending name bytes) []) → TookPart old new name bytes
+part_of true old new name bytes took = whole_part old new name bytes took
+part_of false old new name bytes took = inl took
+
+-- all went out, or nothing
+pub command_part : (by_hand : Bool) (writer : Journal) (text : List ℕ) (old new : Meaning) → Took old new (command_steps by_hand writer text) → TookPart old new writer.name (writer.buffer ++ text)
+command_part by_hand writer text old new = part_of (goes_out by_hand (length (writer.buffer ++ text))) old new writer.name (writer.buffer ++ text)
 
 -- ---- an item that isn't refused
 
@@ -84,7 +125,18 @@ module _ (old new : Meaning) (writer : Journal) (j : Journaling) (id : ℕ) (key
       leaves_part old new writer j (batch ∷ []) writing each (batch_sound j id key value kind seqno can writing.root.sound)
       (subst (λ (l : List ℕ). TookPart old new writer.name (writer.buffer ++ l)) (sym one_text) part)
 
-  pub batch_out : (now : Journal) → Took old new (appending writer.name (writer.buffer ++ batch_text batch)) → now.name ≡ writer.name → now.buffer ≡ [] → IsWriting (state_in new) now (with_batch j batch)
+  batch_out : (now : Journal) → Took old new (appending writer.name (writer.buffer ++ batch_text batch)) → now.name ≡ writer.name → now.buffer ≡ [] → IsWriting (state_in new) now (with_batch true j batch)
   batch_out now took =
       appended_all old new writer j (batch ∷ []) writing each (batch_sound j id key value kind seqno can writing.root.sound) now
       (subst (λ (l : List ℕ). Took old new (appending writer.name (writer.buffer ++ l))) (sym one_text) took)
+
+  batch_waits : (now : Journal) → Took old new [] → now.name ≡ writer.name → now.buffer ≡ writer.buffer ++ batch_text batch → IsWriting (state_in new) now (with_batch false j batch)
+  batch_waits now took named behind =
+      waiting_goes_on (state_in old) (state_in new) writer j (batch ∷ []) writing each (batch_sound j id key value kind seqno can writing.root.sound) (λ q other. ap (λ (s : State). s q) took.state) now
+      (ap (λ (s : State). s (journal_name j.active)) took.state) named (behind ∙ ap (λ (l : List ℕ). writer.buffer ++ l) (sym one_text))
+
+  -- the writer goes on, whether it went out or waits
+  pub batch_on : (out : Bool) (now : Journal) → Took old new (cond out (appending writer.name (writer.buffer ++ batch_text batch)) []) → now ≡ cond out (written_out (filled writer (batch_text batch))) (filled writer (batch_text batch))
+      → IsWriting (state_in new) now (with_batch out j batch)
+  batch_on true now took is = batch_out now took (ap (λ (w : Journal). w.name) is) (ap (λ (w : Journal). w.buffer) is)
+  batch_on false now took is = batch_waits now took (ap (λ (w : Journal). w.name) is) (ap (λ (w : Journal). w.buffer) is)

@@ -1,5 +1,5 @@
 -- The active journal of a database as it is written: batches go out behind those that stand, and are synced.
-use Rattle.std.specs.Prelude.{◌≡◌, ℕ, ◌<◌, ◌≤◌, ◌^◌, false, List, [], ◌∷◌, ◌++◌, length, map, take}
+use Rattle.std.specs.Prelude.{◌≡◌, ℕ, ◌<◌, ◌≤◌, ◌^◌, Bool, false, if◌then◌else◌, List, [], ◌∷◌, ◌++◌, length, map, take}
 use Rattle.fjall_base.specs.Disk.{State, Image, Survives}
 use Rattle.fjall_regions.specs.Regions.{IsImageIn}
 use Rattle.fjall_journal.specs.declared.entry.ValueType.{ValueType}
@@ -23,9 +23,12 @@ pub record IsWriting (state : State) (writer : Journal) (j : Journaling) : Type 
 abbrev pub handed : Journaling → Journaling
 handed j = record j { cut = length (texts_of j.later) }
 
--- one batch more, whose text is in the file with all before it
-abbrev pub with_batch : Journaling → Written → Journaling
-with_batch j batch = handed (record j { later = j.later ++ batch ∷ [] })
+-- one batch more: where it went out, all of the texts are in the file, and else it waits behind the bytes that are there
+abbrev pub with_batch : Bool → Journaling → Written → Journaling
+with_batch out j batch = record j {
+  later = j.later ++ batch ∷ [];
+  cut = if out then length (texts_of (j.later ++ batch ∷ [])) else length (take j.cut (texts_of j.later));
+}
 
 -- all of the batches are synced
 abbrev pub synced : Journaling → Journaling

@@ -1,6 +1,6 @@
 //! What holds of the active journal between two calls.
 
-ghost use Rattle.std.specs.Prelude.{◌≡◌, ◌+◌, []};
+ghost use Rattle.std.specs.Prelude.{◌≡◌, ◌+◌, Bool, []};
 ghost use Rattle.fjall_base.specs.Disk.{Image, IsImage, State};
 ghost use Rattle.fjall_journal.specs.Batches.{Written};
 ghost use Rattle.fjall_journal.specs.Writer.{Journal};
@@ -32,5 +32,5 @@ pub fn a_persist_keeps_all()
 
 /// The least number behind a batch is one more than the batch's.
 pub fn numbers_go_on()
-    ensures { (j : Journaling) (batch : Written) → next_number (with_batch j batch) ≡ batch.number + 1 }
+    ensures { (out : Bool) (j : Journaling) (batch : Written) → next_number (with_batch out j batch) ≡ batch.number + 1 }
 {}

@@ -4,3 +4,4 @@ pub mod Lawful
 pub mod Standing
 pub mod Dues
 pub mod Refusing
+pub mod ByHand

@@ -1,5 +1,5 @@
 -- The engine as a machine: what each call may answer, and the state after it.
-use Rattle.std.specs.Prelude.{◌≡◌, ◌⊎◌, ℕ, ◌+◌, ◌-◌, ◌≤◌, Any, Bool, true, false, nat_le, not, ◌==◌, ◌||◌, ◌&&◌, ◌^◌, if◌then◌else◌, List, [], ◌∷◌, ◌++◌, filter, length, Option, None, Some, unwrap_or, IsPermutation, IsSorted}
+use Rattle.std.specs.Prelude.{◌≡◌, ◌⊎◌, ℕ, ◌+◌, ◌-◌, ◌≤◌, Any, Bool, true, false, nat_le, not, ◌==◌, ◌||◌, ◌&&◌, ◌^◌, if◌then◌else◌, List, [], ◌∷◌, ◌++◌, codes, filter, length, Option, None, Some, unwrap_or, IsPermutation, IsSorted}
 use Rattle.std.specs.List.{list_any}
 use Rattle.std.specs.Str.{bytes_eq}
 use Rattle.std.specs.Ordering.{nat_cmp}
@@ -8,7 +8,8 @@ use Rattle.fjall_base.specs.Pairs.{Bytes, byte_order, lookup, pairs_between, pag
 use Rattle.fjall_base.specs.Store.{Store, Command, Options, Write, Create, Delete, apply, kept, map_at}
 use Rattle.fjall_base.specs.declared.error.Error.{Error}
 use Rattle.fjall_base.specs.declared.error.Error.TheVariants.{Io, Poisoned, KeyspaceDeleted, KeyEmpty, KeyTooLong, ValueTooLong, InvalidName, OutOfMemory, NumbersUsedUp, UnknownKeyspace}
-use Rattle.fjall_journal.specs.Writer.{counted}
+use Rattle.fjall_journal.specs.Writer.{counted, goes_out}
+use Rattle.fjall_meta.specs.Options.{is_set, value_of}
 use Rattle.fjall_keyspaces.specs.Keyspaces.{is_name}
 use Rattle.fjall_versions.specs.Replays.{option_pairs}
 use Rattle.fjall_machine.specs.declared.call.View.{View}
@@ -58,6 +59,13 @@ view_at s Present = present s
 abbrev pub written_out : Parts → ℕ → Parts
 written_out parts more = record parts { journal = counted (parts.journal + (parts.buffer + more)); buffer = 0 }
 
+-- so many bytes more were written: they and all that waited are in the file, or they wait too
+abbrev pub written : Bool → Parts → ℕ → Parts
+written out parts more = record parts {
+  journal = if out then counted (parts.journal + (parts.buffer + more)) else parts.journal;
+  buffer = if out then 0 else parts.buffer + more;
+}
+
 -- the write of one key
 abbrev pub write_of : ℕ → Bytes → Option Bytes → Command
 write_of id key value = Write (record { id = id; key = key; value = value } ∷ [])
@@ -98,6 +106,14 @@ one_less handles id = if handles_of handles id == 1 then remove handles id else 
 -- no more of the deleted keyspaces is read than those but this one
 abbrev pub without : List ℕ → ℕ → List ℕ
 without ids id = filter (λ other. not (other == id)) ids
+
+-- these settings say that writes are persisted by hand
+abbrev pub is_by_hand : Options → Bool
+is_by_hand options = is_set (unwrap_or (value_of (codes "manual_journal_persist") options) [])
+
+-- the keyspace lives, and its writes are persisted by hand
+abbrev pub persists_by_hand : Store → ℕ → Bool
+persists_by_hand s id = is_living s id && is_by_hand (unwrap_or (get s.options id) [])
 
 -- ---- what refuses a call
 
@@ -202,24 +218,29 @@ TakesMemory Seqno = ⊥
 TakesMemory VisibleSeqno = ⊥
 TakesMemory JournalDiskSpace = ⊥
 
--- a call that changes the disk
-abbrev pub ChangesDisk : Call → Type 0
-ChangesDisk (Keyspace name options) = Unit {0}
-ChangesDisk (DeleteKeyspace id) = Unit {0}
-ChangesDisk (Retain id) = ⊥
-ChangesDisk (Release id) = Unit {0}
-ChangesDisk (Insert id key value) = Unit {0}
-ChangesDisk (Remove id key) = Unit {0}
-ChangesDisk (RemoveWeak id key) = Unit {0}
-ChangesDisk (GetAt view id key) = ⊥
-ChangesDisk (PageAt view id range back max) = ⊥
-ChangesDisk (Persist mode) = Unit {0}
-ChangesDisk KeyspaceCount = ⊥
-ChangesDisk ListKeyspaceNames = ⊥
-ChangesDisk (KeyspaceExists name) = ⊥
-ChangesDisk Seqno = ⊥
-ChangesDisk VisibleSeqno = ⊥
-ChangesDisk JournalDiskSpace = ⊥
+-- the write of a key leaves the journal's buffer, in which so many bytes wait: its keyspace doesn't persist by hand, or
+-- 8,192 bytes or more wait with it
+abbrev pub leaves_buffer : Facts → ℕ → ℕ → Bytes → Op → Bool
+leaves_buffer f waiting id key o = goes_out (persists_by_hand f.store id) (waiting + length (op_text id key o f.next))
+
+-- a call that changes the disk, where so many bytes wait in the journal's buffer
+abbrev pub ChangesDisk : Facts → ℕ → Call → Type 0
+ChangesDisk f waiting (Keyspace name options) = Unit {0}
+ChangesDisk f waiting (DeleteKeyspace id) = Unit {0}
+ChangesDisk f waiting (Retain id) = ⊥
+ChangesDisk f waiting (Release id) = Unit {0}
+ChangesDisk f waiting (Insert id key value) = leaves_buffer f waiting id key (op.Put value) ≡ true
+ChangesDisk f waiting (Remove id key) = leaves_buffer f waiting id key op.Remove ≡ true
+ChangesDisk f waiting (RemoveWeak id key) = leaves_buffer f waiting id key op.RemoveWeak ≡ true
+ChangesDisk f waiting (GetAt view id key) = ⊥
+ChangesDisk f waiting (PageAt view id range back max) = ⊥
+ChangesDisk f waiting (Persist mode) = Unit {0}
+ChangesDisk f waiting KeyspaceCount = ⊥
+ChangesDisk f waiting ListKeyspaceNames = ⊥
+ChangesDisk f waiting (KeyspaceExists name) = ⊥
+ChangesDisk f waiting Seqno = ⊥
+ChangesDisk f waiting VisibleSeqno = ⊥
+ChangesDisk f waiting JournalDiskSpace = ⊥
 
 -- after a fault in a call that changes the disk the engine is poisoned, and its parts are not known
 pub record IsPoisoned (old new : State) : Type 0 where
@@ -253,7 +274,7 @@ TooLong s JournalDiskSpace = ⊥
 
 -- where none is due, memory may run out, the disk fail, or an option's value be too long to be stored
 abbrev pub MayFail : Call → Error → State → State → Type 0
-MayFail call (Io kind) old new = ChangesDisk call × IsPoisoned old new
+MayFail call (Io kind) old new = ChangesDisk (facts old) old.parts.buffer call × IsPoisoned old new
 MayFail call OutOfMemory old new = TakesMemory call × (new ≡ old)
 MayFail call ValueTooLong old new = TooLong (present old) call × (new ≡ old)
 MayFail call error old new = ⊥
@@ -265,11 +286,11 @@ Refuses None call error old new = MayFail call error old new
 
 -- ---- what a call does
 
--- a write was accepted: it is the next command, and its batch is in the journal's file
+-- A write was accepted: it is the next command, and its batch is in the journal's file with all that waited, or waits too.
 abbrev pub accepted : State → ℕ → Bytes → Op → State
 accepted s id key o = record s {
   history = grown s.history (write_of id key (value_in o));
-  parts = written_out s.parts (length (op_text id key o (number s.history)));
+  parts = written (leaves_buffer (facts s) s.parts.buffer id key o) s.parts (length (op_text id key o (number s.history)));
 }
 
 -- a keyspace of this name was made: that is the next command; the journal is written out, and tree 0 has a new table

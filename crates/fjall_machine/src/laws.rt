@@ -14,7 +14,7 @@ ghost use Rattle.fjall_machine.specs.declared.call.Reply.TheVariants.{Refused};
 ghost use Rattle.fjall_machine.specs.Ops.{Op};
 ghost use Rattle.fjall_machine.specs.Allowed.{MayCreate, MayDelete, MayWrite};
 ghost use Rattle.fjall_machine.specs.Machine as machine;
-ghost use Rattle.fjall_machine.specs.Machine.{Facts, IsPoisoned, Parts, State, Step, TakesMemory, accepted, created, creation_refusals, deleted, deletion_refusals, due, due_in, first_due, handles_of, has_name, is_living, one_more, opened_state, present, read_refusals, write_refusals};
+ghost use Rattle.fjall_machine.specs.Machine.{Facts, IsPoisoned, Parts, State, Step, TakesMemory, accepted, created, creation_refusals, deleted, deletion_refusals, due, due_in, first_due, handles_of, has_name, is_living, one_more, opened_state, persists_by_hand, present, read_refusals, write_refusals};
 ghost use Rattle.fjall_machine.specs.Remembered.{IsDueOrMemory, IsLawful, Remembered, StandsFor, facts_of, poisoned, released, retained, version_of, with_creation, with_deletion, with_version};
 
 /// What is held tells which refusal is due in each state that it stands for.
@@ -83,6 +83,11 @@ pub fn names_agree()
     ensures resolved { (m : Remembered) (table : ℕ) (s : State) → StandsFor m table s → (id : ℕ) (name : Bytes) → (get (present s).names id ≡ Some name) ↔ (id_of name m.keyspaces.living ≡ Some id) }
     ensures living { (m : Remembered) (table : ℕ) (s : State) → StandsFor m table s → (id : ℕ) → is_living (present s) id ≡ is_living (store_of m.keyspaces m.versions) id }
     ensures next { (m : Remembered) (table : ℕ) (s : State) → StandsFor m table s → (present s).next ≡ m.keyspaces.next }
+{}
+
+/// A keyspace of the present persists by hand where the one that is held does.
+pub fn options_agree()
+    ensures { (m : Remembered) (table : ℕ) (s : State) → StandsFor m table s → (id : ℕ) → persists_by_hand (present s) id ≡ persists_by_hand (store_of m.keyspaces m.versions) id }
 {}
 
 /// What was just opened stands for the state just opened.

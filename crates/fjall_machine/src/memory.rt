@@ -9,7 +9,7 @@ ghost use Rattle.fjall_keyspaces.specs.Keyspaces.{id_of, is_name};
 ghost use Rattle.fjall_versions.specs.declared.version.Version.{Version};
 ghost use Rattle.fjall_versions.specs.Versions.{newest, pairs_in, store_of};
 ghost use Rattle.fjall_machine.specs.declared.call.Call.TheVariants.{Retain};
-ghost use Rattle.fjall_machine.specs.Machine.{due_in, first_due, handles_of, has_name, is_among, is_living, is_read, is_unknown, one_less, read_refusals};
+ghost use Rattle.fjall_machine.specs.Machine.{due_in, first_due, handles_of, has_name, is_among, is_living, is_read, is_unknown, one_less, persists_by_hand, read_refusals};
 ghost use Rattle.fjall_machine.specs.Remembered.{IsDueOrMemory, IsLawful, Remembered, facts_of, is_last, let_go, poisoned, released, remembered, retained, with_creation, with_deletion, with_version};
 
 use fjall_base::{Error, KvPair, Result, Slice, UserValue};
@@ -184,6 +184,16 @@ impl Memory {
         ensures { result ≡ is_living (store_of self.now.keyspaces self.now.versions) id }
     {
         self.keyspaces.get(id).is_some()
+    }
+
+    /// Whether the keyspace of this id lives and persists by hand: its writes wait in the journal's buffer.
+    pub fn persists_by_hand(&self, id: u64) -> bool
+        ensures { result ≡ persists_by_hand (store_of self.now.keyspaces self.now.versions) id }
+    {
+        match self.keyspaces.options_of(id) {
+            Some(options) => options.effective().manual_journal_persist,
+            None => false,
+        }
     }
 
     /// Whether the keyspace of this id is deleted and still read.

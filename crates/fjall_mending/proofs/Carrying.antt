@@ -26,7 +26,7 @@ use Rattle.fjall_mending.proofs.Turns.{AreRight, AreSettled}
 
 -- ---- whatever a crash leaves has beginnings of what stands
 
-survived_text : (now left : Entry) → Survives now left → (n : ℕ) × (text_in left ≡ take n (text_in now))
+pub survived_text : (now left : Entry) → Survives now left → (n : ℕ) × (text_in left ≡ take n (text_in now))
 survived_text Missing left is = (0, ap text_in is)
 survived_text Folder left is = (0, ap text_in is)
 survived_text (File synced unsynced) left some = (length synced + some.0, ap text_in some.1 ∙ append-nil (synced ++ take some.0 unsynced) ∙ sym (take-append-add synced unsynced some.0))
@@ -50,7 +50,7 @@ images_stay s c sound image is = record {
 
 -- ---- files that were synced
 
-record Alike (e d : Entry) : Type 0 where
+pub record Alike (e d : Entry) : Type 0 where
   pub text : text_in d ≡ text_in e
   pub file : IsFile e → IsFile d
 
@@ -62,23 +62,24 @@ alike_synced Missing = record { text = refl; file = λ file. file }
 alike_synced Folder = record { text = refl; file = λ file. file }
 alike_synced (File synced unsynced) = record { text = append-nil (synced ++ unsynced); file = λ file. file }
 
-alike_same : (old new : Place) (before : Entry) → old.now ≡ before → IsSame old new → Alike before new.now
+pub alike_same : (old new : Place) (before : Entry) → old.now ≡ before → IsSame old new → Alike before new.now
 alike_same old new before was same = ⊎_elim
     (λ e. alike_equal before new.now (e ∙ was))
     (λ e. subst (Alike before) (sym (e ∙ ap all_synced was)) (alike_synced before)) same.now
 
-right_along : (image other : Image) → ((q : Name) → Alike (image q) (other q)) → (c : Contents) (e : End) → IsRightEnd image c e → IsRightEnd other c e
+pub right_along : (image other : Image) → ((q : Name) → Alike (image q) (other q)) → (c : Contents) (e : End) → IsRightEnd image c e → IsRightEnd other c e
 right_along image other alike c e right =
     let text = (alike e.name).text in
     record {
       file = (alike e.name).file right.file;
       kind = ⊎_elim (λ batches. inl batches) (λ r. inr (record { id = r.id; named = r.named; records = r.records; whole = subst (λ t. IsRecords t r.records e.len) (sym text) r.whole })) right.kind;
       uncut = λ not. (let le = right.uncut not in let count = ap length text in omega (arith, le, count));
+      long = (let le = right.long in let count = ap length text in omega (arith, le, count));
     }
 
 -- ---- lists by their names
 
-each_to : {A : Type 0} (P Q : A → Type 0) (xs : List A) → ((x : A) → P x → Q x) → AllByRecursion P xs → AllByRecursion Q xs
+pub each_to : {A : Type 0} (P Q : A → Type 0) (xs : List A) → ((x : A) → P x → Q x) → AllByRecursion P xs → AllByRecursion Q xs
 each_to P Q [] to all = tt
 each_to P Q (x ∷ xs) to all = (to x all.0, each_to P Q xs to all.1)
 
@@ -100,9 +101,9 @@ currents_settled s (id ∷ ids) folders = (folders.0 (current_name id) (folder_o
 
 -- ---- before the files are ended
 
--- all but the ends is as it is to be
-pub record IsPrepared (s : State) (c : Contents) (p : Plan) : Type 0 where
-  pub images : (image : Image) → IsImage s image → IsSound image c
+-- all but the ends is as it is to be, and each image is so
+pub record IsPreparedBy (P : Image → Type 0) (s : State) (c : Contents) (p : Plan) : Type 0 where
+  pub images : (image : Image) → IsImage s image → P image
   pub root : (q : Name) → folder_of q ≡ [] → (s q).older ≡ []
   pub folders : AllByRecursion (λ f. (q : Name) → folder_of q ≡ f → (s q).older ≡ []) (folder_names (map (λ k. k.id) c.keyspaces.living))
   pub whole : AllByRecursion (λ f. IsSynced (s f).now) (whole_names (ids_of c.journals))
@@ -110,12 +111,16 @@ pub record IsPrepared (s : State) (c : Contents) (p : Plan) : Type 0 where
   pub right : AreRight s c p.ends.items
   pub settled : AreSettled s p.ends.items
 
-same_whole_names : (js : List Journal) → whole_names (ids_of (opened js)) ≡ whole_names (ids_of js)
+-- the same, where each image holds these contents
+abbrev pub IsPrepared : State → Contents → Plan → Type 0
+IsPrepared s c p = IsPreparedBy (λ image. IsSound image c) s c p
+
+pub same_whole_names : (js : List Journal) → whole_names (ids_of (opened js)) ≡ whole_names (ids_of js)
 same_whole_names [] = refl
 same_whole_names (j ∷ js) = refl
 
-module _ (m0 m1 m2 m3 : Meaning) (c : Contents) (p : Plan) (suits : Suits (standing (state_in m0)) c p) (small : active_of (ids_of c.journals) < 2 ^ 64)
-    (sound : (image : Image) → IsImage (state_in m1) image → IsSound image (with_active c))
+module _ (P : Image → Type 0) (m0 m1 m2 m3 : Meaning) (c : Contents) (p : Plan) (suits : Suits (standing (state_in m0)) c p) (small : active_of (ids_of c.journals) < 2 ^ 64)
+    (sound : (image : Image) → IsImage (state_in m1) image → P image)
     (made : IsOpened (standing (state_in m0)) (standing (state_in m1)) (string_bytes p.active))
     (root : (q : Name) → folder_of q ≡ [] → (state_in m1 q).older ≡ [])
     (names : LeavesOnly m1 m2 (IsImage (state_in m1))) (same : (q : Name) → (state_in m2 q).now ≡ (state_in m1 q).now) (still : (q : Name) → (state_in m1 q).older ≡ [] → (state_in m2 q).older ≡ [])
@@ -142,7 +147,7 @@ module _ (m0 m1 m2 m3 : Meaning) (c : Contents) (p : Plan) (suits : Suits (stand
     (folders_left.1.0 (current_name 0) (folder_of-current 0), currents_settled (state_in m3) (map (λ k. k.id) c.keyspaces.living) folders_left.1.1),
   )
 
-  pub prepared : IsPrepared (state_in m3) (with_active c) p
+  pub prepared : IsPreparedBy P (state_in m3) (with_active c) p
   prepared = record {
     images = λ image is. sound image (at_end m1 m2 (IsImage (state_in m1)) names image (at_end m2 m3 (IsImage (state_in m2)) files image is));
     root = root_left;
@@ -157,7 +162,7 @@ module _ (m0 m1 m2 m3 : Meaning) (c : Contents) (p : Plan) (suits : Suits (stand
 
 -- ---- after the files are ended
 
-module _ (m3 m4 : Meaning) (c : Contents) (p : Plan) (before : IsPrepared (state_in m3) c p) (moments : LeavesOnly m3 m4 (Stays (state_in m3) c))
+module _ (P : Image → Type 0) (m3 m4 : Meaning) (c : Contents) (p : Plan) (before : IsPreparedBy P (state_in m3) c p) (sound : (image : Image) → IsImage (state_in m4) image → IsSound image c)
     (ended : All (λ e. IsEnded (state_in m3) (state_in m4) (end_of e)) p.ends.items) (synced : (q : Name) → IsSynced (state_in m3 q).now → IsSynced (state_in m4 q).now)
     (older : (q : Name) → (state_in m4 q).older ≡ (state_in m3 q).older) where
   -- a right end that was ended
@@ -201,7 +206,7 @@ module _ (m3 m4 : Meaning) (c : Contents) (p : Plan) (before : IsPrepared (state
 
   pub rested : ((journal : Journal) → last_of c.journals ≡ Some journal → journal_name journal.id ≡ journal_name (active_of (ids_of c.journals))) → IsRested (state_in m4) c
   rested named = record {
-    images = λ image is. (at_end m3 m4 (Stays (state_in m3) c) moments image is).sound;
+    images = sound;
     root = λ q is. older q ∙ before.root q is;
     folders = each_to (λ f. (q : Name) → folder_of q ≡ f → (state_in m3 q).older ≡ []) (λ f. (q : Name) → folder_of q ≡ f → (state_in m4 q).older ≡ []) (folder_names (map (λ k. k.id) c.keyspaces.living)) (λ f was q is. older q ∙ was q is) before.folders;
     whole = each_to (λ f. IsSynced (state_in m3 f).now) (λ f. IsSynced (state_in m4 f).now) (whole_names (ids_of c.journals)) (λ f was. synced f was) before.whole;
@@ -237,14 +242,14 @@ pub prepared_by : (m0 m1 m2 m3 : Meaning) (c : Contents) (p : Plan) → Holds (s
     → LeavesOnly m2 m3 (IsImage (state_in m2)) → ((q : Name) → IsSame (state_in m2 q) (state_in m3 q)) → (files : List (String Global)) → files ≡ p.whole.items → All (λ file. IsSynced (state_in m3 (string_bytes file)).now) files
     → IsPrepared (state_in m3) (with_active c) p
 prepared_by m0 m1 m2 m3 c p holds suits sound active active_is made root names same still folders folders_is empty run synced files files_is whole =
-    prepared m0 m1 m2 m3 c p suits (active_small (standing (state_in m0)) (ids_of c.journals) holds.now.journals.ids) sound (subst (IsOpened (standing (state_in m0)) (standing (state_in m1))) active_is made) root names same still
+    prepared (λ image. IsSound image (with_active c)) m0 m1 m2 m3 c p suits (active_small (standing (state_in m0)) (ids_of c.journals) holds.now.journals.ids) sound (subst (IsOpened (standing (state_in m0)) (standing (state_in m1))) active_is made) root names same still
     (subst (All (λ folder. (q : Name) → folder_of q ≡ string_bytes folder → (state_in m2 q).older ≡ [])) folders_is empty) run synced (subst (All (λ file. IsSynced (state_in m3 (string_bytes file)).now)) files_is whole)
 
 -- the result of the last step
 pub rested_ok : (m3 m4 : Meaning) (c : Contents) (p : Plan) (result : Result Unit Error) → IsPrepared (state_in m3) (with_active c) p → LeavesOnly m3 m4 (Stays (state_in m3) (with_active c))
     → OnOk result (All (λ e. IsEnded (state_in m3) (state_in m4) (end_of e)) p.ends.items) → OnOk result ((q : Name) → IsSynced (state_in m3 q).now → IsSynced (state_in m4 q).now)
     → OnOk result ((q : Name) → (state_in m4 q).older ≡ (state_in m3 q).older) → OnOk result (IsRested (state_in m4) (with_active c))
-rested_ok m3 m4 c p (Ok done) before moments ended synced older = rested m3 m4 (with_active c) p before moments ended synced older (last_named c.journals)
+rested_ok m3 m4 c p (Ok done) before moments ended synced older = rested (λ image. IsSound image (with_active c)) m3 m4 (with_active c) p before (λ image is. (at_end m3 m4 (Stays (state_in m3) (with_active c)) moments image is).sound) ended synced older (last_named c.journals)
 rested_ok m3 m4 c p (Err e) before moments ended synced older = tt
 
 pub right_by : (s : State) (c : Contents) (p : Plan) (ends : List FileEnd) → ends ≡ p.ends.items → IsPrepared s c p → AreRight s c ends

@@ -73,7 +73,7 @@ parts text end k within le =
 pub whole_length : (text : List ℕ) (bs : List Written) (end : ℕ) → IsWhole text bs end → end ≡ length (texts_of bs)
 whole_length text bs end whole = front_length text (texts_of bs) end whole.within whole.texts
 
-whole_cut : (text : List ℕ) (bs : List Written) (end k : ℕ) → IsWhole text bs end → end ≤ k → IsWhole (take k text) bs end
+pub whole_cut : (text : List ℕ) (bs : List Written) (end k : ℕ) → IsWhole text bs end → end ≤ k → IsWhole (take k text) bs end
 whole_cut text bs end k whole le =
     let p = parts text end k whole.within le in
     record { within = p.within; texts = p.front ∙ whole.texts; each = whole.each; last = none_in_part _ _ (drop end text) p.behind whole.last }

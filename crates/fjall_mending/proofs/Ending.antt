@@ -13,7 +13,7 @@ use Rattle.fjall_mending.proofs.Trimming.{Cuts, IsCut, trimmed}
 
 -- ---- a file that is cut in an image
 
-keeps_cut : (image other : Image) (f : Name) (len : ℕ) → Keeps len (image f) (other f) → ((q : Name) → q ≢ f → other q ≡ image q) → Cuts image other f len
+pub keeps_cut : (image other : Image) (f : Name) (len : ℕ) → Keeps len (image f) (other f) → ((q : Name) → q ≢ f → other q ≡ image q) → Cuts image other f len
 keeps_cut image other f len keeps elsewhere q = ⊎_elim (λ same. at q same keeps) (λ not. inl (elsewhere q not)) (same_or_not q f)
   where
     at : (q : Name) → q ≡ f → Keeps len (image f) (other f) → (other q ≡ image q) ⊎ ((q ≡ f) × IsCut image other len q)
@@ -49,7 +49,7 @@ abbrev pub Ends : Image → Contents → Name → ℕ → Type 0
 Ends image c name len = EndsBatches c name len ⊎ EndsRecords image name len
 
 -- it ends at one place
-one_end : (image : Image) (c : Contents) (name : Name) (len other : ℕ) → Ends image c name len → Ends image c name other → len ≡ other
+pub one_end : (image : Image) (c : Contents) (name : Name) (len other : ℕ) → Ends image c name len → Ends image c name other → len ≡ other
 one_end image c name len other (inl a) (inl b) =
     let both : Some a.journal ≡ Some b.journal = sym a.last ∙ b.last in
     let same : a.journal ≡ b.journal = cc in

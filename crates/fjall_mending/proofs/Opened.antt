@@ -128,7 +128,7 @@ sound_open c image file (inr sound) = sound
 sound_open c image file (inl sound) =
     subst (λ (js : List Journal). IsSound image (let r : Contents = record { journals = js; keyspaces = c.keyspaces; last = c.last; homes = c.homes } in r)) (sym (no_other image c.journals (root_of image c sound) file)) sound
 
-some_swap : (older : List Entry) (entry left : Entry) → SomeSurvives (older ++ entry ∷ []) left → SomeSurvives (entry ∷ older) left
+pub some_swap : (older : List Entry) (entry left : Entry) → SomeSurvives (older ++ entry ∷ []) left → SomeSurvives (entry ∷ older) left
 some_swap [] entry left some = some
 some_swap (e ∷ older) entry left (inl here) = inr (inl here)
 some_swap (e ∷ older) entry left (inr later) = ⊎_elim (λ now. inl now) (λ was. inr (inr was)) (some_swap older entry left later)

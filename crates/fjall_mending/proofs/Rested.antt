@@ -61,7 +61,7 @@ ids_parted sealed a = map-append (λ (j : Journal). j.id) sealed (a ∷ [])
 pub active_parted : (journals : List Journal) (p : Parted journals) → active_of (ids_of journals) ≡ p.active.id
 active_parted journals p = ap (λ js. active_of (ids_of js)) p.is ∙ ap active_of (ids_parted p.sealed p.active) ∙ active_last (ids_of p.sealed) p.active.id
 
-sealed_parted : (journals : List Journal) (p : Parted journals) → sealed_of (ids_of journals) ≡ ids_of p.sealed
+pub sealed_parted : (journals : List Journal) (p : Parted journals) → sealed_of (ids_of journals) ≡ ids_of p.sealed
 sealed_parted journals p = ap (λ js. sealed_of (ids_of js)) p.is ∙ ap sealed_of (ids_parted p.sealed p.active) ∙ sealed_first (ids_of p.sealed) p.active.id
 
 pub last_parted : (journals : List Journal) (p : Parted journals) → last_of journals ≡ Some p.active
@@ -113,11 +113,11 @@ read_parts image [] a read = (tt, read)
 read_parts image (j ∷ []) a read = ((read.0, tt), read.1)
 read_parts image (j ∷ k ∷ js) a read = let rest = read_parts image (k ∷ js) a read.1 in ((read.0, rest.0), rest.1)
 
-each_both : {A : Type 0} (P : A → Type 0) (xs ys : List A) → AllByRecursion P xs → AllByRecursion P ys → AllByRecursion P (xs ++ ys)
+pub each_both : {A : Type 0} (P : A → Type 0) (xs ys : List A) → AllByRecursion P xs → AllByRecursion P ys → AllByRecursion P (xs ++ ys)
 each_both P [] ys all others = others
 each_both P (x ∷ xs) ys all others = (all.0, each_both P xs ys all.1 others)
 
-each_front : {A : Type 0} (P : A → Type 0) (xs ys : List A) → AllByRecursion P (xs ++ ys) → AllByRecursion P xs
+pub each_front : {A : Type 0} (P : A → Type 0) (xs ys : List A) → AllByRecursion P (xs ++ ys) → AllByRecursion P xs
 each_front P [] ys all = tt
 each_front P (x ∷ xs) ys all = (all.0, each_front P xs ys all.1)
 

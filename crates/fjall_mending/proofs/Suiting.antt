@@ -72,6 +72,7 @@ module _ (image made : Image) (active : Name) (is : IsOpened image made active) 
         file = subst IsFile (sym new.1) tt;
         kind = inl (record { journal = first; last = ap last_of journals; named = named; is = ends.0 });
         uncut = λ not. omega (arith, count);
+        long = (let none = ends.0 in omega (arith, none));
       }) is.here
   journal_right c (j ∷ js) end torn journals named ids ends = ⊎_elim
       (λ was.
@@ -84,6 +85,7 @@ module _ (image made : Image) (active : Name) (is : IsOpened image made active) 
         file = subst IsFile (sym was.1) was.0;
         kind = inl (record { journal = p.active; last = ap last_of journals ∙ last_parted (j ∷ js) p; named = at; is = whole_length (journal_text image p.active.id) p.active.batches end here.0 });
         uncut = λ not. (let le = untorn (journal_text image p.active.id) end torn here.1 not in omega (arith, le, count));
+        long = (let le = here.0.within in omega (arith, le, count));
       })
       (λ new. absurd (subst IsFile new.0 (subst (λ (n : Name). IsFile (image n)) (sym named) (active_there image j.id (ids_of js) ids)))) is.here
 
@@ -103,6 +105,7 @@ module _ (image made : Image) (active : Name) (is : IsOpened image made active) 
           file = subst IsFile same file;
           kind = inr (record { id = id; named = at; records = records; whole = subst (λ (d : Entry). IsRecords (text_in d) records e.len) same whole });
           uncut = λ not. (let le = uncut not in omega (arith, le, count));
+          long = (let le = whole.within in omega (arith, le, count));
         }
 
     tree_right : (c d : Contents) (e : End) → IsSound image d → IsTreeEnd image e → IsRightEnd made c e
@@ -148,7 +151,7 @@ module _ (image made : Image) (active : Name) (is : IsOpened image made active) 
 
 -- ---- names
 
-same_ids : (image : Image) (living : List LivingKeyspace) (homes : List Home) → AreHomesRead image living homes → map (λ (h : Home). h.id) homes ≡ map (λ (k : LivingKeyspace). k.id) living
+pub same_ids : (image : Image) (living : List LivingKeyspace) (homes : List Home) → AreHomesRead image living homes → map (λ (h : Home). h.id) homes ≡ map (λ (k : LivingKeyspace). k.id) living
 same_ids image [] [] all = refl
 same_ids image [] (h ∷ homes) all = absurd all
 same_ids image (k ∷ living) [] all = absurd all

@@ -1,2 +1,3 @@
 pub mod Mended
 pub mod Steps
+pub mod Amids

@@ -64,11 +64,12 @@ pub record EndsRecords (image : Image) (name : Name) (len : ℕ) : Type 0 where
   pub records : List Fields
   pub whole : IsRecords (text_in (image name)) records len
 
--- The file is there, all that counts in it ends there, and where it isn't to be cut nothing stands behind.
+-- The file is there and reaches so far, all that counts in it ends there, and where it isn't to be cut nothing stands behind.
 pub record IsRightEnd (image : Image) (c : Contents) (e : End) : Type 0 where
   pub file : IsFile (image e.name)
   pub kind : EndsBatches c e.name e.len ⊎ EndsRecords image e.name e.len
   pub uncut : e.cut ≡ false → length (text_in (image e.name)) ≤ e.len
+  pub long : e.len ≤ length (text_in (image e.name))
 
 -- ---- what the steps keep
 

@@ -1,10 +1,14 @@
 //! The steps of mending: a crash at any of their moments leaves the same store.
 
-ghost use Rattle.std.specs.Prelude.{◌≡◌, ◌≢◌, [], All, IsTrue, OnOk, map, string_bytes, Some};
-ghost use Rattle.fjall_base.specs.Disk.{Image, IsImage, LeavesOnly, Name, OnlyFaults, folder_of, standing, state_in};
+ghost use Rattle.std.specs.Prelude.{◌≡◌, ◌≢◌, ◌⊎◌, List, [], All, IsTrue, OnOk, map, string_bytes, Some};
+ghost use Rattle.fjall_base.specs.Store.{Command, Store};
+ghost use Rattle.fjall_base.specs.Disk.{Image, IsFile, IsImage, LeavesOnly, Name, OnlyFaults, Took, folder_of, standing, state_in, CanCreate, File, IsThere};
 ghost use Rattle.fjall_recovery.specs.Names.{journal_name};
+ghost use Rattle.fjall_recovery.specs.Tidy.{FitsAt, IsTidy, StaysTidy};
 ghost use Rattle.fjall_opening.specs.Folders.{Contents, IsSound, StandsFor, store_of};
+ghost use Rattle.fjall_places.specs.Amid.{HoldsAmid, StandsAmid};
 ghost use Rattle.fjall_places.specs.Held.{Holds};
+ghost use Rattle.fjall_mending.specs.Amids.{StaysAmid};
 ghost use Rattle.fjall_mending.specs.Steps.{IsEnded, IsOpened, IsRested, IsRightEnd, IsSame, IsSynced, Stays, Suits, active_of, end_of, with_active};
 
 use crate::plan::{FileEnd, Plan};
@@ -21,6 +25,14 @@ fn settle_root<D: Disk>(disk: &mut D, active: &str) -> Result<()>
     ensures settled { IsTrue D.honest → OnOk result ((q : Name) → folder_of q ≡ [] → (state_in (D.meaning disk.new) q).older ≡ []) }
     ensures elsewhere { IsTrue D.honest → (q : Name) → q ≢ active.now → (state_in (D.meaning disk.new) q).now ≡ (state_in (D.meaning disk.old) q).now }
     ensures cause { OnlyFaults (D.meaning disk.old) (D.meaning disk.new) result }
+    // Where a crash may leave different stores, it leaves no others.
+    ensures amid { IsTrue D.honest → (c : Contents) → IsSound (standing (state_in (D.meaning disk.old))) c → (base : Store) (pending : List Command) → HoldsAmid (state_in (D.meaning disk.old)) base pending → active.now ≡ journal_name (active_of (map (λ j. j.id) c.journals))
+        → LeavesOnly (D.meaning disk.old) (D.meaning disk.new) (StandsAmid base [] pending) }
+    ensures stands { IsTrue D.honest → (c : Contents) → IsSound (standing (state_in (D.meaning disk.old))) c → active.now ≡ journal_name (active_of (map (λ j. j.id) c.journals))
+        → IsSound (standing (state_in (D.meaning disk.new))) c ⊎ IsSound (standing (state_in (D.meaning disk.new))) (with_active c) }
+    ensures there { IsTrue D.honest → Took (D.meaning disk.old) (D.meaning disk.new) [] ⊎ IsFile (state_in (D.meaning disk.new) active.now).now }
+    ensures kinds { IsTrue D.honest → FitsAt active.now (File [] []) → StaysTidy (D.meaning disk.old) (D.meaning disk.new) }
+    ensures served { IsTrue D.honest → CanCreate (state_in (D.meaning disk.old)) active.now → (D.meaning disk.new).misuses ≡ (D.meaning disk.old).misuses }
 {
     disk.create(active)?;
     disk.sync_folder("")
@@ -33,6 +45,8 @@ fn sync_folders<D: Disk>(disk: &mut D, folders: &[String]) -> Result<()>
     ensures still { IsTrue D.honest → (q : Name) → (state_in (D.meaning disk.old) q).older ≡ [] → (state_in (D.meaning disk.new) q).older ≡ [] }
     ensures settled { IsTrue D.honest → OnOk result (All (λ folder. (q : Name) → folder_of q ≡ string_bytes folder → (state_in (D.meaning disk.new) q).older ≡ []) folders.now) }
     ensures cause { OnlyFaults (D.meaning disk.old) (D.meaning disk.new) result }
+    ensures kinds { IsTrue D.honest → StaysTidy (D.meaning disk.old) (D.meaning disk.new) }
+    ensures served { IsTrue D.honest → All (λ folder. IsThere (standing (state_in (D.meaning disk.old))) (string_bytes folder)) folders.now → (D.meaning disk.new).misuses ≡ (D.meaning disk.old).misuses }
 {
     for folder in folders {
         disk.sync_folder(folder.as_str())?;
@@ -47,6 +61,8 @@ fn sync_files<D: Disk>(disk: &mut D, files: &[String]) -> Result<()>
     ensures same { IsTrue D.honest → (q : Name) → IsSame (state_in (D.meaning disk.old) q) (state_in (D.meaning disk.new) q) }
     ensures synced { IsTrue D.honest → OnOk result (All (λ file. IsSynced (state_in (D.meaning disk.new) (string_bytes file)).now) files.now) }
     ensures cause { OnlyFaults (D.meaning disk.old) (D.meaning disk.new) result }
+    ensures kinds { IsTrue D.honest → StaysTidy (D.meaning disk.old) (D.meaning disk.new) }
+    ensures served { IsTrue D.honest → All (λ file. IsFile (state_in (D.meaning disk.old) (string_bytes file)).now) files.now → (D.meaning disk.new).misuses ≡ (D.meaning disk.old).misuses }
 {
     for file in files {
         disk.sync(file.as_str())?;
@@ -65,6 +81,14 @@ fn end_files<D: Disk>(disk: &mut D, ends: &[FileEnd]) -> Result<()>
     ensures older { IsTrue D.honest → OnOk result ((q : Name) → (state_in (D.meaning disk.new) q).older ≡ (state_in (D.meaning disk.old) q).older) }
     ensures elsewhere { IsTrue D.honest → (q : Name) → All (λ e. q ≢ string_bytes e.name) ends.now → state_in (D.meaning disk.new) q ≡ state_in (D.meaning disk.old) q }
     ensures cause { OnlyFaults (D.meaning disk.old) (D.meaning disk.new) result }
+    // Where a crash may leave different stores, it leaves no others.
+    ensures amid { IsTrue D.honest → (c : Contents) → IsSound (standing (state_in (D.meaning disk.old))) c → All (λ e. IsRightEnd (standing (state_in (D.meaning disk.old))) c (end_of e)) ends.now → All (λ e. (state_in (D.meaning disk.old) (string_bytes e.name)).older ≡ []) ends.now
+        → (base : Store) (pending : List Command) → ((image : Image) → IsImage (state_in (D.meaning disk.old)) image → StaysAmid (state_in (D.meaning disk.old)) base pending image)
+        → LeavesOnly (D.meaning disk.old) (D.meaning disk.new) (StaysAmid (state_in (D.meaning disk.old)) base pending) }
+    ensures stands { IsTrue D.honest → (c : Contents) → IsSound (standing (state_in (D.meaning disk.old))) c → All (λ e. IsRightEnd (standing (state_in (D.meaning disk.old))) c (end_of e)) ends.now → All (λ e. (state_in (D.meaning disk.old) (string_bytes e.name)).older ≡ []) ends.now
+        → OnOk result (IsSound (standing (state_in (D.meaning disk.new))) c) }
+    ensures kinds { IsTrue D.honest → StaysTidy (D.meaning disk.old) (D.meaning disk.new) }
+    ensures served { IsTrue D.honest → (c : Contents) → All (λ e. IsRightEnd (standing (state_in (D.meaning disk.old))) c (end_of e)) ends.now → (D.meaning disk.new).misuses ≡ (D.meaning disk.old).misuses }
 {
     for end in ends {
         end_file(disk, end.name.as_str(), end.cut, end.len)?;
@@ -81,6 +105,16 @@ pub(crate) fn carry_out<D: Disk>(disk: &mut D, plan: &Plan) -> Result<()>
     ensures elsewhere { IsTrue D.honest → (q : Name) → q ≢ string_bytes plan.now.active → All (λ file. q ≢ string_bytes file) plan.now.whole.items → All (λ e. q ≢ string_bytes e.name) plan.now.ends.items
         → (state_in (D.meaning disk.new) q).now ≡ (state_in (D.meaning disk.old) q).now }
     ensures cause { OnlyFaults (D.meaning disk.old) (D.meaning disk.new) result }
+    // Where a crash may leave different stores, it leaves no others.
+    ensures amid { IsTrue D.honest → (c : Contents) → IsSound (standing (state_in (D.meaning disk.old))) c → Suits (standing (state_in (D.meaning disk.old))) c plan.now → (base : Store) (pending : List Command) → HoldsAmid (state_in (D.meaning disk.old)) base pending
+        → LeavesOnly (D.meaning disk.old) (D.meaning disk.new) (StandsAmid base [] pending) }
+    ensures ended { IsTrue D.honest → (c : Contents) → IsSound (standing (state_in (D.meaning disk.old))) c → Suits (standing (state_in (D.meaning disk.old))) c plan.now → (base : Store) (pending : List Command) → HoldsAmid (state_in (D.meaning disk.old)) base pending
+        → OnOk result (IsRested (state_in (D.meaning disk.new)) (with_active c)) }
+    ensures held { IsTrue D.honest → (c : Contents) → IsSound (standing (state_in (D.meaning disk.old))) c → Suits (standing (state_in (D.meaning disk.old))) c plan.now → (base : Store) (pending : List Command) → HoldsAmid (state_in (D.meaning disk.old)) base pending
+        → HoldsAmid (state_in (D.meaning disk.new)) base pending }
+    ensures kinds { IsTrue D.honest → FitsAt (string_bytes plan.now.active) (File [] []) → StaysTidy (D.meaning disk.old) (D.meaning disk.new) }
+    ensures served { IsTrue D.honest → IsTidy (state_in (D.meaning disk.old)) → (c : Contents) → IsSound (standing (state_in (D.meaning disk.old))) c → Suits (standing (state_in (D.meaning disk.old))) c plan.now
+        → (D.meaning disk.new).misuses ≡ (D.meaning disk.old).misuses }
 {
     settle_root(disk, plan.active.as_str())?;
     sync_folders(disk, &plan.folders)?;

@@ -52,9 +52,13 @@ one_rising (x ∷ xs) (y ∷ ys) up down same =
     ) in
     ap (λ z. z ∷ xs) least ∙ ap (λ (l : List ℕ). y ∷ l) (one_rising xs ys up.1 down.1 rest)
 
+-- two ascending lists of the same numbers are one
+pub one_ascending : (xs ys : List ℕ) → IsStrictlyIncreasing xs → IsStrictlyIncreasing ys → AreAlike xs ys → xs ≡ ys
+one_ascending xs ys up down same = one_rising xs ys (from_pairs (λ x y. x < y) xs (AllPairs-from_increasing xs up)) (from_pairs (λ x y. x < y) ys (AllPairs-from_increasing ys down)) same
+
 pub one_list_of_ids : (image : Image) (ids others : List ℕ) → AreJournalIds image ids → AreJournalIds image others → ids ≡ others
 one_list_of_ids image ids others a b =
-    one_rising ids others (from_pairs (λ x y. x < y) ids (AllPairs-from_increasing ids a.ascending)) (from_pairs (λ x y. x < y) others (AllPairs-from_increasing others b.ascending))
+    one_ascending ids others a.ascending b.ascending
     (λ n. ((λ has. (b.each n).1 ((a.each n).0 has)), (λ has. (a.each n).1 ((b.each n).0 has))))
 
 -- ---- journals

@@ -10,7 +10,8 @@ use Rattle.fjall_journal.specs.declared.batch.Tail.{Tail}
 use Rattle.fjall_journal.specs.Spelling.{spelling}
 use Rattle.fjall_journal.specs.Batches.{Shown, Written, IsWritten, IsWhole, NoneAt, batch_text, shown}
 use Rattle.fjall_tree.specs.Frame.{NoFrame}
-use Rattle.fjall_tree.specs.Records.{Fields, IsRecord, IsRecords, record_text}
+use Rattle.fjall_tree.specs.Records.{Fields, HasContradiction, IsRecord, IsRecords, record_text}
+use Rattle.fjall_tree.proofs.Currents.{contradiction_has_no_reading}
 use Rattle.fjall_recovery.specs.Names.{journal_name}
 use Rattle.fjall_catalog.specs.Catalog.{fields, first_catalog}
 use Rattle.fjall_opening.specs.Folders.{AreEmpty, IsBegun}
@@ -97,3 +98,7 @@ not_begun text other end same only some others begun =
     ⊎_elim
     (λ none. some (sym at ∙ no_part here.end text here.whole.within (here.whole.texts ∙ ap (flat_map record_text) none)))
     (λ first. others (ap (λ n. take n text) (sym at) ∙ here.whole.texts ∙ ap (flat_map record_text) first ∙ append-nil (record_text (fields first_catalog)))) here.first
+
+-- bytes that read as records hold none that contradicts itself
+pub not_contradicted : (text other : List ℕ) (rs : List Fields) (end : ℕ) → text ≡ other → IsRecords text rs end → HasContradiction other → ⊥
+not_contradicted text other rs end same reads bad = contradiction_has_no_reading other rs end bad (subst (λ (l : List ℕ). IsRecords l rs end) same reads)

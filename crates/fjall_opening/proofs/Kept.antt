@@ -60,7 +60,7 @@ module _ (image : Image) (c : Contents) (sound : IsSound image c) where
 
 begun_is_kept : (text : List ℕ) (error : Error) → IsBegun text → BegunRefuses text error → ⊥
 begun_is_kept text (Storage RecordDamaged) begun refused = contradiction_has_no_reading text begun.records begun.end refused begun.whole
-begun_is_kept text Unrecoverable begun refused = refused begun
+begun_is_kept text Unrecoverable begun refused = refused.1 begun
 begun_is_kept text error begun refused = refused
 
 unfinished_is_kept : (image : Image) (error : Error) → IsUnfinished image → UnfinishedRefuses image error → ⊥
@@ -71,10 +71,10 @@ unfinished_is_kept image error is (inr (empty, inr (named, refused))) = begun_is
 -- ---- the whole folder
 
 -- the marker tells one thing
-marker_is_kept : (told : Result Marker Error) (marker : Marker) (error : Error) → told ≡ Ok marker → told ≡ Err error → ⊥
+pub marker_is_kept : (told : Result Marker Error) (marker : Marker) (error : Error) → told ≡ Ok marker → told ≡ Err error → ⊥
 marker_is_kept told marker error is refused = let no = sym is ∙ refused in cc
 
-one_marker : (told : Result Marker Error) (marker other : Marker) → told ≡ Ok marker → told ≡ Ok other → marker ≡ other
+pub one_marker : (told : Result Marker Error) (marker other : Marker) → told ≡ Ok marker → told ≡ Ok other → marker ≡ other
 one_marker told marker other is at = let same = sym is ∙ at in cc
 
 parts_along : (image : Image) (marker other : Marker) (error : Error) → marker_tells (marker_bytes image) ≡ Ok marker → marker_tells (marker_bytes image) ≡ Ok other → PartsRefuse marker image error → PartsRefuse other image error

@@ -7,3 +7,4 @@ pub mod Beginnings
 pub mod Opened
 pub mod Kept
 pub mod Numbers
+pub mod Causes

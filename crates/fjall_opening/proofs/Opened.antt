@@ -24,17 +24,17 @@ use Rattle.fjall_tree.specs.Records.{Fields}
 
 -- ---- tails
 
-no_damage_in_nothing : (damage : JournalRecoveryError) → IsTail [] (Damaged damage) → ⊥
+pub no_damage_in_nothing : (damage : JournalRecoveryError) → IsTail [] (Damaged damage) → ⊥
 unfolding spelling
 no_damage_in_nothing InsufficientLength bad = let l = ap length bad.text in absurd (omega (arith, l))
 no_damage_in_nothing TooManyItems bad = let l = ap length bad.text in absurd (omega (arith, l))
 no_damage_in_nothing ChecksumMismatch bad = let l = ap length bad.text in absurd (omega (arith, l))
 no_damage_in_nothing InvalidFileName bad = bad
 
-clean_has_no_damage : (bytes : List ℕ) (damage : JournalRecoveryError) → IsTail bytes Clean → IsTail bytes (Damaged damage) → ⊥
+pub clean_has_no_damage : (bytes : List ℕ) (damage : JournalRecoveryError) → IsTail bytes Clean → IsTail bytes (Damaged damage) → ⊥
 clean_has_no_damage bytes damage clean bad = no_damage_in_nothing damage (subst (λ (l : List ℕ). IsTail l (Damaged damage)) clean bad)
 
-torn_has_no_damage : (bytes : List ℕ) (damage : JournalRecoveryError) → IsTail bytes Torn → IsTail bytes (Damaged damage) → ⊥
+pub torn_has_no_damage : (bytes : List ℕ) (damage : JournalRecoveryError) → IsTail bytes Torn → IsTail bytes (Damaged damage) → ⊥
 torn_has_no_damage bytes InsufficientLength torn bad = torn.1 bad
 torn_has_no_damage bytes TooManyItems torn bad = torn.2 bad
 torn_has_no_damage bytes ChecksumMismatch torn bad = torn.3 bad
@@ -52,7 +52,7 @@ torn_is_kept bytes Torn error torn is refused = refused
 torn_is_kept bytes Clean error torn is refused = torn.0 is
 
 -- the batches of a text and where they end are the same in each reading
-same_reading : (text : List ℕ) (batches others : List Written) (tail other : Tail) → (a : ReadsAs text batches tail) → (b : ReadsAs text others other) → (batches ≡ others) × IsTail (drop b.end text) tail
+pub same_reading : (text : List ℕ) (batches others : List Written) (tail other : Tail) → (a : ReadsAs text batches tail) → (b : ReadsAs text others other) → (batches ≡ others) × IsTail (drop b.end text) tail
 same_reading text batches others tail other a b =
     let one = Wholes.one_reading text batches others a.end b.end a.whole b.whole in
     (one.0, subst (λ n. IsTail (drop n text) tail) one.1 a.behind)
@@ -70,7 +70,7 @@ pub none_of_two : (a b : Option Fault) → option_or a b ≡ None → (a ≡ Non
 none_of_two None b e = (refl, e)
 none_of_two (Some fault) b e = let no : ⊥ = cc in absurd no
 
-nothing_is_named : (fault : Option Fault) (error : Error) → fault ≡ None → NamesFault fault error → ⊥
+pub nothing_is_named : (fault : Option Fault) (error : Error) → fault ≡ None → NamesFault fault error → ⊥
 nothing_is_named None error e named = named
 nothing_is_named (Some fault) error e named = let no : ⊥ = cc in no
 
@@ -113,7 +113,7 @@ module _ (image : Image) where
 
   -- ---- keyspaces
 
-  home_is_kept : (id : ℕ) (last : Fields) (error : Error) → HasHome image id last → HomeRefuses image id error → ⊥
+  pub home_is_kept : (id : ℕ) (last : Fields) (error : Error) → HasHome image id last → HomeRefuses image id error → ⊥
   home_is_kept id last Unrecoverable has refused = refused has.folder
   home_is_kept id last (Storage RecordDamaged) has refused = refused.1 last has.last_is
   home_is_kept id last error has refused = refused

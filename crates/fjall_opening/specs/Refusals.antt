@@ -1,9 +1,10 @@
 -- Why a folder is refused: the first fault in the order in which it is read.
-use Rattle.std.specs.Prelude.{◌≡◌, ◌≢◌, ◌⊎◌, ℕ, Bool, true, false, List, [], ◌∷◌, map, None, Ok, Err}
+use Rattle.std.specs.Prelude.{◌≡◌, ◌≢◌, ◌⊎◌, ℕ, Bool, true, false, List, [], ◌∷◌, codes, map, None, Some, Ok, Err}
 use Rattle.fjall_base.specs.Disk.{Folder, Image}
 use Rattle.fjall_base.specs.Errors.{Rose}
 use Rattle.fjall_base.specs.declared.error.Error.{Error}
-use Rattle.fjall_base.specs.declared.error.Error.TheVariants.{Io, JournalRecovery, OutOfMemory, Storage, Unrecoverable}
+use Rattle.fjall_base.specs.declared.error.Error.TheVariants.{InvalidTag, InvalidVersion, Io, JournalRecovery, OutOfMemory, Storage, Unrecoverable}
+use Rattle.fjall_base.specs.declared.error.FormatVersion.TheVariants.{V3}
 use Rattle.fjall_base.specs.declared.error.StorageError.TheVariants.{RecordDamaged, TableDamaged}
 use Rattle.fjall_journal.specs.declared.batch.Tail.{Tail}
 use Rattle.fjall_journal.specs.declared.batch.Tail.TheVariants.{Clean, Torn, Damaged}
@@ -35,6 +36,11 @@ abbrev pub IsDue : (Error → Type 0) → Error → Type 0
 IsDue Cause OutOfMemory = Unit {0}
 IsDue Cause (Io kind) = Unit {0}
 IsDue Cause error = Cause error
+
+-- Two errors are one: the text in an error counts by its bytes, wherever it lies in memory.
+abbrev pub AreOne : Error → Error → Type 0
+AreOne (InvalidTag tag) (InvalidTag other) = (tag.0.now ≡ other.0.now) × (tag.1 ≡ other.1)
+AreOne error other = error ≡ other
 
 -- no journal stands behind this one
 abbrev pub is_last : List ℕ → Bool
@@ -97,10 +103,11 @@ FinishedRefuses image error =
     ((ids : List ℕ) × AreJournalIds image ids × JournalsRefuse image 0 ids error)
     ⊎ (((journals : List Journal) × HoldsJournals image journals) × KeyspacesRefuse image error)
 
--- why what there is of tree 0 refuses to be gone on with
+-- Why what there is of tree 0 refuses to be gone on with: a whole record contradicts itself; or none does, and others
+-- than the first one stand there.
 abbrev pub BegunRefuses : List ℕ → Error → Type 0
 BegunRefuses text (Storage RecordDamaged) = HasContradiction text
-BegunRefuses text Unrecoverable = IsBegun text → ⊥
+BegunRefuses text Unrecoverable = (HasContradiction text → ⊥) × (IsBegun text → ⊥)
 BegunRefuses text error = ⊥
 
 -- Why a folder whose making was cut short is refused: something was written into it.
@@ -119,3 +126,16 @@ FolderRefuses image error =
     (marker_tells (marker_bytes image) ≡ Err error)
     ⊎ ((marker : Marker) × (marker_tells (marker_bytes image) ≡ Ok marker)
     × (((error ≡ JournalRecovery InvalidFileName) × (JournalsAreNamed image → ⊥)) ⊎ (JournalsAreNamed image × PartsRefuse marker image error)))
+
+-- What an opening may be refused with, over any disk at all: a fault of the disk or want of memory; damage of tables,
+-- records and stored options; damage of journals and names nearly like theirs; a marker of another version than the one
+-- that is read; the value type 4, which no journal has; and files that contradict each other.
+abbrev pub IsOpeningRefusal : Error → Type 0
+IsOpeningRefusal (Io kind) = Unit {0}
+IsOpeningRefusal OutOfMemory = Unit {0}
+IsOpeningRefusal (Storage cause) = Unit {0}
+IsOpeningRefusal (JournalRecovery cause) = Unit {0}
+IsOpeningRefusal (InvalidVersion version) = version ≢ Some V3
+IsOpeningRefusal (InvalidTag tag) = (tag.0.now ≡ codes "ValueType") × (tag.1 ≡ 4)
+IsOpeningRefusal Unrecoverable = Unit {0}
+IsOpeningRefusal error = ⊥

@@ -12,7 +12,7 @@ ghost use Rattle.fjall_catalog.specs.Catalog.{Says, fields};
 ghost use Rattle.fjall_opening.specs.Folders.{AreMade, Contents, IsFinished, IsSound, ReadsFolder, Shows, StandsFor, marker_bytes, number_of, past, past_record, past_records};
 ghost use Rattle.fjall_opening.specs.Journals.{AreJournalIds};
 ghost use Rattle.fjall_opening.specs.Naming.{AreFolderIds};
-ghost use Rattle.fjall_opening.specs.Refusals.{FinishedRefuses, FolderRefuses, HasRisen, IsDue, TreeRefuses};
+ghost use Rattle.fjall_opening.specs.Refusals.{FinishedRefuses, FolderRefuses, HasRisen, IsDue, IsOpeningRefusal, TreeRefuses};
 
 use crate::homes::{Home, read_homes};
 use crate::journals::{Journals, read_journals};
@@ -95,6 +95,7 @@ fn read_tree<D: Disk>(alloc: Global, disk: &mut D, folder_ids: &[u64]) -> Result
     // Where the folder is there, and what it says is made, it is read.
     ensures sound { IsTrue D.honest → AreFolderIds (standing (state_in (D.meaning disk.old))) folder_ids.now → (records : List Fields) (last : Catalog) (s : Keyspaces) → Says (standing (state_in (D.meaning disk.old))) records last s
         → AreMade last s → standing (state_in (D.meaning disk.old)) (keyspace_folder 0) ≡ Folder → IfErr result (IsDue (λ error. ⊥)) }
+    ensures listed { IfErr result IsOpeningRefusal }
 {
     if !folder_ids.contains(&0) {
         return Err(Error::Unrecoverable);
@@ -116,6 +117,7 @@ fn read_finished<D: Disk>(alloc: Global, disk: &mut D, journal_ids: Vec<u64>) ->
     ensures cause { IsTrue D.honest → AreJournalIds (standing (state_in (D.meaning disk.old))) journal_ids.items → IfErr result (IsDue (FinishedRefuses (standing (state_in (D.meaning disk.old))))) }
     // A sound folder is read.
     ensures sound { IsTrue D.honest → AreJournalIds (standing (state_in (D.meaning disk.old))) journal_ids.items → (c : Contents) → IsSound (standing (state_in (D.meaning disk.old))) c → IfErr result (IsDue (λ error. ⊥)) }
+    ensures listed { IfErr result IsOpeningRefusal }
 {
     let journals = read_journals(alloc, disk, &journal_ids)?;
     let folder_ids = list_keyspaces(alloc, disk)?;
@@ -138,6 +140,7 @@ fn read_version<D: Disk>(alloc: Global, disk: &mut D) -> Result<Marker>
     ensures later { (D.meaning disk.old).faults ≤ (D.meaning disk.new).faults }
     ensures risen { IfErr result (HasRisen (D.meaning disk.old).faults (D.meaning disk.new).faults) }
     ensures cause { IsTrue D.honest → IfErr result (IsDue (λ error. marker_tells (marker_bytes (standing (state_in (D.meaning disk.old)))) ≡ Err error)) }
+    ensures listed { IfErr result IsOpeningRefusal }
 {
     match disk.read(alloc, "version")? {
         Some(bytes) => read_marker(Some(bytes.as_slice())),
@@ -161,6 +164,7 @@ pub fn read_folder<D: Disk>(alloc: Global, disk: &mut D) -> Result<Option<Finish
     ensures cause { IsTrue D.honest → IfErr result (IsDue (FolderRefuses (standing (state_in (D.meaning disk.old))))) }
     // A folder that stands for a store is read, unless memory runs out or the disk fails.
     ensures sound { IsTrue D.honest → (store : Store) → StandsFor (standing (state_in (D.meaning disk.old))) store → IfErr result (IsDue (λ error. ⊥)) }
+    ensures listed { IfErr result IsOpeningRefusal }
 {
     let marker = read_version(alloc, disk)?;
     let journal_ids = list_journals(alloc, disk)?;

@@ -5,7 +5,7 @@ ghost use Rattle.fjall_base.specs.Disk.{Took, standing, state_in};
 ghost use Rattle.fjall_tree.specs.Records.{view};
 ghost use Rattle.fjall_opening.specs.Homes.{AreHomesRead, HasNoRecord, IsPlain, IsRead, IsReadFrom, records_text};
 ghost use Rattle.fjall_opening.specs.Naming.{AreFolderIds};
-ghost use Rattle.fjall_opening.specs.Refusals.{HasRisen, HomeRefuses, HomesRefuse, IsDue};
+ghost use Rattle.fjall_opening.specs.Refusals.{HasRisen, HomeRefuses, HomesRefuse, IsDue, IsOpeningRefusal};
 
 use crate::file::read_text;
 use fjall_base::{Disk, Error, Result, StorageError};
@@ -45,6 +45,7 @@ fn read_records<D: Disk>(alloc: Global, disk: &mut D, id: u64) -> Result<Home>
     ensures later { (D.meaning disk.old).faults ≤ (D.meaning disk.new).faults }
     ensures risen { IfErr result (HasRisen (D.meaning disk.old).faults (D.meaning disk.new).faults) }
     ensures cause { IsTrue D.honest → IfErr result (IsDue (λ error. (error ≡ Error.Storage StorageError.RecordDamaged) × HasNoRecord (records_text (standing (state_in (D.meaning disk.old))) id))) }
+    ensures listed { IfErr result IsOpeningRefusal }
 {
     let name = current_name(alloc, id)?;
     let text = read_text(alloc, disk, &name)?;
@@ -71,6 +72,7 @@ fn read_home<D: Disk>(alloc: Global, disk: &mut D, folders: &[u64], id: u64) -> 
     ensures later { (D.meaning disk.old).faults ≤ (D.meaning disk.new).faults }
     ensures risen { IfErr result (HasRisen (D.meaning disk.old).faults (D.meaning disk.new).faults) }
     ensures cause { IsTrue D.honest → AreFolderIds (standing (state_in (D.meaning disk.old))) folders.now → IfErr result (IsDue (HomeRefuses (standing (state_in (D.meaning disk.old))) id)) }
+    ensures listed { IfErr result IsOpeningRefusal }
 {
     if !folders.contains(&id) {
         return Err(Error::Unrecoverable);
@@ -93,6 +95,7 @@ pub(crate) fn read_homes<D: Disk>(
     ensures later { (D.meaning disk.old).faults ≤ (D.meaning disk.new).faults }
     ensures risen { IfErr result (HasRisen (D.meaning disk.old).faults (D.meaning disk.new).faults) }
     ensures cause { IsTrue D.honest → AreFolderIds (standing (state_in (D.meaning disk.old))) folders.now → IfErr result (IsDue (HomesRefuse (standing (state_in (D.meaning disk.old))) living.now)) }
+    ensures listed { IfErr result IsOpeningRefusal }
 {
     let mut homes = Vec::new(alloc);
     for keyspace in living {

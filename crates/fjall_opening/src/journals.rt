@@ -7,7 +7,7 @@ ghost use Rattle.fjall_journal.specs.Batches.{view};
 ghost use Rattle.fjall_journal.specs.declared.batch.Tail.TheVariants.{Clean};
 ghost use Rattle.fjall_versions.specs.Replays.{first_fault, least_after, NamesFault};
 ghost use Rattle.fjall_opening.specs.Journals.{AreFound, AreSealed, IsReadAs, journal_text, tail_of};
-ghost use Rattle.fjall_opening.specs.Refusals.{HasRisen, IsDue, JournalsRefuse, TailRefuses};
+ghost use Rattle.fjall_opening.specs.Refusals.{HasRisen, IsDue, IsOpeningRefusal, JournalsRefuse, TailRefuses};
 
 use crate::file::read_text;
 use fjall_base::{Disk, Error, Result};
@@ -111,6 +111,7 @@ fn read_sealed<D: Disk>(alloc: Global, disk: &mut D, ids: &[u64]) -> Result<Jour
     ensures later { (D.meaning disk.old).faults ≤ (D.meaning disk.new).faults }
     ensures risen { IfErr result (HasRisen (D.meaning disk.old).faults (D.meaning disk.new).faults) }
     ensures cause { IsTrue D.honest → (active : ℕ) → IfErr result (IsDue (JournalsRefuse (standing (state_in (D.meaning disk.old))) 0 (ids.now ++ active ∷ []))) }
+    ensures listed { IfErr result IsOpeningRefusal }
 {
     let mut journals = Journals::new(alloc);
     for id in ids {
@@ -133,6 +134,7 @@ pub fn read_journals<D: Disk>(alloc: Global, disk: &mut D, ids: &[u64]) -> Resul
     ensures later { (D.meaning disk.old).faults ≤ (D.meaning disk.new).faults }
     ensures risen { IfErr result (HasRisen (D.meaning disk.old).faults (D.meaning disk.new).faults) }
     ensures cause { IsTrue D.honest → IfErr result (IsDue (JournalsRefuse (standing (state_in (D.meaning disk.old))) 0 ids.now)) }
+    ensures listed { IfErr result IsOpeningRefusal }
 {
     let [sealed @ .., active] = ids else {
         return Ok(Journals::new(alloc));

@@ -6,7 +6,7 @@ ghost use Rattle.fjall_base.specs.declared.error.Error.{Error};
 ghost use Rattle.fjall_base.specs.Store.{Store};
 ghost use Rattle.fjall_opening.specs.Folders.{Contents, IsSound, StandsFor};
 ghost use Rattle.fjall_opening.specs.Journals.{Journal, HoldsJournals};
-ghost use Rattle.fjall_opening.specs.Refusals.{FolderRefuses};
+ghost use Rattle.fjall_opening.specs.Refusals.{AreOne, FolderRefuses};
 
 /// An image holds one list of journals.
 pub fn one_list_of_journals()
@@ -16,6 +16,11 @@ pub fn one_list_of_journals()
 /// A sound folder holds one thing.
 pub fn one_contents()
     ensures { (image : Image) (c d : Contents) → IsSound image c → IsSound image d → c ≡ d }
+{}
+
+/// A folder is refused for one error alone.
+pub fn one_refusal()
+    ensures { (image : Image) (first second : Error) → FolderRefuses image first → FolderRefuses image second → AreOne first second }
 {}
 
 /// An image of a folder stands for one store at most.

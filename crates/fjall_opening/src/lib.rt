@@ -12,4 +12,6 @@ mod unfinished;
 pub use folder::{Finished, read_folder};
 pub use homes::Home;
 pub use journals::{Journals, read_journals};
-pub use laws::{one_contents, one_list_of_journals, one_store, sound_folders_are_read};
+pub use laws::{
+    one_contents, one_list_of_journals, one_refusal, one_store, sound_folders_are_read,
+};

@@ -6,7 +6,7 @@ ghost use Rattle.fjall_base.specs.declared.error.JournalRecoveryError.{JournalRe
 ghost use Rattle.fjall_base.specs.Disk.{Took, standing, state_in};
 ghost use Rattle.fjall_opening.specs.Journals.{AreJournalIds};
 ghost use Rattle.fjall_opening.specs.Naming.{AreFolderIds, JournalsAreNamed, KeyspacesAreNamed};
-ghost use Rattle.fjall_opening.specs.Refusals.{HasRisen, IsDue};
+ghost use Rattle.fjall_opening.specs.Refusals.{HasRisen, IsDue, IsOpeningRefusal};
 
 use fjall_base::{Disk, Error, JournalRecoveryError, Result};
 use fjall_recovery::{journals, keyspaces};
@@ -21,6 +21,7 @@ pub(crate) fn list_journals<D: Disk>(alloc: Global, disk: &mut D) -> Result<Vec<
     ensures later { (D.meaning disk.old).faults ≤ (D.meaning disk.new).faults }
     ensures risen { IfErr result (HasRisen (D.meaning disk.old).faults (D.meaning disk.new).faults) }
     ensures cause { IsTrue D.honest → IfErr result (IsDue (λ error. (error ≡ Error.JournalRecovery JournalRecoveryError.InvalidFileName) × (JournalsAreNamed (standing (state_in (D.meaning disk.old))) → ⊥))) }
+    ensures listed { IfErr result IsOpeningRefusal }
 {
     let listed = disk.list(alloc, "")?;
     journals(alloc, &listed)
@@ -35,6 +36,7 @@ pub(crate) fn list_keyspaces<D: Disk>(alloc: Global, disk: &mut D) -> Result<Vec
     ensures later { (D.meaning disk.old).faults ≤ (D.meaning disk.new).faults }
     ensures risen { IfErr result (HasRisen (D.meaning disk.old).faults (D.meaning disk.new).faults) }
     ensures cause { IsTrue D.honest → IfErr result (IsDue (λ error. (error ≡ Error.Unrecoverable) × (KeyspacesAreNamed (standing (state_in (D.meaning disk.old))) → ⊥))) }
+    ensures listed { IfErr result IsOpeningRefusal }
 {
     let listed = disk.list(alloc, "keyspaces")?;
     keyspaces(alloc, &listed)

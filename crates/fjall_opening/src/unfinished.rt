@@ -6,7 +6,7 @@ ghost use Rattle.fjall_catalog.specs.Catalog.{records_in};
 ghost use Rattle.fjall_opening.specs.Folders.{AreEmpty, IsBegun};
 ghost use Rattle.fjall_opening.specs.Journals.{AreJournalIds};
 ghost use Rattle.fjall_opening.specs.Naming.{KeyspacesAreNamed};
-ghost use Rattle.fjall_opening.specs.Refusals.{BegunRefuses, HasRisen, IsDue, UnfinishedRefuses};
+ghost use Rattle.fjall_opening.specs.Refusals.{BegunRefuses, HasRisen, IsDue, IsOpeningRefusal, UnfinishedRefuses};
 
 use crate::file::read_text;
 use crate::journals::read_one;
@@ -25,6 +25,7 @@ fn check_journals<D: Disk>(alloc: Global, disk: &mut D, ids: &[u64]) -> Result<(
     ensures later { (D.meaning disk.old).faults ≤ (D.meaning disk.new).faults }
     ensures risen { IfErr result (HasRisen (D.meaning disk.old).faults (D.meaning disk.new).faults) }
     ensures cause { IsTrue D.honest → AreJournalIds (standing (state_in (D.meaning disk.old))) ids.now → IfErr result (IsDue (λ error. (error ≡ Error.Unrecoverable) × (AreEmpty (standing (state_in (D.meaning disk.old))) → ⊥))) }
+    ensures listed { IfErr result IsOpeningRefusal }
 {
     for id in ids {
         let contents = read_one(alloc, disk, *id)?;
@@ -50,6 +51,7 @@ fn check_tree<D: Disk>(alloc: Global, disk: &mut D) -> Result<()>
     ensures later { (D.meaning disk.old).faults ≤ (D.meaning disk.new).faults }
     ensures risen { IfErr result (HasRisen (D.meaning disk.old).faults (D.meaning disk.new).faults) }
     ensures cause { IsTrue D.honest → IfErr result (IsDue (BegunRefuses (records_in (standing (state_in (D.meaning disk.old)))))) }
+    ensures listed { IfErr result IsOpeningRefusal }
 {
     let name = current_name(alloc, 0)?;
     let text = read_text(alloc, disk, &name)?;
@@ -78,6 +80,7 @@ pub(crate) fn check_unfinished<D: Disk>(
     ensures later { (D.meaning disk.old).faults ≤ (D.meaning disk.new).faults }
     ensures risen { IfErr result (HasRisen (D.meaning disk.old).faults (D.meaning disk.new).faults) }
     ensures cause { IsTrue D.honest → AreJournalIds (standing (state_in (D.meaning disk.old))) journal_ids.now → IfErr result (IsDue (UnfinishedRefuses (standing (state_in (D.meaning disk.old))))) }
+    ensures listed { IfErr result IsOpeningRefusal }
 {
     check_journals(alloc, disk, journal_ids)?;
     list_keyspaces(alloc, disk)?;

@@ -3,3 +3,5 @@ pub mod Seen
 pub mod Trees
 pub mod Roots
 pub mod Holding
+pub mod Alike
+pub mod Amidst

@@ -1,3 +1,4 @@
 pub mod Halves
 pub mod Places
 pub mod Held
+pub mod Amid

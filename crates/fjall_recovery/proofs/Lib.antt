@@ -7,3 +7,4 @@ mod Collecting
 mod Refusing
 pub mod Distinct
 pub mod Tidying
+pub mod OfKinds

@@ -1,13 +1,13 @@
 -- A disk on which nothing stands in the way, before and after its steps and crashes.
-use Rattle.std.proofs.Common.{◌≡◌, ◌≢◌, ◌⊎◌, inl, inr, ⊎_elim, ℕ, Bool, true, false, List, [], ◌∷◌, ◌++◌, refl, sym, ◌∙◌, ap, subst}
+use Rattle.std.proofs.Common.{◌≡◌, ◌≢◌, ◌⊎◌, inl, inr, ⊎_elim, ℕ, Bool, true, false, List, [], ◌∷◌, ◌++◌, Result, Ok, Err, OnOk, OnErr, refl, sym, ◌∙◌, ap, subst, append_assoc}
 use Rattle.std.specs.List.{AllByRecursion}
 use Rattle.std.specs.Str.{bytes_eq}
 use Rattle.std.proofs.lemmas.Slice.Eq.{bytes_eq-Decides}
+use Rattle.fjall_base.specs.declared.error.Error.{Error}
 use Rattle.fjall_base.proofs.States.{alter-other, alter-same, put-other, put-same, settle-in, settle-out}
 use Rattle.fjall_base.specs.Disk.{Name, Entry, Missing, File, Folder, Place, State, Image, IsImage, IsThere, Leaves, Meaning, SomeSurvives, Step, Put, Append, Sync, Loosen, Cut, SyncFolder, Survives, Took, TookCut, TookOrNot, TookPart, IsNoFile, IsNoFolder, after, all_synced, alter, appended, change, cut_to, disk_of, folder_of, loosened, making, put, removing, settle, state_in}
 use Rattle.fjall_base.proofs.Moments.{after-append}
-use Rattle.std.proofs.lemmas.List.{append-nil}
-use Rattle.std.proofs.Common.{append_assoc}
+use Rattle.std.proofs.lemmas.List.{append_cancel_left, append-nil}
 use Rattle.fjall_recovery.specs.Names.{Kept, Lock, Version, Journal, AllKeyspaces, Keyspace, Current, Table}
 use Rattle.fjall_recovery.specs.Tidy.{FitsAt, IsOfKind, IsTidy, IsTidyStep, StaysTidy}
 
@@ -207,3 +207,37 @@ pub stays_cut : (old new : Meaning) (name : Name) (len : ℕ) → TookCut old ne
 stays_cut old new name len (inl none) = stays_none old new none
 stays_cut old new name len (inr (inl loose)) = stays_by old new (Loosen name len ∷ []) loose (tt, tt)
 stays_cut old new name len (inr (inr cut)) = stays_by old new (Loosen name len ∷ Cut name cut.0 ∷ []) cut.2 (tt, (tt, tt))
+
+-- ---- calls of a disk, whether they succeeded or not
+
+-- an entry that fits is made where none is
+pub stays_making : (old new : Meaning) (name : Name) (entry there : Entry) → FitsAt name entry → Took old new (making name entry there) → StaysTidy old new
+stays_making old new name entry there fits took = stays_by old new (making name entry there) took (making_tidy name entry there fits)
+
+-- a name is removed
+pub stays_removing : (old new : Meaning) (name : Name) (there : Entry) (r : Result Unit Error) → OnOk r (Took old new (removing name there)) → OnErr r (Took old new []) → StaysTidy old new
+stays_removing old new name there (Ok done) ok err = stays_by old new (removing name there) ok (removing_tidy name there)
+stays_removing old new name there (Err e) ok err = stays_none old new err
+
+-- a file is synced
+pub stays_syncing : (old new : Meaning) (name : Name) (r : Result Unit Error) → OnOk r (Took old new (Sync name ∷ [])) → OnErr r (TookOrNot old new (Sync name ∷ [])) → StaysTidy old new
+stays_syncing old new name (Ok done) ok err = stays_by old new (Sync name ∷ []) ok (tt, tt)
+stays_syncing old new name (Err e) ok err = stays_perhaps old new (Sync name) tt err
+
+-- a folder is synced
+pub stays_settling : (old new : Meaning) (folder : Name) (r : Result Unit Error) → OnOk r (Took old new (SyncFolder folder ∷ [])) → OnErr r (Took old new []) → StaysTidy old new
+stays_settling old new folder (Ok done) ok err = stays_by old new (SyncFolder folder ∷ []) ok (tt, tt)
+stays_settling old new folder (Err e) ok err = stays_none old new err
+
+-- a file is cut
+pub stays_cutting : (old new : Meaning) (name : Name) (len : ℕ) (r : Result Unit Error) → OnOk r (Took old new (Loosen name len ∷ Cut name len ∷ [])) → OnErr r (TookCut old new name len) → StaysTidy old new
+stays_cutting old new name len (Ok done) ok err = stays_by old new (Loosen name len ∷ Cut name len ∷ []) ok (tt, (tt, tt))
+stays_cutting old new name len (Err e) ok err = stays_cut old new name len err
+
+-- bytes are appended
+pub stays_appending : (old new : Meaning) (name : Name) (bytes : List ℕ) → Took old new (Append name bytes ∷ []) → StaysTidy old new
+stays_appending old new name bytes took = stays_by old new (Append name bytes ∷ []) took (tt, tt)
+
+-- however the steps of a run were told, each of them is such a step
+pub each_tidy : (old new : Meaning) (added : List Step) → StaysTidy old new → Took old new added → AllByRecursion IsTidyStep added
+each_tidy old new added stays took = subst (AllByRecursion IsTidyStep) (append_cancel_left old.steps stays.added added (sym stays.took.steps ∙ took.steps)) stays.each

@@ -7,11 +7,12 @@ use Rattle.std.proofs.lemmas.Bool.Decides.{nat_tests}
 use Rattle.std.proofs.lemmas.Fmt.{digits_decimal}
 use Rattle.std.specs.Str.Parse.{AllDigits, digits_value}
 use Rattle.std.proofs.lemmas.Str.Parse.{IsNumeralModel, numerals_by_value, tells_digits, not_in_digits}
-use Rattle.fjall_base.specs.Disk.{Name, Entry, File, Folder, Missing, folder_of}
+use Rattle.std.proofs.lemmas.List.Elements.{All-cons, All-nil}
+use Rattle.fjall_base.specs.Disk.{Name, Entry, File, Folder, IsNoFile, IsNoFolder, Missing, State, folder_of}
 use Rattle.fjall_recovery.specs.Names.{HasIds, Kept, AllKeyspaces, Current, Journal, Keyspace, Table, Version, current_name, journal_name, keyspace_folder, name_of, table_name}
-use Rattle.fjall_recovery.specs.Tidy.{FitsAt, IsOfKind}
+use Rattle.fjall_recovery.specs.Tidy.{FitsAt, IsOfKind, IsTidy}
 use Rattle.fjall_recovery.proofs.Distinct.{kept}
-use Rattle.fjall_regions.specs.Regions.{join}
+use Rattle.fjall_regions.specs.Regions.{HoldsOnly, join}
 use Rattle.fjall_regions.proofs.Under.{IsPlain, folder_of-join, folder_of-plain}
 
 -- ---- folders
@@ -97,4 +98,21 @@ fits_table n small s u = record {
   home = λ other some small' inside there.
       let both : Keyspace 0 ≡ Keyspace other = kept (Keyspace 0) (Keyspace other) (omega arith) small' (sym (folder_of-table 0 n small) ∙ inside) in
       let is : 0 ≡ other = cc in absurd (omega (arith, some, is));
+}
+
+-- ---- what stands where only what fits does
+
+-- a keyspace's folder is none of a file's, and the file of its records none of a folder's
+pub folder_kind : (state : State) (id : ℕ) → id < 2 ^ 64 → IsTidy state → IsNoFile (state (keyspace_folder id)).now
+folder_kind state id small tidy = (tidy (keyspace_folder id)).0.kind (Keyspace id) small refl
+
+pub current_kind : (state : State) (id : ℕ) → id < 2 ^ 64 → IsTidy state → IsNoFolder (state (current_name id)).now
+current_kind state id small tidy = (tidy (current_name id)).0.kind (Current id) small refl
+
+-- a keyspace's folder holds no more than the file of its records
+pub holds_records : (state : State) (id : ℕ) → 0 < id → id < 2 ^ 64 → IsTidy state → HoldsOnly state (keyspace_folder id) (current_name id ∷ [])
+holds_records state id some small tidy = record {
+  kind = folder_kind state id small tidy;
+  each = All-cons (λ (n : Name). IsNoFolder (state n).now) (current_name id) [] (current_kind state id small tidy) (All-nil (λ (n : Name). IsNoFolder (state n).now));
+  whole = λ q inside there. (0, current_name id, omega arith, refl, sym ((tidy q).0.home id some small inside there));
 }

@@ -6,3 +6,4 @@ pub mod Parts
 pub mod Made
 pub mod Removed
 pub mod Fitting
+pub mod Serving

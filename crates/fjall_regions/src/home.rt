@@ -1,7 +1,8 @@
 //! A folder and its files, made, filled and removed.
 
 ghost use Rattle.std.specs.Prelude.{◌≡◌, ◌≢◌, ◌∷◌, [], true, map, All, IsTrue, OnOk, string_bytes};
-ghost use Rattle.fjall_base.specs.Disk.{Name, Append, Sync, File, Missing, OnlyFaults, Took, CanCreate, CanMakeFolder, IsFile, IsNoFolder, folder_of, state_in};
+ghost use Rattle.fjall_base.specs.Disk.{Name, Append, Sync, File, Folder, Missing, OnlyFaults, Took, CanCreate, CanMakeFolder, IsFile, IsNoFolder, folder_of, state_in};
+ghost use Rattle.fjall_recovery.specs.Tidy.{FitsAt, StaysTidy};
 ghost use Rattle.fjall_regions.specs.Regions.{HoldsOnly, IsMade, IsSafe, Within, is_under};
 
 use fjall_base::{Disk, Result};
@@ -14,6 +15,7 @@ pub fn append_synced<D: Disk>(disk: &mut D, file: &str, bytes: &[u8]) -> Result<
     ensures within { IsTrue D.honest → (folder : Name) → is_under folder file.now ≡ true → Within folder (D.meaning disk.old) (D.meaning disk.new) }
     ensures served { IsTrue D.honest → IsFile (state_in (D.meaning disk.old) file.now).now → (D.meaning disk.new).misuses ≡ (D.meaning disk.old).misuses }
     ensures cause { OnlyFaults (D.meaning disk.old) (D.meaning disk.new) result }
+    ensures kinds { IsTrue D.honest → StaysTidy (D.meaning disk.old) (D.meaning disk.new) }
 {
     disk.append(file, bytes)?;
     disk.sync(file)
@@ -25,6 +27,7 @@ pub fn make_file<D: Disk>(disk: &mut D, file: &str, bytes: &[u8]) -> Result<()>
     ensures within { IsTrue D.honest → (folder : Name) → is_under folder file.now ≡ true → Within folder (D.meaning disk.old) (D.meaning disk.new) }
     ensures served { IsTrue D.honest → CanCreate (state_in (D.meaning disk.old)) file.now → (D.meaning disk.new).misuses ≡ (D.meaning disk.old).misuses }
     ensures cause { OnlyFaults (D.meaning disk.old) (D.meaning disk.new) result }
+    ensures kinds { IsTrue D.honest → FitsAt file.now (File [] []) → StaysTidy (D.meaning disk.old) (D.meaning disk.new) }
 {
     disk.create(file)?;
     append_synced(disk, file, bytes)
@@ -39,6 +42,7 @@ pub fn make_home<D: Disk>(disk: &mut D, folder: &str, file: &str, bytes: &[u8]) 
     ensures within { IsTrue D.honest → Within folder.now (D.meaning disk.old) (D.meaning disk.new) }
     ensures served { IsTrue D.honest → CanMakeFolder (state_in (D.meaning disk.old)) folder.now → IsNoFolder (state_in (D.meaning disk.old) file.now).now → (D.meaning disk.new).misuses ≡ (D.meaning disk.old).misuses }
     ensures cause { OnlyFaults (D.meaning disk.old) (D.meaning disk.new) result }
+    ensures kinds { IsTrue D.honest → FitsAt folder.now Folder → FitsAt file.now (File [] []) → StaysTidy (D.meaning disk.old) (D.meaning disk.new) }
 {
     disk.make_folder(folder)?;
     make_file(disk, file, bytes)
@@ -53,6 +57,7 @@ pub fn put_file<D: Disk>(disk: &mut D, folder: &str, file: &str, bytes: &[u8]) -
     ensures within { IsTrue D.honest → folder.now ≢ [] → Within folder.now (D.meaning disk.old) (D.meaning disk.new) }
     ensures served { IsTrue D.honest → CanCreate (state_in (D.meaning disk.old)) file.now → (D.meaning disk.new).misuses ≡ (D.meaning disk.old).misuses }
     ensures cause { OnlyFaults (D.meaning disk.old) (D.meaning disk.new) result }
+    ensures kinds { IsTrue D.honest → FitsAt file.now (File [] []) → StaysTidy (D.meaning disk.old) (D.meaning disk.new) }
 {
     make_file(disk, file, bytes)?;
     disk.sync_folder(folder)
@@ -68,6 +73,7 @@ pub fn remove_home<D: Disk>(disk: &mut D, folder: &str, files: &[String]) -> Res
     ensures within { IsTrue D.honest → folder.now ≢ [] → Within folder.now (D.meaning disk.old) (D.meaning disk.new) }
     ensures served { IsTrue D.honest → HoldsOnly (state_in (D.meaning disk.old)) folder.now (map string_bytes files.now) → (D.meaning disk.new).misuses ≡ (D.meaning disk.old).misuses }
     ensures cause { OnlyFaults (D.meaning disk.old) (D.meaning disk.new) result }
+    ensures kinds { IsTrue D.honest → StaysTidy (D.meaning disk.old) (D.meaning disk.new) }
 {
     for file in files {
         disk.remove(file.as_str())?;

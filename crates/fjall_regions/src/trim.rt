@@ -2,6 +2,7 @@
 
 ghost use Rattle.std.specs.Prelude.{◌≡◌, ◌≢◌, IsTrue, MatchBool, OnOk};
 ghost use Rattle.fjall_base.specs.Disk.{IsFile, IsLong, LeavesOnly, Name, OnlyFaults, state_in};
+ghost use Rattle.fjall_recovery.specs.Tidy.{StaysTidy};
 ghost use Rattle.fjall_regions.specs.Trims.{IsTrimmed, ended_place};
 
 use fjall_base::{Disk, Result};
@@ -16,6 +17,7 @@ pub fn end_file<D: Disk>(disk: &mut D, file: &str, cut: bool, len: usize) -> Res
     ensures any_moment { IsTrue D.honest → LeavesOnly (D.meaning disk.old) (D.meaning disk.new) (IsTrimmed (state_in (D.meaning disk.old)) file.now len) }
     ensures served { IsTrue D.honest → MatchBool cut (IsLong len (state_in (D.meaning disk.old) file.now).now) (IsFile (state_in (D.meaning disk.old) file.now).now) → (D.meaning disk.new).misuses ≡ (D.meaning disk.old).misuses }
     ensures cause { OnlyFaults (D.meaning disk.old) (D.meaning disk.new) result }
+    ensures kinds { IsTrue D.honest → StaysTidy (D.meaning disk.old) (D.meaning disk.new) }
 {
     if cut {
         disk.cut_sync(file, len)

@@ -8,3 +8,5 @@ pub mod Rooted
 pub mod Repairing
 pub mod Numbering
 pub mod Openings
+pub mod Amid
+pub mod Served

@@ -152,8 +152,8 @@ opened_from image folder (Ok o) is store number = (folder, is, store, number)
 opened_from image folder (Err e) is store number = tt
 
 -- what is swept after a step that changed nothing
-pub swept_on : (old mid new : State) (result : Result Opened Error) → mid ≡ old → IfOk result (λ o. IsSwept mid new o.keyspaces.living) → IfOk result (λ o. IsSwept old new o.keyspaces.living)
-swept_on old mid new (Ok o) same swept = subst (λ (s : State). IsSwept s new o.keyspaces.living) same swept
+pub swept_on : (old mid new : State) (result : Result Opened Error) → mid ≡ old → IfOk result (λ o. IsSwept mid new o.catalog o.keyspaces.living) → IfOk result (λ o. IsSwept old new o.catalog o.keyspaces.living)
+swept_on old mid new (Ok o) same swept = subst (λ (s : State). IsSwept s new o.catalog o.keyspaces.living) same swept
 swept_on old mid new (Err e) same swept = tt
 
 -- ---- why it isn't opened

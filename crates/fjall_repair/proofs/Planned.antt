@@ -1,5 +1,5 @@
 -- What a plan has is spared.
-use Rattle.std.proofs.Common.{◌≡◌, ◌≢◌, ◌⊎◌, inl, inr, ⊎_elim, ℕ, ◌<◌, ◌^◌, true, List, [], ◌∷◌, map, get_or, codes, All, Any, Option, None, Some, Result, Ok, Err, OnOk, refl, sym, ◌∙◌, ap, subst, arith}
+use Rattle.std.proofs.Common.{◌≡◌, ◌≢◌, ◌⊎◌, inl, inr, ⊎_elim, ℕ, ◌<◌, ◌^◌, true, List, [], ◌∷◌, map, get_or, codes, All, Any, Option, None, Some, Result, Ok, Err, OnOk, lit<, refl, sym, ◌∙◌, ap, subst, arith}
 use Rattle.std.specs.Prelude.{IfSome, string_bytes}
 use Rattle.std.specs.List.{AllByRecursion, Contains, flat_map}
 use Rattle.std.specs.Option.{option_map}
@@ -14,7 +14,8 @@ use Rattle.fjall_tree.specs.declared.record.TableInfo.{TableInfo}
 use Rattle.fjall_tree.specs.Records.{Fields}
 use Rattle.fjall_recovery.specs.Names.{keyspace_folder, current_name, table_name}
 use Rattle.fjall_keyspaces.specs.declared.living.LivingKeyspace.{LivingKeyspace}
-use Rattle.fjall_keyspaces.specs.Keyspaces.{AreKeyspaces}
+use Rattle.fjall_keyspaces.specs.Keyspaces.{AreKeyspaces, Keyspaces}
+use Rattle.fjall_catalog.specs.declared.catalog.Catalog.{Catalog}
 use Rattle.fjall_catalog.specs.Catalog.{IsFree}
 use Rattle.fjall_catalog.proofs.Naming.{folder_of-current}
 use Rattle.fjall_catalog.proofs.Resting.{last_record, table_id}
@@ -27,7 +28,7 @@ use Rattle.fjall_places.proofs.Trees.{folder_of-home}
 use Rattle.fjall_repair.specs.declared.plan.Sweep.{Sweep}
 use Rattle.fjall_repair.specs.declared.plan.UnnamedHome.{UnnamedHome}
 use Rattle.fjall_opening.specs.Naming.{AreFolderIds}
-use Rattle.fjall_repair.specs.Sweeps.{AreGone, FindsAll, FindsTables, IsHomeFound, IsSwept, IsPlan, IsUnnamedHome, IsUnnamedTable, Lives, Removes, home_names, named_in, planned}
+use Rattle.fjall_repair.specs.Sweeps.{AreGone, BringsNoTable, FindsAll, FindsTables, IsHomeFound, IsSwept, IsPlan, IsUnnamedHome, IsUnnamedTable, Lives, Removes, home_names, named_in, planned}
 use Rattle.fjall_repair.proofs.Apart as Apart
 use Rattle.fjall_repair.proofs.Removals as Removals
 use Rattle.fjall_repair.proofs.Spared.{AtHome, IsSpare, spared}
@@ -202,7 +203,15 @@ swept old new records t plan (Err e) rests finds is run gone = tt
 
 -- ---- what is left
 
-module _ (old new : State) (named : Option ℕ) (living : List LivingKeyspace) (ids : List ℕ) (plan : Sweep) (finds : FindsAll old named living ids plan) (are : AreFolderIds (standing old) ids) (gone : AreGone new (planned plan)) where
+-- an id of a keyspace that lives is a u64
+pub lives_small : (s : Keyspaces) → AreKeyspaces s → (id : ℕ) → Lives s.living id → id < 2 ^ 64
+lives_small s are id has =
+    let below = All-contains (λ (i : ℕ). i < s.next) (map (λ k. k.id) s.living) id (All-map (λ (i : ℕ). i < s.next) (λ k. k.id) s.living are.given) has in
+    let fits = are.fits in
+    omega (arith, below, fits)
+
+module _ (old new : State) (last : Catalog) (living : List LivingKeyspace) (ids : List ℕ) (plan : Sweep) (finds : FindsAll old (option_map (λ table. table.id) last.table) living ids plan) (are : AreFolderIds (standing old) ids) (gone : AreGone new (planned plan))
+    (small : (id : ℕ) → Lives living id → id < 2 ^ 64) (brings : BringsNoTable old new) where
   at_planned : (name : Name) → Contains (planned plan) name → (new name).now ≡ Missing
   at_planned name has = All-contains (λ (n : Name). (new n).now ≡ Missing) (planned plan) name (All-from_recursion (λ (n : Name). (new n).now ≡ Missing) (planned plan) gone) has
 
@@ -214,7 +223,11 @@ module _ (old new : State) (named : Option ℕ) (living : List LivingKeyspace) (
   home_name id (k, home, lt, at, is) name has =
       at_planned name (Contains-append_right (map string_bytes plan.tables.items) (flat_map home_names plan.homes.items) name (Removals.within_all home_names plan.homes.items k home home (sym at) lt name has))
 
-  pub is_swept : IsSwept old new living
+  -- the name of a table that is planned
+  table_planned : (id n : ℕ) → Contains (map string_bytes plan.tables.items) (table_name id n) → (new (table_name id n)).now ≡ Missing
+  table_planned id n has = at_planned (table_name id n) (Contains-append_left (map string_bytes plan.tables.items) (flat_map home_names plan.homes.items) (table_name id n) has)
+
+  pub is_swept : IsSwept old new last living
   is_swept = record {
     homes = λ id fits some dead stands.
         let home = found id fits some dead stands in
@@ -222,6 +235,12 @@ module _ (old new : State) (named : Option ℕ) (living : List LivingKeyspace) (
     files = λ id name fits some dead stands inside there.
         let home = found id fits some dead stands in
         home_name id home name (Contains-append_left (map string_bytes home.1.files.items) (string_bytes home.1.folder ∷ []) name (home.4.whole name inside there));
-    tables = λ id n small lives there.
-        at_planned (table_name id n) (Contains-append_left (map string_bytes plan.tables.items) (flat_map home_names plan.homes.items) (table_name id n) (finds.tables_of id n lives small there));
+    tables = λ id n fits lives. elim (missing_or_not (old (table_name id n)).now) [
+      | inl none ↦ brings id n (small id lives) fits none
+      | inr some ↦ table_planned id n (finds.tables_of id n lives fits some)
+    ];
+    others = λ n fits other. elim (missing_or_not (old (table_name 0 n)).now) [
+      | inl none ↦ brings 0 n (lit< tt) fits none
+      | inr some ↦ ⊎_elim (λ is. absurd (other is)) (λ has. table_planned 0 n has) (finds.tables n fits some)
+    ];
   }

@@ -84,7 +84,7 @@ put_missing state name q gone = elim (bool_cases (bytes_eq q name)) [
   | inr other ↦ ap (λ (p : Place). p.now) (put-other state name Missing q other) ∙ gone
 ]
 
-after_missing : (state : State) (names : List Name) (q : Name) → (state q).now ≡ Missing → (after state (removals names) q).now ≡ Missing
+pub after_missing : (state : State) (names : List Name) (q : Name) → (state q).now ≡ Missing → (after state (removals names) q).now ≡ Missing
 after_missing state [] q gone = gone
 after_missing state (name ∷ names) q gone = after_missing (put state name Missing) names q (put_missing state name q gone)
 

@@ -50,6 +50,10 @@ module _ (contents : Contents) (mid new : Meaning) (plan : Sweep) (records : Lis
   stands = subst (λ (store : Store). LeavesOnly mid new (λ image. StandsFor image store)) (ap (λ (b : List Written). store_in contents.keyspaces (map shown b)) same)
       (store_stays mid new j records (tree_of contents) root rests later spare)
 
+  -- its root lies as before
+  pub root_kept : LiesInRoot (state_in new) j
+  root_kept = root_stays mid new j records (tree_of contents) root rests later spare
+
   -- and at its end the folder is repaired
   pub repaired : (active : Name) (end : ℕ) → journal_name j.active ≡ active → length (texts_of j.whole) ≡ end → LiesInTree (state_in new) records (tree_of contents) → IsRepaired (state_in new) contents active end
   repaired active end active_is end_is tree = record {

@@ -5,6 +5,7 @@ use Rattle.std.specs.Option.{option_map}
 use Rattle.fjall_base.specs.Disk.{Name, Missing, Folder, State, Step, Put, Meaning, Took, folder_of}
 use Rattle.fjall_recovery.specs.Names.{keyspace_folder, table_name}
 use Rattle.fjall_keyspaces.specs.declared.living.LivingKeyspace.{LivingKeyspace}
+use Rattle.fjall_catalog.specs.declared.catalog.Catalog.{Catalog}
 use Rattle.fjall_places.specs.Halves.{Tree}
 use Rattle.fjall_repair.specs.declared.plan.Sweep.{Sweep}
 use Rattle.fjall_repair.specs.declared.plan.UnnamedHome.{UnnamedHome}
@@ -60,15 +61,21 @@ pub record IsHomeFound (state : State) (id : ℕ) (home : UnnamedHome) : Type 0 
   pub folder_is : string_bytes home.folder ≡ keyspace_folder id
   pub whole : (name : Name) → folder_of name ≡ keyspace_folder id → (state name).now ≢ Missing → Contains (map string_bytes home.files.items) name
 
+-- the home has the names of all that stands in its folder
+abbrev pub HasAll : State → UnnamedHome → Type 0
+HasAll state home = (name : Name) → folder_of name ≡ string_bytes home.folder → (state name).now ≢ Missing → Contains (map string_bytes home.files.items) name
+
 -- each folder of these ids is one of these homes, unless it is tree 0's or its keyspace lives
 abbrev pub FindsHomes : State → List LivingKeyspace → List ℕ → List UnnamedHome → Type 0
 FindsHomes state living ids homes = (id : ℕ) → Contains ids id → id ≢ 0 → (Lives living id → ⊥) → Any (IsHomeFound state id) homes
 
--- the plan has all that no record names, of what stands in the folders of the keyspaces that live and in those of these ids
+-- The plan has all that no record names, of what stands in the folders of the keyspaces that live and in those of these ids,
+-- and of each of its homes all that stands in it.
 pub record FindsAll (state : State) (named : Option ℕ) (living : List LivingKeyspace) (ids : List ℕ) (plan : Sweep) : Type 0 where
   pub tables : FindsTables state named (map string_bytes plan.tables.items)
   pub tables_of : FindsTablesOf state living (map string_bytes plan.tables.items)
   pub homes : FindsHomes state living ids plan.homes.items
+  pub each : All (HasAll state) plan.homes.items
 
 -- ---- its removal
 
@@ -94,9 +101,15 @@ pub record Removes (P : Name → Type 0) (old new : Meaning) : Type 0 where
 abbrev pub AreGone : State → List Name → Type 0
 AreGone state names = AllByRecursion (λ name. (state name).now ≡ Missing) names
 
--- Of what stood in `keyspaces` nothing is left that no record names: no folder of a keyspace that doesn't live, nothing in
--- such a folder, and no table in the folder of a keyspace that lives.
-pub record IsSwept (old new : State) (living : List LivingKeyspace) : Type 0 where
+-- where no table stood none stands
+abbrev pub BringsNoTable : State → State → Type 0
+BringsNoTable old new = (id n : ℕ) → id < 2 ^ 64 → n < 2 ^ 64 → (old (table_name id n)).now ≡ Missing → (new (table_name id n)).now ≡ Missing
+
+-- Of what no record names this is gone from `keyspaces`. Of what stood there before: each folder of a keyspace that doesn't
+-- live, and all in it. And no table is there in the folder of a keyspace that lives, nor one in tree 0's but that which its
+-- last record names.
+pub record IsSwept (old new : State) (last : Catalog) (living : List LivingKeyspace) : Type 0 where
   pub homes : (id : ℕ) → id < 2 ^ 64 → id ≢ 0 → (Lives living id → ⊥) → (old (keyspace_folder id)).now ≡ Folder → (new (keyspace_folder id)).now ≡ Missing
   pub files : (id : ℕ) (name : Name) → id < 2 ^ 64 → id ≢ 0 → (Lives living id → ⊥) → (old (keyspace_folder id)).now ≡ Folder → folder_of name ≡ keyspace_folder id → (old name).now ≢ Missing → (new name).now ≡ Missing
-  pub tables : (id n : ℕ) → n < 2 ^ 64 → Lives living id → (old (table_name id n)).now ≢ Missing → (new (table_name id n)).now ≡ Missing
+  pub tables : (id n : ℕ) → n < 2 ^ 64 → Lives living id → (new (table_name id n)).now ≡ Missing
+  pub others : (n : ℕ) → n < 2 ^ 64 → option_map (λ table. table.id) last.table ≢ Some n → (new (table_name 0 n)).now ≡ Missing

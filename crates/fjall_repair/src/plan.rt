@@ -6,7 +6,7 @@ ghost use Rattle.fjall_base.specs.Disk.{Name, Took, folder_of, state_in};
 ghost use Rattle.fjall_opening.specs.Refusals.{HasRisen, IsDue};
 ghost use Rattle.fjall_recovery.specs.Names.{keyspace_folder as folder_at};
 ghost use Rattle.fjall_repair.specs.Listing.{AreTables, as_file, other_tables};
-ghost use Rattle.fjall_repair.specs.Sweeps.{FindsAll, FindsHomes, FindsTables, FindsTablesOf, IsHomeFound, IsPlan, IsUnnamedHome, IsUnnamedTable, Lives};
+ghost use Rattle.fjall_repair.specs.Sweeps.{FindsAll, FindsHomes, FindsTables, FindsTablesOf, HasAll, IsHomeFound, IsPlan, IsUnnamedHome, IsUnnamedTable, Lives};
 
 use fjall_base::{DirEntry, Disk, Error, Result};
 use fjall_keyspaces::LivingKeyspace;
@@ -157,6 +157,7 @@ fn list_homes<D: Disk>(
     ensures later { (D.meaning disk.old).faults ≤ (D.meaning disk.new).faults }
     ensures risen { IfErr result (HasRisen (D.meaning disk.old).faults (D.meaning disk.new).faults) }
     ensures only { IfErr result (IsDue (λ error. ⊥)) }
+    ensures each { IsTrue D.honest → IfOk result (λ homes. All (HasAll (state_in (D.meaning disk.old))) homes.items) }
 {
     let mut homes = Vec::new(alloc);
     for id in ids {

@@ -10,7 +10,7 @@ ghost use Rattle.fjall_recovery.specs.Names.{journal_name};
 ghost use Rattle.fjall_versions.specs.Versions.{versions_behind};
 ghost use Rattle.fjall_opening.specs.Folders.{IsFinished, IsUnfinished, past_records};
 ghost use Rattle.fjall_opening.specs.Naming.{AreFolderIds, KeyspacesAreNamed};
-ghost use Rattle.fjall_opening.specs.Refusals.{HasRisen, IsDue};
+ghost use Rattle.fjall_opening.specs.Refusals.{HasRisen, IsDue, IsOpeningRefusal};
 ghost use Rattle.fjall_beginning.specs.Plans.{IsPlan as IsMakingOf};
 ghost use Rattle.fjall_mending.specs.Mended.{IsMendingOf};
 ghost use Rattle.fjall_repair.specs.Opened.{HasNumbers, IsLawful, Takes, records_of};
@@ -60,6 +60,7 @@ fn list_folders<D: Disk>(alloc: Global, disk: &mut D) -> Result<Vec<u64>>
     ensures later { (D.meaning disk.old).faults ≤ (D.meaning disk.new).faults }
     ensures risen { IfErr result (HasRisen (D.meaning disk.old).faults (D.meaning disk.new).faults) }
     ensures only { IsTrue D.honest → KeyspacesAreNamed (standing (state_in (D.meaning disk.old))) → IfErr result (IsDue (λ error. ⊥)) }
+    ensures listed { IfErr result IsOpeningRefusal }
 {
     let listed = disk.list(alloc, "keyspaces")?;
     keyspaces(alloc, &listed)
@@ -95,6 +96,7 @@ pub(crate) fn ready_to_begin<D: Disk>(alloc: Global, disk: &mut D) -> Result<ToB
     ensures later { (D.meaning disk.old).faults ≤ (D.meaning disk.new).faults }
     ensures risen { IfErr result (HasRisen (D.meaning disk.old).faults (D.meaning disk.new).faults) }
     ensures due { IsTrue D.honest → IsUnfinished (standing (state_in (D.meaning disk.old))) → IfErr result (IsDue (λ error. ⊥)) }
+    ensures listed { IfErr result IsOpeningRefusal }
 {
     let ids = list_folders(alloc, disk)?;
     let sweep = plan_sweep(alloc, disk, None, &[], &ids)?;
@@ -133,6 +135,7 @@ fn database_of(alloc: Global, found: Finished, active: &str) -> Result<Opened>
     ensures lawful { IfOk result IsLawful }
     ensures risen { (faults : ℕ) → IfErr result (HasRisen faults faults) }
     ensures only { (image : Image) → IsFinished image found → IsOkUnless result Error.OutOfMemory }
+    ensures listed { IfErr result IsOpeningRefusal }
 {
     let number = number_of(&found);
     check_made(found.catalog.keyspaces.living(), number)?;
@@ -165,6 +168,7 @@ pub(crate) fn ready_to_mend<D: Disk>(alloc: Global, disk: &mut D, found: Finishe
     ensures later { (D.meaning disk.old).faults ≤ (D.meaning disk.new).faults }
     ensures risen { IfErr result (HasRisen (D.meaning disk.old).faults (D.meaning disk.new).faults) }
     ensures due { IsTrue D.honest → (image : Image) → IsFinished image found → IfErr result (IsDue (λ error. ⊥)) }
+    ensures listed { IfErr result IsOpeningRefusal }
 {
     let named = named_table(&found.catalog.catalog);
     let living = found.catalog.keyspaces.living();

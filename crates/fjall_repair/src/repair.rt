@@ -1,19 +1,22 @@
 //! A folder repaired: begun or mended, and then swept. A crash at any moment of it leaves the same store.
 
-ghost use Rattle.std.specs.Prelude.{◌≡◌, [], IsTrue, None, OnOk, Some, map, string_bytes};
+ghost use Rattle.std.specs.Prelude.{◌≡◌, List, [], IsTrue, None, OnOk, Some, map, string_bytes, All};
 ghost use Rattle.std.specs.Option.{option_map};
+ghost use Rattle.fjall_base.specs.Store.{Command, Store};
 ghost use Rattle.fjall_base.specs.Disk.{LeavesOnly, OnlyFaults, standing, state_in};
 ghost use Rattle.fjall_keyspaces.specs.Keyspaces.{no_keyspaces};
 ghost use Rattle.fjall_recovery.specs.Names.{journal_name};
+ghost use Rattle.fjall_recovery.specs.Tidy.{IsTidy, StaysTidy};
 ghost use Rattle.fjall_versions.specs.Replays.{bare};
 ghost use Rattle.fjall_opening.specs.declared.folder.Finished.{Finished};
-ghost use Rattle.fjall_opening.specs.Folders.{Contents, IsFinished, Shows, StandsFor, store_of};
+ghost use Rattle.fjall_opening.specs.Folders.{Contents, IsFinished, IsSound, IsUnfinished, Shows, StandsFor, store_of};
+ghost use Rattle.fjall_places.specs.Amid.{HoldsAmid, StandsAmid};
 ghost use Rattle.fjall_places.specs.Held.{Holds};
 ghost use Rattle.fjall_beginning.specs.Making.{ComesBackUnfinished};
 ghost use Rattle.fjall_beginning.specs.Plans.{IsPlan as IsMakingOf};
 ghost use Rattle.fjall_mending.specs.Mended.{IsMendingOf};
 ghost use Rattle.fjall_repair.specs.Opened.{IsRepaired, nothing};
-ghost use Rattle.fjall_repair.specs.Sweeps.{AreGone, FindsTables, IsPlan, planned};
+ghost use Rattle.fjall_repair.specs.Sweeps.{AreGone, BringsNoTable, FindsTables, IsPlan, planned, HasAll};
 
 use crate::plan::Sweep;
 use crate::sweeping::sweep;
@@ -32,6 +35,21 @@ pub(crate) fn mend_and_sweep<D: Disk>(disk: &mut D, mending: &Mending, plan: &Sw
         → OnOk result (IsRepaired (state_in (D.meaning disk.new)) contents (string_bytes mending.now.active) found.journals.end) }
     ensures gone { IsTrue D.honest → OnOk result (AreGone (state_in (D.meaning disk.new)) (planned plan.now)) }
     ensures cause { OnlyFaults (D.meaning disk.old) (D.meaning disk.new) result }
+    ensures tables { IsTrue D.honest → (found : Finished) → IsMendingOf (standing (state_in (D.meaning disk.old))) found mending.now → BringsNoTable (state_in (D.meaning disk.old)) (state_in (D.meaning disk.new)) }
+    // The same where a crash of the disk leaves different stores.
+    ensures amid { IsTrue D.honest → (found : Finished) (contents : Contents) → IsFinished (standing (state_in (D.meaning disk.old))) found → Shows found contents → IsSound (standing (state_in (D.meaning disk.old))) contents
+        → IsMendingOf (standing (state_in (D.meaning disk.old))) found mending.now → IsPlan (option_map (λ table. table.id) found.catalog.catalog.table) found.catalog.keyspaces.living plan.now
+        → (base : Store) (pending : List Command) → HoldsAmid (state_in (D.meaning disk.old)) base pending → LeavesOnly (D.meaning disk.old) (D.meaning disk.new) (StandsAmid base [] pending) }
+    ensures repaired { IsTrue D.honest → (found : Finished) (contents : Contents) → IsFinished (standing (state_in (D.meaning disk.old))) found → Shows found contents → IsSound (standing (state_in (D.meaning disk.old))) contents
+        → IsMendingOf (standing (state_in (D.meaning disk.old))) found mending.now → IsPlan (option_map (λ table. table.id) found.catalog.catalog.table) found.catalog.keyspaces.living plan.now
+        → (base : Store) (pending : List Command) → HoldsAmid (state_in (D.meaning disk.old)) base pending → FindsTables (state_in (D.meaning disk.old)) (option_map (λ table. table.id) found.catalog.catalog.table) (map string_bytes plan.now.tables.items)
+        → OnOk result (IsRepaired (state_in (D.meaning disk.new)) contents (string_bytes mending.now.active) found.journals.end) }
+    ensures held { IsTrue D.honest → (found : Finished) (contents : Contents) → IsFinished (standing (state_in (D.meaning disk.old))) found → Shows found contents → IsSound (standing (state_in (D.meaning disk.old))) contents
+        → IsMendingOf (standing (state_in (D.meaning disk.old))) found mending.now → IsPlan (option_map (λ table. table.id) found.catalog.catalog.table) found.catalog.keyspaces.living plan.now
+        → (base : Store) (pending : List Command) → HoldsAmid (state_in (D.meaning disk.old)) base pending → HoldsAmid (state_in (D.meaning disk.new)) base pending }
+    ensures kinds { IsTrue D.honest → (found : Finished) → IsFinished (standing (state_in (D.meaning disk.old))) found → IsMendingOf (standing (state_in (D.meaning disk.old))) found mending.now → StaysTidy (D.meaning disk.old) (D.meaning disk.new) }
+    ensures served { IsTrue D.honest → IsTidy (state_in (D.meaning disk.old)) → (found : Finished) (contents : Contents) → IsFinished (standing (state_in (D.meaning disk.old))) found → Shows found contents → IsSound (standing (state_in (D.meaning disk.old))) contents
+        → IsMendingOf (standing (state_in (D.meaning disk.old))) found mending.now → IsPlan (option_map (λ table. table.id) found.catalog.catalog.table) found.catalog.keyspaces.living plan.now → All (HasAll (state_in (D.meaning disk.old))) plan.now.homes.items → (D.meaning disk.new).misuses ≡ (D.meaning disk.old).misuses }
 {
     mend(disk, mending)?;
     sweep(disk, plan)
@@ -46,6 +64,17 @@ pub(crate) fn begin_and_sweep<D: Disk>(disk: &mut D, making: &Making, plan: &Swe
         → OnOk result (IsRepaired (state_in (D.meaning disk.new)) nothing (journal_name making.now.active) 0) }
     ensures gone { IsTrue D.honest → OnOk result (AreGone (state_in (D.meaning disk.new)) (planned plan.now)) }
     ensures cause { OnlyFaults (D.meaning disk.old) (D.meaning disk.new) result }
+    ensures tables { IsTrue D.honest → IsMakingOf (standing (state_in (D.meaning disk.old))) making.now → BringsNoTable (state_in (D.meaning disk.old)) (state_in (D.meaning disk.new)) }
+    // The same where a crash of the disk leaves different stores.
+    ensures amid { IsTrue D.honest → IsUnfinished (standing (state_in (D.meaning disk.old))) → IsMakingOf (standing (state_in (D.meaning disk.old))) making.now → IsPlan None [] plan.now
+        → (base : Store) (pending : List Command) → HoldsAmid (state_in (D.meaning disk.old)) base pending → LeavesOnly (D.meaning disk.old) (D.meaning disk.new) (StandsAmid base [] pending) }
+    ensures repaired { IsTrue D.honest → IsUnfinished (standing (state_in (D.meaning disk.old))) → IsMakingOf (standing (state_in (D.meaning disk.old))) making.now → IsPlan None [] plan.now
+        → FindsTables (state_in (D.meaning disk.old)) None (map string_bytes plan.now.tables.items)
+        → OnOk result (IsRepaired (state_in (D.meaning disk.new)) nothing (journal_name making.now.active) 0) }
+    ensures held { IsTrue D.honest → IsUnfinished (standing (state_in (D.meaning disk.old))) → IsMakingOf (standing (state_in (D.meaning disk.old))) making.now → IsPlan None [] plan.now
+        → (base : Store) (pending : List Command) → HoldsAmid (state_in (D.meaning disk.old)) base pending → HoldsAmid (state_in (D.meaning disk.new)) base pending }
+    ensures kinds { IsTrue D.honest → IsMakingOf (standing (state_in (D.meaning disk.old))) making.now → StaysTidy (D.meaning disk.old) (D.meaning disk.new) }
+    ensures served { IsTrue D.honest → IsTidy (state_in (D.meaning disk.old)) → IsMakingOf (standing (state_in (D.meaning disk.old))) making.now → IsPlan None [] plan.now → All (HasAll (state_in (D.meaning disk.old))) plan.now.homes.items → (D.meaning disk.new).misuses ≡ (D.meaning disk.old).misuses }
 {
     begin(disk, making)?;
     sweep(disk, plan)

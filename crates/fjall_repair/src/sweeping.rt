@@ -1,12 +1,14 @@
 //! What no record names, removed: what is named stays as it was.
 
-ghost use Rattle.std.specs.Prelude.{◌≡◌, ◌∷◌, ◌++◌, List, IsTrue, OnOk, codes, map, string_bytes};
+ghost use Rattle.std.specs.Prelude.{◌≡◌, ◌∷◌, ◌++◌, ℕ, All, List, IsTrue, OnOk, Option, codes, map, string_bytes};
 ghost use Rattle.std.specs.List.{flat_map, Contains};
-ghost use Rattle.fjall_base.specs.Disk.{LeavesOnly, OnlyFaults, state_in};
+ghost use Rattle.fjall_base.specs.Disk.{IsNoFolder, LeavesOnly, OnlyFaults, state_in};
+ghost use Rattle.fjall_recovery.specs.Tidy.{IsTidy, StaysTidy};
+ghost use Rattle.fjall_keyspaces.specs.declared.living.LivingKeyspace.{LivingKeyspace};
 ghost use Rattle.fjall_places.specs.Halves.{HasTree, Tree};
 ghost use Rattle.fjall_places.specs.Places.{LiesInTree, RestsInTree};
 ghost use Rattle.fjall_regions.specs.Regions.{Within};
-ghost use Rattle.fjall_repair.specs.Sweeps.{AreGone, FindsTables, IsPlan, Removes, home_names, named_in, planned};
+ghost use Rattle.fjall_repair.specs.Sweeps.{AreGone, FindsTables, HasAll, IsPlan, IsUnnamedHome, Removes, home_names, named_in, planned};
 ghost use Rattle.fjall_tree.specs.Records.{Fields};
 
 use crate::plan::{Sweep, UnnamedHome};
@@ -17,6 +19,8 @@ fn remove_all<D: Disk>(disk: &mut D, names: &[String]) -> Result<()>
     ensures removes { IsTrue D.honest → Removes (Contains (map string_bytes names.now)) (D.meaning disk.old) (D.meaning disk.new) }
     ensures gone { IsTrue D.honest → OnOk result (AreGone (state_in (D.meaning disk.new)) (map string_bytes names.now)) }
     ensures cause { OnlyFaults (D.meaning disk.old) (D.meaning disk.new) result }
+    ensures kinds { IsTrue D.honest → StaysTidy (D.meaning disk.old) (D.meaning disk.new) }
+    ensures served { IsTrue D.honest → All (λ name. IsNoFolder (state_in (D.meaning disk.old) (string_bytes name)).now) names.now → (D.meaning disk.new).misuses ≡ (D.meaning disk.old).misuses }
 {
     for name in names {
         disk.remove(name.as_str())?;
@@ -29,6 +33,8 @@ fn remove_unnamed<D: Disk>(disk: &mut D, home: &UnnamedHome) -> Result<()>
     ensures removes { IsTrue D.honest → Removes (Contains (home_names home.now)) (D.meaning disk.old) (D.meaning disk.new) }
     ensures gone { IsTrue D.honest → OnOk result (AreGone (state_in (D.meaning disk.new)) (home_names home.now)) }
     ensures cause { OnlyFaults (D.meaning disk.old) (D.meaning disk.new) result }
+    ensures kinds { IsTrue D.honest → StaysTidy (D.meaning disk.old) (D.meaning disk.new) }
+    ensures served { IsTrue D.honest → IsTidy (state_in (D.meaning disk.old)) → (living : List LivingKeyspace) → IsUnnamedHome living home.now → HasAll (state_in (D.meaning disk.old)) home.now → (D.meaning disk.new).misuses ≡ (D.meaning disk.old).misuses }
 {
     remove_all(disk, &home.files)?;
     disk.remove_folder(home.folder.as_str())
@@ -39,6 +45,8 @@ fn remove_homes<D: Disk>(disk: &mut D, homes: &[UnnamedHome]) -> Result<()>
     ensures removes { IsTrue D.honest → Removes (Contains (flat_map home_names homes.now)) (D.meaning disk.old) (D.meaning disk.new) }
     ensures gone { IsTrue D.honest → OnOk result (AreGone (state_in (D.meaning disk.new)) (flat_map home_names homes.now)) }
     ensures cause { OnlyFaults (D.meaning disk.old) (D.meaning disk.new) result }
+    ensures kinds { IsTrue D.honest → StaysTidy (D.meaning disk.old) (D.meaning disk.new) }
+    ensures served { IsTrue D.honest → IsTidy (state_in (D.meaning disk.old)) → (living : List LivingKeyspace) → All (IsUnnamedHome living) homes.now → All (HasAll (state_in (D.meaning disk.old))) homes.now → (D.meaning disk.new).misuses ≡ (D.meaning disk.old).misuses }
 {
     for home in homes {
         remove_unnamed(disk, home)?;
@@ -65,6 +73,8 @@ pub fn sweep<D: Disk>(disk: &mut D, plan: &Sweep) -> Result<()>
     ensures ok { IsTrue D.honest → (records : List Fields) (t : Tree) → IsPlan (named_in t) t.keyspaces.living plan.now → RestsInTree (state_in (D.meaning disk.old)) records t
         → FindsTables (state_in (D.meaning disk.old)) (named_in t) (map string_bytes plan.now.tables.items) → OnOk result (LiesInTree (state_in (D.meaning disk.new)) records t) }
     ensures cause { OnlyFaults (D.meaning disk.old) (D.meaning disk.new) result }
+    ensures kinds { IsTrue D.honest → StaysTidy (D.meaning disk.old) (D.meaning disk.new) }
+    ensures served { IsTrue D.honest → IsTidy (state_in (D.meaning disk.old)) → (named : Option ℕ) (living : List LivingKeyspace) → IsPlan named living plan.now → All (HasAll (state_in (D.meaning disk.old))) plan.now.homes.items → (D.meaning disk.new).misuses ≡ (D.meaning disk.old).misuses }
 {
     remove_all(disk, &plan.tables)?;
     remove_homes(disk, &plan.homes)

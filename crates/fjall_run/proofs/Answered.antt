@@ -1,5 +1,5 @@
 -- Each line has an answer, and the one for bad lines is given to no command.
-use Rattle.std.proofs.Common.{◌≡◌, ℕ, ◌<◌, ◌^◌, Bool, true, false, List, [], ◌∷◌, ◌++◌, length, drop, get_or, Option, Some, None, refl, sym, ap, ◌∙◌, append_assoc, codes, decimal, arith, lit<}
+use Rattle.std.proofs.Common.{◌≡◌, ℕ, ◌<◌, ◌^◌, Bool, true, false, List, [], ◌∷◌, ◌++◌, length, drop, get_or, Option, Some, None, Result, Ok, Err, refl, sym, ap, ◌∙◌, append_assoc, codes, decimal, arith, lit<, subst}
 use Rattle.std.specs.Prelude.{All, IfSome}
 use Rattle.std.specs.List.{AllZip}
 use Rattle.std.proofs.lemmas.List.{append-nil}
@@ -15,7 +15,7 @@ use Rattle.fjall_run.specs.declared.command.Command.TheVariants.{Keyspace, Delet
 use Rattle.fjall_run.specs.Answers.{bad_line, reply_text}
 use Rattle.fjall_core.specs.Holding.{Held}
 use Rattle.fjall_core.specs.Standing.{Owes, OwesAll}
-use Rattle.fjall_run.specs.Sessions.{answers_to, call_of, calls_of, is_stop, IsAnswer, IsReplyTo, IsSaid, Session, begun, run, restarted, Restarts}
+use Rattle.fjall_run.specs.Sessions.{answers_to, call_of, calls_of, is_stop, IsAnswer, IsReplyTo, IsSaid, Session, begun, run, restarted, Restarts, Ends, Fails, not_begun, no_memory, not_restarted, not_closed}
 
 -- no refusal has the number 0
 numbered : (error : Error) → (0 < number_of error) × (number_of error < 2 ^ 64)
@@ -224,3 +224,19 @@ all_answered honest commands core printed s =
     let h = answered honest commands [] core printed s in
     let same : commands ≡ h.0 = h.1 ∙ append-nil h.0 in
     rw same h.2
+
+-- so have those that came before a failure
+failed_answers : (honest : Bool) (commands rest : List (Option Command)) (printed : List (List ℕ)) (error : Error) → Fails honest commands printed rest error
+    → (front : List (Option Command)) × (commands ≡ front ++ rest) × AllZip IsAnswer front printed
+failed_answers honest commands _ _ _ (not_begun error h) = ([], refl, tt)
+failed_answers honest commands _ _ _ (no_memory core printed rest s) = answered honest commands rest core printed s
+failed_answers honest commands _ _ _ (not_restarted core printed stop rest error s stops h) = answered honest commands (stop ∷ rest) core printed s
+failed_answers honest commands _ _ _ (not_closed core printed error disk s h) = answered honest commands [] core printed s
+
+-- the commands that came before a session's end
+pub ended_answers : (honest : Bool) (commands rest : List (Option Command)) (printed : List (List ℕ)) (ended : Result Unit Error) → Ends honest commands printed rest ended
+    → (front : List (Option Command)) × (commands ≡ front ++ rest) × AllZip IsAnswer front printed
+ended_answers honest commands rest printed (Ok done) h =
+    let P : List (Option Command) → Type 0 = λ left. (front : List (Option Command)) × (commands ≡ front ++ left) × AllZip IsAnswer front printed in
+    subst P (sym h.3) (answered honest commands [] h.0 printed h.1)
+ended_answers honest commands rest printed (Err error) h = failed_answers honest commands rest printed error h

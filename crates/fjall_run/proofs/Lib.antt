@@ -7,4 +7,5 @@ mod Passing
 mod Restarting
 mod Answered
 mod Serving
+mod Writing
 mod Printing

@@ -1,8 +1,10 @@
 -- A core that a session begins with.
-use Rattle.std.proofs.Common.{Bool, false, IsTrue, [], None, Result, Ok, Err, refl, subst, sym}
-use Rattle.std.specs.Prelude.{IfOk}
+use Rattle.std.proofs.Common.{◌≡◌, Bool, true, false, IsTrue, [], Option, None, Result, Ok, Err, refl, subst, sym, inr}
+use Rattle.std.specs.Prelude.{IfErr, IfOk}
 use Rattle.fjall_base.specs.Disk.{Meaning, Missing, State, standing, state_in}
 use Rattle.fjall_base.specs.declared.error.Error.{Error}
+use Rattle.fjall_recovery.proofs.Tidying.{fits_missing}
+use Rattle.fjall_base.specs.declared.error.Error.TheVariants.{OutOfMemory}
 use Rattle.fjall_keyspaces.specs.Keyspaces.{no_keyspaces}
 use Rattle.fjall_versions.specs.Replays.{bare}
 use Rattle.fjall_opening.specs.Folders.{IsUnfinished}
@@ -11,7 +13,9 @@ use Rattle.fjall_beginning.proofs.Standing.{kept_image, missing_stands, unfinish
 use Rattle.fjall_beginning.proofs.Beginning.{settled_comes_back}
 use Rattle.fjall_core.specs.Holding.{Held}
 use Rattle.fjall_core.specs.Standing.{HoldsStore}
-use Rattle.fjall_run.specs.Machine.{Begins, IsNew, OpenedOn}
+use Rattle.fjall_run.specs.Machine.{Begins, IsNew, IsNoDisk, NotBegun, OpenedOn, RefusedOn}
+use Rattle.fjall_run.specs.declared.command.Command.{Command}
+use Rattle.fjall_run.specs.Sessions.{NotRestarted, OpensAgain}
 
 -- nothing stands anywhere
 abbrev bare_state : State
@@ -25,10 +29,13 @@ bare_unfinished = unfinished_of (standing bare_state) (λ name. missing_stands f
 
 bare_holds : HoldsStore bare_state (bare no_keyspaces)
 bare_holds = (
-  None,
-  record { now = bare_unfinished; crash = λ image is. unfinished_of image (kept_image false bare_state image bare_kept is) },
-  settled_comes_back bare_state (λ name. refl) bare_unfinished,
-  refl,
+  (
+    None,
+    record { now = bare_unfinished; crash = λ image is. unfinished_of image (kept_image false bare_state image bare_kept is) },
+    settled_comes_back bare_state (λ name. refl) bare_unfinished,
+    refl,
+  ),
+  λ name. (fits_missing name, tt),
 )
 
 -- a new disk holds the store without keyspaces
@@ -43,3 +50,18 @@ begun honest disk (Ok core) fresh opened = record {
   empty = λ h. opened.safe h (bare no_keyspaces) (new_holds disk (fresh h));
 }
 begun honest disk (Err error) fresh opened = tt
+
+-- the opening was refused
+pub not_begun : (honest : Bool) (disk : Meaning) (r : Result Held Error) → (IsTrue honest → IsNew disk) → IfErr r (λ error. RefusedOn honest disk error) → IfErr r (λ error. NotBegun honest error)
+not_begun honest disk (Ok core) fresh h = tt
+not_begun honest disk (Err error) fresh h = inr (disk, fresh, h)
+
+-- memory ran out before it
+pub no_disk : (honest : Bool) (error : Error) → error ≡ OutOfMemory → IsNoDisk honest error
+no_disk true error none = rw none tt
+no_disk false error none = rw none tt
+
+pub not_again : (honest : Bool) (stop : Option Command) (old : Held) (disk : Meaning) (r : Result Held Error) → OpensAgain honest stop old disk → IfErr r (λ error. RefusedOn honest disk error)
+    → IfErr r (λ error. NotRestarted honest stop old error)
+not_again honest stop old disk (Ok core) h refused = tt
+not_again honest stop old disk (Err error) h refused = inr (disk, h, refused)

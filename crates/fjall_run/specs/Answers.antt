@@ -14,6 +14,10 @@ use Rattle.fjall_run.specs.Lines.{hex_word}
 abbrev pub refusal_text : Error → List ℕ
 refusal_text error = codes "error " ++ (decimal (number_of error) ++ (codes " " ++ name_of error))
 
+-- a refusal's line
+abbrev pub refusal_line : Error → List ℕ
+refusal_line error = refusal_text error ++ 10 ∷ []
+
 -- a pair: the key, an equals sign and the value
 abbrev pub pair_word : Bytes × Bytes → List ℕ
 pair_word (key, value) = hex_word key ++ (codes "=" ++ hex_word value)

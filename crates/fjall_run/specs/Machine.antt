@@ -1,22 +1,25 @@
 -- The core, as a session drives it: what it holds, before and after. Over a disk that returns what it holds, as the one
 -- in memory does, all is said that the core promises; over another one, as a folder, what needs no such premise.
-use Rattle.std.specs.Prelude.{◌≡◌, ℕ, Bool, IsTrue, [], List, Result, Ok}
+use Rattle.std.specs.Prelude.{◌≡◌, ℕ, Bool, false, IsTrue, [], List, Result, Ok, ◌⊎◌}
 use Rattle.fjall_base.specs.Crash.{crashed}
 use Rattle.fjall_base.specs.Disk.{Meaning, IsImage, disk_of, standing, state_in}
 use Rattle.fjall_base.specs.Store.{Store}
 use Rattle.fjall_base.specs.declared.error.Error.{Error}
+use Rattle.fjall_base.specs.declared.error.Error.TheVariants.{Io, Locked, OutOfMemory}
 use Rattle.fjall_keyspaces.specs.Keyspaces.{no_keyspaces}
 use Rattle.fjall_versions.specs.Replays.{bare}
+use Rattle.fjall_opening.specs.Refusals.{HasRisen}
 use Rattle.fjall_machine.specs.declared.call.Call.{Call}
 use Rattle.fjall_machine.specs.declared.call.Reply.{Reply}
 use Rattle.fjall_core.specs.Holding.{Held}
-use Rattle.fjall_core.specs.Openings.{KeepsStore, Opens, OpensAs, OpensOn}
+use Rattle.fjall_core.specs.Openings.{IsDueTo, KeepsStore, Opens, OpensAs, OpensOn}
 use Rattle.fjall_core.specs.Standing.{ClosesDisk, ClosesSafely, HoldsStore, OwesAll, OwesClosing, Runs, RunsSafely}
 
--- The replies are those of a run of the engine, whichever state the core stood for; a crash at each moment leaves a beginning
--- of the commands, with all that a sync made safe before; and each reply is owed by what the core held.
+-- The replies are those of a run of the engine, whichever state the core stood for and whatever the disk does, and each is
+-- owed by what the core held; a crash at each moment leaves a beginning of the commands, with all that a sync made safe
+-- before.
 pub record RunsCalls (honest : Bool) (old : Held) (calls : List Call) (replies : List Reply) (new : Held) : Type 0 where
-  pub runs : IsTrue honest → Runs old calls replies new
+  pub runs : Runs old calls replies new
   pub safe : IsTrue honest → RunsSafely old calls replies new
   pub owes : OwesAll old calls replies new
 
@@ -28,6 +31,21 @@ pub record OpenedOn (honest : Bool) (disk : Meaning) (core : Held) : Type 0 wher
   pub any_moment : IsTrue honest → KeepsStore disk core.disk
   pub stands : (store : Store) × (next : ℕ) × Opens core store next
 
+-- A core refused to be opened on this disk, for its cause: `Io` only where the count of faults rose. Whatever store the
+-- disk held, a crash at each moment of the opening leaves it.
+pub record RefusedOn (honest : Bool) (disk : Meaning) (error : Error) : Type 0 where
+  pub after : Meaning
+  pub due : IsTrue honest → IsDueTo disk after error
+  pub any_moment : IsTrue honest → KeepsStore disk after
+  pub risen : HasRisen disk.faults after.faults error
+
+-- why there is nothing to open a core on: memory ran out; a folder may also fail, or be open already
+abbrev pub IsNoDisk : Bool → Error → Type 0
+IsNoDisk honest OutOfMemory = Unit {0}
+IsNoDisk false (Io kind) = Unit {0}
+IsNoDisk false Locked = Unit {0}
+IsNoDisk honest error = ⊥
+
 -- nothing was ever put on the disk
 abbrev pub IsNew : Meaning → Type 0
 IsNew disk = disk ≡ record { places = []; steps = []; faults = 0; misuses = 0 }
@@ -38,6 +56,10 @@ pub record Begins (honest : Bool) (core : Held) : Type 0 where
   pub fresh : IsTrue honest → IsNew disk
   pub opened : OpenedOn honest disk core
   pub empty : IsTrue honest → OpensAs core (bare no_keyspaces)
+
+-- the opening that a session begins with was refused
+abbrev pub NotBegun : Bool → Error → Type 0
+NotBegun honest error = IsNoDisk honest error ⊎ ((disk : Meaning) × (IsTrue honest → IsNew disk) × RefusedOn honest disk error)
 
 -- A core that was opened on what a crash of the old one's disk left, so many unsynced bytes of each file: one of the
 -- images that a crash may leave.

@@ -1,9 +1,11 @@
 -- What a session prints: the answers to its commands, in turn.
-use Rattle.std.specs.Prelude.{◌≡◌, ℕ, ◌-◌, ◌^◌, Bool, true, false, List, [], ◌∷◌, ◌++◌, codes, Option, Some, None, All, ◌⊎◌}
+use Rattle.std.specs.Prelude.{◌≡◌, ℕ, ◌-◌, ◌^◌, Bool, true, false, List, [], ◌∷◌, ◌++◌, codes, Option, Some, None, Result, Ok, Err, IsTrue, All, ◌⊎◌}
 use Rattle.std.specs.List.{filter_map}
 use Rattle.std.specs.declared.ops.Bound.TheVariants.{Unbounded}
 use Rattle.fjall_base.specs.Crash.{crashed}
 use Rattle.fjall_base.specs.Disk.{Meaning, IsImage, disk_of, state_in}
+use Rattle.fjall_base.specs.declared.error.Error.{Error}
+use Rattle.fjall_base.specs.declared.error.Error.TheVariants.{OutOfMemory}
 use Rattle.fjall_core.specs.Holding.{Held}
 use Rattle.fjall_machine.specs.declared.call.Call.{Call}
 use Rattle.fjall_machine.specs.declared.call.Call.TheVariants as calls
@@ -15,7 +17,7 @@ use Rattle.fjall_meta.specs.Options.{default_options}
 use Rattle.fjall_run.specs.declared.command.Command.{Command}
 use Rattle.fjall_run.specs.declared.command.Command.TheVariants.{Keyspace, Delete, Insert, Remove, RemoveWeak, Get, Len, Scan, Persist, Crash, Reopen}
 use Rattle.fjall_run.specs.Answers.{reply_text, bad_line, text_of}
-use Rattle.fjall_run.specs.Machine.{RunsCalls, Begins, Crashes, Reopens, IsClosed}
+use Rattle.fjall_run.specs.Machine.{RunsCalls, Begins, Closes, Crashes, IsNoDisk, NotBegun, RefusedOn, Reopens, IsClosed}
 
 -- the call for all pairs of a keyspace, in the order of their keys
 abbrev pub all_pairs : ℕ → Call
@@ -93,6 +95,16 @@ Restarts honest (Some (Crash keep)) old new = Crashes honest keep old new
 Restarts honest (Some Reopen) old new = Reopens honest old new
 Restarts honest found old new = ⊥
 
+-- what such a line opens the core on: what the crash leaves, or the disk of the old core, which was closed, with success or not
+abbrev pub OpensAgain : Bool → Option Command → Held → Meaning → Type 0
+OpensAgain honest (Some (Crash keep)) old disk = IsTrue honest → Leaves (Some (Crash keep)) old.disk disk
+OpensAgain honest (Some Reopen) old disk = (closing : Result Unit Error) × (closed : Meaning) × Closes honest old closing closed × (IsTrue honest → disk ≡ closed)
+OpensAgain honest found old disk = ⊥
+
+-- the opening of such a line was refused
+abbrev pub NotRestarted : Bool → Option Command → Held → Error → Type 0
+NotRestarted honest stop old error = IsNoDisk honest error ⊎ ((disk : Meaning) × OpensAgain honest stop old disk × RefusedOn honest disk error)
+
 -- A session of these commands: the core as it stands, what was printed so far, and the commands to come.
 -- The calls up to a crash or a reopening are one run.
 pub data Session (honest : Bool) (commands : List (Option Command)) : Held → List (List ℕ) → List (Option Command) → Type 0 where
@@ -103,6 +115,24 @@ pub data Session (honest : Bool) (commands : List (Option Command)) : Held → L
   restarted : (old new : Held) (printed : List (List ℕ)) (stop : Option Command) (rest : List (Option Command))
       → Session honest commands old printed (stop ∷ rest) → Restarts honest stop old new
       → Session honest commands new (printed ++ codes "ok" ∷ []) rest
+
+-- How a session of these commands failed: what was printed up to then, the commands that had no answer, and the refusal that
+-- ended it. That is the first opening's, want of memory for a list of calls as a whole or for an answer, the opening's of a
+-- crash or a reopening, or the closing's at the end.
+pub data Fails (honest : Bool) (commands : List (Option Command)) : List (List ℕ) → List (Option Command) → Error → Type 0 where
+  not_begun : (error : Error) → NotBegun honest error → Fails honest commands [] commands error
+  no_memory : (core : Held) (printed : List (List ℕ)) (rest : List (Option Command)) → Session honest commands core printed rest
+      → Fails honest commands printed rest OutOfMemory
+  not_restarted : (core : Held) (printed : List (List ℕ)) (stop : Option Command) (rest : List (Option Command)) (error : Error)
+      → Session honest commands core printed (stop ∷ rest) → is_stop stop ≡ true → NotRestarted honest stop core error
+      → Fails honest commands printed (stop ∷ rest) error
+  not_closed : (core : Held) (printed : List (List ℕ)) (error : Error) (disk : Meaning) → Session honest commands core printed []
+      → Closes honest core (Err error) disk → Fails honest commands printed [] error
+
+-- how a session ends: all commands were answered and the core was closed, or it failed
+abbrev pub Ends : Bool → List (Option Command) → List (List ℕ) → List (Option Command) → Result Unit Error → Type 0
+Ends honest commands printed rest (Ok done) = (core : Held) × Session honest commands core printed [] × IsClosed honest core × (rest ≡ [])
+Ends honest commands printed rest (Err error) = Fails honest commands printed rest error
 
 -- a session of these commands has come as far as this rest, and its answers were added to a text
 pub record Prints (honest : Bool) (commands : List (Option Command)) (core : Held) (rest : List (Option Command)) (old new : List ℕ) : Type 0 where
@@ -116,9 +146,12 @@ pub record PrintsAll (honest : Bool) (commands : List (Option Command)) (old new
   pub prints : Prints honest commands core [] old new
   pub closed : IsClosed honest core
 
--- nothing was answered, or a beginning
-abbrev pub PrintsSome : Bool → List (Option Command) → List ℕ → List ℕ → Type 0
-PrintsSome honest commands old new = (new ≡ old) ⊎ ((core : Held) × ((rest : List (Option Command)) × Prints honest commands core rest old new))
+-- a session of these commands failed, and the answers before that were added to a text
+pub record PrintsUntil (honest : Bool) (commands : List (Option Command)) (error : Error) (old new : List ℕ) : Type 0 where
+  pub printed : List (List ℕ)
+  pub rest : List (Option Command)
+  pub fails : Fails honest commands printed rest error
+  pub text : new ≡ old ++ text_of printed
 
 -- The calls before the first crash or reopening were one run, and their answers were added to a text.
 pub record RunsFront (honest : Bool) (commands rest : List (Option Command)) (core after : Held) (old new : List ℕ) : Type 0 where

@@ -1,7 +1,7 @@
 //! Where a session keeps its files: in memory, or in a folder.
 
-ghost use Rattle.std.specs.Prelude.{◌≡◌, IsTrue, IfOk};
-ghost use Rattle.fjall_run.specs.Machine.{IsNew};
+ghost use Rattle.std.specs.Prelude.{◌≡◌, IsTrue, IfErr, IfOk};
+ghost use Rattle.fjall_run.specs.Machine.{IsNew, IsNoDisk};
 ghost use Rattle.fjall_run.specs.Sessions.{Leaves};
 
 use crate::command::Command;
@@ -19,11 +19,13 @@ pub trait Place {
 
     /// The disk at the beginning of a session. In memory it is empty.
     fn disk(&self) -> Result<Self::Disk>
-        ensures { IsTrue Self.Disk.honest → IfOk result (λ disk. IsNew (Self.Disk.meaning disk)) };
+        ensures ok { IsTrue Self.Disk.honest → IfOk result (λ disk. IsNew (Self.Disk.meaning disk)) }
+        ensures err { IfErr result (IsNoDisk Self.Disk.honest) };
 
     /// The disk after a crash, or the same disk at a reopening.
     fn restart(&self, disk: Self::Disk, stop: &Option<Command>) -> Result<Self::Disk>
-        ensures { IsTrue Self.Disk.honest → IfOk result (λ after. Leaves stop.now (Self.Disk.meaning disk) (Self.Disk.meaning after)) };
+        ensures ok { IsTrue Self.Disk.honest → IfOk result (λ after. Leaves stop.now (Self.Disk.meaning disk) (Self.Disk.meaning after)) }
+        ensures err { IfErr result (IsNoDisk Self.Disk.honest) };
 }
 
 /// A disk in memory. A crash leaves so many unsynced bytes of each file.

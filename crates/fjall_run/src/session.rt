@@ -1,15 +1,15 @@
 //! Runs commands over a core, and gathers what is to be printed.
 
-ghost use Rattle.std.specs.Prelude.{◌≡◌, true, IfOk, OnOk, OnErr, string_bytes};
+ghost use Rattle.std.specs.Prelude.{◌≡◌, true, IfErr, IfOk, IsOkUnless, OnOk, OnErr, string_bytes};
 ghost use Rattle.std.specs.List.{position};
 ghost use Rattle.fjall_run.specs.Answers.{text_of};
-ghost use Rattle.fjall_run.specs.Machine.{Begins, OpenedOn};
-ghost use Rattle.fjall_run.specs.Sessions.{all_pairs, answers_to, call_of, calls_of, is_stop, PrintsAll, PrintsSome, Restarts, RunsFront};
+ghost use Rattle.fjall_run.specs.Machine.{Begins, NotBegun, OpenedOn, RefusedOn};
+ghost use Rattle.fjall_run.specs.Sessions.{all_pairs, answers_to, call_of, calls_of, is_stop, NotRestarted, PrintsAll, PrintsUntil, Restarts, RunsFront};
 
 use crate::answer::{BAD_LINE, answer};
 use crate::command::Command;
 use crate::place::Place;
-use fjall_base::{Disk, Result};
+use fjall_base::{Disk, Error, Result};
 use fjall_core::{Call, Config, Core, PersistMode, Reply, View};
 use fjall_meta::KeyspaceCreateOptions;
 use std::alloc::{AllocError, Global};
@@ -37,7 +37,8 @@ fn all_pairs(id: u64) -> Call
 }
 
 fn call_of(alloc: Global, found: &Option<Command>) -> Result<Option<Call>>
-    ensures { IfOk result (λ call. call ≡ call_of found.now) }
+    ensures ok { IfOk result (λ call. call ≡ call_of found.now) }
+    ensures only { IsOkUnless result Error.OutOfMemory }
 {
     match found {
         Some(Command::Keyspace(name)) => {
@@ -58,7 +59,8 @@ fn call_of(alloc: Global, found: &Option<Command>) -> Result<Option<Call>>
 }
 
 fn calls_of(alloc: Global, commands: &[Option<Command>]) -> Result<Vec<Call>>
-    ensures { IfOk result (λ calls. calls.items ≡ calls_of commands.now) }
+    ensures ok { IfOk result (λ calls. calls.items ≡ calls_of commands.now) }
+    ensures only { IsOkUnless result Error.OutOfMemory }
 {
     let mut calls = Vec::new(alloc);
     for found in commands {
@@ -105,6 +107,7 @@ fn run_front<'a, D: Disk>(
 ) -> Result<&'a [Option<Command>]>
     ensures ok { IfOk result (λ rest. RunsFront D.honest commands.now rest.now core.old core.new (string_bytes answers.old) (string_bytes answers.new)) }
     ensures err { OnErr result (string_bytes answers.new ≡ string_bytes answers.old) }
+    ensures only { IsOkUnless result Error.OutOfMemory }
 {
     let end = first_stop(commands).unwrap_or(commands.len());
     let (front, rest) = commands.split_at(end);
@@ -114,19 +117,21 @@ fn run_front<'a, D: Disk>(
     Ok(rest)
 }
 
-fn opened<D: Disk + Drop>(alloc: Global, disk: D) -> Result<Core<D>>
-    ensures { IfOk result (λ core. OpenedOn D.honest (D.meaning disk) core) }
+fn opened<D: Disk + Drop>(alloc: Global, config: Config, disk: D) -> Result<Core<D>>
+    ensures ok { IfOk result (λ core. OpenedOn D.honest (D.meaning disk) core) }
+    ensures err { IfErr result (RefusedOn D.honest (D.meaning disk)) }
 {
-    match Core::open(alloc, Config::new(alloc, "")?, disk) {
+    match Core::open(alloc, config, disk) {
         Ok(core) => Ok(core),
         Err(refused) => Err(refused.error),
     }
 }
 
 fn begun<P: Place>(alloc: Global, place: &P) -> Result<Core<P::Disk>>
-    ensures { IfOk result (λ core. Begins P.Disk.honest core) }
+    ensures ok { IfOk result (λ core. Begins P.Disk.honest core) }
+    ensures err { IfErr result (NotBegun P.Disk.honest) }
 {
-    opened(alloc, place.disk()?)
+    opened(alloc, Config::new(alloc, "")?, place.disk()?)
 }
 
 // The core after a crash or a reopening. That the closing is refused does not matter.
@@ -137,13 +142,14 @@ fn restarted<P: Place>(
     stop: &Option<Command>,
 ) -> Result<Core<P::Disk>>
     requires { is_stop stop.now ≡ true }
-    ensures { IfOk result (λ after. Restarts P.Disk.honest stop.now core after) }
+    ensures ok { IfOk result (λ after. Restarts P.Disk.honest stop.now core after) }
+    ensures err { IfErr result (NotRestarted P.Disk.honest stop.now core) }
 {
     let disk = match stop {
         Some(Command::Crash(_)) => core.into_disk(),
         _ => core.close().0,
     };
-    opened(alloc, place.restart(disk, stop)?)
+    opened(alloc, Config::new(alloc, "")?, place.restart(disk, stop)?)
 }
 
 /// Runs commands over the engine of a place, and adds to a text what they print, a line for each. A refused opening, a
@@ -155,7 +161,7 @@ pub fn run_session<P: Place>(
     answers: &mut String,
 ) -> Result<()>
     ensures ok { OnOk result (PrintsAll P.Disk.honest commands.now (string_bytes answers.old) (string_bytes answers.new)) }
-    ensures err { OnErr result (PrintsSome P.Disk.honest commands.now (string_bytes answers.old) (string_bytes answers.new)) }
+    ensures err { IfErr result (λ error. PrintsUntil P.Disk.honest commands.now error (string_bytes answers.old) (string_bytes answers.new)) }
 {
     let mut core = begun(alloc, place)?;
     let mut rest = run_front(alloc, &mut core, commands, answers)?;

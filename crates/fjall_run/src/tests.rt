@@ -1,6 +1,9 @@
 //! What scripts print, worked out by hand.
 
-use crate::run::{Status, run, run_memory};
+use crate::command::Command;
+use crate::place::{Memory, Place};
+use crate::run::{Status, run, run_memory, run_over};
+use fjall_base::{MemoryDisk, Result as BaseResult};
 use std::alloc::Global;
 use std::io;
 use std::io::{Error, ErrorKind, Read, Write};
@@ -319,6 +322,96 @@ fn a_failing_output_is_told(rt: HostRuntime) {
     }
 }
 
+// A memory whose disk fails at the call of that number.
+#[derive(Clone, Copy)]
+struct Flawed {
+    alloc: Global,
+    call: u64,
+}
+
+impl Place for Flawed {
+    type Disk = MemoryDisk;
+
+    fn hears_crashes(&self) -> bool {
+        true
+    }
+
+    fn disk(&self) -> BaseResult<MemoryDisk> {
+        let mut disk = MemoryDisk::new(self.alloc);
+        disk.fail_at(self.call, 0);
+        Ok(disk)
+    }
+
+    fn restart(&self, disk: MemoryDisk, stop: &Option<Command>) -> BaseResult<MemoryDisk> {
+        let memory = Memory { alloc: self.alloc };
+        memory.restart(disk, stop)
+    }
+}
+
+// Takes so many bytes and no more.
+#[derive(Drop)]
+struct Narrow {
+    taken: Vec<u8>,
+    room: usize,
+}
+
+impl Write for Narrow {
+    fn write(&mut self, buf: &[u8]) -> io::Result<usize> {
+        let count = buf.len().min(self.room);
+        self.taken.extend_from_slice(&buf[..count])?;
+        self.room -= count;
+        Ok(count)
+    }
+
+    fn flush(&mut self) -> io::Result<()> {
+        Ok(())
+    }
+}
+
+fn with_room(alloc: Global, room: usize) -> Narrow {
+    let taken = Vec::new(alloc);
+    Narrow { taken, room }
+}
+
+#[test]
+fn a_failure_is_told_after_the_answers(rt: HostRuntime) {
+    // At which call the disk fails, how many bytes the output and the errors take, how the program ends,
+    // and what stands in them then.
+    let rows = [
+        (
+            0,
+            99,
+            99,
+            Status::Success,
+            "keyspace 1\nok\nok\nvalue 62\n",
+            "",
+        ),
+        (1, 99, 99, Status::Failure, "", "error 1 Io\n"),
+        (
+            48,
+            99,
+            99,
+            Status::Failure,
+            "keyspace 1\nok\n",
+            "error 1 Io\n",
+        ),
+        (0, 12, 99, Status::Failure, "keyspace 1\no", "error 1 Io\n"),
+        (48, 12, 99, Status::Failure, "keyspace 1\no", "error 1 Io\n"),
+        (48, 99, 7, Status::Untold, "keyspace 1\nok\n", "error 1"),
+    ];
+    let alloc = rt.alloc();
+    for (call, room, hearing, want, printed, told) in rows {
+        let mut input = b"keyspace items\ninsert 1 61 62\ncrash 99\nget 1 61\n".as_slice();
+        let mut output = with_room(alloc, room);
+        let mut errors = with_room(alloc, hearing);
+        let place = Flawed { alloc, call };
+        let status = run_over(alloc, &place, &mut input, &mut output, &mut errors);
+        assert_eq!(rt; status, want);
+        assert_eq!(rt; output.taken.as_slice(), printed.as_bytes());
+        assert_eq!(rt; errors.taken.as_slice(), told.as_bytes());
+    }
+}
+
 #[test]
 fn wrong_arguments_are_told_the_usage(rt: HostRuntime) -> Result<(), Fail> {
     let alloc = rt.alloc();
@@ -353,5 +446,6 @@ fn wrong_arguments_are_told_the_usage(rt: HostRuntime) -> Result<(), Fail> {
 fn statuses_are_exit_codes(rt: HostRuntime) {
     assert_eq!(rt; ExitCode::from(Status::Success), ExitCode::from(0));
     assert_eq!(rt; ExitCode::from(Status::Failure), ExitCode::from(1));
+    assert_eq!(rt; ExitCode::from(Status::Untold), ExitCode::from(1));
     assert_eq!(rt; ExitCode::from(Status::Usage), ExitCode::from(2));
 }

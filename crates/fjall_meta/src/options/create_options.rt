@@ -187,7 +187,8 @@ impl KeyspaceCreateOptions {
         )
     }
 
-    /// Whether writes leave it to the caller to persist the journal.
+    /// Whether writes leave it to the caller to persist the journal: each then waits in the journal's buffer until a
+    /// persist or another command writes that out, or until it has 8,192 bytes.
     pub fn manual_journal_persist(self, flag: bool) -> KeyspaceCreateOptions
         ensures { result ≡ with_value StoredOption.ManualJournalPersist (flag_bytes flag) self }
     {

@@ -1,10 +1,13 @@
-use Rattle.std.proofs.Common.{[], Ok, ap, refl, subst}
+use Rattle.std.proofs.Common.{[], Ok, ap, refl, subst, ◌∙◌, inl}
 use Rattle.fjall_base.specs.Disk.{Entry, File, Meaning, state_in}
 use Rattle.fjall_opening.specs.Journals.{text_in}
 use Rattle.fjall_beginning.specs.Plans.{IsFound}
 use Rattle.fjall_beginning.proofs.Filled.{emptied, made_text, synced_whole}
 use Rattle.fjall_beginning.proofs.Moments.{either_cut, either_sync, goes_both, goes_cut, goes_made, goes_none, goes_synced, stays_both, stays_cut, stays_made, stays_none, stays_synced}
 use Rattle.fjall_beginning.proofs.Standing.{empty_stands}
+use Rattle.fjall_beginning.proofs.Backs.{cut_older, made_older, none_older, older_then, sync_older}
+use Rattle.fjall_recovery.proofs.Tidying.{stays_both as tidy_both, stays_cut as tidy_cut, stays_cutting, stays_making, stays_none as tidy_none, stays_syncing}
+use Rattle.fjall_beginning.proofs.Served.{empty_file_is, other_long, whole_file}
 use Rattle.fjall_beginning.proofs.file.complete_file.Goals as goal
 
 pub returns-in-Whole-clause-goes : goal.returns-in-Whole-clause-goes
@@ -76,3 +79,68 @@ returns-in_ok-cut_sync-in-Other-clause-filled g c honest is =
     let name = c.args.name.now in
     let cut = c.in_ok-cut_sync-in-Other.ensures in
     c.fill-in-Other.ensures.filled honest (ap (λ (e : Entry). text_in e) (emptied name (m c.args.disk.now) (m c.cut_sync.new.self) (Ok tt) (cut.long honest) (cut.ok honest)))
+
+pub returns-in-Whole-clause-older : goal.returns-in-Whole-clause-older
+returns-in-Whole-clause-older g c honest = inl (sync_older _ _ c.args.name.now (either_sync c.args.name.now _ _ c.sync.result (c.sync.ensures.ok honest) (c.sync.ensures.err honest)))
+
+pub returns-in_err-create-in-Nothing-clause-older : goal.returns-in_err-create-in-Nothing-clause-older
+returns-in_err-create-in-Nothing-clause-older g c honest = inl (none_older _ _ c.args.name.now (c.in_err-create-in-Nothing.ensures.err honest))
+
+pub returns-in_err-cut_sync-in-Other-clause-older : goal.returns-in_err-cut_sync-in-Other-clause-older
+returns-in_err-cut_sync-in-Other-clause-older g c honest = inl (cut_older _ _ c.args.name.now 0 (c.in_err-cut_sync-in-Other.ensures.err honest))
+
+pub returns-in_ok-create-in-Nothing-clause-older : goal.returns-in_ok-create-in-Nothing-clause-older
+returns-in_ok-create-in-Nothing-clause-older g c honest =
+    let m : _ → Meaning = g.D.Disk.meaning in
+    older_then (state_in (m c.args.disk.now)) (state_in (m c.create.new.self)) (state_in (m c.fill.new.disk)) c.args.name.now
+    (made_older (m c.args.disk.now) (m c.create.new.self) c.args.name.now (File [] []) (c.in_ok-create-in-Nothing.ensures.ok honest)) (c.fill.ensures.older honest)
+
+pub returns-in_ok-cut_sync-in-Other-clause-older : goal.returns-in_ok-cut_sync-in-Other-clause-older
+returns-in_ok-cut_sync-in-Other-clause-older g c honest =
+    let m : _ → Meaning = g.D.Disk.meaning in
+    inl (c.fill-in-Other.ensures.older honest ∙ cut_older (m c.args.disk.now) (m c.cut_sync.new.self) c.args.name.now 0 (either_cut c.args.name.now 0 _ _ (Ok tt) (c.in_ok-cut_sync-in-Other.ensures.ok honest) tt))
+
+pub returns-in-Whole-clause-kinds : goal.returns-in-Whole-clause-kinds
+returns-in-Whole-clause-kinds g c honest fits = stays_syncing _ _ c.args.name.now c.sync.result (c.sync.ensures.ok honest) (c.sync.ensures.err honest)
+
+pub returns-in-Whole-clause-served : goal.returns-in-Whole-clause-served
+returns-in-Whole-clause-served g c honest can some is =
+    let there = (state_in (g.D.Disk.meaning c.args.disk.now) c.args.name.now).now in
+    (c.sync.ensures.judged honest).served (whole_file there c.args.bytes.now some (subst (λ found. IsFound found c.args.bytes.now (text_in there)) c.in-Whole.is is))
+
+pub returns-in_err-create-in-Nothing-clause-kinds : goal.returns-in_err-create-in-Nothing-clause-kinds
+returns-in_err-create-in-Nothing-clause-kinds g c honest fits = tidy_none _ _ (c.in_err-create-in-Nothing.ensures.err honest)
+
+pub returns-in_err-create-in-Nothing-clause-served : goal.returns-in_err-create-in-Nothing-clause-served
+returns-in_err-create-in-Nothing-clause-served g c honest can some is = (c.in_err-create-in-Nothing.ensures.judged honest).served can
+
+pub returns-in_err-cut_sync-in-Other-clause-kinds : goal.returns-in_err-cut_sync-in-Other-clause-kinds
+returns-in_err-cut_sync-in-Other-clause-kinds g c honest fits = tidy_cut _ _ c.args.name.now 0 (c.in_err-cut_sync-in-Other.ensures.err honest)
+
+pub returns-in_err-cut_sync-in-Other-clause-served : goal.returns-in_err-cut_sync-in-Other-clause-served
+returns-in_err-cut_sync-in-Other-clause-served g c honest can some is =
+    let there = (state_in (g.D.Disk.meaning c.args.disk.now) c.args.name.now).now in
+    (c.in_err-cut_sync-in-Other.ensures.judged honest).served (other_long there (subst (λ found. IsFound found c.args.bytes.now (text_in there)) c.in-Other.is is))
+
+pub returns-in_ok-create-in-Nothing-clause-kinds : goal.returns-in_ok-create-in-Nothing-clause-kinds
+returns-in_ok-create-in-Nothing-clause-kinds g c honest fits =
+    let m : _ → Meaning = g.D.Disk.meaning in
+    tidy_both (m c.args.disk.now) (m c.create.new.self) (m c.fill.new.disk) (stays_making _ _ c.args.name.now (File [] []) _ fits (c.in_ok-create-in-Nothing.ensures.ok honest)) (c.fill.ensures.kinds honest)
+
+pub returns-in_ok-create-in-Nothing-clause-served : goal.returns-in_ok-create-in-Nothing-clause-served
+returns-in_ok-create-in-Nothing-clause-served g c honest can some is =
+    c.fill.ensures.served honest (c.in_ok-create-in-Nothing.ensures.file honest) ∙ (c.in_ok-create-in-Nothing.ensures.judged honest).served can
+
+pub returns-in_ok-cut_sync-in-Other-clause-kinds : goal.returns-in_ok-cut_sync-in-Other-clause-kinds
+returns-in_ok-cut_sync-in-Other-clause-kinds g c honest fits =
+    let m : _ → Meaning = g.D.Disk.meaning in
+    tidy_both (m c.args.disk.now) (m c.cut_sync.new.self) (m c.fill-in-Other.new.disk) (stays_cutting _ _ c.args.name.now 0 (Ok tt) (c.in_ok-cut_sync-in-Other.ensures.ok honest) tt) (c.fill-in-Other.ensures.kinds honest)
+
+pub returns-in_ok-cut_sync-in-Other-clause-served : goal.returns-in_ok-cut_sync-in-Other-clause-served
+returns-in_ok-cut_sync-in-Other-clause-served g c honest can some is =
+    let m : _ → Meaning = g.D.Disk.meaning in
+    let name = c.args.name.now in
+    let cut = c.in_ok-cut_sync-in-Other.ensures in
+    let there = (state_in (m c.args.disk.now) name).now in
+    c.fill-in-Other.ensures.served honest (empty_file_is (state_in (m c.cut_sync.new.self) name).now [] (emptied name (m c.args.disk.now) (m c.cut_sync.new.self) (Ok tt) (cut.long honest) (cut.ok honest)))
+    ∙ (cut.judged honest).served (other_long there (subst (λ found. IsFound found c.args.bytes.now (text_in there)) c.in-Other.is is))

@@ -1,7 +1,10 @@
-use Rattle.std.proofs.Common.{refl}
+use Rattle.std.proofs.Common.{refl, ◌∙◌}
 use Rattle.fjall_base.specs.Disk.{Append, Meaning}
 use Rattle.fjall_beginning.proofs.Moments.{either_sync, goes_appended, goes_both, goes_part, goes_synced, stays_both, stays_by, stays_part, stays_synced}
 use Rattle.fjall_beginning.proofs.Filled.{filled}
+use Rattle.fjall_beginning.proofs.Backs.{append_older, part_older, sync_older}
+use Rattle.fjall_base.proofs.Served.{file_stays}
+use Rattle.fjall_recovery.proofs.Tidying.{stays_appending, stays_both as tidy_both, stays_part as tidy_part, stays_syncing}
 use Rattle.fjall_beginning.proofs.file.fill.Goals as goal
 
 pub returns-in_err-append-clause-goes : goal.returns-in_err-append-clause-goes
@@ -28,3 +31,26 @@ pub returns-clause-filled : goal.returns-clause-filled
 returns-clause-filled g c honest none =
     let m : _ → Meaning = g.D.Disk.meaning in
     filled c.args.name.now (m c.args.disk.now) (m c.append.new.self) (m c.sync.new.self) c.args.bytes.now c.sync.result (c.in_ok-append.ensures.file honest) none (c.in_ok-append.ensures.ok honest) (c.sync.ensures.ok honest)
+
+pub returns-in_err-append-clause-older : goal.returns-in_err-append-clause-older
+returns-in_err-append-clause-older g c honest = part_older _ _ c.args.name.now c.args.bytes.now (c.in_err-append.ensures.err honest)
+
+pub returns-clause-older : goal.returns-clause-older
+returns-clause-older g c honest =
+    sync_older _ _ c.args.name.now (either_sync c.args.name.now _ _ c.sync.result (c.sync.ensures.ok honest) (c.sync.ensures.err honest)) ∙ append_older _ _ c.args.name.now c.args.bytes.now (c.in_ok-append.ensures.ok honest)
+
+pub returns-in_err-append-clause-kinds : goal.returns-in_err-append-clause-kinds
+returns-in_err-append-clause-kinds g c honest = tidy_part _ _ c.args.name.now c.args.bytes.now (c.in_err-append.ensures.err honest)
+
+pub returns-in_err-append-clause-served : goal.returns-in_err-append-clause-served
+returns-in_err-append-clause-served g c honest file = (c.in_err-append.ensures.judged honest).served file
+
+pub returns-clause-kinds : goal.returns-clause-kinds
+returns-clause-kinds g c honest =
+    let m : _ → Meaning = g.D.Disk.meaning in
+    tidy_both (m c.args.disk.now) (m c.append.new.self) (m c.sync.new.self) (stays_appending _ _ c.args.name.now c.args.bytes.now (c.in_ok-append.ensures.ok honest))
+    (stays_syncing _ _ c.args.name.now c.sync.result (c.sync.ensures.ok honest) (c.sync.ensures.err honest))
+
+pub returns-clause-served : goal.returns-clause-served
+returns-clause-served g c honest file =
+    (c.sync.ensures.judged honest).served (file_stays _ _ c.args.name.now c.args.bytes.now (c.in_ok-append.ensures.ok honest) file) ∙ (c.in_ok-append.ensures.judged honest).served file

@@ -1,8 +1,10 @@
-use Rattle.std.proofs.Common.{[]}
-use Rattle.fjall_base.specs.Disk.{File, Meaning}
+use Rattle.std.proofs.Common.{[], ◌∙◌}
+use Rattle.fjall_base.specs.Disk.{File, Meaning, state_in}
 use Rattle.fjall_beginning.proofs.Filled.{emptied}
 use Rattle.fjall_beginning.proofs.Moments.{either_cut, goes_both, goes_cut, goes_made, goes_none, stays_both, stays_cut, stays_made, stays_none}
 use Rattle.fjall_beginning.proofs.Standing.{empty_stands}
+use Rattle.fjall_recovery.proofs.Tidying.{stays_both as tidy_both, stays_cutting, stays_making, stays_none as tidy_none}
+use Rattle.fjall_beginning.proofs.Served.{file_long}
 use Rattle.fjall_beginning.proofs.journals.empty_file.Goals as goal
 
 pub returns-in_err-create-clause-goes : goal.returns-in_err-create-clause-goes
@@ -29,3 +31,20 @@ returns-clause-stays g c honest =
 
 pub returns-clause-emptied : goal.returns-clause-emptied
 returns-clause-emptied g c honest = emptied c.args.name.now _ _ c.cut_sync.result (c.cut_sync.ensures.long honest) (c.cut_sync.ensures.ok honest)
+
+pub returns-in_err-create-clause-kinds : goal.returns-in_err-create-clause-kinds
+returns-in_err-create-clause-kinds g c honest fits = tidy_none _ _ (c.in_err-create.ensures.err honest)
+
+pub returns-in_err-create-clause-served : goal.returns-in_err-create-clause-served
+returns-in_err-create-clause-served g c honest can = (c.in_err-create.ensures.judged honest).served can
+
+pub returns-clause-kinds : goal.returns-clause-kinds
+returns-clause-kinds g c honest fits =
+    let m : _ → Meaning = g.D.Disk.meaning in
+    let name = c.args.name.now in
+    tidy_both (m c.args.disk.now) (m c.create.new.self) (m c.cut_sync.new.self) (stays_making _ _ name (File [] []) _ fits (c.in_ok-create.ensures.ok honest))
+    (stays_cutting _ _ name 0 c.cut_sync.result (c.cut_sync.ensures.ok honest) (c.cut_sync.ensures.err honest))
+
+pub returns-clause-served : goal.returns-clause-served
+returns-clause-served g c honest can =
+    (c.cut_sync.ensures.judged honest).served (file_long (state_in (g.D.Disk.meaning c.create.new.self) c.args.name.now).now (c.in_ok-create.ensures.file honest)) ∙ (c.in_ok-create.ensures.judged honest).served can

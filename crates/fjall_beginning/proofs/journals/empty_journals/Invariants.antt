@@ -2,6 +2,7 @@ use Rattle.std.proofs.Common.{◌≡◌, ◌≢◌, ◌<◌, ◌≤◌, ◌^◌,
 use Rattle.std.specs.Prelude.{IsTrue, string_bytes}
 use Rattle.fjall_base.specs.Disk.{Name, state_in}
 use Rattle.fjall_recovery.specs.Names.{journal_name}
+use Rattle.fjall_recovery.specs.Tidy.{IsTidy, StaysTidy}
 use Rattle.fjall_beginning.specs.Making.{GoesOn}
 use Rattle.fjall_beginning.proofs.Emptying.{AreEmptied}
 use Rattle.fjall_beginning.proofs.journals.empty_journals.Given as goal
@@ -11,5 +12,7 @@ invariant-loop-name g l = record {
   goes : IsTrue g.D.Disk.honest → (ids : List ℕ) → All (λ id. id < 2 ^ 64) ids → map string_bytes l.names ≡ map journal_name ids → GoesOn false (g.D.Disk.meaning l.fn.disk) (g.D.Disk.meaning l.disk);
   elsewhere : IsTrue g.D.Disk.honest → (q : Name) → All (λ name. q ≢ string_bytes name) l.names → state_in (g.D.Disk.meaning l.disk) q ≡ state_in (g.D.Disk.meaning l.fn.disk) q;
   emptied : IsTrue g.D.Disk.honest → AreEmptied string_bytes (state_in (g.D.Disk.meaning l.disk)) (take l.name-index l.names);
+  kinds : IsTrue g.D.Disk.honest → (ids : List ℕ) → All (λ id. id < 2 ^ 64) ids → map string_bytes l.names ≡ map journal_name ids → StaysTidy (g.D.Disk.meaning l.fn.disk) (g.D.Disk.meaning l.disk);
+  served : IsTrue g.D.Disk.honest → IsTidy (state_in (g.D.Disk.meaning l.fn.disk)) → (ids : List ℕ) → All (λ id. id < 2 ^ 64) ids → map string_bytes l.names ≡ map journal_name ids → (g.D.Disk.meaning l.disk).misuses ≡ (g.D.Disk.meaning l.fn.disk).misuses;
   later : (g.D.Disk.meaning l.fn.disk).faults ≤ (g.D.Disk.meaning l.disk).faults;
 }

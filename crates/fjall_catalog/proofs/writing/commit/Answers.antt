@@ -9,6 +9,7 @@ use Rattle.fjall_catalog.proofs.Commits as Commits
 use Rattle.fjall_base.specs.Disk.{state_in}
 use Rattle.fjall_base.proofs.Served.{file_stays}
 use Rattle.fjall_catalog.proofs.Serving.{both_kind, current_there, part_kind}
+use Rattle.fjall_recovery.proofs.Tidying.{stays_appending, stays_both, stays_part, stays_syncing}
 use Rattle.fjall_catalog.proofs.writing.commit.Goals as goal
 
 pub returns-in_err-append-clause-within : goal.returns-in_err-append-clause-within
@@ -51,11 +52,11 @@ returns-clause-ok g c honest records old s t number are update written =
     (subst (λ (n : Name). Took (m c.args.disk.now) (m c.append.new.self) (Append n text ∷ [])) (sym current_zero) took)
     (subst (λ (n : Name). OnOk c.sync.result (Took (m c.append.new.self) (m c.sync.new.self) (Sync n ∷ []))) (sym current_zero) (c.sync.ensures.ok honest))
 
-pub returns-in_err-append-clause-kinds : goal.returns-in_err-append-clause-kinds
-returns-in_err-append-clause-kinds g c honest q is = part_kind _ _ at q _ (c.in_err-append.ensures.err honest) is
+pub returns-in_err-append-clause-no_folder : goal.returns-in_err-append-clause-no_folder
+returns-in_err-append-clause-no_folder g c honest q is = part_kind _ _ at q _ (c.in_err-append.ensures.err honest) is
 
-pub returns-clause-kinds : goal.returns-clause-kinds
-returns-clause-kinds g c honest q is =
+pub returns-clause-no_folder : goal.returns-clause-no_folder
+returns-clause-no_folder g c honest q is =
     let m : _ → Meaning = g.D.Disk.meaning in
     both_kind (m c.args.disk.now) (m c.append.new.self) (m c.sync.new.self) at q _ c.sync.result (c.in_ok-append.ensures.ok honest) (c.sync.ensures.ok honest) (c.sync.ensures.err honest) is
 
@@ -67,3 +68,12 @@ returns-clause-served g c honest records old next s t written =
     let m : _ → Meaning = g.D.Disk.meaning in
     let file = current_there (state_in (m c.args.disk.now)) records old s written.rests in
     (c.sync.ensures.judged honest).served (file_stays (m c.args.disk.now) (m c.append.new.self) at _ (c.in_ok-append.ensures.ok honest) file) ∙ (c.in_ok-append.ensures.judged honest).served file
+
+pub returns-in_err-append-clause-kinds : goal.returns-in_err-append-clause-kinds
+returns-in_err-append-clause-kinds g c honest = stays_part _ _ at _ (c.in_err-append.ensures.err honest)
+
+pub returns-clause-kinds : goal.returns-clause-kinds
+returns-clause-kinds g c honest =
+    let m : _ → Meaning = g.D.Disk.meaning in
+    stays_both (m c.args.disk.now) (m c.append.new.self) (m c.sync.new.self) (stays_appending _ _ at _ (c.in_ok-append.ensures.ok honest))
+    (stays_syncing _ _ at c.sync.result (c.sync.ensures.ok honest) (c.sync.ensures.err honest))

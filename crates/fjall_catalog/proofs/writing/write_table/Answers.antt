@@ -7,7 +7,8 @@ use Rattle.fjall_recovery.specs.Names.{keyspace_folder, table_name}
 use Rattle.fjall_keyspaces.specs.Entries.{entries_of}
 use Rattle.fjall_catalog.proofs.Naming.{folder_zero}
 use Rattle.fjall_catalog.proofs.Runs as Runs
-use Rattle.fjall_catalog.proofs.Serving.{can_make, folder_there}
+use Rattle.fjall_catalog.proofs.Serving.{can_make, fits_next, folder_there}
+use Rattle.fjall_recovery.proofs.Tidying.{stays_both, stays_settling, stays_start}
 use Rattle.fjall_catalog.proofs.writing.write_table.Goals as goal
 
 pub returns-in_default-clause-any_moment : goal.returns-in_default-clause-any_moment
@@ -87,3 +88,21 @@ returns-clause-served g c honest records old s t number ready update =
     let still = Runs.begun old name at new.is.below records s (m c.args.disk.now) (m c.make_file.new.disk) ready.rests (c.in_ok-make_file.ensures.within honest name (under_self name)) in
     (c.sync_folder.ensures.judged honest).served (folder_there (state_in (m c.make_file.new.disk)) records old s still.rests)
     ∙ c.in_ok-make_file.ensures.served honest (can_make old name at new.is.below records s (state_in (m c.args.disk.now)) ready)
+
+pub returns-in_default-clause-kinds : goal.returns-in_default-clause-kinds
+returns-in_default-clause-kinds g c honest old t number update = stays_start _
+
+pub returns-in_err-make_file-clause-kinds : goal.returns-in_err-make_file-clause-kinds
+returns-in_err-make_file-clause-kinds g c honest old t number update =
+    let u = c.args.update.now in
+    let new = Runs.new_file old.next_table_id u.catalog.next_table_id (entries_of t.living) u.catalog.table c.in-Some.table u.table c.in-Some.is update.table in
+    c.in_err-make_file.ensures.kinds honest (fits_next old c.as_str.result.now (c.as_str.ensures.value ∙ new.is.name) new.is.below)
+
+pub returns-clause-kinds : goal.returns-clause-kinds
+returns-clause-kinds g c honest old t number update =
+    let m : _ → Meaning = g.D.Disk.meaning in
+    let u = c.args.update.now in
+    let new = Runs.new_file old.next_table_id u.catalog.next_table_id (entries_of t.living) u.catalog.table c.in-Some.table u.table c.in-Some.is update.table in
+    stays_both (m c.args.disk.now) (m c.make_file.new.disk) (m c.sync_folder.new.self)
+    (c.in_ok-make_file.ensures.kinds honest (fits_next old c.as_str.result.now (c.as_str.ensures.value ∙ new.is.name) new.is.below))
+    (stays_settling _ _ _ c.sync_folder.result (c.sync_folder.ensures.ok honest) (c.sync_folder.ensures.err honest))

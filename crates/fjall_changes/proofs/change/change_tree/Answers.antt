@@ -6,6 +6,7 @@ use Rattle.fjall_catalog.specs.Catalog.{fields}
 use Rattle.fjall_places.specs.Places.{LiesInTree}
 use Rattle.fjall_catalog.proofs.Serving.{kinds_on, safe_kind}
 use Rattle.fjall_changes.proofs.Changed as Changed
+use Rattle.fjall_recovery.proofs.Tidying.{stays_both}
 use Rattle.fjall_changes.proofs.change.change_tree.Goals as goal
 
 pub returns-in_err-write_table-clause-any_moment : goal.returns-in_err-write_table-clause-any_moment
@@ -88,6 +89,26 @@ returns-clause-served g c honest records t next number lies new at update =
     let last = c.args.update.now.catalog in
     let ready = Changed.ready records t next last at (m c.args.disk.now) lies new in
     let written = c.in_ok-write_table.ensures.ok honest records t.last t.keyspaces next.keyspaces number ready update in
-    let kind = kinds_on (state_in (m c.write_table.new.disk)) (state_in (m c.commit.new.disk)) t.last.table (c.in_ok-commit.ensures.kinds honest) (safe_kind (state_in (m c.write_table.new.disk)) t.last.table _ written.rests.entries) in
+    let kind = kinds_on (state_in (m c.write_table.new.disk)) (state_in (m c.commit.new.disk)) t.last.table (c.in_ok-commit.ensures.no_folder honest) (safe_kind (state_in (m c.write_table.new.disk)) t.last.table _ written.rests.entries) in
     c.remove_old.ensures.served honest t.last next.keyspaces number update kind
     ∙ c.in_ok-commit.ensures.served honest records t.last last t.keyspaces next.keyspaces written ∙ c.in_ok-write_table.ensures.served honest records t.last t.keyspaces next.keyspaces number ready update
+
+pub returns-clause-gone : goal.returns-clause-gone
+returns-clause-gone g c honest old s number update = c.remove_old.ensures.gone honest old s number update
+
+-- ---- what it puts at names
+
+pub returns-in_err-write_table-clause-kinds : goal.returns-in_err-write_table-clause-kinds
+returns-in_err-write_table-clause-kinds g c honest old s number update = c.in_err-write_table.ensures.kinds honest old s number update
+
+pub returns-in_err-commit-clause-kinds : goal.returns-in_err-commit-clause-kinds
+returns-in_err-commit-clause-kinds g c honest old s number update =
+    let m : _ → Meaning = g.D.Disk.meaning in
+    stays_both (m c.args.disk.now) (m c.write_table.new.disk) (m c.commit.new.disk) (c.in_ok-write_table.ensures.kinds honest old s number update) (c.in_err-commit.ensures.kinds honest)
+
+pub returns-clause-kinds : goal.returns-clause-kinds
+returns-clause-kinds g c honest old s number update =
+    let m : _ → Meaning = g.D.Disk.meaning in
+    stays_both (m c.args.disk.now) (m c.commit.new.disk) (m c.remove_old.new.disk)
+    (stays_both (m c.args.disk.now) (m c.write_table.new.disk) (m c.commit.new.disk) (c.in_ok-write_table.ensures.kinds honest old s number update) (c.in_ok-commit.ensures.kinds honest))
+    (c.remove_old.ensures.kinds honest)

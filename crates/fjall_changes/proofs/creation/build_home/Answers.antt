@@ -1,5 +1,5 @@
 use Rattle.std.proofs.Common.{[], ◌∷◌, ◌∙◌, subst}
-use Rattle.fjall_base.specs.Disk.{Meaning, Name, SyncFolder, Took, state_in}
+use Rattle.fjall_base.specs.Disk.{File, Folder, Meaning, Name, SyncFolder, Took, state_in}
 use Rattle.std.proofs.Common.{inr, ap, sym}
 use Rattle.fjall_base.specs.Disk.{IsNoFolder, IsThere, Place, folder_of, standing}
 use Rattle.fjall_places.proofs.Trees.{folder_of-home}
@@ -9,6 +9,9 @@ use Rattle.fjall_opening.proofs.Listed.{in_keyspaces}
 use Rattle.fjall_changes.proofs.Served.{can_make_home, keyspaces_there}
 use Rattle.fjall_changes.proofs.Apart.{within_keyspaces}
 use Rattle.fjall_changes.proofs.Building as Building
+use Rattle.fjall_recovery.specs.Tidy.{FitsAt}
+use Rattle.fjall_recovery.proofs.Tidying.{stays_both, stays_by, stays_none, stays_settling}
+use Rattle.fjall_regions.proofs.Fitting.{fits_current, fits_folder}
 use Rattle.fjall_changes.proofs.creation.build_home.Goals as goal
 
 -- ---- the folder or its file wasn't written
@@ -112,3 +115,28 @@ returns-clause-served g c honest records t old s id number small lies is room =
     let both = within_both (keyspace_folder id) (m c.args.disk.now) (m c.write_home.new.disk) (m c.sync_folder.new.self) run synced in
     (c.sync_folder-2.ensures.judged honest).served (keyspaces_there id (m c.args.disk.now) (m c.sync_folder.new.self) records t lies both)
     ∙ (c.in_ok-sync_folder.ensures.judged honest).served (inr (c.in_ok-write_home.ensures.made honest inside).folder_now) ∙ c.in_ok-write_home.ensures.served honest inside can kind
+
+-- ---- what it puts at names
+
+pub returns-in_err-write_home-clause-kinds : goal.returns-in_err-write_home-clause-kinds
+returns-in_err-write_home-clause-kinds g c honest old s id number small is =
+    let folder = subst (λ (n : Name). FitsAt n Folder) (sym (c.as_str-folder.ensures.value ∙ is.folder)) (fits_folder id small) in
+    let file = subst (λ (n : Name). FitsAt n (File [] [])) (sym (c.as_str.ensures.value ∙ is.current)) (fits_current id small [] []) in
+    c.in_err-write_home.ensures.kinds honest folder file
+
+pub returns-in_err-sync_folder-clause-kinds : goal.returns-in_err-sync_folder-clause-kinds
+returns-in_err-sync_folder-clause-kinds g c honest old s id number small is =
+    let m : _ → Meaning = g.D.Disk.meaning in
+    let folder = subst (λ (n : Name). FitsAt n Folder) (sym (c.as_str-folder.ensures.value ∙ is.folder)) (fits_folder id small) in
+    let file = subst (λ (n : Name). FitsAt n (File [] [])) (sym (c.as_str.ensures.value ∙ is.current)) (fits_current id small [] []) in
+    stays_both (m c.args.disk.now) (m c.write_home.new.disk) (m c.sync_folder.new.self) (c.in_ok-write_home.ensures.kinds honest folder file) (stays_none _ _ (c.in_err-sync_folder.ensures.err honest))
+
+pub returns-clause-kinds : goal.returns-clause-kinds
+returns-clause-kinds g c honest old s id number small is =
+    let m : _ → Meaning = g.D.Disk.meaning in
+    let folder = subst (λ (n : Name). FitsAt n Folder) (sym (c.as_str-folder.ensures.value ∙ is.folder)) (fits_folder id small) in
+    let file = subst (λ (n : Name). FitsAt n (File [] [])) (sym (c.as_str.ensures.value ∙ is.current)) (fits_current id small [] []) in
+    stays_both (m c.args.disk.now) (m c.sync_folder.new.self) (m c.sync_folder-2.new.self)
+    (stays_both (m c.args.disk.now) (m c.write_home.new.disk) (m c.sync_folder.new.self) (c.in_ok-write_home.ensures.kinds honest folder file)
+    (stays_by _ _ (SyncFolder c.as_str-folder.result.now ∷ []) (c.in_ok-sync_folder.ensures.ok honest) (tt, tt)))
+    (stays_settling _ _ _ c.sync_folder-2.result (c.sync_folder-2.ensures.ok honest) (c.sync_folder-2.ensures.err honest))

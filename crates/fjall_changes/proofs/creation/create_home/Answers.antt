@@ -6,6 +6,7 @@ use Rattle.fjall_places.specs.Halves.{HasTree}
 use Rattle.fjall_changes.specs.Changes.{HasEither, with_home}
 use Rattle.fjall_changes.proofs.Apart.{within_keyspaces}
 use Rattle.fjall_changes.proofs.Nexts.{next_unused, with_housed}
+use Rattle.fjall_recovery.proofs.Tidying.{stays_both}
 use Rattle.fjall_changes.proofs.creation.create_home.Goals as goal
 
 pub returns-clause-within : goal.returns-clause-within
@@ -58,3 +59,14 @@ returns-clause-served g c honest records t name options number lies is are later
     let home = c.in_ok-build_home.ensures.home honest t.last next.keyspaces t.keyspaces.next number fits is in
     let housed = with_housed (state_in (m c.build_home.new.disk)) records t still number later name options c.args.creation.now.update is.update are home in
     c.change_tree.ensures.served honest records t next number still housed refl is.update ∙ c.in_ok-build_home.ensures.served honest records t t.last next.keyspaces t.keyspaces.next number fits lies is room
+
+pub returns-clause-gone : goal.returns-clause-gone
+returns-clause-gone g c honest old s id number is = c.change_tree.ensures.gone honest old s number is.update
+
+pub returns-in_err-build_home-clause-kinds : goal.returns-in_err-build_home-clause-kinds
+returns-in_err-build_home-clause-kinds g c honest old s id number small is = c.in_err-build_home.ensures.kinds honest old s id number small is
+
+pub returns-clause-kinds : goal.returns-clause-kinds
+returns-clause-kinds g c honest old s id number small is =
+    let m : _ → Meaning = g.D.Disk.meaning in
+    stays_both (m c.args.disk.now) (m c.build_home.new.disk) (m c.change_tree.new.disk) (c.in_ok-build_home.ensures.kinds honest old s id number small is) (c.change_tree.ensures.kinds honest old s number is.update)

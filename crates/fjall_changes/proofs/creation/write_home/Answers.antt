@@ -1,10 +1,11 @@
-use Rattle.fjall_base.specs.Disk.{Folder, Meaning}
+use Rattle.fjall_base.specs.Disk.{Folder, Meaning, removing}
 use Rattle.fjall_regions.proofs.Under.{under_self}
 use Rattle.fjall_regions.proofs.Made.{making_within, removing_within, within_both, within_none}
 use Rattle.std.proofs.Common.{◌∙◌}
 use Rattle.fjall_regions.proofs.Made.{can_fill}
 use Rattle.fjall_changes.proofs.Served.{still_can}
 use Rattle.fjall_changes.proofs.Building as Building
+use Rattle.fjall_recovery.proofs.Tidying.{removing_tidy, stays_both, stays_by, stays_making, stays_none}
 use Rattle.fjall_changes.proofs.creation.write_home.Goals as goal
 
 pub returns-in_err-make_folder-clause-within : goal.returns-in_err-make_folder-clause-within
@@ -51,3 +52,21 @@ returns-clause-served g c honest inside can kind =
     c.make_file.ensures.served honest
     (still_can c.args.folder.now c.args.current.now inside (first.named honest) (m c.make_folder.new.self) (m c.remove.new.self) (c.in_ok-remove.ensures.ok honest) (first.folder honest) fill)
     ∙ (c.in_ok-remove.ensures.judged honest).served fill.kind ∙ (first.judged honest).served can
+
+-- ---- what it puts at names
+
+pub returns-in_err-make_folder-clause-kinds : goal.returns-in_err-make_folder-clause-kinds
+returns-in_err-make_folder-clause-kinds g c honest folder file = stays_none _ _ (c.in_err-make_folder.ensures.err honest)
+
+pub returns-in_err-remove-clause-kinds : goal.returns-in_err-remove-clause-kinds
+returns-in_err-remove-clause-kinds g c honest folder file =
+    let m : _ → Meaning = g.D.Disk.meaning in
+    stays_both (m c.args.disk.now) (m c.make_folder.new.self) (m c.remove.new.self) (stays_making _ _ c.args.folder.now Folder _ folder (c.in_ok-make_folder.ensures.ok honest)) (stays_none _ _ (c.in_err-remove.ensures.err honest))
+
+pub returns-clause-kinds : goal.returns-clause-kinds
+returns-clause-kinds g c honest folder file =
+    let m : _ → Meaning = g.D.Disk.meaning in
+    stays_both (m c.args.disk.now) (m c.remove.new.self) (m c.make_file.new.disk)
+    (stays_both (m c.args.disk.now) (m c.make_folder.new.self) (m c.remove.new.self) (stays_making _ _ c.args.folder.now Folder _ folder (c.in_ok-make_folder.ensures.ok honest))
+    (stays_by _ _ (removing c.args.current.now _) (c.in_ok-remove.ensures.ok honest) (removing_tidy c.args.current.now _)))
+    (c.make_file.ensures.kinds honest file)

@@ -24,3 +24,6 @@ pub returns-clause-served : goal.returns-clause-served
 returns-clause-served g c honest records t id number lies update later =
     let u = c.args.update.now in
     c.change_tree.ensures.served honest records t (without_home id u.catalog t) number lies (without_housed (state_in (g.D.Disk.meaning c.args.disk.now)) records t lies number later id u update) refl update
+
+pub returns-clause-gone : goal.returns-clause-gone
+returns-clause-gone g c honest old s number update = c.change_tree.ensures.gone honest old s number update

@@ -1,10 +1,11 @@
 use Rattle.std.proofs.Common.{◌≡◌, ◌∙◌, List, map, ap, arith, subst, true}
 use Rattle.std.proofs.lemmas.List.{drop_all}
 use Rattle.std.specs.Prelude.{string_bytes}
-use Rattle.fjall_base.specs.Disk.{Meaning, Name, state_in}
+use Rattle.fjall_base.specs.Disk.{Meaning, Name, removing, state_in}
 use Rattle.fjall_regions.specs.Regions.{HoldsOnly, is_under}
 use Rattle.fjall_regions.proofs.Removed.{next_kind, next_removed}
 use Rattle.fjall_regions.proofs.Made.{removing_within, within_both, within_none}
+use Rattle.fjall_recovery.proofs.Tidying.{removing_tidy, stays_both, stays_by, stays_none}
 use Rattle.fjall_changes.proofs.removal.remove_files.Goals as goal
 
 pub returns-in_err-remove-clause-within : goal.returns-in_err-remove-clause-within
@@ -27,6 +28,8 @@ loop-file-preserved g c =
             next_removed string_bytes folder c.as_str.result.now c.args.files.now c.loop-file.file-index c.file-item.result (m c.loop-file.disk) (m c.remove.new.self) c.loop-file-test.true c.file-item.is c.as_str.ensures.value (c.in_ok-remove.ensures.ok honest) so_far.1,
           );
       later = omega (arith, faults, more);
+      kinds = λ honest. stays_both (m c.args.disk.now) (m c.loop-file.disk) (m c.remove.new.self) (c.loop-file.invariant.kinds honest)
+          (stays_by _ _ (removing c.as_str.result.now _) (c.in_ok-remove.ensures.ok honest) (removing_tidy c.as_str.result.now _));
     }
 
 pub returns-in_err-remove-clause-served : goal.returns-in_err-remove-clause-served
@@ -43,3 +46,8 @@ pub returns-clause-emptied : goal.returns-clause-emptied
 returns-clause-emptied g c honest folder holds =
     subst (λ (l : List Name). HoldsOnly (state_in (g.D.Disk.meaning c.loop-file.disk)) folder l) (ap (λ l. map string_bytes l) (drop_all c.loop-file.file-index c.args.files.now c.loop-file-test.false))
     (c.loop-file.invariant.served honest folder holds).1
+
+pub returns-in_err-remove-clause-kinds : goal.returns-in_err-remove-clause-kinds
+returns-in_err-remove-clause-kinds g c honest =
+    let m : _ → Meaning = g.D.Disk.meaning in
+    stays_both (m c.args.disk.now) (m c.loop-file.disk) (m c.remove.new.self) (c.loop-file.invariant.kinds honest) (stays_none _ _ (c.in_err-remove.ensures.err honest))

@@ -1,5 +1,5 @@
 use Rattle.std.proofs.Common.{map, ◌∙◌, List, ap, sym, subst, string_bytes}
-use Rattle.fjall_base.specs.Disk.{CanRemoveFolder, Meaning, Name, state_in}
+use Rattle.fjall_base.specs.Disk.{CanRemoveFolder, Meaning, Name, removing, state_in}
 use Rattle.fjall_regions.specs.Regions.{HoldsOnly}
 use Rattle.fjall_regions.proofs.Made.{within_both}
 use Rattle.fjall_regions.proofs.Removed.{emptied}
@@ -7,6 +7,7 @@ use Rattle.fjall_changes.proofs.Served.{keyspaces_there}
 use Rattle.fjall_recovery.specs.Names.{keyspace_folder}
 use Rattle.fjall_changes.proofs.Apart.{within_keyspaces}
 use Rattle.fjall_changes.proofs.Building as Building
+use Rattle.fjall_recovery.proofs.Tidying.{removing_tidy, stays_both, stays_by, stays_none, stays_settling}
 use Rattle.fjall_changes.proofs.removal.remove_keyspace.Goals as goal
 
 -- ---- a file wasn't removed
@@ -101,3 +102,27 @@ returns-clause-served g c honest records t id is lies holds =
     let removed = Building.removed_as id c.as_str.result.now (c.as_str.ensures.value ∙ is.folder) _ _ (c.in_ok-remove_folder.ensures.ok honest) in
     let both = within_both (keyspace_folder id) (m c.args.disk.now) (m c.remove_files.new.disk) (m c.remove_folder.new.self) run removed in
     (c.sync_folder.ensures.judged honest).served (keyspaces_there id (m c.args.disk.now) (m c.remove_folder.new.self) records t lies both) ∙ (c.in_ok-remove_folder.ensures.judged honest).served can ∙ first
+
+pub returns-clause-removed : goal.returns-clause-removed
+returns-clause-removed g c honest id small is =
+    Building.all_removed id (state_in (g.D.Disk.meaning c.sync_folder.new.self)) c.sync_folder.result (g.met.D.Disk.housed c.sync_folder.new.self honest)
+    (Building.stays_gone_as id small _ _ c.sync_folder.result (c.sync_folder.ensures.ok honest)
+    (Building.gone_as id c.as_str.result.now (c.as_str.ensures.value ∙ is.folder) _ _ _ c.sync_folder.result (c.in_ok-remove_folder.ensures.ok honest) (c.sync_folder.ensures.ok honest)))
+
+-- ---- what it puts at names
+
+pub returns-in_err-remove_files-clause-kinds : goal.returns-in_err-remove_files-clause-kinds
+returns-in_err-remove_files-clause-kinds g c honest = c.in_err-remove_files.ensures.kinds honest
+
+pub returns-in_err-remove_folder-clause-kinds : goal.returns-in_err-remove_folder-clause-kinds
+returns-in_err-remove_folder-clause-kinds g c honest =
+    let m : _ → Meaning = g.D.Disk.meaning in
+    stays_both (m c.args.disk.now) (m c.remove_files.new.disk) (m c.remove_folder.new.self) (c.in_ok-remove_files.ensures.kinds honest) (stays_none _ _ (c.in_err-remove_folder.ensures.err honest))
+
+pub returns-clause-kinds : goal.returns-clause-kinds
+returns-clause-kinds g c honest =
+    let m : _ → Meaning = g.D.Disk.meaning in
+    stays_both (m c.args.disk.now) (m c.remove_folder.new.self) (m c.sync_folder.new.self)
+    (stays_both (m c.args.disk.now) (m c.remove_files.new.disk) (m c.remove_folder.new.self) (c.in_ok-remove_files.ensures.kinds honest)
+    (stays_by _ _ (removing c.as_str.result.now _) (c.in_ok-remove_folder.ensures.ok honest) (removing_tidy c.as_str.result.now _)))
+    (stays_settling _ _ _ c.sync_folder.result (c.sync_folder.ensures.ok honest) (c.sync_folder.ensures.err honest))

@@ -1,6 +1,7 @@
+use Rattle.std.proofs.lemmas.Result.{err_from_is_err_and}
 use Rattle.fjall_base.specs.Disk.{Meaning}
 use Rattle.fjall_core.specs.Turns.{Made}
-use Rattle.fjall_core.proofs.Turned.{made_any, made_done, turn}
+use Rattle.fjall_core.proofs.Turned.{made_any, made_done, not_done, turn, unturned}
 use Rattle.fjall_core.proofs.turning.make_keyspace.Goals as goal
 
 pub returns-clause-turns : goal.returns-clause-turns
@@ -12,7 +13,16 @@ returns-clause-turns g c honest old s id number is =
     let within = c.create_home.ensures.within honest old s id number is in
     let leaves = c.create_home.ensures.any_moment honest in
     let served = c.create_home.ensures.served honest in
+    let kinds = c.create_home.ensures.kinds honest in
     turn (λ a b done. Made a b creation done) (m c.args.disk.now) mid new c.args.journal.now c.hand_over.new.journal c.create_home.result
-    (record { leaves = c.in_ok-hand_over.ensures.any_moment honest; lies = λ _. c.in_ok-hand_over.ensures.lies honest; elsewhere = c.in_ok-hand_over.ensures.elsewhere honest; served = c.in_ok-hand_over.ensures.served honest })
-    (made_done mid new creation within leaves served c.create_home.result (c.create_home.ensures.ok honest))
-    (made_any mid new creation within leaves served)
+    (record { leaves = c.in_ok-hand_over.ensures.any_moment honest; lies = λ _. c.in_ok-hand_over.ensures.lies honest; elsewhere = c.in_ok-hand_over.ensures.elsewhere honest; served = c.in_ok-hand_over.ensures.served honest; kinds = c.in_ok-hand_over.ensures.kinds honest })
+    (made_done mid new creation within leaves served kinds c.create_home.result (c.create_home.ensures.ok honest) (c.create_home.ensures.gone honest))
+    (made_any mid new creation within leaves served kinds)
+
+pub returns-in_err-hand_over-clause-turns : goal.returns-in_err-hand_over-clause-turns
+returns-in_err-hand_over-clause-turns g c honest old s id number is =
+    let m : _ → Meaning = g.D.Disk.meaning in
+    let p = err_from_is_err_and c.from_residual.result c.from_residual.ensures.1 in
+    let failed = c.in_err-hand_over.ensures in
+    unturned (λ a b done. Made a b c.args.creation.now done) (m c.args.disk.now) (m c.hand_over.new.disk) c.args.journal.now c.hand_over.new.journal c.from_residual.result p.0 p.1
+    (record { leaves = failed.any_moment honest; lies = λ e. not_done e; elsewhere = failed.elsewhere honest; served = failed.served honest; kinds = failed.kinds honest })

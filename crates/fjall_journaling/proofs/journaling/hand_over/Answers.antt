@@ -6,6 +6,8 @@ use Rattle.fjall_journaling.specs.Journaling.{IsWriting, LeavesRoot, after_persi
 use Rattle.fjall_journaling.proofs.Leaving.{persist_leaves, failed_leaves, persist_out, persist_apart, failed_apart}
 use Rattle.fjall_journaling.proofs.Filed.{writing_file}
 use Rattle.fjall_journaling.proofs.Results.{either_way, on_both}
+use Rattle.fjall_recovery.specs.Tidy.{StaysTidy}
+use Rattle.fjall_journaling.proofs.Tidied.{failed_stays, persist_stays}
 use Rattle.fjall_journaling.proofs.journaling.hand_over.Goals as goal
 
 pub returns-clause-any_moment : goal.returns-clause-any_moment
@@ -35,3 +37,10 @@ returns-clause-elsewhere g c = λ h j writing.
 
 pub returns-clause-served : goal.returns-clause-served
 returns-clause-served g c = λ h j writing. c.persist.ensures.served h (writing_file (state_in (g.D.Disk.meaning c.args.disk.now)) c.args.journal.now j writing)
+
+pub returns-clause-kinds : goal.returns-clause-kinds
+returns-clause-kinds g c = λ h.
+    let writer = c.args.journal.now in
+    let old = g.D.Disk.meaning c.args.disk.now in
+    let new = g.D.Disk.meaning c.persist.new.disk in
+    either_way c.persist.result (StaysTidy old new) (c.persist.ensures.took h) (c.persist.ensures.left h) (persist_stays old new writer c.args.mode) (failed_stays old new writer c.persist.new.self c.args.mode)

@@ -1,6 +1,7 @@
 use Rattle.std.proofs.Common.{◌≡◌, ◌≢◌, ◌≤◌, All, take, string_bytes}
 use Rattle.std.specs.Prelude.{IsTrue}
-use Rattle.fjall_base.specs.Disk.{IsImage, LeavesOnly, Name, state_in}
+use Rattle.fjall_base.specs.Disk.{IsFile, IsImage, LeavesOnly, Name, state_in}
+use Rattle.fjall_recovery.specs.Tidy.{StaysTidy}
 use Rattle.fjall_mending.specs.Steps.{IsSame, IsSynced}
 use Rattle.fjall_mending.proofs.steps.sync_files.Given as goal
 
@@ -10,5 +11,7 @@ invariant-loop-file g l = record {
   elsewhere : IsTrue g.D.Disk.honest → (q : Name) → All (λ file. q ≢ string_bytes file) l.files → state_in (g.D.Disk.meaning l.disk) q ≡ state_in (g.D.Disk.meaning l.fn.disk) q;
   same : IsTrue g.D.Disk.honest → (q : Name) → IsSame (state_in (g.D.Disk.meaning l.fn.disk) q) (state_in (g.D.Disk.meaning l.disk) q);
   synced : IsTrue g.D.Disk.honest → All (λ file. IsSynced (state_in (g.D.Disk.meaning l.disk) (string_bytes file)).now) (take l.file-index l.files);
+  kinds : IsTrue g.D.Disk.honest → StaysTidy (g.D.Disk.meaning l.fn.disk) (g.D.Disk.meaning l.disk);
+  served : IsTrue g.D.Disk.honest → All (λ file. IsFile (state_in (g.D.Disk.meaning l.fn.disk) (string_bytes file)).now) l.files → (g.D.Disk.meaning l.disk).misuses ≡ (g.D.Disk.meaning l.fn.disk).misuses;
   later : (g.D.Disk.meaning l.fn.disk).faults ≤ (g.D.Disk.meaning l.disk).faults;
 }

@@ -2,6 +2,7 @@ use Rattle.std.proofs.Common.{◌∙◌}
 use Rattle.fjall_base.specs.Disk.{Meaning}
 use Rattle.fjall_base.proofs.Served.{file_stays}
 use Rattle.fjall_regions.proofs.Made.{appended_within, both_took, part_within, synced_within, within_both}
+use Rattle.fjall_recovery.proofs.Tidying.{stays_appending, stays_both, stays_part, stays_syncing}
 use Rattle.fjall_regions.proofs.home.append_synced.Goals as goal
 
 pub returns-in_err-append-clause-within : goal.returns-in_err-append-clause-within
@@ -22,3 +23,12 @@ returns-in_err-append-clause-served g c honest file = (c.in_err-append.ensures.j
 pub returns-clause-served : goal.returns-clause-served
 returns-clause-served g c honest file =
     (c.sync.ensures.judged honest).served (file_stays _ _ c.args.file.now c.args.bytes.now (c.in_ok-append.ensures.ok honest) file) ∙ (c.in_ok-append.ensures.judged honest).served file
+
+pub returns-in_err-append-clause-kinds : goal.returns-in_err-append-clause-kinds
+returns-in_err-append-clause-kinds g c honest = stays_part _ _ c.args.file.now c.args.bytes.now (c.in_err-append.ensures.err honest)
+
+pub returns-clause-kinds : goal.returns-clause-kinds
+returns-clause-kinds g c honest =
+    let m : _ → Meaning = g.D.Disk.meaning in
+    stays_both (m c.args.disk.now) (m c.append.new.self) (m c.sync.new.self) (stays_appending _ _ c.args.file.now c.args.bytes.now (c.in_ok-append.ensures.ok honest))
+    (stays_syncing _ _ c.args.file.now c.sync.result (c.sync.ensures.ok honest) (c.sync.ensures.err honest))

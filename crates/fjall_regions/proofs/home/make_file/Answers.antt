@@ -1,6 +1,7 @@
 use Rattle.fjall_base.specs.Disk.{File, Meaning}
 use Rattle.std.proofs.Common.{[], ◌∙◌}
 use Rattle.fjall_regions.proofs.Made.{made_file, making_within, within_both, within_none}
+use Rattle.fjall_recovery.proofs.Tidying.{stays_both, stays_making, stays_none}
 use Rattle.fjall_regions.proofs.home.make_file.Goals as goal
 
 pub returns-in_err-create-clause-within : goal.returns-in_err-create-clause-within
@@ -22,3 +23,11 @@ returns-in_err-create-clause-served g c honest can = (c.in_err-create.ensures.ju
 
 pub returns-clause-served : goal.returns-clause-served
 returns-clause-served g c honest can = c.append_synced.ensures.served honest (c.in_ok-create.ensures.file honest) ∙ (c.in_ok-create.ensures.judged honest).served can
+
+pub returns-in_err-create-clause-kinds : goal.returns-in_err-create-clause-kinds
+returns-in_err-create-clause-kinds g c honest fits = stays_none _ _ (c.in_err-create.ensures.err honest)
+
+pub returns-clause-kinds : goal.returns-clause-kinds
+returns-clause-kinds g c honest fits =
+    let m : _ → Meaning = g.D.Disk.meaning in
+    stays_both (m c.args.disk.now) (m c.create.new.self) (m c.append_synced.new.disk) (stays_making _ _ c.args.file.now (File [] []) _ fits (c.in_ok-create.ensures.ok honest)) (c.append_synced.ensures.kinds honest)

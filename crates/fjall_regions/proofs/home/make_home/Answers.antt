@@ -2,6 +2,7 @@ use Rattle.fjall_base.specs.Disk.{Folder, Meaning}
 use Rattle.fjall_regions.proofs.Under.{in_folder, under_self}
 use Rattle.std.proofs.Common.{◌∙◌}
 use Rattle.fjall_regions.proofs.Made.{can_fill, made_home, making_within, within_both, within_none}
+use Rattle.fjall_recovery.proofs.Tidying.{stays_both, stays_making, stays_none}
 use Rattle.fjall_regions.proofs.home.make_home.Goals as goal
 
 pub returns-in_err-make_folder-clause-within : goal.returns-in_err-make_folder-clause-within
@@ -30,3 +31,11 @@ returns-clause-served g c honest can kind =
     c.make_file.ensures.served honest
     (can_fill c.args.folder.now c.args.file.now c.requires.inside (m c.args.disk.now) (m c.make_folder.new.self) (c.in_ok-make_folder.ensures.named honest) (c.in_ok-make_folder.ensures.ok honest) (c.in_ok-make_folder.ensures.folder honest) kind)
     ∙ (c.in_ok-make_folder.ensures.judged honest).served can
+
+pub returns-in_err-make_folder-clause-kinds : goal.returns-in_err-make_folder-clause-kinds
+returns-in_err-make_folder-clause-kinds g c honest folder file = stays_none _ _ (c.in_err-make_folder.ensures.err honest)
+
+pub returns-clause-kinds : goal.returns-clause-kinds
+returns-clause-kinds g c honest folder file =
+    let m : _ → Meaning = g.D.Disk.meaning in
+    stays_both (m c.args.disk.now) (m c.make_folder.new.self) (m c.make_file.new.disk) (stays_making _ _ c.args.folder.now Folder _ folder (c.in_ok-make_folder.ensures.ok honest)) (c.make_file.ensures.kinds honest file)

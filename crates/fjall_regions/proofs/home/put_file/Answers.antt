@@ -3,6 +3,7 @@ use Rattle.std.proofs.Common.{◌∙◌, subst}
 use Rattle.fjall_base.specs.Disk.{Name, IsThere, standing, state_in}
 use Rattle.fjall_regions.proofs.Under.{in_folder, under_self}
 use Rattle.fjall_regions.proofs.Made.{still_there, safe_file, settled_within, within_both}
+use Rattle.fjall_recovery.proofs.Tidying.{stays_both, stays_settling}
 use Rattle.fjall_regions.proofs.home.put_file.Goals as goal
 
 pub returns-in_err-make_file-clause-within : goal.returns-in_err-make_file-clause-within
@@ -31,3 +32,12 @@ returns-clause-served g c honest can =
     (c.sync_folder.ensures.judged honest).served
     (still_there c.args.folder.now c.args.file.now c.requires.inside (m c.args.disk.now) (m c.make_file.new.disk) can.named there (c.in_ok-make_file.ensures.within honest c.args.file.now (under_self c.args.file.now)))
     ∙ c.in_ok-make_file.ensures.served honest can
+
+pub returns-in_err-make_file-clause-kinds : goal.returns-in_err-make_file-clause-kinds
+returns-in_err-make_file-clause-kinds g c honest fits = c.make_file.ensures.kinds honest fits
+
+pub returns-clause-kinds : goal.returns-clause-kinds
+returns-clause-kinds g c honest fits =
+    let m : _ → Meaning = g.D.Disk.meaning in
+    stays_both (m c.args.disk.now) (m c.make_file.new.disk) (m c.sync_folder.new.self) (c.make_file.ensures.kinds honest fits)
+    (stays_settling _ _ c.args.folder.now c.sync_folder.result (c.sync_folder.ensures.ok honest) (c.sync_folder.ensures.err honest))

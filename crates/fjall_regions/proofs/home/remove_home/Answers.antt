@@ -1,10 +1,11 @@
 use Rattle.std.proofs.Common.{◌≡◌, ◌∙◌, List, [], map, ap, arith, subst}
 use Rattle.std.proofs.lemmas.List.{drop_all}
 use Rattle.std.specs.Prelude.{string_bytes}
-use Rattle.fjall_base.specs.Disk.{Meaning, Name, folder_of, state_in}
+use Rattle.fjall_base.specs.Disk.{Meaning, Name, folder_of, removing, state_in}
 use Rattle.fjall_regions.specs.Regions.{HoldsOnly}
 use Rattle.fjall_regions.proofs.Made.{gone, one_removed, removed_within, within_both}
 use Rattle.fjall_regions.proofs.Removed.{emptied, next_kind, next_removed}
+use Rattle.fjall_recovery.proofs.Tidying.{removing_tidy, stays_both, stays_by, stays_none, stays_removing}
 use Rattle.fjall_regions.proofs.home.remove_home.Goals as goal
 
 pub loop-file-preserved : goal.loop-file-preserved
@@ -21,6 +22,8 @@ loop-file-preserved g c =
             next_removed string_bytes c.args.folder.now c.as_str.result.now c.args.files.now c.loop-file.file-index c.file-item.result (m c.loop-file.disk) (m c.remove.new.self) c.loop-file-test.true c.file-item.is c.as_str.ensures.value (c.in_ok-remove.ensures.ok honest) so_far.1,
           );
       later = omega (arith, faults, more);
+      kinds = λ honest. stays_both (m c.args.disk.now) (m c.loop-file.disk) (m c.remove.new.self) (c.loop-file.invariant.kinds honest)
+          (stays_by _ _ (removing c.as_str.result.now _) (c.in_ok-remove.ensures.ok honest) (removing_tidy c.as_str.result.now _));
     }
 
 pub returns-in_err-remove-clause-served : goal.returns-in_err-remove-clause-served
@@ -45,3 +48,14 @@ returns-clause-within g c honest some =
     let m : _ → Meaning = g.D.Disk.meaning in
     within_both c.args.folder.now (m c.args.disk.now) (m c.loop-file.disk) (m c.remove_folder.new.self) (c.loop-file.invariant.within honest some)
     (removed_within c.args.folder.now _ _ c.remove_folder.result (c.remove_folder.ensures.ok honest) (c.remove_folder.ensures.err honest))
+
+pub returns-in_err-remove-clause-kinds : goal.returns-in_err-remove-clause-kinds
+returns-in_err-remove-clause-kinds g c honest =
+    let m : _ → Meaning = g.D.Disk.meaning in
+    stays_both (m c.args.disk.now) (m c.loop-file.disk) (m c.remove.new.self) (c.loop-file.invariant.kinds honest) (stays_none _ _ (c.in_err-remove.ensures.err honest))
+
+pub returns-clause-kinds : goal.returns-clause-kinds
+returns-clause-kinds g c honest =
+    let m : _ → Meaning = g.D.Disk.meaning in
+    stays_both (m c.args.disk.now) (m c.loop-file.disk) (m c.remove_folder.new.self) (c.loop-file.invariant.kinds honest)
+    (stays_removing _ _ c.args.folder.now _ c.remove_folder.result (c.remove_folder.ensures.ok honest) (c.remove_folder.ensures.err honest))

@@ -1,15 +1,19 @@
-use Rattle.std.proofs.Common.{Some, map, refl, sym, subst}
+use Rattle.std.proofs.Common.{◌≡◌, Some, map, refl, sym, subst, All, ◌∙◌}
 use Rattle.std.specs.Prelude.{string_bytes}
 use Rattle.std.specs.Option.{option_map}
 use Rattle.std.proofs.lemmas.Result.{err_from_is_err_and}
 use Rattle.fjall_base.specs.Disk.{Image, Meaning, State, standing, state_in}
 use Rattle.fjall_base.proofs.Moments.{stays}
-use Rattle.fjall_keyspaces.specs.Keyspaces.{Keyspaces}
-use Rattle.fjall_opening.specs.Folders.{IsFinished}
+use Rattle.fjall_keyspaces.specs.Keyspaces.{AreKeyspaces, Keyspaces}
+use Rattle.fjall_catalog.specs.declared.catalog.Catalog.{Catalog}
+use Rattle.fjall_opening.specs.Folders.{IsFinished, IsSound}
 use Rattle.fjall_mending.specs.Mended.{IsMendingOf}
-use Rattle.fjall_repair.specs.Sweeps.{FindsTables, IsSwept}
-use Rattle.fjall_repair.proofs.Planned.{is_swept}
+use Rattle.fjall_repair.specs.Sweeps.{BringsNoTable, FindsTables, IsSwept, HasAll}
+use Rattle.fjall_repair.proofs.Planned.{is_swept, lives_small}
 use Rattle.fjall_repair.proofs.Openings.{held_early, holds_on, makes_store, number_is, numbers, opens_of, run_on, stands_now, takes_contents}
+use Rattle.fjall_recovery.specs.Tidy.{IsTidy}
+use Rattle.fjall_recovery.proofs.Tidying.{stays_both, stays_none as tidy_none}
+use Rattle.fjall_repair.proofs.Amid.{amid_now, amid_on}
 use Rattle.fjall_repair.proofs.opening.open_finished.Goals as goal
 
 pub returns-in_err-opened-clause-any_moment : goal.returns-in_err-opened-clause-any_moment
@@ -56,8 +60,15 @@ returns-clause-swept g c honest read =
     let ready = c.in_ok-opened.field-0 in
     let old : State = state_in (m c.args.disk.now) in
     let new : State = state_in (m c.mend_and_sweep.new.disk) in
-    subst (λ (s : Keyspaces). IsSwept old new s.living) (sym c.in_ok-opened.ensures.opened.keyspaces)
-    (is_swept old new (option_map (λ table. table.id) found.catalog.catalog.table) found.catalog.keyspaces.living found.folder_ids.items ready.sweep (c.in_ok-opened.ensures.finds honest) read.folder_ids (c.in_ok-mend_and_sweep.ensures.gone honest))
+    let mid : State = state_in (m c.ready_to_mend.new.disk) in
+    let same : mid ≡ old = (c.in_ok-opened.ensures.same honest).state in
+    let mending = subst (λ (s : State). IsMendingOf (standing s) found ready.mending) (sym same) (c.in_ok-opened.ensures.mending honest) in
+    let brings = subst (λ (s : State). BringsNoTable s new) same (c.in_ok-mend_and_sweep.ensures.tables honest found mending) in
+    let keyspaces = c.in_ok-opened.ensures.opened.keyspaces in
+    let are = subst AreKeyspaces keyspaces c.in_ok-opened.ensures.lawful.keyspaces in
+    subst (λ (s : Keyspaces). IsSwept old new ready.opened.catalog s.living) (sym keyspaces)
+    (subst (λ (last : Catalog). IsSwept old new last found.catalog.keyspaces.living) (sym c.in_ok-opened.ensures.opened.last_is)
+    (is_swept old new found.catalog.catalog found.catalog.keyspaces.living found.folder_ids.items ready.sweep (c.in_ok-opened.ensures.finds honest) read.folder_ids (c.in_ok-mend_and_sweep.ensures.gone honest) (lives_small found.catalog.keyspaces are) brings))
 
 pub returns-clause-store : goal.returns-clause-store
 returns-clause-store g c contents shows =
@@ -81,3 +92,115 @@ returns-clause-any_moment g c honest contents read shows holds =
     (c.in_ok-mend_and_sweep.ensures.any_moment honest found contents (subst (λ (s : State). IsFinished (standing s) found) (sym same.state) read) shows
     (holds_on (m c.args.disk.now) (m c.ready_to_mend.new.disk) same (Some contents) holds)
     (subst (λ (s : State). IsMendingOf (standing s) found ready.mending) (sym same.state) (c.in_ok-opened.ensures.mending honest)) (c.in_ok-opened.ensures.sweep honest))
+
+pub returns-in_err-opened-clause-kinds : goal.returns-in_err-opened-clause-kinds
+returns-in_err-opened-clause-kinds g c honest read = tidy_none _ _ (c.in_err-opened.ensures.same honest)
+
+pub returns-in_err-opened-clause-served : goal.returns-in_err-opened-clause-served
+returns-in_err-opened-clause-served g c honest tidy contents read shows sound = c.in_err-opened.ensures.served honest
+
+pub returns-in_err-mend_and_sweep-clause-kinds : goal.returns-in_err-mend_and_sweep-clause-kinds
+returns-in_err-mend_and_sweep-clause-kinds g c honest read =
+    let m : _ → Meaning = g.D.Disk.meaning in
+    let found = c.args.found in
+    let ready = c.in_ok-opened.field-0 in
+    let same = c.in_ok-opened.ensures.same honest in
+    stays_both (m c.args.disk.now) (m c.ready_to_mend.new.disk) (m c.mend_and_sweep.new.disk) (tidy_none _ _ same) (c.in_err-mend_and_sweep.ensures.kinds honest found (subst (λ (s : State). IsFinished (standing s) found) (sym same.state) read) (subst (λ (s : State). IsMendingOf (standing s) found ready.mending) (sym same.state) (c.in_ok-opened.ensures.mending honest)))
+
+pub returns-in_err-mend_and_sweep-clause-served : goal.returns-in_err-mend_and_sweep-clause-served
+returns-in_err-mend_and_sweep-clause-served g c honest tidy contents read shows sound =
+    let found = c.args.found in
+    let ready = c.in_ok-opened.field-0 in
+    let same = c.in_ok-opened.ensures.same honest in
+    c.in_err-mend_and_sweep.ensures.served honest (subst IsTidy (sym same.state) tidy) found contents (subst (λ (s : State). IsFinished (standing s) found) (sym same.state) read) shows
+    (subst (λ (s : State). IsSound (standing s) contents) (sym same.state) sound) (subst (λ (s : State). IsMendingOf (standing s) found ready.mending) (sym same.state) (c.in_ok-opened.ensures.mending honest)) (c.in_ok-opened.ensures.sweep honest)
+    (subst (λ (s : State). All (HasAll s) ready.sweep.homes.items) (sym same.state) (c.in_ok-opened.ensures.finds honest).each)
+    ∙ c.in_ok-opened.ensures.served honest
+
+pub returns-clause-kinds : goal.returns-clause-kinds
+returns-clause-kinds g c honest read =
+    let m : _ → Meaning = g.D.Disk.meaning in
+    let found = c.args.found in
+    let ready = c.in_ok-opened.field-0 in
+    let same = c.in_ok-opened.ensures.same honest in
+    stays_both (m c.args.disk.now) (m c.ready_to_mend.new.disk) (m c.mend_and_sweep.new.disk) (tidy_none _ _ same) (c.in_ok-mend_and_sweep.ensures.kinds honest found (subst (λ (s : State). IsFinished (standing s) found) (sym same.state) read) (subst (λ (s : State). IsMendingOf (standing s) found ready.mending) (sym same.state) (c.in_ok-opened.ensures.mending honest)))
+
+pub returns-clause-served : goal.returns-clause-served
+returns-clause-served g c honest tidy contents read shows sound =
+    let found = c.args.found in
+    let ready = c.in_ok-opened.field-0 in
+    let same = c.in_ok-opened.ensures.same honest in
+    c.in_ok-mend_and_sweep.ensures.served honest (subst IsTidy (sym same.state) tidy) found contents (subst (λ (s : State). IsFinished (standing s) found) (sym same.state) read) shows
+    (subst (λ (s : State). IsSound (standing s) contents) (sym same.state) sound) (subst (λ (s : State). IsMendingOf (standing s) found ready.mending) (sym same.state) (c.in_ok-opened.ensures.mending honest)) (c.in_ok-opened.ensures.sweep honest)
+    (subst (λ (s : State). All (HasAll s) ready.sweep.homes.items) (sym same.state) (c.in_ok-opened.ensures.finds honest).each)
+    ∙ c.in_ok-opened.ensures.served honest
+
+pub returns-in_err-opened-clause-amid : goal.returns-in_err-opened-clause-amid
+returns-in_err-opened-clause-amid g c honest contents read shows sound base pending holds =
+    let m : _ → Meaning = g.D.Disk.meaning in
+    stays (m c.args.disk.now) (m c.args.disk.now) (m c.ready_to_mend.new.disk) _ (amid_now (m c.args.disk.now) base pending holds) (c.in_err-opened.ensures.same honest)
+
+pub returns-in_err-opened-clause-held : goal.returns-in_err-opened-clause-held
+returns-in_err-opened-clause-held g c honest contents read shows sound base pending holds = amid_on _ _ (c.in_err-opened.ensures.same honest) base pending holds
+
+pub returns-in_err-mend_and_sweep-clause-amid : goal.returns-in_err-mend_and_sweep-clause-amid
+returns-in_err-mend_and_sweep-clause-amid g c honest contents read shows sound base pending holds =
+    let m : _ → Meaning = g.D.Disk.meaning in
+    let found = c.args.found in
+    let ready = c.in_ok-opened.field-0 in
+    let same = c.in_ok-opened.ensures.same honest in
+    run_on (m c.args.disk.now) (m c.ready_to_mend.new.disk) same (m c.mend_and_sweep.new.disk) _
+    (c.in_err-mend_and_sweep.ensures.amid honest found contents (subst (λ (s : State). IsFinished (standing s) found) (sym same.state) read) shows
+    (subst (λ (s : State). IsSound (standing s) contents) (sym same.state) sound)
+    (subst (λ (s : State). IsMendingOf (standing s) found ready.mending) (sym same.state) (c.in_ok-opened.ensures.mending honest)) (c.in_ok-opened.ensures.sweep honest)
+    base pending (amid_on (m c.args.disk.now) (m c.ready_to_mend.new.disk) same base pending holds))
+
+pub returns-in_err-mend_and_sweep-clause-held : goal.returns-in_err-mend_and_sweep-clause-held
+returns-in_err-mend_and_sweep-clause-held g c honest contents read shows sound base pending holds =
+    let m : _ → Meaning = g.D.Disk.meaning in
+    let found = c.args.found in
+    let ready = c.in_ok-opened.field-0 in
+    let same = c.in_ok-opened.ensures.same honest in
+    (c.in_err-mend_and_sweep.ensures.held honest found contents (subst (λ (s : State). IsFinished (standing s) found) (sym same.state) read) shows
+    (subst (λ (s : State). IsSound (standing s) contents) (sym same.state) sound)
+    (subst (λ (s : State). IsMendingOf (standing s) found ready.mending) (sym same.state) (c.in_ok-opened.ensures.mending honest)) (c.in_ok-opened.ensures.sweep honest)
+    base pending (amid_on (m c.args.disk.now) (m c.ready_to_mend.new.disk) same base pending holds))
+
+pub returns-clause-amid : goal.returns-clause-amid
+returns-clause-amid g c honest contents read shows sound base pending holds =
+    let m : _ → Meaning = g.D.Disk.meaning in
+    let found = c.args.found in
+    let ready = c.in_ok-opened.field-0 in
+    let same = c.in_ok-opened.ensures.same honest in
+    run_on (m c.args.disk.now) (m c.ready_to_mend.new.disk) same (m c.mend_and_sweep.new.disk) _
+    (c.in_ok-mend_and_sweep.ensures.amid honest found contents (subst (λ (s : State). IsFinished (standing s) found) (sym same.state) read) shows
+    (subst (λ (s : State). IsSound (standing s) contents) (sym same.state) sound)
+    (subst (λ (s : State). IsMendingOf (standing s) found ready.mending) (sym same.state) (c.in_ok-opened.ensures.mending honest)) (c.in_ok-opened.ensures.sweep honest)
+    base pending (amid_on (m c.args.disk.now) (m c.ready_to_mend.new.disk) same base pending holds))
+
+pub returns-clause-held : goal.returns-clause-held
+returns-clause-held g c honest contents read shows sound base pending holds =
+    let m : _ → Meaning = g.D.Disk.meaning in
+    let found = c.args.found in
+    let ready = c.in_ok-opened.field-0 in
+    let same = c.in_ok-opened.ensures.same honest in
+    (c.in_ok-mend_and_sweep.ensures.held honest found contents (subst (λ (s : State). IsFinished (standing s) found) (sym same.state) read) shows
+    (subst (λ (s : State). IsSound (standing s) contents) (sym same.state) sound)
+    (subst (λ (s : State). IsMendingOf (standing s) found ready.mending) (sym same.state) (c.in_ok-opened.ensures.mending honest)) (c.in_ok-opened.ensures.sweep honest)
+    base pending (amid_on (m c.args.disk.now) (m c.ready_to_mend.new.disk) same base pending holds))
+
+pub returns-clause-opens : goal.returns-clause-opens
+returns-clause-opens g c honest contents read shows sound base pending holds =
+    let m : _ → Meaning = g.D.Disk.meaning in
+    let found = c.args.found in
+    let ready = c.in_ok-opened.field-0 in
+    let image : Image = standing (state_in (m c.args.disk.now)) in
+    let same = c.in_ok-opened.ensures.same honest in
+    let repaired = c.in_ok-mend_and_sweep.ensures.repaired honest found contents (subst (λ (s : State). IsFinished (standing s) found) (sym same.state) read) shows
+    (subst (λ (s : State). IsSound (standing s) contents) (sym same.state) sound)
+    (subst (λ (s : State). IsMendingOf (standing s) found ready.mending) (sym same.state) (c.in_ok-opened.ensures.mending honest)) (c.in_ok-opened.ensures.sweep honest)
+    base pending (amid_on (m c.args.disk.now) (m c.ready_to_mend.new.disk) same base pending holds)
+    (subst (λ (s : State). FindsTables s (option_map (λ table. table.id) found.catalog.catalog.table) (map string_bytes ready.sweep.tables.items)) (sym same.state) (c.in_ok-opened.ensures.finds honest).tables) in
+    opens_of (state_in (m c.mend_and_sweep.new.disk)) contents (string_bytes ready.mending.active) found.journals.end repaired (Some contents) ready.opened
+    (takes_contents found contents ready.opened (string_bytes ready.mending.active) found.journals.end shows c.in_ok-opened.ensures.opened) refl
+    (number_is image found read contents ready.opened.number shows (c.in_ok-opened.ensures.number (numbers image found read))) refl

@@ -1,14 +1,19 @@
-use Rattle.std.proofs.Common.{None, Some, Option, sym, subst}
+use Rattle.std.proofs.Common.{None, Some, Option, sym, subst, ◌∙◌}
 use Rattle.std.specs.Prelude.{IfOk}
 use Rattle.std.proofs.lemmas.Result.{err_from_is_err_and}
 use Rattle.fjall_base.specs.Disk.{Image, LeavesOnly, Meaning, State, standing, state_in}
 use Rattle.fjall_base.proofs.Moments.{stays}
-use Rattle.fjall_opening.specs.Folders.{Contents, IsFinished, ReadsFolder, StandsFor}
+use Rattle.fjall_opening.specs.Folders.{Contents, IsFinished, ReadsFolder, StandsFor, IsSound}
+use Rattle.fjall_opening.proofs.Causes.{due_once}
+use Rattle.fjall_opening.proofs.Kept.{folder_is_kept}
 use Rattle.fjall_places.specs.Held.{Holds, store_held}
 use Rattle.fjall_places.proofs.Holding.{folder_stands}
 use Rattle.fjall_beginning.specs.Making.{ComesBackUnfinished}
 use Rattle.fjall_repair.specs.Opened.{ComesBack, Opens}
 use Rattle.fjall_repair.proofs.Openings.{finished_is, held_up, holds_on, opened_from, run_on, stands_now, swept_on, unfinished_is, unopened}
+use Rattle.fjall_recovery.specs.Tidy.{IsTidy}
+use Rattle.fjall_recovery.proofs.Tidying.{stays_both, stays_none as tidy_none}
+use Rattle.fjall_repair.proofs.Amid.{amid_now, amid_on}
 use Rattle.fjall_repair.proofs.opening.open_folder.Goals as goal
 
 pub returns-in_err-found-clause-any_moment : goal.returns-in_err-found-clause-any_moment
@@ -115,3 +120,120 @@ pub returns-in-None-clause-swept : goal.returns-in-None-clause-swept
 returns-in-None-clause-swept g c honest =
     let m : _ → Meaning = g.D.Disk.meaning in
     swept_on (state_in (m c.args.disk.now)) (state_in (m c.read_folder.new.disk)) (state_in (m c.open_unfinished.new.disk)) c.open_unfinished.result (c.in_ok-found.ensures.same honest).state (c.open_unfinished.ensures.swept honest)
+
+pub returns-in_err-found-clause-kinds : goal.returns-in_err-found-clause-kinds
+returns-in_err-found-clause-kinds g c honest = tidy_none _ _ (c.in_err-found.ensures.same honest)
+
+pub returns-in_err-found-clause-served : goal.returns-in_err-found-clause-served
+returns-in_err-found-clause-served g c honest tidy = c.in_err-found.ensures.served honest
+
+pub returns-in-Some-clause-kinds : goal.returns-in-Some-clause-kinds
+returns-in-Some-clause-kinds g c honest =
+    let m : _ → Meaning = g.D.Disk.meaning in
+    let image : Image = standing (state_in (m c.args.disk.now)) in
+    let read : ReadsFolder image (Some c.in-Some.found) = subst (ReadsFolder image) c.in-Some.is (c.in_ok-found.ensures.found honest) in
+    let same = c.in_ok-found.ensures.same honest in
+    stays_both (m c.args.disk.now) (m c.read_folder.new.disk) (m c.open_finished.new.disk) (tidy_none _ _ same)
+    (c.open_finished.ensures.kinds honest (subst (λ (s : State). IsFinished (standing s) c.in-Some.found) (sym same.state) read.0))
+
+pub returns-in-Some-clause-served : goal.returns-in-Some-clause-served
+returns-in-Some-clause-served g c honest tidy =
+    let m : _ → Meaning = g.D.Disk.meaning in
+    let image : Image = standing (state_in (m c.args.disk.now)) in
+    let read : ReadsFolder image (Some c.in-Some.found) = subst (ReadsFolder image) c.in-Some.is (c.in_ok-found.ensures.found honest) in
+    let same = c.in_ok-found.ensures.same honest in
+    c.open_finished.ensures.served honest (subst IsTidy (sym same.state) tidy) read.1.0 (subst (λ (s : State). IsFinished (standing s) c.in-Some.found) (sym same.state) read.0) read.1.2
+    (subst (λ (s : State). IsSound (standing s) read.1.0) (sym same.state) read.1.1)
+    ∙ c.in_ok-found.ensures.served honest
+
+pub returns-in-None-clause-kinds : goal.returns-in-None-clause-kinds
+returns-in-None-clause-kinds g c honest =
+    let m : _ → Meaning = g.D.Disk.meaning in
+    stays_both (m c.args.disk.now) (m c.read_folder.new.disk) (m c.open_unfinished.new.disk) (tidy_none _ _ (c.in_ok-found.ensures.same honest)) (c.open_unfinished.ensures.kinds honest)
+
+pub returns-in-None-clause-served : goal.returns-in-None-clause-served
+returns-in-None-clause-served g c honest tidy =
+    c.open_unfinished.ensures.served honest (subst IsTidy (sym (c.in_ok-found.ensures.same honest).state) tidy) ∙ c.in_ok-found.ensures.served honest
+
+pub returns-in_err-found-clause-amid : goal.returns-in_err-found-clause-amid
+returns-in_err-found-clause-amid g c honest base pending holds =
+    let m : _ → Meaning = g.D.Disk.meaning in
+    stays (m c.args.disk.now) (m c.args.disk.now) (m c.read_folder.new.disk) _ (amid_now (m c.args.disk.now) base pending holds) (c.in_err-found.ensures.same honest)
+
+pub returns-in-Some-clause-amid : goal.returns-in-Some-clause-amid
+returns-in-Some-clause-amid g c honest base pending holds =
+    let m : _ → Meaning = g.D.Disk.meaning in
+    let image : Image = standing (state_in (m c.args.disk.now)) in
+    let read : ReadsFolder image (Some c.in-Some.found) = subst (ReadsFolder image) c.in-Some.is (c.in_ok-found.ensures.found honest) in
+    let same = c.in_ok-found.ensures.same honest in
+    run_on (m c.args.disk.now) (m c.read_folder.new.disk) same (m c.open_finished.new.disk) _
+    (c.open_finished.ensures.amid honest read.1.0 (subst (λ (s : State). IsFinished (standing s) c.in-Some.found) (sym same.state) read.0) read.1.2
+    (subst (λ (s : State). IsSound (standing s) read.1.0) (sym same.state) read.1.1) base pending (amid_on (m c.args.disk.now) (m c.read_folder.new.disk) same base pending holds))
+
+pub returns-in-Some-clause-opens : goal.returns-in-Some-clause-opens
+returns-in-Some-clause-opens g c honest folder stands base pending holds =
+    let m : _ → Meaning = g.D.Disk.meaning in
+    let image : Image = standing (state_in (m c.args.disk.now)) in
+    let read : ReadsFolder image (Some c.in-Some.found) = subst (ReadsFolder image) c.in-Some.is (c.in_ok-found.ensures.found honest) in
+    let same = c.in_ok-found.ensures.same honest in
+    let is = finished_is image read.1.0 folder read.1.1 stands in
+    subst (λ (f : Option Contents). IfOk c.open_finished.result (Opens (state_in (m c.open_finished.new.disk)) f)) (sym is)
+    (c.open_finished.ensures.opens honest read.1.0 (subst (λ (s : State). IsFinished (standing s) c.in-Some.found) (sym same.state) read.0) read.1.2
+    (subst (λ (s : State). IsSound (standing s) read.1.0) (sym same.state) read.1.1) base pending (amid_on (m c.args.disk.now) (m c.read_folder.new.disk) same base pending holds))
+
+pub returns-in-None-clause-amid : goal.returns-in-None-clause-amid
+returns-in-None-clause-amid g c honest base pending holds =
+    let m : _ → Meaning = g.D.Disk.meaning in
+    let image : Image = standing (state_in (m c.args.disk.now)) in
+    let read : ReadsFolder image None = subst (ReadsFolder image) c.in-None.is (c.in_ok-found.ensures.found honest) in
+    let same = c.in_ok-found.ensures.same honest in
+    run_on (m c.args.disk.now) (m c.read_folder.new.disk) same (m c.open_unfinished.new.disk) _
+    (c.open_unfinished.ensures.amid honest (subst (λ (s : State). ReadsFolder (standing s) None) (sym same.state) read) base pending (amid_on (m c.args.disk.now) (m c.read_folder.new.disk) same base pending holds))
+
+pub returns-in-None-clause-opens : goal.returns-in-None-clause-opens
+returns-in-None-clause-opens g c honest folder stands base pending holds =
+    let m : _ → Meaning = g.D.Disk.meaning in
+    let image : Image = standing (state_in (m c.args.disk.now)) in
+    let read : ReadsFolder image None = subst (ReadsFolder image) c.in-None.is (c.in_ok-found.ensures.found honest) in
+    let same = c.in_ok-found.ensures.same honest in
+    let is = unfinished_is image folder read stands in
+    subst (λ (f : Option Contents). IfOk c.open_unfinished.result (Opens (state_in (m c.open_unfinished.new.disk)) f)) (sym is)
+    (c.open_unfinished.ensures.opens honest (subst (λ (s : State). ReadsFolder (standing s) None) (sym same.state) read))
+
+pub returns-in_err-found-clause-held : goal.returns-in_err-found-clause-held
+returns-in_err-found-clause-held g c honest base pending holds = amid_on _ _ (c.in_err-found.ensures.same honest) base pending holds
+
+pub returns-in-Some-clause-held : goal.returns-in-Some-clause-held
+returns-in-Some-clause-held g c honest base pending holds =
+    let m : _ → Meaning = g.D.Disk.meaning in
+    let image : Image = standing (state_in (m c.args.disk.now)) in
+    let read : ReadsFolder image (Some c.in-Some.found) = subst (ReadsFolder image) c.in-Some.is (c.in_ok-found.ensures.found honest) in
+    let same = c.in_ok-found.ensures.same honest in
+    c.open_finished.ensures.held honest read.1.0 (subst (λ (s : State). IsFinished (standing s) c.in-Some.found) (sym same.state) read.0) read.1.2
+    (subst (λ (s : State). IsSound (standing s) read.1.0) (sym same.state) read.1.1) base pending (amid_on (m c.args.disk.now) (m c.read_folder.new.disk) same base pending holds)
+
+pub returns-in-None-clause-held : goal.returns-in-None-clause-held
+returns-in-None-clause-held g c honest base pending holds =
+    let m : _ → Meaning = g.D.Disk.meaning in
+    let image : Image = standing (state_in (m c.args.disk.now)) in
+    let read : ReadsFolder image None = subst (ReadsFolder image) c.in-None.is (c.in_ok-found.ensures.found honest) in
+    let same = c.in_ok-found.ensures.same honest in
+    c.open_unfinished.ensures.held honest (subst (λ (s : State). ReadsFolder (standing s) None) (sym same.state) read) base pending (amid_on (m c.args.disk.now) (m c.read_folder.new.disk) same base pending holds)
+
+pub returns-in_err-found-clause-refuses : goal.returns-in_err-found-clause-refuses
+returns-in_err-found-clause-refuses g c honest error refused =
+    let image : Image = standing (state_in (g.D.Disk.meaning c.args.disk.now)) in
+    let p = err_from_is_err_and c.from_residual.result c.from_residual.ensures.1 in
+    rw (p.1, p.2) (due_once image error c.in_err-found.field-0.0 refused (c.in_err-found.ensures.cause honest))
+
+pub returns-in-Some-clause-refuses : goal.returns-in-Some-clause-refuses
+returns-in-Some-clause-refuses g c honest error refused =
+    let image : Image = standing (state_in (g.D.Disk.meaning c.args.disk.now)) in
+    let read : ReadsFolder image (Some c.in-Some.found) = subst (ReadsFolder image) c.in-Some.is (c.in_ok-found.ensures.found honest) in
+    absurd (folder_is_kept image (store_held (Some read.1.0)) error (folder_stands image (Some read.1.0) read.1.1) refused)
+
+pub returns-in-None-clause-refuses : goal.returns-in-None-clause-refuses
+returns-in-None-clause-refuses g c honest error refused =
+    let image : Image = standing (state_in (g.D.Disk.meaning c.args.disk.now)) in
+    let read : ReadsFolder image None = subst (ReadsFolder image) c.in-None.is (c.in_ok-found.ensures.found honest) in
+    absurd (folder_is_kept image (store_held None) error (folder_stands image None read) refused)

@@ -1,16 +1,22 @@
-use Rattle.std.proofs.Common.{[], None, map, refl, sym, subst}
+use Rattle.std.proofs.Common.{◌≡◌, [], None, map, refl, sym, subst, All, ◌∙◌}
 use Rattle.std.specs.Prelude.{string_bytes}
 use Rattle.std.proofs.lemmas.Result.{err_from_is_err_and}
 use Rattle.fjall_base.specs.Disk.{Meaning, State, standing, state_in}
 use Rattle.fjall_base.proofs.Moments.{stays}
 use Rattle.fjall_recovery.specs.Names.{journal_name}
-use Rattle.fjall_keyspaces.specs.Keyspaces.{Keyspaces}
+use Rattle.fjall_keyspaces.specs.Keyspaces.{AreKeyspaces, Keyspaces, no_keyspaces}
+use Rattle.fjall_catalog.specs.declared.catalog.Catalog.{Catalog}
+use Rattle.fjall_catalog.specs.Catalog.{first_catalog}
 use Rattle.fjall_beginning.specs.Making.{ComesBackUnfinished}
 use Rattle.fjall_beginning.specs.Plans.{IsPlan as IsMakingOf}
 use Rattle.fjall_repair.specs.Opened.{nothing}
-use Rattle.fjall_repair.specs.Sweeps.{FindsTables, IsSwept}
-use Rattle.fjall_repair.proofs.Planned.{is_swept}
+use Rattle.fjall_repair.specs.Sweeps.{BringsNoTable, FindsTables, IsSwept, HasAll}
+use Rattle.fjall_repair.proofs.Planned.{is_swept, lives_small}
 use Rattle.fjall_repair.proofs.Openings.{held_early, holds_on, makes_store, opens_of, run_on, stands_now}
+use Rattle.fjall_recovery.specs.Tidy.{IsTidy}
+use Rattle.fjall_recovery.proofs.Tidying.{stays_both, stays_none as tidy_none}
+use Rattle.fjall_repair.proofs.Amid.{amid_now, amid_on}
+use Rattle.fjall_opening.specs.Folders.{IsUnfinished}
 use Rattle.fjall_repair.proofs.opening.open_unfinished.Goals as goal
 
 pub returns-in_err-opened-clause-any_moment : goal.returns-in_err-opened-clause-any_moment
@@ -50,7 +56,15 @@ returns-clause-swept g c honest =
     let old : State = state_in (m c.args.disk.now) in
     let new : State = state_in (m c.begin_and_sweep.new.disk) in
     let finds = c.in_ok-opened.ensures.finds honest in
-    subst (λ (s : Keyspaces). IsSwept old new s.living) (sym c.in_ok-opened.ensures.opened.keyspaces) (is_swept old new None [] finds.0 ready.sweep finds.2 finds.1 (c.in_ok-begin_and_sweep.ensures.gone honest))
+    let mid : State = state_in (m c.ready_to_begin.new.disk) in
+    let same : mid ≡ old = (c.in_ok-opened.ensures.same honest).state in
+    let making = subst (λ (s : State). IsMakingOf (standing s) ready.making) (sym same) (c.in_ok-opened.ensures.making honest) in
+    let brings = subst (λ (s : State). BringsNoTable s new) same (c.in_ok-begin_and_sweep.ensures.tables honest making) in
+    let keyspaces = c.in_ok-opened.ensures.opened.keyspaces in
+    let are = subst AreKeyspaces keyspaces c.in_ok-opened.ensures.lawful.keyspaces in
+    subst (λ (s : Keyspaces). IsSwept old new ready.opened.catalog s.living) (sym keyspaces)
+    (subst (λ (last : Catalog). IsSwept old new last []) (sym c.in_ok-opened.ensures.opened.last_is)
+    (is_swept old new first_catalog [] finds.0 ready.sweep finds.2 finds.1 (c.in_ok-begin_and_sweep.ensures.gone honest) (lives_small no_keyspaces are) brings))
 
 pub returns-clause-store : goal.returns-clause-store
 returns-clause-store g c = makes_store nothing (journal_name c.in_ok-opened.field-0.making.active) 0 c.in_ok-opened.field-0.opened c.in_ok-opened.ensures.opened
@@ -63,3 +77,88 @@ returns-clause-any_moment g c honest holds back =
     run_on (m c.args.disk.now) (m c.ready_to_begin.new.disk) same (m c.begin_and_sweep.new.disk) _
     (c.in_ok-begin_and_sweep.ensures.any_moment honest (holds_on (m c.args.disk.now) (m c.ready_to_begin.new.disk) same None holds) (subst ComesBackUnfinished (sym same.state) back)
     (subst (λ (s : State). IsMakingOf (standing s) ready.making) (sym same.state) (c.in_ok-opened.ensures.making honest)) (c.in_ok-opened.ensures.sweep honest))
+
+pub returns-in_err-opened-clause-kinds : goal.returns-in_err-opened-clause-kinds
+returns-in_err-opened-clause-kinds g c honest = tidy_none _ _ (c.in_err-opened.ensures.same honest)
+
+pub returns-in_err-begin_and_sweep-clause-kinds : goal.returns-in_err-begin_and_sweep-clause-kinds
+returns-in_err-begin_and_sweep-clause-kinds g c honest =
+    let m : _ → Meaning = g.D.Disk.meaning in
+    let ready = c.in_ok-opened.field-0 in
+    let same = c.in_ok-opened.ensures.same honest in
+    stays_both (m c.args.disk.now) (m c.ready_to_begin.new.disk) (m c.begin_and_sweep.new.disk) (tidy_none _ _ same) (c.in_err-begin_and_sweep.ensures.kinds honest (subst (λ (s : State). IsMakingOf (standing s) ready.making) (sym same.state) (c.in_ok-opened.ensures.making honest)))
+
+pub returns-in_err-begin_and_sweep-clause-served : goal.returns-in_err-begin_and_sweep-clause-served
+returns-in_err-begin_and_sweep-clause-served g c honest tidy =
+    let ready = c.in_ok-opened.field-0 in
+    let same = c.in_ok-opened.ensures.same honest in
+    c.in_err-begin_and_sweep.ensures.served honest (subst IsTidy (sym same.state) tidy) (subst (λ (s : State). IsMakingOf (standing s) ready.making) (sym same.state) (c.in_ok-opened.ensures.making honest)) (c.in_ok-opened.ensures.sweep honest)
+    (subst (λ (s : State). All (HasAll s) ready.sweep.homes.items) (sym same.state) (c.in_ok-opened.ensures.finds honest).2.each)
+    ∙ c.in_ok-opened.ensures.served honest
+
+pub returns-clause-kinds : goal.returns-clause-kinds
+returns-clause-kinds g c honest =
+    let m : _ → Meaning = g.D.Disk.meaning in
+    let ready = c.in_ok-opened.field-0 in
+    let same = c.in_ok-opened.ensures.same honest in
+    stays_both (m c.args.disk.now) (m c.ready_to_begin.new.disk) (m c.begin_and_sweep.new.disk) (tidy_none _ _ same) (c.in_ok-begin_and_sweep.ensures.kinds honest (subst (λ (s : State). IsMakingOf (standing s) ready.making) (sym same.state) (c.in_ok-opened.ensures.making honest)))
+
+pub returns-clause-served : goal.returns-clause-served
+returns-clause-served g c honest tidy =
+    let ready = c.in_ok-opened.field-0 in
+    let same = c.in_ok-opened.ensures.same honest in
+    c.in_ok-begin_and_sweep.ensures.served honest (subst IsTidy (sym same.state) tidy) (subst (λ (s : State). IsMakingOf (standing s) ready.making) (sym same.state) (c.in_ok-opened.ensures.making honest)) (c.in_ok-opened.ensures.sweep honest)
+    (subst (λ (s : State). All (HasAll s) ready.sweep.homes.items) (sym same.state) (c.in_ok-opened.ensures.finds honest).2.each)
+    ∙ c.in_ok-opened.ensures.served honest
+
+pub returns-in_err-opened-clause-amid : goal.returns-in_err-opened-clause-amid
+returns-in_err-opened-clause-amid g c honest unfinished base pending holds =
+    let m : _ → Meaning = g.D.Disk.meaning in
+    stays (m c.args.disk.now) (m c.args.disk.now) (m c.ready_to_begin.new.disk) _ (amid_now (m c.args.disk.now) base pending holds) (c.in_err-opened.ensures.same honest)
+
+pub returns-in_err-begin_and_sweep-clause-amid : goal.returns-in_err-begin_and_sweep-clause-amid
+returns-in_err-begin_and_sweep-clause-amid g c honest unfinished base pending holds =
+    let m : _ → Meaning = g.D.Disk.meaning in
+    let ready = c.in_ok-opened.field-0 in
+    let same = c.in_ok-opened.ensures.same honest in
+    run_on (m c.args.disk.now) (m c.ready_to_begin.new.disk) same (m c.begin_and_sweep.new.disk) _
+    (c.in_err-begin_and_sweep.ensures.amid honest (subst (λ (s : State). IsUnfinished (standing s)) (sym same.state) unfinished)
+    (subst (λ (s : State). IsMakingOf (standing s) ready.making) (sym same.state) (c.in_ok-opened.ensures.making honest)) (c.in_ok-opened.ensures.sweep honest) base pending (amid_on (m c.args.disk.now) (m c.ready_to_begin.new.disk) same base pending holds))
+
+pub returns-clause-amid : goal.returns-clause-amid
+returns-clause-amid g c honest unfinished base pending holds =
+    let m : _ → Meaning = g.D.Disk.meaning in
+    let ready = c.in_ok-opened.field-0 in
+    let same = c.in_ok-opened.ensures.same honest in
+    run_on (m c.args.disk.now) (m c.ready_to_begin.new.disk) same (m c.begin_and_sweep.new.disk) _
+    (c.in_ok-begin_and_sweep.ensures.amid honest (subst (λ (s : State). IsUnfinished (standing s)) (sym same.state) unfinished)
+    (subst (λ (s : State). IsMakingOf (standing s) ready.making) (sym same.state) (c.in_ok-opened.ensures.making honest)) (c.in_ok-opened.ensures.sweep honest) base pending (amid_on (m c.args.disk.now) (m c.ready_to_begin.new.disk) same base pending holds))
+
+pub returns-clause-opens : goal.returns-clause-opens
+returns-clause-opens g c honest unfinished =
+    let m : _ → Meaning = g.D.Disk.meaning in
+    let ready = c.in_ok-opened.field-0 in
+    let same = c.in_ok-opened.ensures.same honest in
+    let repaired = c.in_ok-begin_and_sweep.ensures.repaired honest (subst (λ (s : State). IsUnfinished (standing s)) (sym same.state) unfinished)
+    (subst (λ (s : State). IsMakingOf (standing s) ready.making) (sym same.state) (c.in_ok-opened.ensures.making honest)) (c.in_ok-opened.ensures.sweep honest)
+    (subst (λ (s : State). FindsTables s None (map string_bytes ready.sweep.tables.items)) (sym same.state) (c.in_ok-opened.ensures.finds honest).2.tables) in
+    opens_of (state_in (m c.begin_and_sweep.new.disk)) nothing (journal_name ready.making.active) 0 repaired None ready.opened c.in_ok-opened.ensures.opened refl c.in_ok-opened.ensures.number refl
+
+pub returns-in_err-opened-clause-held : goal.returns-in_err-opened-clause-held
+returns-in_err-opened-clause-held g c honest unfinished base pending holds = amid_on _ _ (c.in_err-opened.ensures.same honest) base pending holds
+
+pub returns-in_err-begin_and_sweep-clause-held : goal.returns-in_err-begin_and_sweep-clause-held
+returns-in_err-begin_and_sweep-clause-held g c honest unfinished base pending holds =
+    let m : _ → Meaning = g.D.Disk.meaning in
+    let ready = c.in_ok-opened.field-0 in
+    let same = c.in_ok-opened.ensures.same honest in
+    c.in_err-begin_and_sweep.ensures.held honest (subst (λ (s : State). IsUnfinished (standing s)) (sym same.state) unfinished)
+    (subst (λ (s : State). IsMakingOf (standing s) ready.making) (sym same.state) (c.in_ok-opened.ensures.making honest)) (c.in_ok-opened.ensures.sweep honest) base pending (amid_on (m c.args.disk.now) (m c.ready_to_begin.new.disk) same base pending holds)
+
+pub returns-clause-held : goal.returns-clause-held
+returns-clause-held g c honest unfinished base pending holds =
+    let m : _ → Meaning = g.D.Disk.meaning in
+    let ready = c.in_ok-opened.field-0 in
+    let same = c.in_ok-opened.ensures.same honest in
+    c.in_ok-begin_and_sweep.ensures.held honest (subst (λ (s : State). IsUnfinished (standing s)) (sym same.state) unfinished)
+    (subst (λ (s : State). IsMakingOf (standing s) ready.making) (sym same.state) (c.in_ok-opened.ensures.making honest)) (c.in_ok-opened.ensures.sweep honest) base pending (amid_on (m c.args.disk.now) (m c.ready_to_begin.new.disk) same base pending holds)

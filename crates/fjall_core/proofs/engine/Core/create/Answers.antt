@@ -73,6 +73,7 @@ returns-in-Ok-clause-serves g c = λ h.
     let held = c.in_ok-id.ensures.ok ∙ ap (λ (n : List ℕ). with_creation n options old.memory) c.in_ok-name.ensures in
     subst (λ (core : Held). Serves core (Keyspace name options) (Number c.in_ok-id.id) c.make.new.self) c.self.view_is
     (created_serves old name options c.in_ok-id.id c.seqno-number.result c.in_ok-id.ensures.id c.seqno-number.ensures fresh.after due fresh.fresh (IsTrue g.D.Disk.honest) c.make.new.self
+    (ap (λ (core : Held). id_of name core.memory.keyspaces.living) c.self.view_is ∙ c.requires.fresh)
     (to_raised (IsTrue g.D.Disk.honest) old c.make.new.self name options c.create.new.self c.in_ok-id.id c.seqno-number.result (Ok tt) held c.in-Ok.ensures.made) h)
 
 pub returns-in-Ok-clause-owes : goal.returns-in-Ok-clause-owes

@@ -1,9 +1,12 @@
 use Rattle.std.proofs.Common.{sym, subst}
 use Rattle.fjall_base.specs.Disk.{Image, Meaning, standing, state_in}
+use Rattle.fjall_recovery.proofs.Tidying.{tidy_on}
 use Rattle.fjall_repair.specs.Sweeps.{IsSwept}
 use Rattle.fjall_machine.specs.Remembered.{Remembered}
-use Rattle.fjall_core.specs.Openings.{Opens, OpensAs, OpensOn}
+use Rattle.fjall_core.specs.Openings.{Opens, OpensAs, OpensOn, OpensAmid}
+use Rattle.fjall_core.proofs.Devices.{risen_blames}
 use Rattle.fjall_core.proofs.Opening.{held_of, keeps, opens_as, opens_new, opens_on}
+use Rattle.fjall_core.proofs.Reopening.{opens_amid}
 use Rattle.fjall_core.proofs.engine.Core.open.Goals as goal
 
 pub returns-in-Ok-clause-opened : goal.returns-in-Ok-clause-opened
@@ -14,11 +17,11 @@ returns-in-Ok-clause-opened g c honest =
     subst (λ (memory : Remembered). OpensOn image (held_of (m c.open_folder.new.disk) o memory)) (sym c.new.ensures) (opens_on image (m c.open_folder.new.disk) o c.in-Ok.ensures.lawful (c.in-Ok.ensures.found honest))
 
 pub returns-in-Ok-clause-safe : goal.returns-in-Ok-clause-safe
-returns-in-Ok-clause-safe g c honest store (folder, holds, back, same) =
+returns-in-Ok-clause-safe g c honest store ((folder, holds, back, same), tidy) =
     let m : _ → Meaning = g.D.Disk.meaning in
     let o = c.in-Ok.opened in
     subst (λ (memory : Remembered). OpensAs (held_of (m c.open_folder.new.disk) o memory) store) (sym c.new.ensures)
-    (opens_as (m c.open_folder.new.disk) folder o (c.in-Ok.ensures.opened honest folder holds) store c.in-Ok.ensures.lawful same)
+    (opens_as (m c.open_folder.new.disk) folder o (c.in-Ok.ensures.opened honest folder holds) store c.in-Ok.ensures.lawful (tidy_on (m c.args.disk) (m c.open_folder.new.disk) (c.open_folder.ensures.kinds honest) tidy) same)
 
 pub returns-in-Ok-clause-any_moment : goal.returns-in-Ok-clause-any_moment
 returns-in-Ok-clause-any_moment g c honest = let m : _ → Meaning = g.D.Disk.meaning in keeps (m c.args.disk) (m c.open_folder.new.disk) (c.open_folder.ensures.any_moment honest)
@@ -36,4 +39,37 @@ returns-in-Err-clause-any_moment_err g c honest = let m : _ → Meaning = g.D.Di
 pub returns-in-Ok-clause-swept : goal.returns-in-Ok-clause-swept
 returns-in-Ok-clause-swept g c honest =
     let m : _ → Meaning = g.D.Disk.meaning in
-    subst (λ (memory : Remembered). IsSwept (state_in (m c.args.disk)) (state_in (m c.open_folder.new.disk)) memory.keyspaces.living) (sym c.new.ensures) (c.in-Ok.ensures.swept honest)
+    subst (λ (memory : Remembered). IsSwept (state_in (m c.args.disk)) (state_in (m c.open_folder.new.disk)) c.in-Ok.opened.catalog memory.keyspaces.living) (sym c.new.ensures) (c.in-Ok.ensures.swept honest)
+
+pub returns-in-Ok-clause-amid : goal.returns-in-Ok-clause-amid
+returns-in-Ok-clause-amid g c honest base pending holds =
+    let m : _ → Meaning = g.D.Disk.meaning in
+    let old = m c.args.disk in
+    let new = m c.open_folder.new.disk in
+    let o = c.in-Ok.opened in
+    subst (λ (memory : Remembered). OpensAmid old (held_of new o memory) base pending) (sym c.new.ensures)
+    (opens_amid old new o base pending holds.0 (tidy_on old new (c.open_folder.ensures.kinds honest) holds.1) (λ folder is. c.in-Ok.ensures.opens honest folder is base pending holds.0) (c.open_folder.ensures.amid honest base pending holds.0) c.in-Ok.ensures.lawful)
+
+pub returns-in-Err-clause-amid_err : goal.returns-in-Err-clause-amid_err
+returns-in-Err-clause-amid_err g c honest base pending holds =
+    let m : _ → Meaning = g.D.Disk.meaning in
+    let old = m c.args.disk in
+    let new = m c.open_folder.new.disk in
+    record {
+      holds = (c.open_folder.ensures.held honest base pending holds.0, tidy_on old new (c.open_folder.ensures.kinds honest) holds.1);
+      any_moment = c.open_folder.ensures.amid honest base pending holds.0;
+    }
+
+-- ---- what it put at names, and which calls the disk could serve
+
+pub returns-in-Ok-clause-kinds : goal.returns-in-Ok-clause-kinds
+returns-in-Ok-clause-kinds g c honest = c.open_folder.ensures.kinds honest
+
+pub returns-in-Ok-clause-served : goal.returns-in-Ok-clause-served
+returns-in-Ok-clause-served g c honest tidy = c.open_folder.ensures.served honest tidy
+
+pub returns-in-Err-clause-kinds_err : goal.returns-in-Err-clause-kinds_err
+returns-in-Err-clause-kinds_err g c honest = c.open_folder.ensures.kinds honest
+
+pub returns-in-Err-clause-device : goal.returns-in-Err-clause-device
+returns-in-Err-clause-device g c honest tidy = let m : _ → Meaning = g.D.Disk.meaning in risen_blames c.in-Err.error (m c.args.disk) (m c.open_folder.new.disk) c.in-Err.ensures.risen (c.open_folder.ensures.served honest tidy)

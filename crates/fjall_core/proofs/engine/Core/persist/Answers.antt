@@ -19,7 +19,7 @@ returns-in-Ok-clause-serves g c = λ h.
     let new : Held = record { disk = m c.hand_over.new.disk; journal = c.hand_over.new.journal; catalog = c.self.inside.catalog; memory = c.self.inside.memory } in
     subst (λ (core : Held). Serves core (Persist c.args.mode) Done new) c.self.view_is
     (persisted_serves old new c.args.mode (sym c.is_poisoned.ensures ∙ c.if-is_poisoned.false) (record { memory_is = refl; catalog = refl; journal = c.in-Ok.ensures.ok; faults = c.in-Ok.ensures.cause.later }) (c.in-Ok.ensures.took h)
-    (record { leaves = c.in-Ok.ensures.any_moment h; lies = λ _. c.in-Ok.ensures.lies h; elsewhere = c.in-Ok.ensures.elsewhere h; served = c.in-Ok.ensures.served h }))
+    (record { leaves = c.in-Ok.ensures.any_moment h; lies = λ _. c.in-Ok.ensures.lies h; elsewhere = c.in-Ok.ensures.elsewhere h; served = c.in-Ok.ensures.served h; kinds = c.in-Ok.ensures.kinds h }))
 
 pub returns-in-Err-clause-serves : goal.returns-in-Err-clause-serves
 returns-in-Err-clause-serves g c = λ h.
@@ -28,4 +28,4 @@ returns-in-Err-clause-serves g c = λ h.
     let new : Held = record { disk = m c.hand_over.new.disk; journal = c.hand_over.new.journal; catalog = c.self.inside.catalog; memory = c.poison.new.self } in
     subst (λ (core : Held). Serves core (Persist c.args.mode) (Refused c.in-Err.error) new) c.self.view_is
     (unpersisted_serves old new c.args.mode c.in-Err.error (sym c.is_poisoned.ensures ∙ c.if-is_poisoned.false) c.poison.ensures c.in-Err.ensures.cause.cause (c.in-Err.ensures.left h)
-    (record { leaves = c.in-Err.ensures.any_moment h; lies = λ e. let bad : ⊥ = cc in absurd bad; elsewhere = c.in-Err.ensures.elsewhere h; served = c.in-Err.ensures.served h }))
+    (record { leaves = c.in-Err.ensures.any_moment h; lies = λ e. let bad : ⊥ = cc in absurd bad; elsewhere = c.in-Err.ensures.elsewhere h; served = c.in-Err.ensures.served h; kinds = c.in-Err.ensures.kinds h }))

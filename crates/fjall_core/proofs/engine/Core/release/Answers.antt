@@ -1,4 +1,4 @@
-use Rattle.std.proofs.Common.{arith, ◌≡◌, IsTrue, refl, sym, ◌∙◌, ap, subst}
+use Rattle.std.proofs.Common.{arith, ◌≡◌, ◌⊎◌, inl, inr, true, false, IsTrue, refl, sym, ◌∙◌, ap, subst}
 use Rattle.fjall_machine.specs.declared.call.Call.TheVariants.{Release}
 use Rattle.fjall_machine.specs.declared.call.Reply.TheVariants.{Done}
 use Rattle.fjall_core.specs.Holding.{Held}
@@ -8,6 +8,7 @@ use Rattle.std.proofs.lemmas.Result.{err_from_is_err_and}
 use Rattle.fjall_machine.specs.Remembered.{is_last, released}
 use Rattle.fjall_core.proofs.Releasing.{counted_serves, then_serves, unremoved_owes, unremoved_serves}
 use Rattle.fjall_core.proofs.engine.Core.release.Goals as goal
+use Rattle.fjall_core.proofs.engine.Core.release.Goals.{then-not-is_last-via-then-not-is_last, then-not-is_last-via-else-not-is_last+then-is_poisoned}
 
 pub returns-in-Some-clause-serves : goal.returns-in-Some-clause-serves
 returns-in-Some-clause-serves g c = λ h.
@@ -18,8 +19,12 @@ returns-then-not-is_last-clause-serves g c = λ h.
     let m = g.D.Disk.meaning in
     let old : Held = record { disk = m c.self.inside.disk; journal = c.self.inside.journal; catalog = c.self.inside.catalog; memory = c.self.inside.memory } in
     let new : Held = record { disk = m c.self.inside.disk; journal = c.self.inside.journal; catalog = c.self.inside.catalog; memory = c.release.new.self } in
+    let why : (is_last old.memory c.args.id ≡ false) ⊎ (old.memory.poisoned ≡ true) = elim c.then-not-is_last.branch [
+      | then-not-is_last-via-then-not-is_last w ↦ inl (sym c.is_last.ensures ∙ w.if-not-is_last.true)
+      | then-not-is_last-via-else-not-is_last+then-is_poisoned w ↦ inr (sym w.is_poisoned.ensures ∙ w.if-is_poisoned.true)
+    ] in
     subst (λ (core : Held). Serves core (Release c.args.id) Done new) c.self.view_is
-    (counted_serves old new c.args.id (sym c.release_refusal.ensures ∙ c.in_default.is) (record { memory_is = c.release.ensures; catalog = refl; journal = refl; faults = omega arith }) refl)
+    (counted_serves old new c.args.id (sym c.release_refusal.ensures ∙ c.in_default.is) why (record { memory_is = c.release.ensures; catalog = refl; journal = refl; faults = omega arith }) refl)
 
 pub returns-in_err-remove_files-clause-serves : goal.returns-in_err-remove_files-clause-serves
 returns-in_err-remove_files-clause-serves g c = λ h.

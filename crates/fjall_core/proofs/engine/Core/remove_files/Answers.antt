@@ -1,4 +1,4 @@
-use Rattle.std.proofs.Common.{IsTrue, Ok, Err, refl, subst}
+use Rattle.std.proofs.Common.{◌<◌, ◌^◌, arith, IsTrue, Ok, Err, refl, subst}
 use Rattle.fjall_core.specs.Holding.{Held}
 use Rattle.fjall_core.specs.Turns.{Removes}
 use Rattle.fjall_core.proofs.Outcomes.{remove_failed}
@@ -10,6 +10,7 @@ returns-in-Ok g c =
     let old : Held = record { disk = m c.self.inside.disk; journal = c.self.inside.journal; catalog = c.self.inside.catalog; memory = c.self.inside.memory } in
     let new : Held = record { disk = m c.remove_keyspace.new.disk; journal = c.self.inside.journal; catalog = c.self.inside.catalog; memory = c.self.inside.memory } in
     let is = c.in_ok-removal.ensures.ok in
+    let small : c.args.id < 2 ^ 64 = let fits = c.ranges.id in omega (arith, fits) in
     record {
       removed = subst (λ (h : Held). Removes (IsTrue g.D.Disk.honest) h c.args.id (Ok tt) new) c.self.view_is (
         refl,
@@ -19,7 +20,9 @@ returns-in-Ok g c =
           leaves = λ records t unused lies. c.in-Ok.ensures.any_moment h records t c.args.id is unused lies;
           lies = λ records t unused lies. c.in-Ok.ensures.lies h records t c.args.id is unused lies;
           served = λ records t lies holds. c.in-Ok.ensures.served h records t c.args.id is lies holds;
+          kinds = c.in-Ok.ensures.kinds h;
         },
+        λ h. c.in-Ok.ensures.removed h c.args.id small is,
       );
     }
 
@@ -36,5 +39,6 @@ returns g c =
             leaves = λ records t unused lies. c.in-Err.ensures.any_moment h records t c.args.id is unused lies;
             lies = λ records t unused lies. c.in-Err.ensures.lies h records t c.args.id is unused lies;
             served = λ records t lies holds. c.in-Err.ensures.served h records t c.args.id is lies holds;
+            kinds = c.in-Err.ensures.kinds h;
           }));
     }
