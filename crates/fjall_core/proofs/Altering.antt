@@ -26,7 +26,7 @@ use Rattle.fjall_journaling.specs.Journaling.{IsWriting}
 use Rattle.fjall_changes.specs.Changes.{HasEither}
 use Rattle.fjall_machine.specs.Remembered.{Remembered}
 use Rattle.fjall_core.specs.Holding.{Held}
-use Rattle.fjall_core.specs.Durables.{Durable, Lies, Rests, StandsAmid}
+use Rattle.fjall_core.specs.Durables.{Durable, Lies, Rests, StandsAmid, StaysFinished}
 use Rattle.fjall_core.specs.Standing.{Poisons, StandsOn}
 use Rattle.fjall_core.proofs.Dues.{bool_cases}
 use Rattle.fjall_core.proofs.Amids.{amid_more}
@@ -94,12 +94,13 @@ change_leaves base mid new j t next command is after none lies run leaves =
 
 -- a fault before a command was done, or while it was
 pub ill_leads : (old new : Held) (d : Durable) (command : Command) → old.memory.poisoned ≡ false → Poisons old new
-    → ((base : Store) (pending : List Command) → Lies old (held_on old base pending) → LeavesOnly old.disk new.disk (StandsAmid base [] (pending ++ command ∷ []))) → StandsOn old d → Leads new d (command ∷ [])
-ill_leads old new d command well fault leaves = leads_on old new d (command ∷ []) (λ base pending on.
+    → ((base : Store) (pending : List Command) → Lies old (held_on old base pending) → LeavesOnly old.disk new.disk (StandsAmid base [] (pending ++ command ∷ [])))
+    → ((base : Store) (pending : List Command) → Lies old (held_on old base pending) → StaysFinished (state_in new.disk)) → StandsOn old d → Leads new d (command ∷ [])
+ill_leads old new d command well fault leaves finished = leads_on old new d (command ∷ []) (λ base pending on.
     let left = leaves base pending (on.lies well) in
     let rests : Rests (held_on new base (pending ++ command ∷ [])) = at_end old.disk new.disk _ left in
     let was = present_of old (held_on old base pending) false well on ∙ ap (λ (m : Remembered). kept (store_of m.keyspaces m.versions)) (sym fault.memory_is) in
-    let still = stands_ill new base (pending ++ command ∷ []) (ap (λ (m : Remembered). m.poisoned) fault.memory_is) rests (inr (pending, command, refl, was)) in
+    let still = stands_ill new base (pending ++ command ∷ []) (ap (λ (m : Remembered). m.poisoned) fault.memory_is) rests (finished base pending (on.lies well)) (inr (pending, command, refl, was)) in
     (held_on new base (pending ++ command ∷ []), still, record { leaves = left; safe = []; base = refl; rest = refl; rests = rests }))
 
 -- ---- a change that was done

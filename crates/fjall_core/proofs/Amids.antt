@@ -5,14 +5,14 @@ use Rattle.fjall_base.specs.Store.{Store, Command, fold, kept}
 use Rattle.fjall_base.specs.Disk.{Image, IsImage, Meaning, Took, LeavesOnly, state_in, after}
 use Rattle.fjall_base.specs.Disk as disk
 use Rattle.fjall_base.proofs.Moments.{after-append, started, runs_on, weaken}
-use Rattle.fjall_recovery.specs.Tidy.{StaysTidy}
-use Rattle.fjall_recovery.proofs.Tidying.{stays_both, stays_start}
+use Rattle.fjall_recovery.specs.Tidy.{IsTidy, StaysTidy}
+use Rattle.fjall_recovery.proofs.Tidying.{stays_both, stays_start, tidy_on}
 use Rattle.fjall_machine.specs.declared.call.Call.{Call}
 use Rattle.fjall_machine.specs.declared.call.Reply.{Reply}
 use Rattle.fjall_machine.specs.Machine.{State, Step}
 use Rattle.fjall_opening.specs.Folders.{StandsFor}
 use Rattle.fjall_core.specs.Durables.{Durable, IsBeginning, StandsAmid, Rests, Passes}
-use Rattle.fjall_core.specs.Crashes.{attempt, CallPasses, RunOn, IsSyncAt, SafeSince, SafeAt}
+use Rattle.fjall_core.specs.Crashes.{attempt, BlamesEach, CallPasses, RunOn, IsSyncAt, SafeSince, SafeAt, Settled}
 use Rattle.fjall_versions.proofs.Kept.{kept_along}
 use Rattle.fjall_versions.proofs.Slots.{fold-append}
 
@@ -84,6 +84,13 @@ run_kinds s t d e [] [] tried run = subst (λ (x : Durable). StaysTidy d.meaning
 run_kinds s t d e (c ∷ calls) (r ∷ replies) tried (mid, on, rest, step, call, is, run) = stays_both d.meaning on.meaning e.meaning call.3 (run_kinds mid t on e calls replies rest run)
 run_kinds s t d e [] (r ∷ replies) tried run = absurd run
 run_kinds s t d e (c ∷ calls) [] tried run = absurd run
+
+-- where nothing stands in the way, each of its faults was the device's
+pub run_blames : (s t : State) (d e : Durable) (calls : List Call) (replies : List Reply) (tried : List Command) → IsTidy (state_in d.meaning) → (run : RunOn s d calls replies tried t e) → BlamesEach s d calls replies tried t e run
+run_blames s t d e [] [] tried tidy run = tt
+run_blames s t d e (c ∷ calls) (r ∷ replies) tried tidy (mid, on, rest, step, call, is, run) = (call.2 tidy, run_blames mid t on e calls replies rest (tidy_on d.meaning on.meaning call.3 tidy) run)
+run_blames s t d e [] (r ∷ replies) tried tidy run = absurd run
+run_blames s t d e (c ∷ calls) [] tried tidy run = absurd run
 
 -- one call more
 pub run-push : (s m t : State) (d n e : Durable) (calls : List Call) (replies : List Reply) (tried : List Command) (c : Call) (r : Reply) → RunOn s d calls replies tried m n → Step m c r t → CallPasses m n c r e
@@ -158,8 +165,32 @@ safe_later d m new tried before all p safe = record {
       (subst (λ l. StandsAmid d.base (p.safe ++ (m.pending ++ before)) l image) (joined d m tried all p) (amid_shift d.base m.base p.safe (m.pending ++ before) (m.pending ++ all) image p.base s)));
 }
 
+-- where nothing was pending, all of this is in the base later
+settled_now : (d m e : Durable) (tried more : List Command) → Passes d tried m → m.pending ≡ [] → Passes m more e → Settled d tried (tried ++ more) e
+settled_now d m e tried more p none later =
+    let all : p.safe ≡ d.pending ++ tried = sym (append-nil p.safe) ∙ ap (λ (l : List Command). p.safe ++ l) (sym none) ∙ p.rest in
+    record {
+      safe = (d.pending ++ tried) ++ later.safe;
+      has = (later.safe, refl);
+      base = later.base ∙ kept_along m.base (fold d.base (d.pending ++ tried)) later.safe (p.base ∙ ap (λ (l : List Command). kept (fold d.base l)) all) ∙ ap kept (sym (fold-append d.base (d.pending ++ tried) later.safe));
+      rest = append_assoc (d.pending ++ tried) later.safe e.pending
+          ∙ ap (λ (l : List Command). (d.pending ++ tried) ++ l) (later.rest ∙ ap (λ (l : List Command). l ++ more) none) ∙ append_assoc d.pending tried more;
+    }
+
+-- and in a longer run
+settled_later : (d m e : Durable) (tried before all : List Command) → Passes d tried m → Settled m before all e → Settled d (tried ++ before) (tried ++ all) e
+settled_later d m e tried before all p s = record {
+  safe = p.safe ++ s.safe;
+  has = (
+    s.has.0,
+    ap (λ (l : List Command). l ++ s.has.0) (sym (joined d m tried before p)) ∙ append_assoc p.safe (m.pending ++ before) s.has.0 ∙ ap (λ (l : List Command). p.safe ++ l) s.has.1,
+  );
+  base = s.base ∙ kept_along m.base (fold d.base p.safe) s.safe p.base ∙ ap kept (sym (fold-append d.base p.safe s.safe));
+  rest = append_assoc p.safe s.safe e.pending ∙ ap (λ (l : List Command). p.safe ++ l) s.rest ∙ joined d m tried all p;
+}
+
 -- each sync of a run that succeeded is such a moment
-pub run_safe : (s t : State) (d e : Durable) (calls : List Call) (replies : List Reply) (tried : List Command) (i : ℕ) (run : RunOn s d calls replies tried t e) → IsSyncAt s d calls replies tried t e run i → SafeAt s d calls replies i tried e.meaning
+pub run_safe : (s t : State) (d e : Durable) (calls : List Call) (replies : List Reply) (tried : List Command) (i : ℕ) (run : RunOn s d calls replies tried t e) → IsSyncAt s d calls replies tried t e run i → SafeAt s d calls replies i tried e e.meaning
 run_safe s t d e (c ∷ calls) (r ∷ replies) tried zero (mid, on, rest, step, call, is, run) sync = record {
   before = attempt s c r;
   mid = mid;
@@ -167,6 +198,7 @@ run_safe s t d e (c ∷ calls) (r ∷ replies) tried zero (mid, on, rest, step, 
   so_far = (mid, on, [], step, call, sym (append-nil (attempt s c r)), (refl, refl, refl));
   safe = subst (λ l. SafeSince d (attempt s c r) l e.meaning) (sym is)
       (safe_now d on e.meaning (attempt s c r) rest call.0 (call.1 sync) (run_passes mid t on e calls replies rest call.0.rests run).leaves);
+  settled = subst (λ l. Settled d (attempt s c r) l e) (sym is) (settled_now d on e (attempt s c r) rest call.0 (call.1 sync) (run_passes mid t on e calls replies rest call.0.rests run));
 }
 run_safe s t d e (c ∷ calls) (r ∷ replies) tried (suc i) (mid, on, rest, step, call, is, run) sync =
     let later = run_safe mid t on e calls replies rest i run sync in
@@ -176,6 +208,7 @@ run_safe s t d e (c ∷ calls) (r ∷ replies) tried (suc i) (mid, on, rest, ste
       on = later.on;
       so_far = (mid, on, later.before, step, call, refl, later.so_far);
       safe = subst (λ l. SafeSince d (attempt s c r ++ later.before) l e.meaning) (sym is) (safe_later d on e.meaning (attempt s c r) later.before rest call.0 later.safe);
+      settled = subst (λ l. Settled d (attempt s c r ++ later.before) l e) (sym is) (settled_later d on e (attempt s c r) later.before rest call.0 later.settled);
     }
 run_safe s t d e [] replies tried i run sync = absurd sync
 run_safe s t d e (c ∷ calls) [] tried i run sync = absurd sync

@@ -1,15 +1,16 @@
 -- What closing leaves of the disk.
 use Rattle.std.proofs.Common.{◌≡◌, true, false, List, [], ◌∷◌, Some, Result, Ok, Err, refl, sym, ◌∙◌, ap, subst}
 use Rattle.fjall_base.specs.Store.{Store, Command, fold}
+use Rattle.fjall_base.specs.Crash.{IsHoused}
 use Rattle.fjall_base.specs.Disk.{Meaning, Took, state_in}
 use Rattle.fjall_base.specs.declared.error.Error.{Error}
 use Rattle.fjall_base.specs.declared.error.Error.TheVariants.{Io, Poisoned}
 use Rattle.fjall_journal.specs.declared.persist_mode.PersistMode.TheVariants.{SyncAll}
 use Rattle.fjall_journal.specs.Writer.{Journal, persist_steps}
+use Rattle.fjall_places.specs.Amid.{HoldsAmid}
 use Rattle.fjall_places.specs.Places.{contents_with}
 use Rattle.fjall_places.proofs.Holding.{a_rest_holds}
 use Rattle.fjall_recovery.specs.Tidy.{StaysTidy}
-use Rattle.fjall_recovery.proofs.Tidying.{tidy_on}
 use Rattle.fjall_journaling.proofs.Tidied.{persist_stays}
 use Rattle.fjall_journaling.proofs.Leaving.{persist_apart, persist_leaves, persist_out}
 use Rattle.fjall_machine.specs.declared.call.Call.TheVariants.{Persist}
@@ -20,7 +21,8 @@ use Rattle.fjall_core.specs.Durables.{Durable, Passes}
 use Rattle.fjall_core.specs.Crashes.{BlamesDevice, attempt}
 use Rattle.fjall_core.specs.Standing.{Closes, ClosesDisk, HandsOver, OnDisk, Owes, Serves, StandsFor, StandsOn, reply_of}
 use Rattle.fjall_core.proofs.Dues.{none_due}
-use Rattle.fjall_core.proofs.Leading.{lies_rest}
+use Rattle.fjall_core.proofs.Leading.{lies_rest, root_finished}
+use Rattle.fjall_core.proofs.Reopening.{a_core_holds_amid, finished_amid}
 use Rattle.fjall_core.proofs.Syncs.{HandedOut, hand_leaves, same_of, sync_empty, sync_lies, synced_passes}
 use Rattle.fjall_core.proofs.Writes.{held_on, present_of}
 
@@ -46,9 +48,9 @@ synced_out old new hands took served = record {
 }
 
 -- nothing waits for a sync any more, so that the disk holds what it stands for
-synced_closes : (old new : Held) (s : machine.State) (base : Store) (pending : List Command) → old.memory.poisoned ≡ false → HandsOver old new → HandedOut old new SyncAll true → StandsFor old s → StandsOn old (held_on old base pending)
+synced_closes : (old new : Held) (s : machine.State) (base : Store) (pending : List Command) → old.memory.poisoned ≡ false → HandsOver old new → HandedOut old new SyncAll true → IsHoused (state_in new.disk) → StandsFor old s → StandsOn old (held_on old base pending)
     → Closes s (held_on old base pending) (Ok tt) new.disk
-synced_closes old new s base pending well hands out stands on =
+synced_closes old new s base pending well hands out housed stands on =
     let same = same_of old new hands in
     let lies = on.lies well in
     let after = sync_lies old new base pending same lies out in
@@ -57,28 +59,34 @@ synced_closes old new s base pending well hands out stands on =
       after = held_on new (fold base pending) [];
       same = refl;
       passes = synced_passes old new base pending (hand_leaves old new SyncAll true base pending lies out) (lies_rest new (held_on new (fold base pending) []) after);
+      amid = finished_amid (state_in new.disk) (fold base pending) [] housed (root_finished (state_in new.disk) after.journals after.writing.root) (lies_rest new (held_on new (fold base pending) []) after);
       closed = (
-        (
-          Some (contents_with after.journals after.tree []),
-          a_rest_holds (state_in new.disk) after.journals after.records after.tree none after.writing.root after.in_tree.rests,
-          tt,
-          stands.remembered.present ∙ sym (present_of old (held_on old base pending) false well on) ∙ after.made,
-        ),
-        tidy_on old.disk new.disk out.kinds on.tidy,
+        Some (contents_with after.journals after.tree []),
+        a_rest_holds (state_in new.disk) after.journals after.records after.tree none after.writing.root after.in_tree.rests,
+        tt,
+        stands.remembered.present ∙ sym (present_of old (held_on old base pending) false well on) ∙ after.made,
       );
       device = out.served lies.journals lies.writing;
       kinds = out.kinds;
     }
 
 -- closing leaves what it may
-pub closing : (old new : Held) (result : Result Unit Error) (s : machine.State) (d : Durable) → Owes old (Persist SyncAll) (reply_of result) new → Serves old (Persist SyncAll) (reply_of result) new → StandsFor old s → StandsOn old d → Closes s d result new.disk
-closing old new (Ok _) s d (none, hands) serves stands on =
+pub closing : (old new : Held) (result : Result Unit Error) (s : machine.State) (d : Durable) → Owes old (Persist SyncAll) (reply_of result) new → Serves old (Persist SyncAll) (reply_of result) new
+    → ((s : machine.State) (d : Durable) → StandsFor old s → StandsOn old d → BlamesDevice (reply_of result) old.disk new.disk) → IsHoused (state_in new.disk) → StandsFor old s → StandsOn old d → Closes s d result new.disk
+closing old new (Ok _) s d (none, hands) serves blames housed stands on =
     let well = (none_due ((old.memory.poisoned, Poisoned) ∷ []) none).0 in
-    let led = serves.crash s d stands on in
-    let served = ap (λ (m : Meaning). m.misuses) (sym led.3.same) ∙ led.5.2 ∙ ap (λ (m : Meaning). m.misuses) on.same in
     let here : d ≡ held_on old d.base d.pending = λ i. record { meaning = on.same i; base = d.base; pending = d.pending } in
     subst (λ (x : Durable). Closes s x (Ok tt) new.disk) (sym here)
-    (synced_closes old new s d.base d.pending well hands (synced_out old new hands serves.disk served) stands (subst (λ (x : Durable). StandsOn old x) here on))
-closing old new (Err error) s d owes serves stands on =
+    (synced_closes old new s d.base d.pending well hands (synced_out old new hands serves.disk (blames s d stands on)) housed stands (subst (λ (x : Durable). StandsOn old x) here on))
+closing old new (Err error) s d owes serves blames housed stands on =
     let led = serves.crash s d stands on in
-    record { after = led.1; same = led.3.same; passes = subst (λ (l : List Command). Passes d l led.1) (no_command s error) led.5.0; closed = tt; device = subst (λ (m : Meaning). BlamesDevice (Refused error) d.meaning m) led.3.same led.5.2; kinds = subst (λ (m : Meaning). StaysTidy d.meaning m) led.3.same led.5.3 }
+    let there : IsHoused (state_in led.1.meaning) = subst (λ (m : Meaning). IsHoused (state_in m)) (sym led.3.same) housed in
+    record {
+      after = led.1;
+      same = led.3.same;
+      passes = subst (λ (l : List Command). Passes d l led.1) (no_command s error) led.5.0;
+      amid = subst (λ (m : Meaning). HoldsAmid (state_in m) led.1.base led.1.pending) led.3.same (a_core_holds_amid new led.1 led.3 there);
+      closed = tt;
+      device = subst (λ (m : Meaning). BlamesDevice (Refused error) m new.disk) (sym on.same) (blames s d stands on);
+      kinds = subst (λ (m : Meaning). StaysTidy d.meaning m) led.3.same led.5.3;
+    }

@@ -95,7 +95,7 @@ module _ (old : Held) (id : ℕ) (none : held_due old (DeleteKeyspace id) ≡ No
       (subst (λ (b : Bool). MatchBool b (ReplacesTable old new) (new.disk ≡ old.disk)) (sym living)
       (replaces_table old new (DeleteKeyspace id) Done (changed.gone refl old.catalog _ old.memory.next all.1) well led))
       (subst (λ (m : Meaning). StaysTidy old.disk m) (sym disk) (stays_both old.disk turned.mid made.disk turned.synced.kinds turned.changed.kinds))
-      (λ s d stands on. served_by made new turned.mid all.0 true all.1 changed turned.synced d on) led
+      (λ s d stands on tidy. served_by made new turned.mid all.0 true all.1 changed turned.synced d on) led
 
   -- ---- refused
 
@@ -129,7 +129,7 @@ module _ (old : Held) (id : ℕ) (none : held_due old (DeleteKeyspace id) ≡ No
       let disk : new.disk ≡ made.disk = ap (λ (h : Held). h.disk) back in
       serves_by old new (DeleteKeyspace id) (Refused (Io kind)) (undeleted_owes honest made new (Io kind) lawful all back) tt
       (subst (λ (m : Meaning). StaysTidy old.disk m) (sym disk) (⊎_elim (λ unsynced. unsynced.kinds) (λ turned. stays_both old.disk turned.mid made.disk turned.synced.kinds turned.changed.kinds) (all.5 true_)))
-      (λ s d stands on. record {
+      (λ s d stands on tidy. record {
         rose = fault.faults;
         served = ⊎_elim
             (λ unsynced. served_on old new.disk d room.well (subst (λ (h : Held). turns.HandedOut old.disk h.disk old.journal h.journal SyncAll false) (sym back) unsynced).served on)
@@ -151,6 +151,6 @@ module _ (old : Held) (id : ℕ) (none : held_due old (DeleteKeyspace id) ≡ No
 -- a keyspace that is deleted already
 pub gone_serves : (core : Held) (id : ℕ) → held_due core (DeleteKeyspace id) ≡ None → is_living (store_in core) id ≡ false → Serves core (DeleteKeyspace id) Done core
 gone_serves core id none gone = serves_by core core (DeleteKeyspace id) Done (none, inl (gone, refl))
-    (subst (λ (b : Bool). MatchBool b (ReplacesTable core core) (core.disk ≡ core.disk)) (sym gone) refl) (stays_start core.disk) (λ _ _ _ _. refl) (λ s d stands on.
+    (subst (λ (b : Bool). MatchBool b (ReplacesTable core core) (core.disk ≡ core.disk)) (sym gone) refl) (stays_start core.disk) (λ _ _ _ _ _. refl) (λ s d stands on.
     let here : is_living (present s) id ≡ false = (λ i. is_living (stands.remembered.present i) id) ∙ gone in
     still_led core core s d (DeleteKeyspace id) Done (ap (λ b. if b then (Delete id ∷ []) else []) here) (λ sync. true≢false (sym sync ∙ here)) refl on)

@@ -8,7 +8,7 @@ use Rattle.fjall_regions.proofs.Fitting.{current_kind, folder_kind}
 use Rattle.fjall_places.specs.Halves.{is_of_keyspaces}
 use Rattle.fjall_places.proofs.Named.{current_within, folder_within}
 use Rattle.fjall_changes.specs.Changes.{HasRoom}
-use Rattle.fjall_base.specs.Errors.{Rose}
+use Rattle.fjall_base.specs.Errors.{IsFault, Rose}
 use Rattle.fjall_base.specs.declared.error.Error.{Error}
 use Rattle.fjall_base.specs.declared.error.Error.TheVariants.{Io}
 use Rattle.fjall_opening.specs.Refusals.{HasRisen}
@@ -39,6 +39,12 @@ served_on old new d well served on =
 pub failed_on : (old : Held) (new : Meaning) (d : Durable) → old.memory.poisoned ≡ false → Rose old.disk.faults new.faults → ((j : Journaling) → IsWriting (state_in old.disk) old.journal j → new.misuses ≡ old.disk.misuses) → StandsOn old d
     → DeviceFailed old.disk new
 failed_on old new d well rose served on = record { rose = rose; served = served_on old new d well served on }
+
+-- a refusal of what holds of the active journal's disk is a fault of the device
+pub fault_blames : (old : Held) (new : Meaning) (d : Durable) (error : Error) → old.memory.poisoned ≡ false → IsFault old.disk.faults new.faults error → ((j : Journaling) → IsWriting (state_in old.disk) old.journal j → new.misuses ≡ old.disk.misuses) → StandsOn old d
+    → BlamesDevice (Refused error) old.disk new
+fault_blames old new d (Io kind) well cause served on = failed_on old new d well cause served on
+fault_blames old new d error well cause served on = absurd cause
 
 -- where the disk is tidy there is room for a keyspace, also once the journal was synced
 pub room_on : (old mid : Meaning) (id : ℕ) → id < 2 ^ 64 → IsTidy (state_in old) → ((q : Name) → is_of_keyspaces q ≡ true → state_in mid q ≡ state_in old q) → HasRoom (state_in mid) id

@@ -112,14 +112,14 @@ written_serves honest old new id key o (Ok _) none all true_ =
     record { memory_is = ap (λ (h : Held). h.memory) is; catalog = ap (λ (h : Held). h.catalog) is; journal = ap (λ (h : Held). h.journal) is; faults = all.1; waits = all.4 } in
     serves_by old new (call_of id key o) Done owes (op_disk old new id key o (all.2 true_))
     (stays_part old.disk new.disk old.journal.name (old.journal.buffer ++ op_text id key o old.memory.next) (command_part (by_hand old id) old.journal (op_text id key o old.memory.next) old.disk new.disk (all.2 true_)))
-    (λ s d stands on. served_on old new.disk d (may old id key o none).well out.served on) (λ s d stands on.
+    (λ s d stands on tidy. served_on old new.disk d (may old id key o none).well out.served on) (λ s d stands on.
     led_by new s d (call_of id key o) Done (write_of id key (value_in o) ∷ []) (op_attempt s id key o) (op_unsynced s id key o Done)
     (write_leads old new id key o (is_out old id (batch_of old id key o)) d (admits old s id key o none stands) grows (record { leaves = out.leaves; lies = out.lies; elsewhere = out.elsewhere }) on))
 written_serves honest old new id key o (Err (Io kind)) none all true_ =
     let owes = written_owes honest old new id key o (Err (Io kind)) none all in
     let out = all.3 true_ in
     serves_by old new (call_of id key o) (Refused (Io kind)) owes (op_part old new id key o kind (all.2 true_)) (stays_part old.disk new.disk old.journal.name (old.journal.buffer ++ op_text id key o old.memory.next) (all.2 true_))
-    (λ s d stands on. failed_on old new.disk d (may old id key o none).well all.1 out.served on) (λ s d stands on.
+    (λ s d stands on tidy. failed_on old new.disk d (may old id key o none).well all.1 out.served on) (λ s d stands on.
     led_by new s d (call_of id key o) (Refused (Io kind)) (write_of id key (value_in o) ∷ []) (op_tried s id key o kind) (op_unsynced s id key o (Refused (Io kind)))
     (torn_leads old new id key o (is_out old id (batch_of old id key o)) d (admits old s id key o none stands) (record { memory_is = all.0; faults = all.1 }) (record { leaves = out.leaves; lies = out.lies; elsewhere = out.elsewhere }) on))
 written_serves honest old new id key o (Err error) none all true_ =

@@ -3,7 +3,7 @@ use Rattle.std.proofs.Common.{◌≡◌, ◌≢◌, inl, inr, ⊎_elim, MatchOpt
 use Rattle.std.proofs.lemmas.Bool.{true≢false}
 use Rattle.fjall_base.specs.Pairs.{Bytes}
 use Rattle.fjall_base.specs.Store.{Create, apply, fold, kept}
-use Rattle.fjall_base.specs.Disk.{Meaning}
+use Rattle.fjall_base.specs.Disk.{Meaning, state_in}
 use Rattle.fjall_base.specs.declared.error.Error.{Error}
 use Rattle.fjall_base.specs.declared.error.Error.TheVariants.{Io, NumbersUsedUp, OutOfMemory, ValueTooLong}
 use Rattle.fjall_keyspaces.specs.Keyspaces.{id_of, with_keyspace}
@@ -26,9 +26,8 @@ use Rattle.fjall_machine.proofs.Facts.{named_is}
 use Rattle.fjall_machine.proofs.Lawful.{creation_is_lawful}
 use Rattle.fjall_base.specs.Errors.{Rose}
 use Rattle.fjall_journal.specs.declared.persist_mode.PersistMode.TheVariants.{SyncAll}
-use Rattle.fjall_recovery.specs.Tidy.{StaysTidy}
+use Rattle.fjall_recovery.specs.Tidy.{IsTidy, StaysTidy}
 use Rattle.fjall_recovery.proofs.Tidying.{stays_both, stays_start}
-use Rattle.fjall_core.proofs.Stood.{tidy_disk}
 use Rattle.fjall_core.specs.Holding.{Held}
 use Rattle.fjall_core.specs.Durables.{Durable, Passes}
 use Rattle.fjall_core.specs.Crashes.{attempt}
@@ -94,15 +93,15 @@ module _ (old : Held) (name : Bytes) (options : List Bytes) (id number : ℕ) (i
 
     -- wherever the core stood, no call was one that no disk can serve
     served_by : (made new : Held) (mid : Meaning) (creation : Creation) (done : Bool) → IsLawful old.memory → IsCreation old.catalog (with_keyspace name options old.memory.next old.memory.keyspaces) id number creation
-        → turns.Made mid new.disk creation done → HandedOut old (between old made mid) SyncAll true → (d : Durable) → StandsOn old d → new.disk.misuses ≡ old.disk.misuses
-    served_by made new mid creation done lawful is disk out d on =
+        → turns.Made mid new.disk creation done → HandedOut old (between old made mid) SyncAll true → (d : Durable) → StandsOn old d → IsTidy (state_in old.disk) → new.disk.misuses ≡ old.disk.misuses
+    served_by made new mid creation done lawful is disk out d on tidy =
         let here : d ≡ held_on old d.base d.pending = λ i. record { meaning = on.same i; base = d.base; pending = d.pending } in
         let lies = (subst (λ (x : Durable). StandsOn old x) here on).lies room.well in
         let same = stays old made mid in
         let synced = sync_lies old (between old made mid) d.base d.pending same lies out in
         let nothing = sync_empty old (between old made mid) d.base d.pending same lies out in
         creation_served (between old made mid) new (fold d.base d.pending) name options creation done synced nothing (of_creation creation is) lawful.keyspaces after.keyspaces disk
-        (room_on old.disk mid old.memory.keyspaces.next lawful.keyspaces.fits (tidy_disk old d on) (out.elsewhere lies.journals lies.writing))
+        (room_on old.disk mid old.memory.keyspaces.next lawful.keyspaces.fits tidy (out.elsewhere lies.journals lies.writing))
         ∙ out.served lies.journals lies.writing
 
     -- what was put at names
@@ -131,7 +130,7 @@ module _ (old : Held) (name : Bytes) (options : List Bytes) (id number : ℕ) (i
         (subst (λ (o : Option ℕ). MatchOption o (ReplacesTable old made) (λ found. made.disk ≡ old.disk)) (sym unnamed)
         (replaces_table old made (Keyspace name options) (Number id) (turned.changed.gone refl old.catalog _ id number all.1) well led))
         (kinds_by made turned.mid all.0 true all.1 turned.changed turned.synced.kinds)
-        (λ s d stands on. served_by made made turned.mid all.0 true stands.remembered.lawful all.1 turned.changed turned.synced d on) led
+        (λ s d stands on tidy. served_by made made turned.mid all.0 true stands.remembered.lawful all.1 turned.changed turned.synced d on tidy) led
 
     -- ---- refused
 
@@ -169,11 +168,11 @@ module _ (old : Held) (name : Bytes) (options : List Bytes) (id number : ℕ) (i
         let journal : new.journal ≡ made.journal = ap (λ (h : Held). h.journal) back in
         serves_by old new (Keyspace name options) (Refused (Io kind)) (uncreated_owes honest made new (Io kind) lawful all back) tt
         (subst (λ (m : Meaning). StaysTidy old.disk m) (sym disk) (⊎_elim (λ unsynced. unsynced.kinds) (λ turned. kinds_by made turned.mid all.0 false all.1 turned.changed turned.synced.kinds) (all.5 true_)))
-        (λ s d stands on. record {
+        (λ s d stands on tidy. record {
           rose = fault.faults;
           served = ⊎_elim
               (λ unsynced. served_on old new.disk d room.well (subst (λ (h : Held). turns.HandedOut old.disk h.disk old.journal h.journal SyncAll false) (sym back) unsynced).served on)
-              (λ turned. served_by made new turned.mid all.0 false lawful all.1 (subst (λ m. turns.Made turned.mid m all.0 false) (sym disk) turned.changed) turned.synced d on)
+              (λ turned. served_by made new turned.mid all.0 false lawful all.1 (subst (λ m. turns.Made turned.mid m all.0 false) (sym disk) turned.changed) turned.synced d on tidy)
               (all.5 true_);
         }) (λ s d stands on.
         led_by new s d (Keyspace name options) (Refused (Io kind)) (Create name (option_pairs options) ∷ []) (asked_one s kind stands) (λ sync. sync)
@@ -234,6 +233,6 @@ id_left core name options none fresh same = ((may_create (facts_of core.memory c
 -- a name that a keyspace has
 pub found_serves : (core : Held) (name : Bytes) (options : List Bytes) (id : ℕ) → held_due core (Keyspace name options) ≡ None → id_of name core.memory.keyspaces.living ≡ Some id → Serves core (Keyspace name options) (Number id) core
 found_serves core name options id none found = serves_by core core (Keyspace name options) (Number id) (none, inl (found, refl))
-    (subst (λ (o : Option ℕ). MatchOption o (ReplacesTable core core) (λ found. core.disk ≡ core.disk)) (sym found) refl) (stays_start core.disk) (λ _ _ _ _. refl) (λ s d stands on.
+    (subst (λ (o : Option ℕ). MatchOption o (ReplacesTable core core) (λ found. core.disk ≡ core.disk)) (sym found) refl) (stays_start core.disk) (λ _ _ _ _ _. refl) (λ s d stands on.
     let here : has_name (present s) name ≡ true = a_name_there core.memory core.catalog.next_table_id s stands.remembered name ∙ ap is_some found in
     still_led core core s d (Keyspace name options) (Number id) (ap (λ b. if b then [] else (Create name (option_pairs options) ∷ [])) here) (λ sync. true≢false (sym here ∙ sync)) refl on)

@@ -1,9 +1,10 @@
 -- What a crash leaves of a folder stands for the base with a beginning of what is pending.
-use Rattle.std.proofs.Common.{◌≡◌, inl, List, [], ◌++◌, map, refl, sym, ◌∙◌, ap, subst, append_assoc}
+use Rattle.std.proofs.Common.{◌≡◌, inl, ℕ, suc, arith, List, [], ◌∷◌, ◌++◌, map, refl, sym, ◌∙◌, ap, subst, append_assoc}
+use Rattle.std.specs.Prelude.{Contains}
 use Rattle.std.proofs.lemmas.List.{append-nil, map-append}
 use Rattle.fjall_base.specs.Store.{Store, Command, fold, kept}
-use Rattle.fjall_base.specs.Disk.{Image, Meaning, LeavesOnly, state_in}
-use Rattle.fjall_base.proofs.Moments.{weaken}
+use Rattle.fjall_base.specs.Disk.{Image, Meaning, LeavesOnly, State, state_in}
+use Rattle.fjall_base.proofs.Moments.{at_end, weaken}
 use Rattle.fjall_journal.specs.Batches.{Written, shown}
 use Rattle.fjall_tree.specs.Records.{Fields}
 use Rattle.fjall_versions.specs.Replays.{journal_commands, store_in}
@@ -11,16 +12,39 @@ use Rattle.fjall_versions.proofs.Kept.{kept_along}
 use Rattle.fjall_versions.proofs.Keeping.{nothing_to_keep}
 use Rattle.fjall_versions.proofs.Replaying.{commands-append, store-append}
 use Rattle.fjall_opening.specs.Folders.{store_of}
-use Rattle.fjall_opening.specs.Journals.{batches_in}
+use Rattle.fjall_opening.specs.Journals.{Journal, batches_in}
 use Rattle.fjall_places.specs.Halves.{HasRoot, HasTree, Tree}
-use Rattle.fjall_places.specs.Places.{Journaling, LiesInTree, contents_with, journals_with}
+use Rattle.fjall_places.specs.Places.{Journaling, LiesInRoot, LiesInTree, contents_with, journals_with}
 use Rattle.fjall_places.proofs.Roots.{batches_are}
 use Rattle.fjall_places.proofs.Trees.{crashes_leave_the_tree}
 use Rattle.fjall_places.proofs.Holding.{made}
 use Rattle.fjall_journaling.specs.Journaling.{LeavesRoot}
 use Rattle.fjall_journaling.proofs.Leaving.{root_left}
 use Rattle.fjall_core.specs.Holding.{Held}
-use Rattle.fjall_core.specs.Durables.{Durable, Lies, Rests, StandsAmid}
+use Rattle.fjall_core.specs.Durables.{Durable, IsFinished, Lies, Rests, StandsAmid, StaysFinished}
+
+-- ---- a finished folder
+
+last_named : (sealed : List Journal) (last : Journal) → Contains (map (λ (j : Journal). j.id) (sealed ++ last ∷ [])) last.id
+last_named [] last = (0, omega arith, refl)
+last_named (j ∷ sealed) last = let at = last_named sealed last in let lt = at.1 in (suc at.0, omega (arith, lt), at.2)
+
+-- the root of an image with an active journal
+pub has_finished : (image : Image) (j : Journaling) (behind : List Written) → HasRoot image (journals_with j behind) → IsFinished image
+has_finished image j behind root =
+    let last : Journal = record { id = j.active; batches = j.whole ++ behind } in
+    let at = (root.holds.ids.each j.active).0 (last_named j.sealed last) in
+    record { marker = root.marker; id = j.active; fits = at.0; journal = at.1 }
+
+-- so is what a crash leaves of a root that lies exactly
+pub root_finished : (s : State) (j : Journaling) → LiesInRoot s j → StaysFinished s
+root_finished s j lies image is = let left = root_left s j image lies is in has_finished image j left.some.0 left.some.3
+
+-- and what it leaves while batches go out
+pub leaves_finished : (old new : Meaning) (s : State) (j : Journaling) (batches : List Written) → LeavesOnly old new (LeavesRoot s j batches) → StaysFinished (state_in new)
+leaves_finished old new s j batches leaves image is = let left = at_end old new (LeavesRoot s j batches) leaves image is in has_finished image j left.some.0 left.some.3
+
+-- ---- what is pending
 
 -- the store of the journals with these batches behind the synced ones
 pub store_with : (j : Journaling) (t : Tree) (behind : List Written) → store_of (contents_with j t behind) ≡ fold (store_of (contents_with j t [])) (journal_commands t.keyspaces (map shown behind))

@@ -4,7 +4,6 @@ mod Tries
 mod Running
 mod Leading
 mod Along
-mod Stood
 mod Writes
 mod Syncs
 mod Rooted

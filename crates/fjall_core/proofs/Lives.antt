@@ -1,64 +1,68 @@
 -- What engines one after another leave of a disk.
-use Rattle.std.proofs.Common.{◌≡◌, inl, inr, ℕ, true, false, List, [], ◌∷◌, ◌++◌, map, Option, Some, None, IsSome, Ok, refl, sym, ◌∙◌, ap, subst, append_assoc}
+use Rattle.std.proofs.Common.{◌≡◌, ℕ, true, false, List, [], ◌∷◌, ◌++◌, Option, Some, None, IsSome, Result, Ok, Err, refl, sym, ◌∙◌, ap, subst, append_assoc}
 use Rattle.std.proofs.lemmas.List.{append-nil, append_cancel_left}
 use Rattle.std.proofs.lemmas.Bool.{true≢false}
 use Rattle.std.specs.List.{AllByRecursion, flat_map}
 use Rattle.fjall_base.specs.Store.{Command, Store, fold, kept}
-use Rattle.fjall_base.specs.Disk.{Image, Leaves, Meaning, State, Step, Took, disk_of, standing, state_in}
-use Rattle.fjall_keyspaces.specs.Keyspaces.{no_keyspaces}
-use Rattle.fjall_versions.specs.Replays.{bare}
-use Rattle.fjall_versions.proofs.Keeping.{nothing_to_keep}
+use Rattle.fjall_base.specs.Crash.{IsHoused}
+use Rattle.fjall_base.specs.Disk.{Image, Leaves, Meaning, State, Step, Took, disk_of, state_in}
+use Rattle.fjall_base.specs.declared.error.Error.{Error}
 use Rattle.fjall_versions.proofs.Kept.{kept_along, kept_twice}
 use Rattle.fjall_versions.proofs.Slots.{fold-append}
-use Rattle.fjall_journal.specs.Batches.{shown}
 use Rattle.fjall_regions.proofs.Made.{took_both}
 use Rattle.fjall_recovery.specs.Tidy.{IsTidy, IsTidyStep, StaysTidy}
-use Rattle.fjall_recovery.proofs.Tidying.{each_tidy, stays_by, tidy_on}
-use Rattle.fjall_opening.specs.Folders.{Contents, StandsFor}
-use Rattle.fjall_opening.specs.Journals.{batches_in}
+use Rattle.fjall_recovery.proofs.Tidying.{each_tidy, left_tidy, stays_by, tidy_on}
+use Rattle.fjall_opening.specs.Folders.{StandsFor}
 use Rattle.fjall_opening.proofs.Alone.{one_store}
-use Rattle.fjall_places.specs.Held.{store_held}
-use Rattle.fjall_places.proofs.Holding.{folder_stands}
+use Rattle.fjall_places.specs.Amid.{HoldsAmid}
 use Rattle.fjall_machine.specs.declared.call.Call.{Call}
 use Rattle.fjall_machine.specs.declared.call.Reply.{Reply}
 use Rattle.fjall_machine.specs.Machine as machine
 use Rattle.fjall_machine.specs.Machine.{present}
 use Rattle.fjall_machine.specs.Histories.{latest}
 use Rattle.fjall_core.specs.Holding.{Held}
-use Rattle.fjall_core.specs.Durables.{Durable, IsBeginning, StandsAmid}
-use Rattle.fjall_core.specs.Crashes.{Tried, at_most_one}
-use Rattle.fjall_core.specs.Openings.{OpensAs}
-use Rattle.fjall_core.specs.Standing.{HoldsStore, OwesAll, OwesClosing, Runs}
-use Rattle.fjall_core.specs.Lives.{AreLeftOf, CutBehindSync, CutInCalls, CutInClosing, CutInOpening, Closed, IsLeftOf, Life, Lived, Lives, NoLife, OneMore, Served, all_left, begun, start_of}
-use Rattle.fjall_core.proofs.Amids.{amid_least, amid_passed, none_first, run_passes}
-use Rattle.fjall_core.proofs.Kept.{a_crash_amid_holds, crash_holds}
+use Rattle.fjall_core.specs.Durables.{Durable, IsBeginning, Passes, StandsAmid}
+use Rattle.fjall_core.specs.Crashes.{Settled, Tried, at_most_one}
+use Rattle.fjall_core.specs.Openings.{OpensAmid, OpensAs}
+use Rattle.fjall_core.specs.Standing.{Closes, OwesAll, OwesClosing, Runs, StandsOn}
+use Rattle.fjall_core.specs.Lives.{AreLeftOf, Closed, CutBehindSync, CutInCalls, CutInClosing, CutInOpening, Dropped, Ended, GoesOn, HoldsFold, IsLeftOf, Life, Lived, Lives, NoLife, NoSync, OneMore, Opened, Served, Synced, Unclosed, Unopened, UpTo, all_left, begun, start_of, unlived}
+use Rattle.fjall_core.proofs.Amids.{no_more, run_passes}
+use Rattle.fjall_core.proofs.Kept.{crash_holds}
+use Rattle.fjall_core.proofs.Reopening.{a_core_holds_amid, holds_store_amid}
 use Rattle.fjall_core.proofs.Owing.{owes_run, owes_step}
 
--- ---- the store of a disk
+-- ---- what is left
 
--- a store that is held is all kept
-pub held_is_kept : (state : State) (store : Store) → HoldsStore state store → kept store ≡ store
-held_is_kept state store ((Some c, holds, back, same), tidy) = subst (λ (s : Store). kept s ≡ s) (sym same) (nothing_to_keep c.keyspaces (map shown (batches_in c.journals)))
-held_is_kept state store ((None, holds, back, same), tidy) = subst (λ (s : Store). kept s ≡ s) (sym same) (nothing_to_keep no_keyspaces [])
+-- of these commands this is left, a beginning with all of those that were synced, and the store is their fold
+abbrev pub LeftOf : Store → List Command → List Command → Store → Type 0
+LeftOf store tried synced s = (front : List Command) × IsBeginning synced front × IsBeginning front tried × (s ≡ kept (fold store front))
 
--- a disk holds one store at most
-pub one_held : (state : State) (s t : Store) → HoldsStore state s → HoldsStore state t → s ≡ t
-one_held state s t ((f, holds, back, same), tidy) ((g, others, back', also), tidy') =
-    one_store (standing state) s t (subst (StandsFor (standing state)) (sym same) (folder_stands (standing state) f holds.now)) (subst (StandsFor (standing state)) (sym also) (folder_stands (standing state) g others.now))
+-- what an image stands for that stands amid these commands
+of_amid : (image : Image) (store : Store) (synced tried : List Command) (left : Store) → StandsAmid store synced tried image → StandsFor image left → LeftOf store tried synced left
+of_amid image store synced tried left amid stands = (amid.front, amid.holds, amid.within, one_store image left (kept (fold store amid.front)) stands amid.stands)
+
+-- what is pending behind commands that are in the base
+settled_left : (core : Held) (store : Store) (synced tried : List Command) (d : Durable) → Settled (begun core store) synced tried d → (front : List Command) → IsBeginning front d.pending → LeftOf store tried synced (kept (fold d.base front))
+settled_left core store synced tried d s front begins = (
+  s.safe ++ front,
+  (s.has.0 ++ front, sym (append_assoc synced s.has.0 front) ∙ ap (λ (l : List Command). l ++ front) s.has.1),
+  (begins.0, append_assoc s.safe front begins.0 ∙ ap (λ (l : List Command). s.safe ++ l) begins.1 ∙ s.rest),
+  kept_along d.base (fold store s.safe) front s.base ∙ ap kept (sym (fold-append store s.safe front)),
+)
+
+-- what a disk holds, each of which is left of these commands
+record EndsAt (store : Store) (tried synced : List Command) (state : State) (next : Store) (waits : List Command) : Type 0 where
+  pub amid : HoldsAmid state next waits
+  pub each : (front : List Command) → IsBeginning front waits → LeftOf store tried synced (kept (fold next front))
+
+-- a crash left one store
+cut_ends : (state : State) (steps : List Step) (image : Image) (store : Store) (tried synced : List Command) (left : Store) → Leaves state steps image → StandsFor image left → LeftOf store tried synced left → EndsAt store tried synced (disk_of image) left []
+cut_ends state steps image store tried synced left leaves stands of = record {
+  amid = holds_store_amid (disk_of image) left (crash_holds state steps image left leaves stands);
+  each = λ front begins. (of.0, of.1, of.2, ap (λ (l : List Command). kept (fold left l)) (no_more front begins.0 begins.1) ∙ ap kept of.3 ∙ kept_twice (fold store of.0));
+}
 
 -- ---- one life
-
--- what is left, with all of this in it and some of that
-pub record Left (synced tried : List Command) (store : Store) (new : State) : Type 0 where
-  pub front : List Command
-  pub safe : IsBeginning synced front
-  pub within : IsBeginning front tried
-  pub holds : HoldsStore new (kept (fold store front))
-
-left_amid : (state : State) (added : List Step) (image : Image) (store : Store) (synced tried : List Command) → IsTidy state → AllByRecursion IsTidyStep added → Leaves state added image → StandsAmid store synced tried image → Left synced tried store (disk_of image)
-left_amid state added image store synced tried tidy each left amid =
-    let back = a_crash_amid_holds state added image store synced tried tidy each left amid in
-    record { front = back.0; safe = back.1; within = back.2; holds = back.3 }
 
 -- the steps between two disks are one list
 same_steps : (old new : Meaning) (one other : List Step) → Took old new one → Took old new other → one ≡ other
@@ -85,37 +89,103 @@ all_present core store opens tried t tries well = by tries.refused tries.all tri
     by None all fault = ap latest tries.history ∙ ap (λ (l : List Command). fold store l) (sym (append-nil tries.accepted) ∙ sym all)
     by (Some command) all fault = absurd (true≢false (sym (fault refl) ∙ well))
 
-pub lived : (old : Meaning) (store : Store) (life : Life) (new : State) → HoldsStore (state_in old) store → Lived old store life new → Left life.synced life.tried store new
-lived old store life new held (CutInOpening to added image keeps kinds took left) =
-    let leaves = keeps store held.0 in
-    let stands = leaves.each image (leaves_as old to added leaves.added image took leaves.took left) in
-    record { front = []; safe = ([], refl); within = ([], refl); holds = subst (HoldsStore (disk_of image)) (sym (held_is_kept (state_in old) store held)) (crash_holds (state_in old) added image store held.1 (each_tidy old to added kinds took) left stands) }
-lived old store life new held (CutInCalls core to calls replies added image opens run took left) =
+-- what a sync followed is in the base at the end
+settled_of : (core new : Held) (store : Store) (calls : List Call) (replies : List Reply) (opens : OpensAs core store) (run : Served core store opens calls replies new) (synced : List Command)
+    → Synced core new store calls replies opens run synced → Settled (begun core store) synced run.tried run.durable
+settled_of core new store calls replies opens run synced NoSync =
+    let passed = run_passes (start_of core store opens) run.state (begun core store) run.durable calls replies run.tried opens.base.rests run.run in
+    record { safe = passed.safe; has = (passed.safe, refl); base = passed.base; rest = passed.rest }
+settled_of core new store calls replies opens run synced (UpTo i sync) = (run.synced i sync).settled
+
+-- the images of a closing
+closing_amid : (new : Held) (s : machine.State) (d : Durable) (result : Result Unit Error) (disk : Meaning) (added : List Step) (image : Image) → StandsOn new d → Closes s d result disk → Took new.disk disk added → Leaves (state_in new.disk) added image → StandsAmid d.base [] (d.pending ++ []) image
+closing_amid new s d result disk added image on closes took left =
+    let moments = closes.passes.leaves in
+    let here : Took d.meaning disk moments.added = subst (λ (m : Meaning). Took d.meaning m moments.added) closes.same moments.took in
+    let there : Took d.meaning disk added = subst (λ (m : Meaning). Took m disk added) (sym on.same) took in
+    let left_there : Leaves (state_in d.meaning) added image = subst (λ (m : Meaning). Leaves (state_in m) added image) (sym on.same) left in
+    moments.each image (leaves_as d.meaning disk added moments.added image there here left_there)
+
+closing_kinds : (new : Held) (s : machine.State) (d : Durable) (result : Result Unit Error) (disk : Meaning) → StandsOn new d → Closes s d result disk → StaysTidy new.disk disk
+closing_kinds new s d result disk on closes = subst (λ (m : Meaning). StaysTidy m disk) on.same closes.kinds
+
+-- what waits after a closing that was refused
+unclosed_left : (core : Held) (store : Store) (synced tried : List Command) (d e : Durable) → Settled (begun core store) synced tried d → Passes d [] e → (front : List Command) → IsBeginning front e.pending → LeftOf store tried synced (kept (fold e.base front))
+unclosed_left core store synced tried d e s passes front begins =
+    let all : (passes.safe ++ front) ++ begins.0 ≡ d.pending =
+    append_assoc passes.safe front begins.0 ∙ ap (λ (l : List Command). passes.safe ++ l) begins.1 ∙ passes.rest ∙ append-nil d.pending in
+    let left = settled_left core store synced tried d s (passes.safe ++ front) (begins.0, all) in
+    (left.0, left.1, left.2, kept_along e.base (fold d.base passes.safe) front passes.base ∙ ap kept (sym (fold-append d.base passes.safe front)) ∙ left.3)
+
+ended : (core new : Held) (store : Store) (calls : List Call) (replies : List Reply) (opens : OpensAs core store) (run : Served core store opens calls replies new) (synced : List Command) (end : State) (next : Store) (waits : List Command)
+    → Ended core new store calls replies opens run synced end next waits → EndsAt store run.tried synced end next waits
+ended core new store calls replies opens run synced end next waits (CutInCalls added image left took leaves stands) =
     let moments = run.any_moment in
-    left_amid (state_in core.disk) added image store [] run.tried opens.base.tidy (each_tidy core.disk to.disk added run.kinds took) left (moments.each image (leaves_as core.disk to.disk added moments.added image took moments.took left))
-lived old store life new held (CutBehindSync core to calls replies i late image opens run sync took left) =
+    cut_ends (state_in core.disk) added image store run.tried [] left leaves stands
+    (of_amid image store [] run.tried left (moments.each image (leaves_as core.disk new.disk added moments.added image took moments.took leaves)) stands)
+ended core new store calls replies opens run synced end next waits (CutBehindSync i sync late image left took leaves stands) =
     let at = run.synced i sync in
     let moments = at.safe.since in
-    let tidy = tidy_between core.disk at.safe.moment to.disk at.safe.added late opens.base.tidy run.kinds at.safe.passed took in
-    left_amid (state_in at.safe.moment) late image store at.before run.tried tidy.0 tidy.1 left (moments.each image (leaves_as at.safe.moment to.disk late moments.added image took moments.took left))
-lived old store life new held (CutInClosing core to calls replies result disk added image opens run safely took left) =
-    let closes = safely run.state run.durable run.stands run.on in
-    let moments = closes.passes.leaves in
-    let passed = run_passes (start_of core store opens) run.state (begun core store) run.durable calls replies run.tried opens.base.rests run.run in
-    let meaning = run.on.same in
-    let here : Took run.durable.meaning disk moments.added = subst (λ (m : Meaning). Took run.durable.meaning m moments.added) closes.same moments.took in
-    let there : Took run.durable.meaning disk added = subst (λ (m : Meaning). Took m disk added) (sym meaning) took in
-    let left_there : Leaves (state_in run.durable.meaning) added image = subst (λ (m : Meaning). Leaves (state_in m) added image) (sym meaning) left in
-    let amid = moments.each image (leaves_as run.durable.meaning disk added moments.added image there here left_there) in
-    let tidy : IsTidy (state_in to.disk) = subst (λ (m : Meaning). IsTidy (state_in m)) meaning run.on.tidy in
-    let kinds : StaysTidy to.disk disk = subst (λ (m : Meaning). StaysTidy m disk) meaning closes.kinds in
-    left_amid (state_in to.disk) added image store [] run.tried tidy (each_tidy to.disk disk added kinds took) left
-    (subst (λ (l : List Command). StandsAmid store [] l image) (append-nil run.tried) (amid_passed (begun core store) run.durable run.tried [] image passed amid))
-lived old store life new held (Closed core to calls replies disk opens run owes safely) =
+    cut_ends (state_in at.safe.moment) late image store run.tried at.before left leaves stands
+    (of_amid image store at.before run.tried left (moments.each image (leaves_as at.safe.moment new.disk late moments.added image took moments.took leaves)) stands)
+ended core new store calls replies opens run synced end next waits (CutInClosing safe result disk added image left sync safely took leaves stands) =
+    let d = run.durable in
+    let amid = closing_amid new run.state d result disk added image run.on (safely run.state d run.stands run.on) took leaves in
+    let of = settled_left core store synced run.tried d (settled_of core new store calls replies opens run synced sync) amid.front (amid.within.0, amid.within.1 ∙ append-nil d.pending) in
+    cut_ends (state_in new.disk) added image store run.tried synced left leaves stands (of.0, of.1, of.2, one_store image left (kept (fold d.base amid.front)) stands amid.stands ∙ of.3)
+ended core new store calls replies opens run synced end next waits (Dropped safe sync housed) =
+    let d = run.durable in
+    let there : IsHoused (state_in d.meaning) = subst (λ (m : Meaning). IsHoused (state_in m)) (sym run.on.same) housed in
+    record {
+      amid = subst (λ (m : Meaning). HoldsAmid (state_in m) d.base d.pending) run.on.same (a_core_holds_amid new d run.on there);
+      each = settled_left core store synced run.tried d (settled_of core new store calls replies opens run synced sync);
+    }
+ended core new store calls replies opens run synced end next waits (Unclosed safe error disk sync safely) =
+    let d = run.durable in
+    let closes = safely run.state d run.stands run.on in
+    record { amid = closes.amid; each = unclosed_left core store synced run.tried d closes.after (settled_of core new store calls replies opens run synced sync) closes.passes }
+ended core new store calls replies opens run synced end next waits (Closed disk owes safely) =
     let closes = safely run.state run.durable run.stands run.on in
     let well = run.stands.remembered.poisoned ∙ owes.0 in
     let is = all_present core store opens run.tried run.state run.accepted well in
-    record { front = run.tried; safe = ([], append-nil run.tried); within = ([], append-nil run.tried); holds = subst (λ (s : Store). HoldsStore (state_in disk) (kept s)) is closes.closed }
+    record {
+      amid = holds_store_amid (state_in disk) (kept (present run.state)) closes.closed;
+      each = λ front begins. (
+        run.tried,
+        ([], append-nil run.tried),
+        ([], append-nil run.tried),
+        ap (λ (l : List Command). kept (fold (kept (present run.state)) l)) (no_more front begins.0 begins.1) ∙ kept_twice (present run.state) ∙ ap kept is,
+      );
+    }
+
+pub lived : (old : Meaning) (base : Store) (pending : List Command) (life : Life) (new : State) (next : Store) (waits : List Command) → HoldsAmid (state_in old) base pending → Lived old base pending life new next waits → GoesOn base pending life new next waits
+lived old base pending life new next waits holds (Unopened after stays) = record {
+  amid = stays.holds;
+  each = λ front begins. (front, [], begins, record { safe = ([], refl); within = ([], refl) }, ap (λ (l : List Command). kept (fold base l)) (sym (append-nil front)));
+}
+lived old base pending life new next waits holds (CutInOpening after added image left moments kinds took leaves stands) =
+    let amid = moments.each image (leaves_as old after added moments.added image took moments.took leaves) in
+    let cut = cut_ends (state_in old) added image base pending [] left leaves stands (of_amid image base [] pending left amid stands) in
+    record {
+      amid = cut.amid;
+      each = λ front begins.
+          let of = cut.each front begins in
+          (of.0, [], of.2, record { safe = ([], refl); within = ([], refl) }, of.3 ∙ ap (λ (l : List Command). kept (fold base l)) (sym (append-nil of.0)));
+    }
+lived old base pending life new next waits holds (Opened core after calls replies synced end then more opened run ends) =
+    let store = kept (fold base opened.front) in
+    let at = ended core after store calls replies opened.opens run synced end then more ends in
+    record {
+      amid = at.amid;
+      each = λ front begins.
+          let of = at.each front begins in (
+            opened.front,
+            of.0,
+            opened.within,
+            record { safe = of.1; within = of.2 },
+            of.3 ∙ kept_along store (fold base opened.front) of.0 (kept_twice (fold base opened.front)) ∙ ap kept (sym (fold-append base opened.front of.0)),
+          );
+    }
 
 -- ---- one after another
 
@@ -129,20 +199,60 @@ all_more : (fronts : List (List Command)) (front : List Command) → all_left (f
 all_more [] front = append-nil front
 all_more (f ∷ fronts) front = ap (λ (l : List Command). f ++ l) (all_more fronts front) ∙ sym (append_assoc f (all_left fronts) front)
 
-pub lives_hold : (first : State) (start : Store) (lives : List Life) (new : State) → HoldsStore first start → Lives first lives new
-    → (fronts : List (List Command)) × AreLeftOf lives fronts × HoldsStore new (kept (fold start (all_left fronts)))
-lives_hold first start lives new held NoLife = ([], tt, subst (HoldsStore first) (sym (held_is_kept first start held)) held)
-lives_hold first start lives new held (OneMore before life old store to lived_before holds one) =
-    let so_far = lives_hold first start before (state_in old) held lived_before in
-    let is : store ≡ kept (fold start (all_left so_far.0)) = one_held (state_in old) store (kept (fold start (all_left so_far.0))) holds so_far.2 in
-    let left = lived old store life to holds one in
-    let again : kept (fold store left.front) ≡ kept (fold (fold start (all_left so_far.0)) left.front) =
-    kept_along store (fold start (all_left so_far.0)) left.front (ap kept is ∙ kept_twice (fold start (all_left so_far.0))) in (
-      so_far.0 ++ left.front ∷ [],
-      left_more before so_far.0 life left.front so_far.1 (record { safe = left.safe; within = left.within }),
-      subst (λ (s : Store). HoldsStore to s)
-          (again ∙ ap kept (sym (fold-append start (all_left so_far.0) left.front) ∙ ap (λ (l : List Command). fold start l) (sym (all_more so_far.0 left.front)))) left.holds,
-    )
+pub lives_hold : (first : State) (start : Store) (lives : List Life) (new : State) (base : Store) (pending : List Command) → HoldsAmid first start [] → Lives first start lives new base pending → HoldsFold start lives new base pending
+lives_hold first start lives new base pending holds NoLife = record {
+  amid = holds;
+  each = λ front begins. ([], tt, ap (λ (l : List Command). kept (fold start l)) (no_more front begins.0 begins.1));
+}
+lives_hold first start lives new base pending holds (OneMore before life old mid waits to next more lived_before one) =
+    let so_far = lives_hold first start before (state_in old) mid waits holds lived_before in
+    let on = lived old mid waits life to next more so_far.amid one in
+    record {
+      amid = on.amid;
+      each = λ front begins.
+          let of = on.each front begins in
+          let were = so_far.each of.0 of.2 in (
+            were.0 ++ of.1 ∷ [],
+            left_more before were.0 life of.1 were.1 of.3,
+            of.4 ∙ ap kept (fold-append mid of.0 of.1) ∙ kept_along (fold mid of.0) (fold start (all_left were.0)) of.1 were.2
+                ∙ ap kept (sym (fold-append start (all_left were.0) of.1)) ∙ ap (λ (l : List Command). kept (fold start l)) (sym (all_more were.0 of.1)),
+          );
+    }
+
+-- what opens behind them
+pub lives_open : (first : State) (start : Store) (lives : List Life) (old : Meaning) (base : Store) (pending : List Command) (core : Held) → HoldsAmid first start [] → Lives first start lives (state_in old) base pending → OpensAmid old core base pending
+    → (fronts : List (List Command)) × AreLeftOf lives fronts × OpensAs core (kept (fold start (all_left fronts)))
+lives_open first start lives old base pending core holds lived_before opened =
+    let left = (lives_hold first start lives (state_in old) base pending holds lived_before).each opened.front opened.within in
+    (left.0, left.1, subst (λ (s : Store). OpensAs core s) left.2 opened.opens)
+
+-- ---- nothing stands in the way
+
+ended_tidy : (core new : Held) (store : Store) (calls : List Call) (replies : List Reply) (opens : OpensAs core store) (run : Served core store opens calls replies new) (synced : List Command) (end : State) (next : Store) (waits : List Command)
+    → IsTidy (state_in core.disk) → Ended core new store calls replies opens run synced end next waits → IsTidy end
+ended_tidy core new store calls replies opens run synced end next waits tidy (CutInCalls added image left took leaves stands) = left_tidy added (state_in core.disk) image (each_tidy core.disk new.disk added run.kinds took) tidy leaves
+ended_tidy core new store calls replies opens run synced end next waits tidy (CutBehindSync i sync late image left took leaves stands) =
+    let at = run.synced i sync in
+    let between = tidy_between core.disk at.safe.moment new.disk at.safe.added late tidy run.kinds at.safe.passed took in
+    left_tidy late (state_in at.safe.moment) image between.1 between.0 leaves
+ended_tidy core new store calls replies opens run synced end next waits tidy (CutInClosing safe result disk added image left sync safely took leaves stands) =
+    let kinds = closing_kinds new run.state run.durable result disk run.on (safely run.state run.durable run.stands run.on) in
+    left_tidy added (state_in new.disk) image (each_tidy new.disk disk added kinds took) (tidy_on core.disk new.disk run.kinds tidy) leaves
+ended_tidy core new store calls replies opens run synced end next waits tidy (Dropped safe sync housed) = tidy_on core.disk new.disk run.kinds tidy
+ended_tidy core new store calls replies opens run synced end next waits tidy (Unclosed safe error disk sync safely) =
+    tidy_on new.disk disk (closing_kinds new run.state run.durable (Err error) disk run.on (safely run.state run.durable run.stands run.on)) (tidy_on core.disk new.disk run.kinds tidy)
+ended_tidy core new store calls replies opens run synced end next waits tidy (Closed disk owes safely) =
+    tidy_on new.disk disk (closing_kinds new run.state run.durable (Ok tt) disk run.on (safely run.state run.durable run.stands run.on)) (tidy_on core.disk new.disk run.kinds tidy)
+
+lived_tidy : (old : Meaning) (base : Store) (pending : List Command) (life : Life) (new : State) (next : Store) (waits : List Command) → IsTidy (state_in old) → Lived old base pending life new next waits → IsTidy new
+lived_tidy old base pending life new next waits tidy (Unopened after stays) = tidy_on old after stays.kinds tidy
+lived_tidy old base pending life new next waits tidy (CutInOpening after added image left moments kinds took leaves stands) = left_tidy added (state_in old) image (each_tidy old after added kinds took) tidy leaves
+lived_tidy old base pending life new next waits tidy (Opened core after calls replies synced end then more opened run ends) =
+    ended_tidy core after (kept (fold base opened.front)) calls replies opened.opens run synced end then more (tidy_on old core.disk opened.kinds tidy) ends
+
+pub lives_stay_tidy : (first : State) (start : Store) (lives : List Life) (new : State) (base : Store) (pending : List Command) → IsTidy first → Lives first start lives new base pending → IsTidy new
+lives_stay_tidy first start lives new base pending tidy NoLife = tidy
+lives_stay_tidy first start lives new base pending tidy (OneMore before life old mid waits to next more lived_before one) = lived_tidy old mid waits life to next more (lives_stay_tidy first start before (state_in old) mid waits tidy lived_before) one
 
 -- what calls owe whatever the disk is makes them a run of the machine
 pub owed_runs : (old new : Held) (calls : List Call) (replies : List Reply) → OwesAll old calls replies new → Runs old calls replies new

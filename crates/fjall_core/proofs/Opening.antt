@@ -7,7 +7,6 @@ use Rattle.fjall_base.specs.declared.error.Error.{Error}
 use Rattle.fjall_base.specs.declared.error.Error.TheVariants.{Io}
 use Rattle.fjall_journal.specs.Batches.{Written, shown}
 use Rattle.fjall_journal.specs.Writer.{Journal}
-use Rattle.fjall_recovery.specs.Tidy.{IsTidy}
 use Rattle.fjall_versions.specs.Replays.{journal_commands}
 use Rattle.fjall_versions.specs.Versions.{store_of as store_behind}
 use Rattle.fjall_versions.proofs.Keeping.{nothing_to_keep}
@@ -27,7 +26,7 @@ use Rattle.fjall_machine.proofs.Standing.{an_opening_stands}
 use Rattle.fjall_core.specs.Holding.{Held}
 use Rattle.fjall_core.specs.Durables.{Durable, Lies}
 use Rattle.fjall_core.specs.Openings.{IsAtEnd, IsDueTo, KeepsStore, Opens, OpensAs, OpensOn, parts_of}
-use Rattle.fjall_core.proofs.Leading.{lies_rest}
+use Rattle.fjall_core.proofs.Leading.{lies_rest, root_finished}
 
 -- what a core holds over a folder that was opened
 abbrev pub held_of : Meaning → Opened → Remembered → Held
@@ -95,12 +94,12 @@ module _ (disk : Meaning) (folder : Option Contents) (o : Opened) (is : repair.O
     buffer = ap (λ (w : Journal). w.buffer) is.journal;
   }
 
-  pub opens_as : (store : Store) → repair.IsLawful o → IsTidy (state_in disk) → store ≡ store_held folder → OpensAs (core_of disk o) store
-  opens_as store lawful tidy same = subst (λ (s : Store). OpensAs (core_of disk o) s) (sym same) (record {
+  pub opens_as : (store : Store) → repair.IsLawful o → store ≡ store_held folder → OpensAs (core_of disk o) store
+  opens_as store lawful same = subst (λ (s : Store). OpensAs (core_of disk o) s) (sym same) (record {
     next = number_held folder;
     state = opens disk o (store_held folder) (number_held folder) lawful (is.made ∙ is.store) is.same;
     journal = at_end;
-    base = record { same = refl; rests = lies_rest (core_of disk o) here lies; lies = λ well. lies; present = ap kept (sym held ∙ sym is.made); tidy = tidy };
+    base = record { same = refl; rests = lies_rest (core_of disk o) here lies; finished = root_finished (state_in disk) is.j is.root; lies = λ well. lies; present = ap kept (sym held ∙ sym is.made) };
   })
 
 -- whatever store the disk held is left

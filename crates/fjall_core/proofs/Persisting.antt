@@ -32,7 +32,7 @@ persisted_owes old new mode well hands = (well_due old mode well, hands)
 
 pub persisted_serves : (old new : Held) (mode : PersistMode) → old.memory.poisoned ≡ false → HandsOver old new → Took old.disk new.disk (persist_steps old.journal mode) → HandedOut old new mode true → Serves old (Persist mode) Done new
 persisted_serves old new mode well hands took out =
-    serves_by old new (Persist mode) Done (persisted_owes old new mode well hands) took out.kinds (λ s d stands on. served_on old new.disk d well out.served on) (λ s d stands on.
+    serves_by old new (Persist mode) Done (persisted_owes old new mode well hands) took out.kinds (λ s d stands on tidy. served_on old new.disk d well out.served on) (λ s d stands on.
     let led = persist_leads old new mode d well hands out on in
     (led.0, led.1, (led.2, led.3 s)))
 
@@ -49,6 +49,6 @@ unpersisted_owes old new mode error well is cause = absurd cause
 pub unpersisted_serves : (old new : Held) (mode : PersistMode) (error : Error) → old.memory.poisoned ≡ false → new.memory ≡ poisoned old.memory → IsFault old.disk.faults new.disk.faults error → PersistTook old.journal new.journal mode old.disk new.disk
     → HandedOut old new mode false → Serves old (Persist mode) (Refused error) new
 unpersisted_serves old new mode (Io kind) well is cause took out =
-    serves_by old new (Persist mode) (Refused (Io kind)) (unpersisted_owes old new mode (Io kind) well is cause) (part_of old new new.journal mode took) out.kinds (λ s d stands on. failed_on old new.disk d well cause out.served on) (λ s d stands on.
+    serves_by old new (Persist mode) (Refused (Io kind)) (unpersisted_owes old new mode (Io kind) well is cause) (part_of old new new.journal mode took) out.kinds (λ s d stands on tidy. failed_on old new.disk d well cause out.served on) (λ s d stands on.
     led_by new s d (Persist mode) (Refused (Io kind)) [] refl (no_sync s (Persist mode) (Io kind)) (unpersist_leads old new mode d well (record { memory_is = is; faults = cause }) out on))
 unpersisted_serves old new mode error well is cause took out = absurd cause

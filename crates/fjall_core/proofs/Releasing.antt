@@ -11,7 +11,7 @@ use Rattle.fjall_base.specs.declared.error.Error.{Error}
 use Rattle.fjall_base.specs.declared.error.Error.TheVariants.{Io, UnknownKeyspace}
 use Rattle.fjall_regions.specs.Regions.{Within}
 use Rattle.fjall_regions.proofs.Fitting.{holds_records}
-use Rattle.fjall_recovery.specs.Tidy.{StaysTidy}
+use Rattle.fjall_recovery.specs.Tidy.{IsTidy, StaysTidy}
 use Rattle.fjall_recovery.proofs.Tidying.{stays_start}
 use Rattle.fjall_keyspaces.specs.declared.living.LivingKeyspace.{LivingKeyspace}
 use Rattle.fjall_keyspaces.specs.Keyspaces.{AreKeyspaces, Keyspaces, keyspace_at}
@@ -27,7 +27,6 @@ use Rattle.fjall_machine.proofs.Standing as law
 use Rattle.fjall_core.specs.Holding.{Held}
 use Rattle.fjall_core.specs.Durables.{Durable}
 use Rattle.fjall_core.specs.Standing.{Counts, Owes, OwesRefusal, Serves, StandsFor, StandsOn, held_due, store_in}
-use Rattle.fjall_core.proofs.Stood.{tidy_disk}
 use Rattle.fjall_core.proofs.Writes.{held_on}
 use Rattle.fjall_core.specs.Turns.{FilesGone, Removes}
 use Rattle.fjall_core.proofs.Serving.{led_by, memory_owes, memory_serves, serves_by}
@@ -110,18 +109,18 @@ kept_on_disk A B true false (inr ill) b = absurd (true≢false (sym ill))
 pub counted_serves : (old new : Held) (id : ℕ) → held_due old (Release id) ≡ None → (is_last old.memory id ≡ false) ⊎ (old.memory.poisoned ≡ true) → Counts old (released id old.memory) new → new.disk ≡ old.disk → Serves old (Release id) Done new
 counted_serves old new id none why counts same =
     serves_by old new (Release id) Done (none, counts) (kept_on_disk (IsRemoved id (state_in new.disk) × Within (codes "keyspaces") old.disk new.disk) (new.disk ≡ old.disk) (is_last old.memory id) old.memory.poisoned why same)
-    (subst (λ disk. StaysTidy old.disk disk) (sym same) (stays_start old.disk)) (λ s d stands on. ap (λ (m : Meaning). m.misuses) same) (λ s d stands on.
+    (subst (λ disk. StaysTidy old.disk disk) (sym same) (stays_start old.disk)) (λ s d stands on tidy. ap (λ (m : Meaning). m.misuses) same) (λ s d stands on.
     led_by new s d (Release id) Done [] refl (λ sync. sync) (recount_leads old new d same (recounts_of old new s id stands counts) on))
 
 unused_by : (old : Held) (s : State) (id : ℕ) → StandsFor old s → held_due old (Release id) ≡ None → is_last old.memory id ≡ true → IsUnused id old.memory.keyspaces
 unused_by old s id stands none last = unused_of old.memory id stands.remembered.lawful.keyspaces (known old id none) (deleted old.memory id last)
 
 -- wherever the core stood, no call was one that no disk can serve
-release_served : (old new : Held) (id : ℕ) → FilesGone id old.disk new.disk → IsUnused id old.memory.keyspaces → old.memory.poisoned ≡ false → (d : Durable) → StandsOn old d → new.disk.misuses ≡ old.disk.misuses
-release_served old new id gone unused well d on =
+release_served : (old new : Held) (id : ℕ) → FilesGone id old.disk new.disk → IsUnused id old.memory.keyspaces → old.memory.poisoned ≡ false → (d : Durable) → StandsOn old d → IsTidy (state_in old.disk) → new.disk.misuses ≡ old.disk.misuses
+release_served old new id gone unused well d on tidy =
     let here : d ≡ held_on old d.base d.pending = λ i. record { meaning = on.same i; base = d.base; pending = d.pending } in
     let lies = (subst (λ (x : Durable). StandsOn old x) here on).lies well in
-    gone.served lies.records lies.tree lies.in_tree (holds_records (state_in old.disk) id unused.positive unused.fits (tidy_disk old d on))
+    gone.served lies.records lies.tree lies.in_tree (holds_records (state_in old.disk) id unused.positive unused.fits tidy)
 
 removed_of : (old new : Held) (s : State) (id : ℕ) → StandsFor old s → held_due old (Release id) ≡ None → is_last old.memory id ≡ true → FilesGone id old.disk new.disk → Removed old new
 removed_of old new s id stands none last gone =
@@ -138,7 +137,7 @@ pub removed_serves : (old new : Held) (id : ℕ) → held_due old (Release id) �
 removed_serves old new id none last well counts gone removed =
     serves_by old new (Release id) Done (none, counts)
     (gone_on_disk (IsRemoved id (state_in new.disk) × Within (codes "keyspaces") old.disk new.disk) (new.disk ≡ old.disk) (is_last old.memory id) old.memory.poisoned last well (removed, gone.within)) gone.kinds
-    (λ s d stands on. release_served old new id gone (unused_by old s id stands none last) well d on) (λ s d stands on.
+    (λ s d stands on tidy. release_served old new id gone (unused_by old s id stands none last) well d on tidy) (λ s d stands on.
     led_by new s d (Release id) Done [] refl (λ sync. sync) (removed_leads old new d well (recounts_of old new s id stands counts) (removed_of old new s id stands none last gone) on))
 
 -- a removal that was refused
@@ -151,7 +150,7 @@ pub unremoved_serves : (honest : Type 0) (old new : Held) (id : ℕ) (error : Er
     → Serves old (Release id) (Refused error) new
 unremoved_serves honest old new id (Io kind) none last well all true_ =
     serves_by old new (Release id) (Refused (Io kind)) (unremoved_owes honest old new id (Io kind) none all) (all.2 true_).within (all.2 true_).kinds
-    (λ s d stands on. record { rose = all.1; served = release_served old new id (all.2 true_) (unused_by old s id stands none last) well d on }) (λ s d stands on.
+    (λ s d stands on tidy. record { rose = all.1; served = release_served old new id (all.2 true_) (unused_by old s id stands none last) well d on tidy }) (λ s d stands on.
     led_by new s d (Release id) (Refused (Io kind)) [] refl (λ sync. sync)
     (unremoved_leads old new d well (record { memory_is = ap (λ (h : Held). h.memory) all.0; faults = all.1 }) (removed_of old new s id stands none last (all.2 true_)) on))
 unremoved_serves honest old new id error none last well all true_ =

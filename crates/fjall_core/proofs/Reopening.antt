@@ -1,28 +1,30 @@
 -- Disks of which a crash may leave different stores, and what is opened on them.
-use Rattle.std.proofs.Common.{◌≡◌, inl, inr, ℕ, ◌<◌, ◌^◌, false, List, [], map, Option, Some, None, refl, sym, ◌∙◌, ap, subst, arith}
+use Rattle.std.proofs.Common.{◌≡◌, inl, inr, ℕ, ◌<◌, ◌^◌, codes, List, [], map, Option, Some, None, refl, sym, ◌∙◌, ap, subst, arith}
 use Rattle.std.specs.Prelude.{Contains}
 use Rattle.fjall_base.specs.Store.{Command, Store, fold, kept}
 use Rattle.fjall_base.specs.Crash.{IsHoused}
+use Rattle.fjall_base.proofs.Wholes.{all_kept, all_kept_is_left}
 use Rattle.fjall_base.specs.Disk.{Image, IsFile, IsImage, LeavesOnly, Meaning, State, standing, state_in}
 use Rattle.fjall_journal.specs.Batches.{shown}
 use Rattle.fjall_keyspaces.specs.Keyspaces.{no_keyspaces}
 use Rattle.fjall_recovery.specs.Names.{journal_name}
-use Rattle.fjall_recovery.specs.Tidy.{IsTidy}
+use Rattle.fjall_recovery.specs.Marker.{marker_tells}
+use Rattle.fjall_recovery.specs.Tidy.{StaysTidy}
 use Rattle.fjall_versions.proofs.Keeping.{nothing_to_keep}
 use Rattle.fjall_opening.specs.Folders.{Contents, IsSound, IsUnfinished, StandsFor}
 use Rattle.fjall_opening.specs.Journals.{Journal, batches_in}
 use Rattle.fjall_opening.proofs.Alone.{one_contents}
 use Rattle.fjall_places.specs.Amid.{ComesBackUnfinished, HoldsAmid, StandsAmid}
 use Rattle.fjall_places.specs.Held.{Holds, IsFolder, store_held}
-use Rattle.fjall_places.proofs.Alike.{standing_amid}
-use Rattle.fjall_places.proofs.Amidst.{lies_amid, told_twice}
+use Rattle.fjall_places.proofs.Alike.{kept_alike, standing_amid}
+use Rattle.fjall_places.proofs.Amidst.{told_twice}
 use Rattle.fjall_places.proofs.Holding.{folder_stands}
 use Rattle.fjall_repair.specs.declared.opened.Opened.{Opened}
 use Rattle.fjall_repair.specs.Opened.{ComesBack}
 use Rattle.fjall_repair.specs.Opened as repair
 use Rattle.fjall_core.specs.Holding.{Held}
-use Rattle.fjall_core.specs.Durables.{Durable}
-use Rattle.fjall_core.specs.Openings.{HoldsPending, OpensAmid, OpensAs}
+use Rattle.fjall_core.specs.Durables.{Durable, IsFinished, StaysFinished}
+use Rattle.fjall_core.specs.Openings.{OpensAmid, OpensAs}
 use Rattle.fjall_core.specs.Standing.{HoldsStore, StandsOn}
 use Rattle.fjall_core.proofs.Opening.{core_of, opens_as}
 
@@ -57,41 +59,49 @@ comes_back state None is back begun = back
 comes_back state (Some c) is back begun = absurd (told_twice is.marker begun.marker)
 
 -- a disk that holds a store holds it with nothing pending
-pub holds_store_amid : (state : State) (store : Store) → HoldsStore state store → HoldsPending state store []
-holds_store_amid state store ((folder, holds, back, same), tidy) = (
-  record {
-    now = like (standing state) folder store holds.now same;
-    crash = λ image is. like image folder store (holds.crash image is) same;
-    journals = none_back state folder holds;
-    back = comes_back state folder holds.now back;
-  },
-  tidy,
-)
+pub holds_store_amid : (state : State) (store : Store) → HoldsStore state store → HoldsAmid state store []
+holds_store_amid state store (folder, holds, back, same) =
+    record {
+      now = like (standing state) folder store holds.now same;
+      crash = λ image is. like image folder store (holds.crash image is) same;
+      journals = none_back state folder holds;
+      back = comes_back state folder holds.now back;
+    }
 
 -- ---- the disk of a core
 
-pub a_core_holds_amid : (core : Held) (d : Durable) → StandsOn core d → core.memory.poisoned ≡ false → IsHoused (state_in d.meaning) → HoldsPending (state_in d.meaning) d.base d.pending
-a_core_holds_amid core d on well housed = let lies = on.lies well in (lies_amid (state_in d.meaning) lies.journals lies.writing.root d.base d.pending housed on.rests, on.tidy)
+-- what stands is finished where whatever a crash leaves is
+standing_finished : (state : State) → IsHoused state → StaysFinished state → IsFinished (standing state)
+standing_finished state housed finished =
+    let whole = finished (all_kept state) (all_kept_is_left state housed) in
+    record {
+      marker = ap marker_tells (kept_alike state (codes "version")).bytes ∙ whole.marker;
+      id = whole.id;
+      fits = whole.fits;
+      journal = (kept_alike state (journal_name whole.id)).file.0 whole.journal;
+    }
 
-pub a_finished_disk_holds_amid : (core : Held) (d : Durable) → StandsOn core d → IsHoused (state_in d.meaning) → (c : Contents) → IsSound (standing (state_in d.meaning)) c → (c.journals ≡ [] → ⊥) → HoldsPending (state_in d.meaning) d.base d.pending
-a_finished_disk_holds_amid core d on housed c sound some =
-    let s = state_in d.meaning in (
-      record {
-        now = standing_amid s d.base [] d.pending housed on.rests;
-        crash = on.rests;
-        journals = λ e other none. absurd (some (ap (λ (x : Contents). x.journals) (one_contents (standing s) c e sound other) ∙ none));
-        back = λ begun. absurd (told_twice sound.marker begun.marker);
-      },
-      on.tidy,
-    )
+-- a disk of finished folders holds, in the midst of work, what whatever a crash leaves of it stands for
+pub finished_amid : (state : State) (base : Store) (pending : List Command) → IsHoused state → StaysFinished state → ((image : Image) → IsImage state image → StandsAmid base [] pending image) → HoldsAmid state base pending
+finished_amid state base pending housed finished crash =
+    let stands = standing_finished state housed finished in
+    record {
+      now = standing_amid state base [] pending housed crash;
+      crash = crash;
+      journals = λ c sound none image is id small file. no_file c.journals stands.id none ((sound.journals.ids.each stands.id).1 (stands.fits, stands.journal));
+      back = λ begun. absurd (told_twice stands.marker begun.marker);
+    }
+
+pub a_core_holds_amid : (core : Held) (d : Durable) → StandsOn core d → IsHoused (state_in d.meaning) → HoldsAmid (state_in d.meaning) d.base d.pending
+a_core_holds_amid core d on housed = finished_amid (state_in d.meaning) d.base d.pending housed on.finished on.rests
 
 -- ---- what is opened
 
-pub opens_amid : (old new : Meaning) (o : Opened) (base : Store) (pending : List Command) → HoldsAmid (state_in old) base pending → IsTidy (state_in new) → ((folder : Option Contents) → IsFolder (standing (state_in old)) folder → repair.Opens (state_in new) folder o)
+pub opens_amid : (old new : Meaning) (o : Opened) (base : Store) (pending : List Command) → HoldsAmid (state_in old) base pending → StaysTidy old new → ((folder : Option Contents) → IsFolder (standing (state_in old)) folder → repair.Opens (state_in new) folder o)
     → LeavesOnly old new (StandsAmid base [] pending) → repair.IsLawful o → OpensAmid old (core_of new o) base pending
-opens_amid old new o base pending holds tidy opens run lawful =
+opens_amid old new o base pending holds kinds opens run lawful =
     let found = stood (standing (state_in old)) (kept (fold base holds.now.front)) holds.now.stands in
-    record { front = holds.now.front; within = holds.now.within; opens = opens_as new found.0 o (opens found.0 found.1) (kept (fold base holds.now.front)) lawful tidy found.2; any_moment = run }
+    record { front = holds.now.front; within = holds.now.within; opens = opens_as new found.0 o (opens found.0 found.1) (kept (fold base holds.now.front)) lawful found.2; any_moment = run; kinds = kinds }
   where
     stood : (image : Image) (store : Store) → StandsFor image store → (folder : Option Contents) × IsFolder image folder × (store ≡ store_held folder)
     stood image store (inl (c, sound, is)) = (Some c, sound, is)

@@ -61,7 +61,7 @@ retained_there : (core : Held) (m : Remembered) (id : ℕ) (result : Result Unit
 retained_there core m id (Ok _) none is same cause =
     let new : Held = record core { memory = m } in
     let new_is : new ≡ with_handle core id = ap (λ (x : Remembered). record core { memory = x }) is in
-    serves_by core new (Retain id) Done (none, new_is) refl (stays_start core.disk) (λ s d stands on. refl)
+    serves_by core new (Retain id) Done (none, new_is) refl (stays_start core.disk) (λ s d stands on tidy. refl)
     (λ s d stands on. led_by new s d (Retain id) Done [] refl (λ sync. sync) (recount_leads core new d refl (retained_counts core new id new_is) on))
 retained_there core m id (Err error) none is same cause =
     subst (λ (x : Remembered). Serves core (Retain id) (Refused error) (record core { memory = x })) (sym same) (either_serves core (Retain id) error tt cause)

@@ -16,7 +16,9 @@ use Rattle.fjall_places.specs.Places.{IsNeverFile, Journaling, LiesInRoot, texts
 use Rattle.fjall_places.proofs.Named.{journal_within, keyspaces_not_misnamed, root_cases}
 use Rattle.fjall_journaling.specs.Journaling.{IsWriting}
 use Rattle.fjall_journaling.proofs.Lying.{active_fits}
+use Rattle.fjall_core.specs.Durables.{StaysFinished}
 use Rattle.fjall_core.proofs.Dues.{bool_cases}
+use Rattle.fjall_core.proofs.Leading.{root_finished}
 
 -- what stands outside `keyspaces` is the same
 abbrev pub SameRoot : State → State → Type 0
@@ -71,6 +73,10 @@ apart q root = elim (bool_cases (is_under (codes "keyspaces") q)) [
 
 pub within_root : (old new : Meaning) → Within (codes "keyspaces") old new → SameRoot (state_in old) (state_in new)
 within_root old new run q root = within_state (codes "keyspaces") some_keyspaces old new run q (apart q root)
+
+-- what a crash leaves is a finished folder still
+pub within_finished : (old new : Meaning) (j : Journaling) → LiesInRoot (state_in old) j → Within (codes "keyspaces") old new → StaysFinished (state_in new)
+within_finished old new j lies run = root_finished (state_in new) j (root_along (state_in old) (state_in new) j (within_root old new run) lies)
 
 -- what a crash leaves of the root, beside what it leaves else
 pub leaves_beside : (old new : Meaning) (P : Image → Type 0) → Within (codes "keyspaces") old new → LeavesOnly old new P → LeavesOnly old new (λ image. P image × IsImageIn Survives is_of_root (state_in old) image)

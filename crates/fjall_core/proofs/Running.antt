@@ -59,6 +59,6 @@ ends old new s d calls replies on end =
       accepted = run_tries s end.state d end.durable calls replies end.tried end.run;
       any_moment = subst (λ h. LeavesOnly h new.disk (StandsAmid d.base [] (d.pending ++ end.tried))) on.same
           (subst (λ h. LeavesOnly d.meaning h (StandsAmid d.base [] (d.pending ++ end.tried))) end.on.same passes.leaves);
-      synced = λ i sync. subst (λ h. SafeAt s d calls replies i end.tried h) end.on.same (run_safe s end.state d end.durable calls replies end.tried i end.run sync);
+      synced = λ i sync. subst (λ h. SafeAt s d calls replies i end.tried end.durable h) end.on.same (run_safe s end.state d end.durable calls replies end.tried i end.run sync);
       kinds = subst (λ h. StaysTidy h new.disk) on.same (subst (λ h. StaysTidy d.meaning h) end.on.same (run_kinds s end.state d end.durable calls replies end.tried end.run));
     }

@@ -13,8 +13,8 @@ use Rattle.fjall_keyspaces.specs.declared.entry.MetaEntry.{MetaEntry}
 use Rattle.fjall_catalog.specs.declared.catalog.Catalog.{Catalog}
 use Rattle.fjall_catalog.specs.Catalog.{AreSafe}
 use Rattle.fjall_catalog.specs.Updates.{IsTableGone}
-use Rattle.fjall_recovery.specs.Tidy.{StaysTidy}
-use Rattle.fjall_recovery.proofs.Tidying.{stays_start, tidy_on}
+use Rattle.fjall_recovery.specs.Tidy.{IsTidy, StaysTidy}
+use Rattle.fjall_recovery.proofs.Tidying.{stays_start}
 use Rattle.fjall_machine.specs.declared.call.Call.{Call}
 use Rattle.fjall_machine.specs.declared.call.Reply.{Reply}
 use Rattle.fjall_machine.specs.declared.call.Reply.TheVariants.{Refused}
@@ -28,23 +28,22 @@ use Rattle.fjall_core.proofs.Amids.{passes_still}
 use Rattle.fjall_core.proofs.Dues.{is_fault, never_due, no_attempt, no_sync}
 use Rattle.fjall_core.proofs.Owing.{owes_step}
 use Rattle.fjall_core.proofs.Devices.{refusal_blames}
-use Rattle.fjall_core.proofs.Stood.{StoodOn, stands_tidy, stood}
 use Rattle.fjall_core.proofs.Writes.{Leads}
 
 -- the core stands on some disk now, to which such a call leads
 abbrev pub Led : Held → State → Durable → Call → Reply → Type 0
-Led new s d call reply = (e : Durable) × StoodOn new e × CallLeaves s d call reply e
+Led new s d call reply = (e : Durable) × StandsOn new e × CallLeaves s d call reply e
 
 -- what a call owes, what it did to the disk, and where it leads, is what it serves
-pub serves_by : (old new : Held) (call : Call) (reply : Reply) → Owes old call reply new → OnDisk old call reply new → StaysTidy old.disk new.disk → ((s : State) (d : Durable) → StandsFor old s → StandsOn old d → BlamesDevice reply old.disk new.disk) → ((s : State) (d : Durable) → StandsFor old s → StandsOn old d → Led new s d call reply) → Serves old call reply new
+pub serves_by : (old new : Held) (call : Call) (reply : Reply) → Owes old call reply new → OnDisk old call reply new → StaysTidy old.disk new.disk → ((s : State) (d : Durable) → StandsFor old s → StandsOn old d → IsTidy (state_in old.disk) → BlamesDevice reply old.disk new.disk) → ((s : State) (d : Durable) → StandsFor old s → StandsOn old d → Led new s d call reply) → Serves old call reply new
 serves_by old new call reply owes disk stays device led = record {
   disk = disk;
   crash = λ s d stands on.
       let stepped = owes_step old new call reply s owes stands in
       let way = led s d stands on in
-      let blamed = subst (λ (m : Meaning). BlamesDevice reply m way.0.meaning) (sym on.same) (subst (λ (m : Meaning). BlamesDevice reply old.disk m) (sym way.1.same) (device s d stands on)) in
+      let blames = subst (λ (m : Meaning). IsTidy (state_in m) → BlamesDevice reply m way.0.meaning) (sym on.same) (subst (λ (m : Meaning). IsTidy (state_in old.disk) → BlamesDevice reply old.disk m) (sym way.1.same) (device s d stands on)) in
       let kinds = subst (λ (m : Meaning). StaysTidy m way.0.meaning) (sym on.same) (subst (λ (m : Meaning). StaysTidy old.disk m) (sym way.1.same) stays) in
-      (stepped.0, way.0, stepped.1, stands_tidy new way.0 way.1 (tidy_on d.meaning way.0.meaning kinds on.tidy), stepped.2, (way.2.0, way.2.1, blamed, kinds));
+      (stepped.0, way.0, stepped.1, way.1, stepped.2, (way.2.0, way.2.1, blames, kinds));
 }
 
 -- a way that these commands lead, of a call that tried just them and was no sync
@@ -54,7 +53,7 @@ led_by new s d call reply tried is unsynced leads = (leads.0, leads.1, (subst (�
 -- nothing was done, and nothing tried
 pub still_led : (old new : Held) (s : State) (d : Durable) (call : Call) (reply : Reply) → attempt s call reply ≡ [] → (IsSync s call reply → ⊥) → new ≡ old → StandsOn old d → Led new s d call reply
 still_led old new s d call reply none unsynced same on =
-    led_by new s d call reply [] none unsynced (d, subst (λ core. StoodOn core d) (sym same) (stood old d on), passes_still d on.rests)
+    led_by new s d call reply [] none unsynced (d, subst (λ core. StandsOn core d) (sym same) on, passes_still d on.rests)
 
 -- ---- refusals
 
@@ -65,7 +64,7 @@ untouched core call error other = refl
 -- a refusal that is no fault and changes nothing
 refusal_serves : (core : Held) (call : Call) (error : Error) → is_io error ≡ false → Owes core call (Refused error) core → Serves core call (Refused error) core
 refusal_serves core call error other owes = serves_by core core call (Refused error) owes (untouched core call error other) (stays_start core.disk)
-    (λ s d stands on. refusal_blames error core.disk other)
+    (λ s d stands on tidy. refusal_blames error core.disk other)
     (λ s d stands on. still_led core core s d call (Refused error) (no_attempt s call error other) (no_sync s call error) refl on)
 
 pub due_owes : (core : Held) (call : Call) (error : Error) → held_due core call ≡ Some error → Owes core call (Refused error) core
@@ -109,12 +108,12 @@ either_serves core call error takes is = by_due (held_due core call) refl is
 -- an answer that changes nothing, of a call that asks for no command
 pub answer_serves : (core : Held) (call : Call) (reply : Reply) → Owes core call reply core → OnDisk core call reply core → BlamesDevice reply core.disk core.disk → ((s : State) → attempt s call reply ≡ []) → ((s : State) → IsSync s call reply → ⊥) → Serves core call reply core
 answer_serves core call reply owes disk blames none unsynced =
-    serves_by core core call reply owes disk (stays_start core.disk) (λ s d stands on. blames) (λ s d stands on. still_led core core s d call reply (none s) (unsynced s) refl on)
+    serves_by core core call reply owes disk (stays_start core.disk) (λ s d stands on tidy. blames) (λ s d stands on. still_led core core s d call reply (none s) (unsynced s) refl on)
 
 -- ---- tree 0's table
 
 -- A core that no fault poisoned has the table that its catalog names on the disk that it stands on.
-table_there : (core : Held) (d : Durable) → StoodOn core d → core.memory.poisoned ≡ false → HasTable (state_in core.disk) core.catalog
+table_there : (core : Held) (d : Durable) → StandsOn core d → core.memory.poisoned ≡ false → HasTable (state_in core.disk) core.catalog
 table_there core d on well =
     let lies = on.lies well in
     subst (λ (m : Meaning). HasTable (state_in m) core.catalog) on.same (subst (λ (c : Catalog). HasTable (state_in d.meaning) c) lies.last (of (state_in d.meaning) lies.tree.last.table _ lies.in_tree.rests.catalog.entries))

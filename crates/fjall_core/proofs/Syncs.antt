@@ -24,9 +24,8 @@ use Rattle.fjall_core.specs.Turns as turns
 use Rattle.fjall_core.specs.Crashes.{IsSync}
 use Rattle.fjall_core.specs.Standing.{HandsOver, Poisons, StandsOn}
 use Rattle.fjall_core.specs.Standing as standing
-use Rattle.fjall_core.proofs.Stood.{StoodOn}
 use Rattle.fjall_core.proofs.Along.{tree_along}
-use Rattle.fjall_core.proofs.Leading.{kept_with, root_amid}
+use Rattle.fjall_core.proofs.Leading.{kept_with, leaves_finished, root_amid}
 use Rattle.fjall_core.proofs.Writes.{Leads, Settles, held_on, leads_on, settles_on, present_of, stands_ill, stands_well}
 
 -- what a persist did to the disk and to the journal's writer of a core
@@ -116,7 +115,7 @@ buffer_leads old new d well hands out = leads_on old new d [] (λ base pending o
 
 -- a persist that was done, and where it synced, nothing is pending
 pub persist_leads : (old new : Held) (mode : PersistMode) (d : Durable) → old.memory.poisoned ≡ false → HandsOver old new → HandedOut old new mode true → StandsOn old d
-    → (e : Durable) × StoodOn new e × Passes d [] e × ((s : Machine.State) → IsSync s (Persist mode) Done → e.pending ≡ [])
+    → (e : Durable) × StandsOn new e × Passes d [] e × ((s : Machine.State) → IsSync s (Persist mode) Done → e.pending ≡ [])
 persist_leads old new Buffer d well hands out stands =
     let led = buffer_leads old new d well hands out stands in
     (led.0, led.1, led.2, λ s none. absurd none)
@@ -130,8 +129,10 @@ persist_leads old new SyncAll d well hands out stands =
 -- a persist that a fault refused
 pub unpersist_leads : (old new : Held) (mode : PersistMode) (d : Durable) → old.memory.poisoned ≡ false → Poisons old new → HandedOut old new mode false → StandsOn old d → Leads new d []
 unpersist_leads old new mode d well fault out = leads_on old new d [] (λ base pending on.
-    let leaves = hand_leaves old new mode false base pending (on.lies well) out in
+    let lies = on.lies well in
+    let leaves = hand_leaves old new mode false base pending lies out in
+    let finished = leaves_finished old.disk new.disk (state_in old.disk) lies.journals _ (out.leaves lies.journals lies.writing) in
     let rests : Rests (held_on new base (pending ++ [])) = at_end old.disk new.disk _ leaves in
     let was = present_of old (held_on old base pending) false well on ∙ ap (λ (m : Remembered). kept (store_of m.keyspaces m.versions)) (sym fault.memory_is) in
-    let still = stands_ill new base (pending ++ []) (ap (λ (m : Remembered). m.poisoned) fault.memory_is) rests (inl (ap (λ (l : List Command). kept (fold base l)) (append-nil pending) ∙ was)) in
+    let still = stands_ill new base (pending ++ []) (ap (λ (m : Remembered). m.poisoned) fault.memory_is) rests finished (inl (ap (λ (l : List Command). kept (fold base l)) (append-nil pending) ∙ was)) in
     (held_on new base (pending ++ []), still, record { leaves = leaves; safe = []; base = refl; rest = refl; rests = rests }))

@@ -18,8 +18,8 @@ use Rattle.fjall_core.specs.Standing.{Poisons, StandsOn, store_in}
 use Rattle.fjall_core.proofs.Altering.{Changed, change_leaves, changed_settles, ill_leads}
 use Rattle.fjall_core.proofs.Amids.{amid_least, amid_more, amid_shift, passes_on, passes_still}
 use Rattle.fjall_core.proofs.Changing.{removal_leaves}
-use Rattle.fjall_core.proofs.Leading.{lies_rest}
-use Rattle.fjall_core.proofs.Rooted.{within_root, writing_along}
+use Rattle.fjall_core.proofs.Leading.{leaves_finished, lies_rest}
+use Rattle.fjall_core.proofs.Rooted.{within_finished, within_root, writing_along}
 use Rattle.fjall_core.proofs.Syncs.{HandedOut, hand_leaves, StaysSame, sync_empty, sync_lies, synced_passes}
 use Rattle.fjall_core.proofs.Writes.{Leads, Settles, held_on, leads_on, present_of, settles_on, stands_ill, stands_well}
 
@@ -48,6 +48,7 @@ asked_more old new base pending command leaves =
 pub unsynced_leads : (old new : Held) (d : Durable) (command : Command) → old.memory.poisoned ≡ false → Poisons old new → HandedOut old new SyncAll false → StandsOn old d → Leads new d (command ∷ [])
 unsynced_leads old new d command well fault out =
     ill_leads old new d command well fault (λ base pending lies. asked_more old new base pending command (hand_leaves old new SyncAll false base pending lies out))
+    (λ base pending lies. leaves_finished old.disk new.disk (state_in old.disk) lies.journals _ (out.leaves lies.journals lies.writing))
 
 -- a change that failed
 pub unaltered_leads : (old mid new : Held) (d : Durable) (command : Command) → old.memory.poisoned ≡ false → StaysSame old mid → HandedOut old mid SyncAll true → ChangesTo mid new command false → Poisons old new → StandsOn old d
@@ -60,6 +61,9 @@ unaltered_leads old mid new d command well same out changes fault = ill_leads ol
     let second = change_leaves (fold base pending) mid.disk new.disk after.journals after.tree c.next command after.made c.after none after.writing.root c.run c.leaves in
     runs_on old.disk mid.disk new.disk (StandsAmid base [] (pending ++ command ∷ [])) first
     (weaken mid.disk new.disk _ _ second (λ image s. amid_least base _ _ image (amid_shift base (fold base pending) pending [] (command ∷ []) image refl s))))
+    (λ base pending lies.
+    let after = sync_lies old mid base pending same lies out in
+    within_finished mid.disk new.disk after.journals after.writing.root (changes (fold base pending) after (sync_empty old mid base pending same lies out)).run)
 
 -- ---- handles
 
@@ -99,6 +103,7 @@ recount_leads old new d same c stands = (
   record {
     same = stands.same ∙ sym same;
     rests = stands.rests;
+    finished = stands.finished;
     lies = λ well.
         let lies = stands.lies (sym c.poisoned ∙ well) in
         record {
@@ -143,5 +148,5 @@ unremoved_leads old new d well fault gone = leads_on old new d [] (λ base pendi
     let leaves = removal_leaves old new base pending lies gone.within (gone.leaves base pending lies) in
     let rests : Rests (held_on new base pending) = at_end old.disk new.disk _ leaves in
     let was = present_of old (held_on old base pending) false well on ∙ ap (λ (m : Remembered). kept (store_of m.keyspaces m.versions)) (sym fault.memory_is) in
-    let still = stands_ill new base pending (ap (λ (m : Remembered). m.poisoned) fault.memory_is) rests (inl was) in
+    let still = stands_ill new base pending (ap (λ (m : Remembered). m.poisoned) fault.memory_is) rests (within_finished old.disk new.disk lies.journals lies.writing.root gone.within) (inl was) in
     (held_on new base pending, still, record { leaves = weaken old.disk new.disk _ _ leaves (λ image s. amid_more base [] pending [] image s); safe = []; base = refl; rest = sym (append-nil pending); rests = rests }))

@@ -26,15 +26,14 @@ use Rattle.fjall_machine.specs.Ops.{Op, Put, Remove, RemoveWeak, bytes_in, kind_
 use Rattle.fjall_machine.specs.Machine.{is_living, write_of}
 use Rattle.fjall_machine.specs.Remembered.{IsLawful, Remembered, version_of, with_version}
 use Rattle.fjall_core.specs.Holding.{Held}
-use Rattle.fjall_core.specs.Durables.{Durable, Lies, MakesPresent, Passes, Rests, StandsAmid}
+use Rattle.fjall_core.specs.Durables.{Durable, Lies, MakesPresent, Passes, Rests, StandsAmid, StaysFinished}
 use Rattle.fjall_core.specs.Standing.{Grows, Poisons, StandsOn, store_in}
-use Rattle.fjall_core.proofs.Stood.{StoodOn}
 use Rattle.fjall_core.proofs.Along.{SameKeyspaces, tree_along}
-use Rattle.fjall_core.proofs.Leading.{commands_more, lies_rest, root_amid}
+use Rattle.fjall_core.proofs.Leading.{commands_more, leaves_finished, lies_rest, root_amid, root_finished}
 
 -- the core stands on some disk now, to which these commands lead
 abbrev pub Leads : Held → Durable → List Command → Type 0
-Leads new d tried = (e : Durable) × StoodOn new e × Passes d tried e
+Leads new d tried = (e : Durable) × StandsOn new e × Passes d tried e
 
 -- a core's disk with this base and this pending
 abbrev pub held_on : Held → Store → List Command → Durable
@@ -48,7 +47,7 @@ leads_on old new d tried leads stands =
 
 -- the same, and nothing is pending any more
 abbrev pub Settles : Held → Durable → List Command → Type 0
-Settles new d tried = (e : Durable) × StoodOn new e × Passes d tried e × (e.pending ≡ [])
+Settles new d tried = (e : Durable) × StandsOn new e × Passes d tried e × (e.pending ≡ [])
 
 pub settles_on : (old new : Held) (d : Durable) (tried : List Command) → ((base : Store) (pending : List Command) → StandsOn old (held_on old base pending) → Settles new (held_on old base pending) tried) → StandsOn old d → Settles new d tried
 settles_on old new d tried settles stands =
@@ -59,19 +58,21 @@ pub present_of : (core : Held) (d : Durable) (flag : Bool) → core.memory.poiso
 present_of core d flag is stands = subst (λ b. MakesPresent b d (store_in core)) is stands.present
 
 -- a core that no fault has poisoned stands where base and pending lie
-pub stands_well : (core : Held) (base : Store) (pending : List Command) → core.memory.poisoned ≡ false → Lies core (held_on core base pending) → kept (fold base pending) ≡ kept (store_in core) → StoodOn core (held_on core base pending)
+pub stands_well : (core : Held) (base : Store) (pending : List Command) → core.memory.poisoned ≡ false → Lies core (held_on core base pending) → kept (fold base pending) ≡ kept (store_in core) → StandsOn core (held_on core base pending)
 stands_well core base pending well lies present = record {
   same = refl;
   rests = lies_rest core (held_on core base pending) lies;
+  finished = root_finished (state_in core.disk) lies.journals lies.writing.root;
   lies = λ _. lies;
   present = subst (λ b. MakesPresent b (held_on core base pending) (store_in core)) (sym well) present;
 }
 
 -- and one that a fault has poisoned where it rests
-pub stands_ill : (core : Held) (base : Store) (pending : List Command) → core.memory.poisoned ≡ true → Rests (held_on core base pending) → MakesPresent true (held_on core base pending) (store_in core) → StoodOn core (held_on core base pending)
-stands_ill core base pending ill rests present = record {
+pub stands_ill : (core : Held) (base : Store) (pending : List Command) → core.memory.poisoned ≡ true → Rests (held_on core base pending) → StaysFinished (state_in core.disk) → MakesPresent true (held_on core base pending) (store_in core) → StandsOn core (held_on core base pending)
+stands_ill core base pending ill rests finished present = record {
   same = refl;
   rests = rests;
+  finished = finished;
   lies = λ well. absurd (true≢false (sym ill ∙ well));
   present = subst (λ b. MakesPresent b (held_on core base pending) (store_in core)) (sym ill) present;
 }
@@ -194,7 +195,8 @@ torn_leads old new id key o goes d admitted fault out = leads_on old new d (writ
     let command = write_of id key (value_in o) in
     let lies = stands.lies admitted.well in
     let leaves = write_leaves old new base pending id key o goes false admitted lies out in
+    let finished = leaves_finished old.disk new.disk (state_in old.disk) lies.journals _ (out.leaves lies.journals lies.writing (it_follows old base pending o admitted.room lies)) in
     let rests : Rests (held_on new base (pending ++ command ∷ [])) = at_end old.disk new.disk _ leaves in
     let was = present_of old (held_on old base pending) false admitted.well stands ∙ ap (λ (m : Remembered). kept (store_of m.keyspaces m.versions)) (sym fault.memory_is) in
-    let on = stands_ill new base (pending ++ command ∷ []) (ap (λ (m : Remembered). m.poisoned) fault.memory_is) rests (inr (pending, command, refl, was)) in
+    let on = stands_ill new base (pending ++ command ∷ []) (ap (λ (m : Remembered). m.poisoned) fault.memory_is) rests finished (inr (pending, command, refl, was)) in
     (held_on new base (pending ++ command ∷ []), on, write_passes old new base pending (command ∷ []) leaves rests))

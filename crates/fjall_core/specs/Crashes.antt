@@ -10,12 +10,12 @@ use Rattle.fjall_machine.specs.declared.call.Call.{Call}
 use Rattle.fjall_machine.specs.declared.call.Call.TheVariants.{DeleteKeyspace, GetAt, Insert, JournalDiskSpace, Keyspace, KeyspaceCount, KeyspaceExists, ListKeyspaceNames, PageAt, Persist, Release, Remove, RemoveWeak, Retain, Seqno, VisibleSeqno}
 use Rattle.fjall_machine.specs.declared.call.Reply.{Reply}
 use Rattle.fjall_machine.specs.declared.call.Reply.TheVariants.{Done, Flag, Names, Number, Pairs, Refused, Value}
-use Rattle.fjall_recovery.specs.Tidy.{StaysTidy}
+use Rattle.fjall_recovery.specs.Tidy.{IsTidy, StaysTidy}
 use Rattle.fjall_versions.specs.Replays.{option_pairs}
 use Rattle.fjall_opening.specs.Folders.{StandsFor}
 use Rattle.fjall_machine.specs.Histories.{extended}
 use Rattle.fjall_machine.specs.Machine.{State, Step, has_name, is_living, present, write_of}
-use Rattle.fjall_core.specs.Durables.{Durable, StandsAmid, Passes}
+use Rattle.fjall_core.specs.Durables.{Durable, IsBeginning, StandsAmid, Passes}
 
 -- the command that a call asks for in that state
 abbrev pub asked : State → Call → List Command
@@ -84,10 +84,11 @@ BlamesDevice reply old new = new.misuses ≡ old.misuses
 abbrev pub CallLeaves : State → Durable → Call → Reply → Durable → Type 0
 CallLeaves s old call reply new = Passes old (attempt s call reply) new × (IsSync s call reply → new.pending ≡ [])
 
--- The same; the device is to blame for `Io`, and the call put at each name only what may stand there.
+-- The same; where nothing stands in the way the device is to blame for `Io`, and the call put at each name only what may
+-- stand there.
 abbrev pub CallPasses : State → Durable → Call → Reply → Durable → Type 0
 CallPasses s old call reply new =
-    Passes old (attempt s call reply) new × (IsSync s call reply → new.pending ≡ []) × BlamesDevice reply old.meaning new.meaning × StaysTidy old.meaning new.meaning
+    Passes old (attempt s call reply) new × (IsSync s call reply → new.pending ≡ []) × (IsTidy (state_in old.meaning) → BlamesDevice reply old.meaning new.meaning) × StaysTidy old.meaning new.meaning
 
 -- These replies to these calls, one step after another, on a disk that goes through what such steps leave; the commands
 -- tried in order.
@@ -97,6 +98,11 @@ RunOn s d (call ∷ calls) (reply ∷ replies) tried t e =
     (mid : State) × (on : Durable) × (rest : List Command)
     × Step s call reply mid × CallPasses s d call reply on × (tried ≡ attempt s call reply ++ rest) × RunOn mid on calls replies rest t e
 RunOn s d calls replies tried t e = ⊥
+
+-- each `Io` of such a run was the device's failing
+abbrev pub BlamesEach : (s : State) (d : Durable) (calls : List Call) (replies : List Reply) (tried : List Command) (t : State) (e : Durable) → RunOn s d calls replies tried t e → Type 0
+BlamesEach s d (call ∷ calls) (reply ∷ replies) tried t e (mid, on, rest, step, passes, is, run) = BlamesDevice reply d.meaning on.meaning × BlamesEach mid on calls replies rest t e run
+BlamesEach s d calls replies tried t e run = Unit {0}
 
 abbrev pub at_most_one : Option Command → List Command
 at_most_one None = []
@@ -124,10 +130,18 @@ pub record SafeSince (old : Durable) (before all : List Command) (new : Meaning)
   pub exactly : (image : Image) → IsImage (state_in moment) image → StandsFor image (kept (fold old.base (old.pending ++ before)))
   pub since : LeavesOnly moment new (StandsAmid old.base (old.pending ++ before) (old.pending ++ all))
 
--- The sync at that place is such a moment: what the run tried up to it stays.
-pub record SafeAt (s : State) (d : Durable) (calls : List Call) (replies : List Reply) (i : ℕ) (tried : List Command) (new : Meaning) : Type 0 where
+-- Of all that was tried these commands are in the new base, whatever else is; the rest is pending.
+pub record Settled (old : Durable) (before all : List Command) (new : Durable) : Type 0 where
+  pub safe : List Command
+  pub has : IsBeginning (old.pending ++ before) safe
+  pub base : kept new.base ≡ kept (fold old.base safe)
+  pub rest : safe ++ new.pending ≡ old.pending ++ all
+
+-- The sync at that place is such a moment: what the run tried up to it stays, and is in the base at the end.
+pub record SafeAt (s : State) (d : Durable) (calls : List Call) (replies : List Reply) (i : ℕ) (tried : List Command) (e : Durable) (new : Meaning) : Type 0 where
   pub before : List Command
   pub mid : State
   pub on : Durable
   pub so_far : RunOn s d (take (suc i) calls) (take (suc i) replies) before mid on
   pub safe : SafeSince d before tried new
+  pub settled : Settled d before tried e

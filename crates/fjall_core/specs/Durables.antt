@@ -1,11 +1,14 @@
 -- What a crash leaves of the engine's commands.
-use Rattle.std.specs.Prelude.{◌≡◌, ◌⊎◌, Bool, true, false, List, [], ◌∷◌, ◌++◌, map}
+use Rattle.std.specs.Prelude.{◌≡◌, ◌⊎◌, ℕ, ◌<◌, ◌^◌, Bool, true, false, List, [], ◌∷◌, ◌++◌, map, Ok}
 use Rattle.fjall_base.specs.Store.{Store, Command, fold, kept}
-use Rattle.fjall_base.specs.Disk.{Image, IsImage, Meaning, LeavesOnly, state_in}
+use Rattle.fjall_base.specs.Disk.{Image, IsFile, IsImage, Meaning, LeavesOnly, State, state_in}
 use Rattle.fjall_journal.specs.Batches.{shown}
 use Rattle.fjall_tree.specs.Records.{Fields}
+use Rattle.fjall_recovery.specs.declared.marker.Marker.TheVariants.{Whole}
+use Rattle.fjall_recovery.specs.Marker.{marker_tells}
+use Rattle.fjall_recovery.specs.Names.{journal_name}
 use Rattle.fjall_versions.specs.Replays.{journal_commands}
-use Rattle.fjall_opening.specs.Folders.{number_of, store_of}
+use Rattle.fjall_opening.specs.Folders.{marker_bytes, number_of, store_of}
 pub use Rattle.fjall_places.specs.Amid.{IsBeginning, StandsAmid}
 use Rattle.fjall_places.specs.Halves.{Tree}
 use Rattle.fjall_places.specs.Places.{Journaling, LiesInTree, contents_with}
@@ -21,6 +24,17 @@ pub record Durable : Type 0 where
 -- a crash now leaves the base with a beginning of what is pending
 abbrev pub Rests : Durable → Type 0
 Rests d = (image : Image) → IsImage (state_in d.meaning) image → StandsAmid d.base [] d.pending image
+
+-- an image of a folder whose making was finished, and some journal's file stands in it
+pub record IsFinished (image : Image) : Type 0 where
+  pub marker : marker_tells (marker_bytes image) ≡ Ok Whole
+  pub id : ℕ
+  pub fits : id < 2 ^ 64
+  pub journal : IsFile (image (journal_name id))
+
+-- a crash now leaves such a folder
+abbrev pub StaysFinished : State → Type 0
+StaysFinished state = (image : Image) → IsImage state image → IsFinished image
 
 -- From old to new, while these commands were tried: each crash since old leaves the base with a beginning of what was
 -- pending and what was tried, and some beginning of those is in the new base.

@@ -4,7 +4,7 @@ use Rattle.fjall_base.specs.Store.{Store, Command, fold, kept}
 use Rattle.fjall_base.specs.Disk.{Image, LeavesOnly, Meaning, State, Took, standing, state_in}
 use Rattle.fjall_base.specs.declared.error.Error.{Error}
 use Rattle.fjall_base.specs.declared.error.Error.TheVariants.{Io}
-use Rattle.fjall_recovery.specs.Tidy.{IsTidy}
+use Rattle.fjall_recovery.specs.Tidy.{StaysTidy}
 use Rattle.fjall_regions.specs.Regions.{IsSafe}
 use Rattle.fjall_journal.specs.Writer.{Journal}
 use Rattle.fjall_opening.specs.Folders as folders
@@ -15,7 +15,7 @@ use Rattle.fjall_places.specs.Held.{IsFolder, number_held, store_held}
 use Rattle.fjall_repair.specs.Opened.{StandsForSome}
 use Rattle.fjall_machine.specs.Machine.{Parts, opened_state}
 use Rattle.fjall_core.specs.Holding.{Held}
-use Rattle.fjall_core.specs.Standing.{HoldsFolderOf, StandsFor, StandsOn}
+use Rattle.fjall_core.specs.Standing.{HoldsStore, StandsFor, StandsOn}
 
 -- the parts that a core's counts speak of
 abbrev pub parts_of : Held → Parts
@@ -35,9 +35,9 @@ abbrev pub IsDueTo : Meaning → Meaning → Error → Type 0
 IsDueTo old new (Io kind) = Took old new [] ⊎ StandsForSome (standing (state_in old))
 IsDueTo old new error = IsDue (FolderRefuses (standing (state_in old))) error × Took old new []
 
--- whatever store the disk held a folder of, a crash at each moment from old to new leaves that store
+-- whatever store the disk held, a crash at each moment from old to new leaves that store
 abbrev pub KeepsStore : Meaning → Meaning → Type 0
-KeepsStore old new = (store : Store) → HoldsFolderOf (state_in old) store → LeavesOnly old new (λ image. folders.StandsFor image store)
+KeepsStore old new = (store : Store) → HoldsStore (state_in old) store → LeavesOnly old new (λ image. folders.StandsFor image store)
 
 -- The writer goes on at the end of its file, all of which is synced, and its length is the file's; nothing waits.
 pub record IsAtEnd (state : State) (writer : Journal) : Type 0 where
@@ -53,20 +53,18 @@ pub record OpensAs (core : Held) (store : Store) : Type 0 where
   pub journal : IsAtEnd (state_in core.disk) core.journal
   pub base : StandsOn core (record { meaning = core.disk; base = store; pending = [] })
 
--- The disk holds the base with a beginning of the pending commands, whatever a crash leaves of it, and nothing stands in the
--- way of what an engine makes and removes.
-abbrev pub HoldsPending : State → Store → List Command → Type 0
-HoldsPending state base pending = HoldsAmid state base pending × IsTidy state
-
 -- A core that was opened on a disk of which a crash might leave different stores: it stands for what stood there, the base
--- with a beginning of the pending commands, and so did whatever a crash during the opening left.
+-- with a beginning of the pending commands, and so did whatever a crash during the opening left. Each step put at a name
+-- only what may stand there.
 pub record OpensAmid (old : Meaning) (core : Held) (base : Store) (pending : List Command) : Type 0 where
   pub front : List Command
   pub within : IsBeginning front pending
   pub opens : OpensAs core (kept (fold base front))
   pub any_moment : LeavesOnly old core.disk (StandsAmid base [] pending)
+  pub kinds : StaysTidy old core.disk
 
 -- An opening of such a disk that was refused: at each moment of it a crash left the same, and the disk holds the same.
 pub record StaysAmid (old new : Meaning) (base : Store) (pending : List Command) : Type 0 where
-  pub holds : HoldsPending (state_in new) base pending
+  pub holds : HoldsAmid (state_in new) base pending
   pub any_moment : LeavesOnly old new (StandsAmid base [] pending)
+  pub kinds : StaysTidy old new

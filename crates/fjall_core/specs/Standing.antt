@@ -10,7 +10,8 @@ use Rattle.fjall_base.specs.Errors.{Rose}
 use Rattle.fjall_base.specs.declared.error.Error.{Error}
 use Rattle.fjall_base.specs.declared.error.Error.TheVariants.{Io, OutOfMemory, Poisoned, ValueTooLong}
 use Rattle.fjall_regions.specs.Regions.{IsSafe, Within}
-use Rattle.fjall_recovery.specs.Tidy.{IsTidy, StaysTidy}
+use Rattle.fjall_recovery.specs.Tidy.{StaysTidy}
+use Rattle.fjall_places.specs.Amid.{HoldsAmid}
 use Rattle.fjall_journal.specs.declared.persist_mode.PersistMode.TheVariants.{SyncAll}
 use Rattle.fjall_journal.specs.Writer.{after_command, command_steps, goes_out, persist_steps, written_out}
 use Rattle.fjall_recovery.specs.Names.{table_name}
@@ -32,7 +33,7 @@ use Rattle.fjall_machine.specs.Ops as op
 use Rattle.fjall_machine.specs.Machine.{State, Step, Run, TakesMemory, ChangesDisk, TooLong, present, due_in, has_name, is_living}
 use Rattle.fjall_machine.specs.Remembered.{IsLawful, Remembered, facts_of, is_last, version_of, with_version, with_creation, with_deletion, retained, released, poisoned}
 use Rattle.fjall_machine.specs.Remembered as memory
-use Rattle.fjall_core.specs.Durables.{Durable, StandsAmid, Passes, Rests, Lies, MakesPresent}
+use Rattle.fjall_core.specs.Durables.{Durable, StandsAmid, Passes, Rests, Lies, MakesPresent, StaysFinished}
 use Rattle.fjall_core.specs.Crashes.{BlamesDevice, CallPasses, RunOn, Tried, IsSyncAt, SafeAt}
 use Rattle.fjall_core.specs.Holding.{Held, by_hand}
 
@@ -47,14 +48,13 @@ pub record StandsFor (core : Held) (s : State) : Type 0 where
   pub buffer : s.parts.buffer ≡ length core.journal.buffer
 
 -- The core stands on this disk, with this base and this pending: whatever a crash leaves is the base with a beginning of
--- what is pending. While no fault has poisoned it, both lie on the disk as it knows. Nothing stands in the way of what it
--- makes and removes.
+-- what is pending, in a folder whose making was finished. While no fault has poisoned it, both lie on the disk as it knows.
 pub record StandsOn (core : Held) (d : Durable) : Type 0 where
   pub same : d.meaning ≡ core.disk
   pub rests : Rests d
+  pub finished : StaysFinished (state_in d.meaning)
   pub lies : core.memory.poisoned ≡ false → Lies core d
   pub present : MakesPresent core.memory.poisoned d (store_in core)
-  pub tidy : IsTidy (state_in d.meaning)
 
 -- ---- what calls owe, whatever the disk is
 
@@ -269,7 +269,7 @@ pub record RunsOn (old : Held) (calls : List Call) (replies : List Reply) (new :
   pub run : RunOn s d calls replies tried state durable
   pub accepted : Tried s tried state
   pub any_moment : LeavesOnly old.disk new.disk (StandsAmid d.base [] (d.pending ++ tried))
-  pub synced : (i : ℕ) → IsSyncAt s d calls replies tried state durable run i → SafeAt s d calls replies i tried new.disk
+  pub synced : (i : ℕ) → IsSyncAt s d calls replies tried state durable run i → SafeAt s d calls replies i tried durable new.disk
   pub kinds : StaysTidy old.disk new.disk
 
 -- the same from whatever state, base and pending the core stood for and on
@@ -280,12 +280,8 @@ RunsSafely old calls replies new = (s : State) (d : Durable) → StandsFor old s
 
 -- The disk holds a folder of this store, whatever a crash leaves of it; where that folder's making was cut short, so is
 -- whatever may come back in a folder that is made anew.
-abbrev pub HoldsFolderOf : disk.State → Store → Type 0
-HoldsFolderOf state store = (folder : Option Contents) × Holds state folder × ComesBack state folder × (store ≡ store_held folder)
-
--- the same, and nothing stands in the way of what an engine makes and removes
 abbrev pub HoldsStore : disk.State → Store → Type 0
-HoldsStore state store = HoldsFolderOf state store × IsTidy state
+HoldsStore state store = (folder : Option Contents) × Holds state folder × ComesBack state folder × (store ≡ store_held folder)
 
 -- What closing owes whatever the disk is: the cause of each refusal; a poisoned core leaves the disk alone.
 abbrev pub OwesClosing : Held → Result Unit Error → Meaning → Type 0
@@ -300,12 +296,14 @@ ClosesDisk old (Ok _) disk = Took old.disk disk (persist_steps old.journal SyncA
 ClosesDisk old (Err (Io kind)) disk = TookPart old.disk disk old.journal.name old.journal.buffer ⊎ Took old.disk disk (persist_steps old.journal SyncAll)
 ClosesDisk old (Err error) disk = disk ≡ old.disk
 
--- What closing leaves: a crash during it leaves the base with a beginning of what was pending. Where it succeeds, the
--- disk holds the present store. Each step put at a name only what may stand there.
+-- What closing leaves: a crash during it leaves the base with a beginning of what was pending, and so does an opening on
+-- the disk that it gave back. Where it succeeds, that disk holds the present store. The device is to blame for `Io`, and
+-- each step put at a name only what may stand there.
 pub record Closes (s : State) (d : Durable) (result : Result Unit Error) (disk : Meaning) : Type 0 where
   pub after : Durable
   pub same : after.meaning ≡ disk
   pub passes : Passes d [] after
+  pub amid : HoldsAmid (state_in disk) after.base after.pending
   pub closed : OnOk result (HoldsStore (state_in disk) (kept (present s)))
   pub device : BlamesDevice (reply_of result) d.meaning disk
   pub kinds : StaysTidy d.meaning disk

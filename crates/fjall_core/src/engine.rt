@@ -2,6 +2,7 @@
 
 ghost use Rattle.std.specs.Prelude.{◌≡◌, ◌≤◌, ◌<◌, ◌+◌, ◌^◌, ◌++◌, ◌∷◌, [], Some, None, Err, ℕ, IsTrue, IsErrAnd, IsErrOf, IfOk, IfErr, IsOkUnless, OnOk, OnErr, false, true, if◌then◌else◌, Result, length, List};
 ghost use Rattle.std.specs.FinMap.{len};
+ghost use Rattle.fjall_base.specs.Crash.{IsHoused};
 ghost use Rattle.fjall_base.specs.Disk.{Meaning, standing, state_in};
 ghost use Rattle.fjall_base.specs.declared.error.Error.{Error};
 ghost use Rattle.fjall_base.specs.Store.{Store, Command};
@@ -18,9 +19,11 @@ ghost use Rattle.fjall_opening.specs.Refusals.{AreOne, FolderRefuses, HasRisen, 
 ghost use Rattle.fjall_repair.specs.Sweeps.{IsSwept};
 ghost use Rattle.fjall_recovery.specs.Tidy.{IsTidy, StaysTidy};
 ghost use Rattle.fjall_core.specs.Crashes.{BlamesDevice};
-ghost use Rattle.fjall_core.specs.Openings.{IsDueTo, KeepsStore, Opens, OpensAs, OpensOn, HoldsPending, OpensAmid, StaysAmid};
+ghost use Rattle.fjall_core.specs.Durables.{Durable};
+ghost use Rattle.fjall_core.specs.Openings.{IsDueTo, KeepsStore, Opens, OpensAs, OpensOn, OpensAmid, StaysAmid};
+ghost use Rattle.fjall_places.specs.Amid.{HoldsAmid};
 ghost use Rattle.fjall_core.specs.Turns.{Makes, Removes, Unmakes, Writes};
-ghost use Rattle.fjall_core.specs.Standing.{HoldsStore, StandsFor, held_due, is_io, Owes, OwesAll, Serves, Runs, RunsSafely, OwesClosing, ClosesDisk, ClosesSafely, names_reply, number_reply, pairs_reply, reply_of, store_in, value_reply};
+ghost use Rattle.fjall_core.specs.Standing.{HoldsStore, StandsFor, StandsOn, held_due, is_io, Owes, OwesAll, Serves, Runs, RunsSafely, OwesClosing, ClosesDisk, ClosesSafely, names_reply, number_reply, pairs_reply, reply_of, store_in, value_reply};
 
 use crate::config::Config;
 use crate::turning::{is_fault, make_keyspace, unmake_keyspace};
@@ -86,10 +89,10 @@ impl<D: Disk> Core<D> {
         // Where nothing stands in the way, no call of the disk was one that no disk can serve.
         ensures served { IsTrue D.honest → IsTidy (state_in (D.meaning disk)) → IfOk result (λ core. core.disk.misuses ≡ (D.meaning disk).misuses) }
         ensures device { IsTrue D.honest → IsTidy (state_in (D.meaning disk)) → IfErr result (λ refused. BlamesDevice (reply_of (Err refused.error)) (D.meaning disk) (D.meaning refused.value)) }
-        // The same of a disk of which a crash may leave different stores, as a core without a fault leaves it, or an opening
-        // that was refused.
-        ensures amid { IsTrue D.honest → (base : Store) (pending : List Command) → HoldsPending (state_in (D.meaning disk)) base pending → IfOk result (λ core. OpensAmid (D.meaning disk) core base pending) }
-        ensures amid_err { IsTrue D.honest → (base : Store) (pending : List Command) → HoldsPending (state_in (D.meaning disk)) base pending → IfErr result (λ refused. StaysAmid (D.meaning disk) (D.meaning refused.value) base pending) }
+        // The same of a disk of which a crash may leave different stores, as each core leaves it, a poisoned one too, and a
+        // closing or an opening that was refused.
+        ensures amid { IsTrue D.honest → (base : Store) (pending : List Command) → HoldsAmid (state_in (D.meaning disk)) base pending → IfOk result (λ core. OpensAmid (D.meaning disk) core base pending) }
+        ensures amid_err { IsTrue D.honest → (base : Store) (pending : List Command) → HoldsAmid (state_in (D.meaning disk)) base pending → IfErr result (λ refused. StaysAmid (D.meaning disk) (D.meaning refused.value) base pending) }
     {
         drop(config);
         let mut disk = disk;
@@ -357,6 +360,8 @@ impl<D: Disk> Core<D> {
     /// Refusals: `Poisoned`, and `Io`, after which the core is poisoned.
     pub fn persist(&mut self, mode: PersistMode) -> Result<()>
         ensures serves { IsTrue D.honest → Serves self.old (Persist mode) (reply_of result) self.new }
+        // Whatever stands in the way elsewhere, the device is to blame for `Io`.
+        ensures device { IsTrue D.honest → (s : State) (d : Durable) → StandsFor self.old s → StandsOn self.old d → BlamesDevice (reply_of result) self.old.disk self.new.disk }
         ensures owes { Owes self.old (Persist mode) (reply_of result) self.new }
     {
         if self.memory.is_poisoned() {
@@ -501,7 +506,9 @@ impl<D: Disk> Core<D> {
 
     /// The disk as it stands, without a call of it. What waits in the journal's buffer is lost.
     pub fn into_disk(self) -> D
-        ensures { D.meaning result ≡ self.disk }
+        ensures disk { D.meaning result ≡ self.disk }
+        // The folder of each name that stands on it stands too.
+        ensures housed { IsTrue D.honest → IsHoused (state_in self.disk) }
     {
         let Core {
             alloc: _,

@@ -3,7 +3,6 @@ use Rattle.std.proofs.Common.{◌≡◌, Bool, true, false, IsTrue, [], Option, 
 use Rattle.std.specs.Prelude.{IfErr, IfOk}
 use Rattle.fjall_base.specs.Disk.{Meaning, Missing, State, standing, state_in}
 use Rattle.fjall_base.specs.declared.error.Error.{Error}
-use Rattle.fjall_recovery.proofs.Tidying.{fits_missing}
 use Rattle.fjall_base.specs.declared.error.Error.TheVariants.{OutOfMemory}
 use Rattle.fjall_keyspaces.specs.Keyspaces.{no_keyspaces}
 use Rattle.fjall_versions.specs.Replays.{bare}
@@ -29,13 +28,10 @@ bare_unfinished = unfinished_of (standing bare_state) (λ name. missing_stands f
 
 bare_holds : HoldsStore bare_state (bare no_keyspaces)
 bare_holds = (
-  (
-    None,
-    record { now = bare_unfinished; crash = λ image is. unfinished_of image (kept_image false bare_state image bare_kept is) },
-    settled_comes_back bare_state (λ name. refl) bare_unfinished,
-    refl,
-  ),
-  λ name. (fits_missing name, tt),
+  None,
+  record { now = bare_unfinished; crash = λ image is. unfinished_of image (kept_image false bare_state image bare_kept is) },
+  settled_comes_back bare_state (λ name. refl) bare_unfinished,
+  refl,
 )
 
 -- a new disk holds the store without keyspaces

@@ -1,6 +1,5 @@
 use Rattle.std.proofs.Common.{sym, subst}
 use Rattle.fjall_base.specs.Disk.{Image, Meaning, standing, state_in}
-use Rattle.fjall_recovery.proofs.Tidying.{tidy_on}
 use Rattle.fjall_repair.specs.Sweeps.{IsSwept}
 use Rattle.fjall_machine.specs.Remembered.{Remembered}
 use Rattle.fjall_core.specs.Openings.{Opens, OpensAs, OpensOn, OpensAmid}
@@ -17,11 +16,11 @@ returns-in-Ok-clause-opened g c honest =
     subst (λ (memory : Remembered). OpensOn image (held_of (m c.open_folder.new.disk) o memory)) (sym c.new.ensures) (opens_on image (m c.open_folder.new.disk) o c.in-Ok.ensures.lawful (c.in-Ok.ensures.found honest))
 
 pub returns-in-Ok-clause-safe : goal.returns-in-Ok-clause-safe
-returns-in-Ok-clause-safe g c honest store ((folder, holds, back, same), tidy) =
+returns-in-Ok-clause-safe g c honest store (folder, holds, back, same) =
     let m : _ → Meaning = g.D.Disk.meaning in
     let o = c.in-Ok.opened in
     subst (λ (memory : Remembered). OpensAs (held_of (m c.open_folder.new.disk) o memory) store) (sym c.new.ensures)
-    (opens_as (m c.open_folder.new.disk) folder o (c.in-Ok.ensures.opened honest folder holds) store c.in-Ok.ensures.lawful (tidy_on (m c.args.disk) (m c.open_folder.new.disk) (c.open_folder.ensures.kinds honest) tidy) same)
+    (opens_as (m c.open_folder.new.disk) folder o (c.in-Ok.ensures.opened honest folder holds) store c.in-Ok.ensures.lawful same)
 
 pub returns-in-Ok-clause-any_moment : goal.returns-in-Ok-clause-any_moment
 returns-in-Ok-clause-any_moment g c honest = let m : _ → Meaning = g.D.Disk.meaning in keeps (m c.args.disk) (m c.open_folder.new.disk) (c.open_folder.ensures.any_moment honest)
@@ -48,7 +47,7 @@ returns-in-Ok-clause-amid g c honest base pending holds =
     let new = m c.open_folder.new.disk in
     let o = c.in-Ok.opened in
     subst (λ (memory : Remembered). OpensAmid old (held_of new o memory) base pending) (sym c.new.ensures)
-    (opens_amid old new o base pending holds.0 (tidy_on old new (c.open_folder.ensures.kinds honest) holds.1) (λ folder is. c.in-Ok.ensures.opens honest folder is base pending holds.0) (c.open_folder.ensures.amid honest base pending holds.0) c.in-Ok.ensures.lawful)
+    (opens_amid old new o base pending holds (c.open_folder.ensures.kinds honest) (λ folder is. c.in-Ok.ensures.opens honest folder is base pending holds) (c.open_folder.ensures.amid honest base pending holds) c.in-Ok.ensures.lawful)
 
 pub returns-in-Err-clause-amid_err : goal.returns-in-Err-clause-amid_err
 returns-in-Err-clause-amid_err g c honest base pending holds =
@@ -56,8 +55,9 @@ returns-in-Err-clause-amid_err g c honest base pending holds =
     let old = m c.args.disk in
     let new = m c.open_folder.new.disk in
     record {
-      holds = (c.open_folder.ensures.held honest base pending holds.0, tidy_on old new (c.open_folder.ensures.kinds honest) holds.1);
-      any_moment = c.open_folder.ensures.amid honest base pending holds.0;
+      holds = c.open_folder.ensures.held honest base pending holds;
+      any_moment = c.open_folder.ensures.amid honest base pending holds;
+      kinds = c.open_folder.ensures.kinds honest;
     }
 
 -- ---- what it put at names, and which calls the disk could serve

@@ -3,7 +3,9 @@ use Rattle.fjall_machine.specs.declared.call.Call.TheVariants.{Persist}
 use Rattle.fjall_machine.specs.declared.call.Reply.TheVariants.{Done, Refused}
 use Rattle.fjall_base.specs.declared.error.Error.TheVariants.{Poisoned}
 use Rattle.fjall_core.specs.Holding.{Held}
-use Rattle.fjall_core.specs.Standing.{Serves}
+use Rattle.fjall_core.specs.Crashes.{BlamesDevice}
+use Rattle.fjall_core.specs.Standing.{Serves, StandsOn}
+use Rattle.fjall_core.proofs.Devices.{fault_blames, refusal_blames, served_on}
 use Rattle.fjall_core.proofs.Persisting.{ill_due, persisted_serves, unpersisted_serves}
 use Rattle.fjall_core.proofs.Serving.{due_serves}
 use Rattle.fjall_core.proofs.engine.Core.persist.Goals as goal
@@ -29,3 +31,24 @@ returns-in-Err-clause-serves g c = λ h.
     subst (λ (core : Held). Serves core (Persist c.args.mode) (Refused c.in-Err.error) new) c.self.view_is
     (unpersisted_serves old new c.args.mode c.in-Err.error (sym c.is_poisoned.ensures ∙ c.if-is_poisoned.false) c.poison.ensures c.in-Err.ensures.cause.cause (c.in-Err.ensures.left h)
     (record { leaves = c.in-Err.ensures.any_moment h; lies = λ e. let bad : ⊥ = cc in absurd bad; elsewhere = c.in-Err.ensures.elsewhere h; served = c.in-Err.ensures.served h; kinds = c.in-Err.ensures.kinds h }))
+
+-- ---- which calls the disk could serve
+
+pub returns-then-is_poisoned-clause-device : goal.returns-then-is_poisoned-clause-device
+returns-then-is_poisoned-clause-device g c = λ h s d stands on. refusal_blames Poisoned c.args.self.now.disk refl
+
+pub returns-in-Ok-clause-device : goal.returns-in-Ok-clause-device
+returns-in-Ok-clause-device g c = λ h s d stands on.
+    let m = g.D.Disk.meaning in
+    let old : Held = record { disk = m c.self.inside.disk; journal = c.self.inside.journal; catalog = c.self.inside.catalog; memory = c.self.inside.memory } in
+    let new = m c.hand_over.new.disk in
+    subst (λ (core : Held). StandsOn core d → BlamesDevice Done core.disk new) c.self.view_is
+    (λ here. served_on old new d (sym c.is_poisoned.ensures ∙ c.if-is_poisoned.false) (c.in-Ok.ensures.served h) here) on
+
+pub returns-in-Err-clause-device : goal.returns-in-Err-clause-device
+returns-in-Err-clause-device g c = λ h s d stands on.
+    let m = g.D.Disk.meaning in
+    let old : Held = record { disk = m c.self.inside.disk; journal = c.self.inside.journal; catalog = c.self.inside.catalog; memory = c.self.inside.memory } in
+    let new = m c.hand_over.new.disk in
+    subst (λ (core : Held). StandsOn core d → BlamesDevice (Refused c.in-Err.error) core.disk new) c.self.view_is
+    (λ here. fault_blames old new d c.in-Err.error (sym c.is_poisoned.ensures ∙ c.if-is_poisoned.false) c.in-Err.ensures.cause.cause (c.in-Err.ensures.served h) here) on

@@ -1,0 +1,5 @@
+use Rattle.fjall_core.proofs.Kept as Kept
+use Rattle.fjall_core.proofs.laws.new_disk_tidy.Goals as goal
+
+pub returns : goal.returns
+returns c = Kept.new_disk_tidy
