@@ -1,7 +1,7 @@
 mod Dues
 mod Amids
 mod Tries
-mod Running
+pub mod Running
 mod Leading
 mod Along
 mod Writes
@@ -26,5 +26,6 @@ mod Deleting
 mod Closings
 mod Opening
 mod Kept
-mod Lives
+pub mod Lasting
+pub mod Lives
 pub mod Reopening

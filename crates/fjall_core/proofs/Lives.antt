@@ -5,13 +5,13 @@ use Rattle.std.proofs.lemmas.Bool.{true≢false}
 use Rattle.std.specs.List.{AllByRecursion, flat_map}
 use Rattle.fjall_base.specs.Store.{Command, Store, fold, kept}
 use Rattle.fjall_base.specs.Crash.{IsHoused}
-use Rattle.fjall_base.specs.Disk.{Image, Leaves, Meaning, State, Step, Took, disk_of, state_in}
+use Rattle.fjall_base.specs.Disk.{Image, IsImage, Leaves, Meaning, State, Step, Took, disk_of, state_in}
 use Rattle.fjall_base.specs.declared.error.Error.{Error}
 use Rattle.fjall_versions.proofs.Kept.{kept_along, kept_twice}
 use Rattle.fjall_versions.proofs.Slots.{fold-append}
 use Rattle.fjall_regions.proofs.Made.{took_both}
 use Rattle.fjall_recovery.specs.Tidy.{IsTidy, IsTidyStep, StaysTidy}
-use Rattle.fjall_recovery.proofs.Tidying.{each_tidy, left_tidy, stays_by, tidy_on}
+use Rattle.fjall_recovery.proofs.Tidying.{each_tidy, image_tidy, left_tidy, stays_by, tidy_on}
 use Rattle.fjall_opening.specs.Folders.{StandsFor}
 use Rattle.fjall_opening.proofs.Alone.{one_store}
 use Rattle.fjall_places.specs.Amid.{HoldsAmid}
@@ -25,7 +25,7 @@ use Rattle.fjall_core.specs.Durables.{Durable, IsBeginning, Passes, StandsAmid}
 use Rattle.fjall_core.specs.Crashes.{Settled, Tried, at_most_one}
 use Rattle.fjall_core.specs.Openings.{OpensAmid, OpensAs}
 use Rattle.fjall_core.specs.Standing.{Closes, OwesAll, OwesClosing, Runs, StandsOn}
-use Rattle.fjall_core.specs.Lives.{AreLeftOf, Closed, CutBehindSync, CutInCalls, CutInClosing, CutInOpening, Dropped, Ended, GoesOn, HoldsFold, IsLeftOf, Life, Lived, Lives, NoLife, NoSync, OneMore, Opened, Served, Synced, Unclosed, Unopened, UpTo, all_left, begun, start_of, unlived}
+use Rattle.fjall_core.specs.Lives.{AreLeftOf, Closed, CutBehind, CutBehindSync, CutInCalls, CutInClosing, CutInOpening, Dropped, Ended, GoesOn, HoldsFold, IsLeftOf, Life, LastSync, Lived, Lives, NoLife, NoSync, OneMore, Opened, Served, Unclosed, Unopened, UpTo, all_left, begun, start_of, unlived}
 use Rattle.fjall_core.proofs.Amids.{no_more, run_passes}
 use Rattle.fjall_core.proofs.Kept.{crash_holds}
 use Rattle.fjall_core.proofs.Reopening.{a_core_holds_amid, holds_store_amid}
@@ -91,11 +91,11 @@ all_present core store opens tried t tries well = by tries.refused tries.all tri
 
 -- what a sync followed is in the base at the end
 settled_of : (core new : Held) (store : Store) (calls : List Call) (replies : List Reply) (opens : OpensAs core store) (run : Served core store opens calls replies new) (synced : List Command)
-    → Synced core new store calls replies opens run synced → Settled (begun core store) synced run.tried run.durable
-settled_of core new store calls replies opens run synced NoSync =
+    → LastSync core new store calls replies opens run synced → Settled (begun core store) synced run.tried run.durable
+settled_of core new store calls replies opens run synced (NoSync none) =
     let passed = run_passes (start_of core store opens) run.state (begun core store) run.durable calls replies run.tried opens.base.rests run.run in
     record { safe = passed.safe; has = (passed.safe, refl); base = passed.base; rest = passed.rest }
-settled_of core new store calls replies opens run synced (UpTo i sync) = (run.synced i sync).settled
+settled_of core new store calls replies opens run synced (UpTo i sync last) = (run.synced i sync).settled
 
 -- the images of a closing
 closing_amid : (new : Held) (s : machine.State) (d : Durable) (result : Result Unit Error) (disk : Meaning) (added : List Step) (image : Image) → StandsOn new d → Closes s d result disk → Took new.disk disk added → Leaves (state_in new.disk) added image → StandsAmid d.base [] (d.pending ++ []) image
@@ -128,6 +128,11 @@ ended core new store calls replies opens run synced end next waits (CutBehindSyn
     let moments = at.safe.since in
     cut_ends (state_in at.safe.moment) late image store run.tried at.before left leaves stands
     (of_amid image store at.before run.tried left (moments.each image (leaves_as at.safe.moment new.disk late moments.added image took moments.took leaves)) stands)
+ended core new store calls replies opens run synced end next waits (CutBehind safe image left sync is stands) =
+    let d = run.durable in
+    let amid = run.on.rests image (subst (λ (m : Meaning). IsImage (state_in m) image) (sym run.on.same) is) in
+    let of = settled_left core store synced run.tried d (settled_of core new store calls replies opens run synced sync) amid.front amid.within in
+    cut_ends (state_in new.disk) [] image store run.tried synced left is stands (of.0, of.1, of.2, one_store image left (kept (fold d.base amid.front)) stands amid.stands ∙ of.3)
 ended core new store calls replies opens run synced end next waits (CutInClosing safe result disk added image left sync safely took leaves stands) =
     let d = run.durable in
     let amid = closing_amid new run.state d result disk added image run.on (safely run.state d run.stands run.on) took leaves in
@@ -235,6 +240,7 @@ ended_tidy core new store calls replies opens run synced end next waits tidy (Cu
     let at = run.synced i sync in
     let between = tidy_between core.disk at.safe.moment new.disk at.safe.added late tidy run.kinds at.safe.passed took in
     left_tidy late (state_in at.safe.moment) image between.1 between.0 leaves
+ended_tidy core new store calls replies opens run synced end next waits tidy (CutBehind safe image left sync is stands) = image_tidy (state_in new.disk) image (tidy_on core.disk new.disk run.kinds tidy) is
 ended_tidy core new store calls replies opens run synced end next waits tidy (CutInClosing safe result disk added image left sync safely took leaves stands) =
     let kinds = closing_kinds new run.state run.durable result disk run.on (safely run.state run.durable run.stands run.on) in
     left_tidy added (state_in new.disk) image (each_tidy new.disk disk added kinds took) (tidy_on core.disk new.disk run.kinds tidy) leaves

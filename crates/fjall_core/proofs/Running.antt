@@ -1,5 +1,5 @@
 -- Calls one after another over a disk that may crash.
-use Rattle.std.proofs.Common.{◌≡◌, ℕ, ◌+◌, ◌<◌, List, [], ◌∷◌, ◌++◌, length, take, get_or, refl, sym, ◌∙◌, ap, subst}
+use Rattle.std.proofs.Common.{◌≡◌, ℕ, ◌+◌, ◌<◌, List, [], ◌∷◌, ◌++◌, length, take, get_or, refl, sym, ◌∙◌, ap, subst, append_assoc}
 use Rattle.std.proofs.lemmas.List.{take_more}
 use Rattle.fjall_base.specs.Store.{Command}
 use Rattle.fjall_base.specs.Disk.{LeavesOnly}
@@ -10,7 +10,7 @@ use Rattle.fjall_machine.specs.Machine.{State}
 use Rattle.fjall_core.specs.Holding.{Held}
 use Rattle.fjall_core.specs.Durables.{Durable, StandsAmid}
 use Rattle.fjall_core.specs.Crashes.{attempt, RunOn, SafeAt}
-use Rattle.fjall_core.specs.Standing.{StandsFor, StandsOn, Serves, RunsOn}
+use Rattle.fjall_core.specs.Standing.{StandsFor, StandsOn, Serves, RunsOn, RunsSafely}
 use Rattle.fjall_core.proofs.Amids.{run_kinds, run_passes, run_safe, run-push}
 use Rattle.fjall_core.proofs.Tries.{run_tries}
 
@@ -45,6 +45,23 @@ call_more mid new s d calls replies more i call reply lt is pushed so_far serves
     subst (λ cs. SoFar new s d cs more) (sym (take_more calls i call lt ∙ ap (λ c. take i calls ++ c ∷ []) (sym is)))
     (subst (λ rs. SoFar new s d (take i calls ++ call ∷ []) rs) (sym pushed) (one_more mid new s d (take i calls) replies call reply so_far serves))
 
+-- one run behind another
+run_behind : (s m t : State) (d n e : Durable) (calls more : List Call) (replies others : List Reply) (tried rest : List Command) → RunOn s d calls replies tried m n → RunOn m n more others rest t e
+    → RunOn s d (calls ++ more) (replies ++ others) (tried ++ rest) t e
+run_behind s m t d n e [] more [] others tried rest first run =
+    subst (λ l. RunOn s d more others (l ++ rest) t e) (sym first.0) (subst (λ x. RunOn x d more others rest t e) first.1 (subst (λ x. RunOn m x more others rest t e) first.2 run))
+run_behind s m t d n e (c ∷ calls) more (r ∷ replies) others tried rest (mid, on, behind, step, passes, is, first) run = (
+  mid,
+  on,
+  behind ++ rest,
+  step,
+  passes,
+  ap (λ (l : List Command). l ++ rest) is ∙ append_assoc (attempt s c r) behind rest,
+  run_behind mid m t on n e calls more replies others behind rest first run,
+)
+run_behind s m t d n e [] more (r ∷ replies) others tried rest first run = absurd first
+run_behind s m t d n e (c ∷ calls) more [] others tried rest first run = absurd first
+
 -- a whole run
 pub ends : (old new : Held) (s : State) (d : Durable) (calls : List Call) (replies : List Reply) → StandsOn old d → SoFar new s d calls replies → RunsOn old calls replies new s d
 ends old new s d calls replies on end =
@@ -62,3 +79,20 @@ ends old new s d calls replies on end =
       synced = λ i sync. subst (λ h. SafeAt s d calls replies i end.tried end.durable h) end.on.same (run_safe s end.state d end.durable calls replies end.tried i end.run sync);
       kinds = subst (λ h. StaysTidy h new.disk) on.same (subst (λ h. StaysTidy d.meaning h) end.on.same (run_kinds s end.state d end.durable calls replies end.tried end.run));
     }
+
+-- no call
+pub no_run : (core : Held) (s : State) (d : Durable) → StandsFor core s → StandsOn core d → RunsOn core [] [] core s d
+no_run core s d stands on = ends core core s d [] [] on (none_yet core s d stands on)
+
+-- one run behind another is one run
+pub runs_behind : (old mid new : Held) (s : State) (d : Durable) (calls more : List Call) (replies others : List Reply) → StandsOn old d → RunsOn old calls replies mid s d → RunsSafely mid more others new → RunsOn old (calls ++ more) (replies ++ others) new s d
+runs_behind old mid new s d calls more replies others on first safely =
+    let then = safely first.state first.durable first.stands first.on in
+    ends old new s d (calls ++ more) (replies ++ others) on (record {
+      tried = first.tried ++ then.tried;
+      state = then.state;
+      durable = then.durable;
+      stands = then.stands;
+      on = then.on;
+      run = run_behind s first.state then.state d first.durable then.durable calls more replies others first.tried then.tried first.run then.run;
+    })

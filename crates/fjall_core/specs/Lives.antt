@@ -1,9 +1,9 @@
 -- Engines one after another on one disk, each of which may be cut off at any moment, left as it is, or refused.
-use Rattle.std.specs.Prelude.{◌≡◌, ℕ, Ok, Err, List, [], ◌∷◌, ◌++◌, Result}
+use Rattle.std.specs.Prelude.{◌≡◌, ℕ, ◌<◌, Ok, Err, List, [], ◌∷◌, ◌++◌, Result}
 use Rattle.std.specs.List.{flat_map}
 use Rattle.fjall_base.specs.Crash.{IsHoused}
 use Rattle.fjall_base.specs.Store.{Command, Store, fold, kept}
-use Rattle.fjall_base.specs.Disk.{Image, Leaves, LeavesOnly, Meaning, State, Step, Took, disk_of, state_in}
+use Rattle.fjall_base.specs.Disk.{Image, IsImage, Leaves, LeavesOnly, Meaning, State, Step, Took, disk_of, state_in}
 use Rattle.fjall_base.specs.declared.error.Error.{Error}
 use Rattle.fjall_opening.specs.Folders.{StandsFor}
 use Rattle.fjall_places.specs.Amid.{HoldsAmid}
@@ -41,25 +41,28 @@ pub record Life : Type 0 where
 abbrev pub unlived : Life
 unlived = record { calls = []; replies = []; tried = []; synced = [] }
 
--- what was tried up to a sync of the run that succeeded; where none is looked at, nothing
-pub data Synced (core new : Held) (store : Store) (calls : List Call) (replies : List Reply) (opens : OpensAs core store) (run : Served core store opens calls replies new) : List Command → Type 0 where
-  NoSync : Synced core new store calls replies opens run []
-  UpTo : (i : ℕ) (sync : IsSyncAt (start_of core store opens) (begun core store) calls replies run.tried run.state run.durable run.run i) → Synced core new store calls replies opens run (run.synced i sync).before
+-- what was tried up to the last sync of the run that succeeded; where none did, nothing
+pub data LastSync (core new : Held) (store : Store) (calls : List Call) (replies : List Reply) (opens : OpensAs core store) (run : Served core store opens calls replies new) : List Command → Type 0 where
+  NoSync : ((i : ℕ) → IsSyncAt (start_of core store opens) (begun core store) calls replies run.tried run.state run.durable run.run i → ⊥) → LastSync core new store calls replies opens run []
+  UpTo : (i : ℕ) (sync : IsSyncAt (start_of core store opens) (begun core store) calls replies run.tried run.state run.durable run.run i) → ((j : ℕ) → i < j → IsSyncAt (start_of core store opens) (begun core store) calls replies run.tried run.state run.durable run.run j → ⊥)
+      → LastSync core new store calls replies opens run (run.synced i sync).before
 
 -- How the life of an engine ended that opened as this store and served these calls: what a sync followed, and what the disk
 -- holds, a store with a beginning of the commands that wait. The power went at some moment of its calls, of its calls since
--- a sync, or of its closing, and what it left stands for one store. Or the engine was dropped; or its closing was refused,
--- or done.
+-- a sync, behind them all, or in its closing, and what it left stands for one store. Or the engine was dropped; or its
+-- closing was refused, or done.
 pub data Ended (core new : Held) (store : Store) (calls : List Call) (replies : List Reply) (opens : OpensAs core store) (run : Served core store opens calls replies new) : List Command → State → Store → List Command → Type 0 where
   CutInCalls : (added : List Step) (image : Image) (left : Store) → Took core.disk new.disk added → Leaves (state_in core.disk) added image → StandsFor image left
       → Ended core new store calls replies opens run [] (disk_of image) left []
   CutBehindSync : (i : ℕ) (sync : IsSyncAt (start_of core store opens) (begun core store) calls replies run.tried run.state run.durable run.run i) (late : List Step) (image : Image) (left : Store)
       → Took (run.synced i sync).safe.moment new.disk late → Leaves (state_in (run.synced i sync).safe.moment) late image → StandsFor image left
       → Ended core new store calls replies opens run (run.synced i sync).before (disk_of image) left []
-  CutInClosing : (synced : List Command) (result : Result Unit Error) (disk : Meaning) (added : List Step) (image : Image) (left : Store) → Synced core new store calls replies opens run synced
+  CutBehind : (synced : List Command) (image : Image) (left : Store) → LastSync core new store calls replies opens run synced → IsImage (state_in new.disk) image → StandsFor image left
+      → Ended core new store calls replies opens run synced (disk_of image) left []
+  CutInClosing : (synced : List Command) (result : Result Unit Error) (disk : Meaning) (added : List Step) (image : Image) (left : Store) → LastSync core new store calls replies opens run synced
       → ClosesSafely new result disk → Took new.disk disk added → Leaves (state_in new.disk) added image → StandsFor image left → Ended core new store calls replies opens run synced (disk_of image) left []
-  Dropped : (synced : List Command) → Synced core new store calls replies opens run synced → IsHoused (state_in new.disk) → Ended core new store calls replies opens run synced (state_in new.disk) run.durable.base run.durable.pending
-  Unclosed : (synced : List Command) (error : Error) (disk : Meaning) → Synced core new store calls replies opens run synced → (safely : ClosesSafely new (Err error) disk)
+  Dropped : (synced : List Command) → LastSync core new store calls replies opens run synced → IsHoused (state_in new.disk) → Ended core new store calls replies opens run synced (state_in new.disk) run.durable.base run.durable.pending
+  Unclosed : (synced : List Command) (error : Error) (disk : Meaning) → LastSync core new store calls replies opens run synced → (safely : ClosesSafely new (Err error) disk)
       → Ended core new store calls replies opens run synced (state_in disk) (safely run.state run.durable run.stands run.on).after.base (safely run.state run.durable run.stands run.on).after.pending
   Closed : (disk : Meaning) → OwesClosing new (Ok tt) disk → ClosesSafely new (Ok tt) disk → Ended core new store calls replies opens run run.tried (state_in disk) (kept (present run.state)) []
 

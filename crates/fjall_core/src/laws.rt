@@ -1,6 +1,6 @@
 //! What holds of the disks that the engine opens.
 
-ghost use Rattle.std.specs.Prelude.{◌≡◌, ℕ, List, []};
+ghost use Rattle.std.specs.Prelude.{◌≡◌, ◌++◌, List, []};
 ghost use Rattle.fjall_base.specs.Store.{Command, Store, fold, kept};
 ghost use Rattle.std.specs.List.{AllByRecursion};
 ghost use Rattle.fjall_base.specs.Disk.{Image, IsImage, Leaves, Meaning, Missing, Name, State, Step, Took, disk_of, state_in};
@@ -11,14 +11,15 @@ ghost use Rattle.fjall_opening.specs.Folders.{StandsFor};
 ghost use Rattle.fjall_places.specs.Amid.{HoldsAmid};
 ghost use Rattle.fjall_core.specs.Durables.{IsBeginning, StandsAmid, Durable};
 ghost use Rattle.fjall_core.specs.Holding.{Held};
-ghost use Rattle.fjall_core.specs.Lives.{AreLeftOf, GoesOn, HoldsFold, Life, Lived, Lives, all_left};
-ghost use Rattle.fjall_core.specs.Standing.{HoldsStore, Owes, OwesAll, Runs, Steps, StandsOn};
+ghost use Rattle.fjall_core.specs.Lives.{AreLeftOf, GoesOn, HoldsFold, LastSync, Life, Lived, Lives, Served, all_left};
+ghost use Rattle.fjall_core.specs.Standing.{HoldsStore, Owes, OwesAll, Runs, RunsOn, RunsSafely, StandsOn, Steps};
 ghost use Rattle.fjall_machine.specs.declared.call.Call.{Call};
 ghost use Rattle.fjall_machine.specs.declared.call.Reply.{Reply};
 ghost use Rattle.fjall_base.specs.Crash.{IsHoused};
 ghost use Rattle.fjall_core.specs.Crashes.{BlamesEach, RunOn};
 ghost use Rattle.fjall_core.specs.Openings.{OpensAmid, OpensAs};
 ghost use Rattle.fjall_machine.specs.Machine as machine;
+ghost use Rattle.fjall_core.specs.Standing as memory;
 
 /// A disk that a crash left, at whichever moment of these steps, holds the store that its image stands for.
 pub fn crash_holds()
@@ -71,6 +72,23 @@ pub fn lives_hold()
 pub fn lives_open()
     ensures { (first : State) (start : Store) (lives : List Life) (old : Meaning) (base : Store) (pending : List Command) (core : Held) → HoldsAmid first start [] → Lives first start lives (state_in old) base pending → OpensAmid old core base pending
         → (fronts : List (List Command)) × AreLeftOf lives fronts × OpensAs core (kept (fold start (all_left fronts))) }
+{}
+
+// ---- runs
+
+/// Of each run it is known which sync was the last that succeeded.
+pub fn a_last_sync()
+    ensures { (core new : Held) (store : Store) (calls : List Call) (replies : List Reply) (opens : OpensAs core store) (run : Served core store opens calls replies new) → (synced : List Command) × LastSync core new store calls replies opens run synced }
+{}
+
+/// No call is a run too.
+pub fn no_calls_run()
+    ensures { (core : Held) (s : machine.State) (d : Durable) → memory.StandsFor core s → StandsOn core d → RunsOn core [] [] core s d }
+{}
+
+/// One run behind another is one run.
+pub fn runs_go_on()
+    ensures { (old mid new : Held) (s : machine.State) (d : Durable) (calls more : List Call) (replies others : List Reply) → StandsOn old d → RunsOn old calls replies mid s d → RunsSafely mid more others new → RunsOn old (calls ++ more) (replies ++ others) new s d }
 {}
 
 // ---- what stands in the way

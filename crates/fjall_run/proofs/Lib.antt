@@ -6,6 +6,7 @@ mod Fronts
 mod Passing
 mod Restarting
 mod Answered
+mod Living
 mod Serving
 mod Writing
 mod Printing

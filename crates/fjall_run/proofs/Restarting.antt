@@ -26,7 +26,7 @@ bare_kept = record { now = λ name. missing_stands false name; older = λ name. 
 bare_unfinished : IsUnfinished (standing bare_state)
 bare_unfinished = unfinished_of (standing bare_state) (λ name. missing_stands false name)
 
-bare_holds : HoldsStore bare_state (bare no_keyspaces)
+pub bare_holds : HoldsStore bare_state (bare no_keyspaces)
 bare_holds = (
   None,
   record { now = bare_unfinished; crash = λ image is. unfinished_of image (kept_image false bare_state image bare_kept is) },

@@ -13,6 +13,7 @@ use Rattle.fjall_run.specs.Answers.{text_of}
 use Rattle.fjall_run.specs.Lines.{lines_of}
 use Rattle.fjall_run.specs.Runs.{AnswersInput, AppendsFront, FailsInput, unread, refused, unwritten, Hears, IsIo, IsIoOrMemory, RunsInput, is_memory}
 use Rattle.fjall_run.proofs.Answered.{all_answered, ended_answers}
+use Rattle.fjall_run.proofs.Living.{ended_lived, session_lived}
 use Rattle.fjall_run.specs.Sessions.{Ends, PrintsAll, PrintsUntil}
 
 -- the commands of an input were run, and these are the answers
@@ -44,7 +45,7 @@ ran_ends : (honest : Bool) (text : List ℕ) (ended : Result Unit Error) (answer
 ran_ends honest text ended answers r =
     let how = ends ended r.all r.until in
     let parts = ended_answers honest r.commands how.1 how.0 ended how.2 in
-    (how.0, record { commands = r.commands; front = parts.0; rest = how.1; reads = r.reads; split = parts.1; answers = parts.2; ends = how.2 }, how.3)
+    (how.0, record { commands = r.commands; front = parts.0; rest = how.1; reads = r.reads; split = parts.1; answers = parts.2; ends = how.2; lived = ended_lived honest r.commands how.1 how.0 ended how.2 }, how.3)
   where
     ends : (e : Result Unit Error) → OnOk e (PrintsAll honest r.commands [] answers) → IfErr e (λ error. PrintsUntil honest r.commands error [] answers)
         → (printed : List (List ℕ)) × (rest : List (Option Command)) × Ends honest r.commands printed rest e × (answers ≡ text_of printed)
@@ -63,6 +64,7 @@ input_answered honest text (Ok done) answers old new r h =
       reads = r.reads;
       session = all.prints.session;
       closed = all.closed;
+      lived = session_lived honest r.commands [] all.core all.prints.printed all.prints.session;
       answers = all_answered honest r.commands all.core all.prints.printed all.prints.session;
       appends = subst (λ (t : List ℕ). Appends old new t) all.prints.text h;
     }

@@ -2,5 +2,6 @@ pub mod Lines
 pub mod Answers
 pub mod Machine
 pub mod Sessions
+pub mod Lived
 pub mod Runs
 pub mod Statuses

@@ -3,16 +3,17 @@
 use Rattle.std.specs.Prelude.{◌≡◌, ℕ, Bool, false, IsTrue, [], List, Result, Ok, ◌⊎◌}
 use Rattle.fjall_base.specs.Crash.{crashed}
 use Rattle.fjall_base.specs.Disk.{Meaning, IsImage, disk_of, standing, state_in}
-use Rattle.fjall_base.specs.Store.{Store}
+use Rattle.fjall_base.specs.Store.{Command, Store}
 use Rattle.fjall_base.specs.declared.error.Error.{Error}
 use Rattle.fjall_base.specs.declared.error.Error.TheVariants.{Io, Locked, OutOfMemory}
 use Rattle.fjall_keyspaces.specs.Keyspaces.{no_keyspaces}
 use Rattle.fjall_versions.specs.Replays.{bare}
 use Rattle.fjall_opening.specs.Refusals.{HasRisen}
+use Rattle.fjall_places.specs.Amid.{HoldsAmid}
 use Rattle.fjall_machine.specs.declared.call.Call.{Call}
 use Rattle.fjall_machine.specs.declared.call.Reply.{Reply}
 use Rattle.fjall_core.specs.Holding.{Held}
-use Rattle.fjall_core.specs.Openings.{IsDueTo, KeepsStore, Opens, OpensAs, OpensOn}
+use Rattle.fjall_core.specs.Openings.{IsDueTo, KeepsStore, Opens, OpensAmid, OpensAs, OpensOn}
 use Rattle.fjall_core.specs.Standing.{ClosesDisk, ClosesSafely, HoldsStore, OwesAll, OwesClosing, Runs, RunsSafely}
 
 -- The replies are those of a run of the engine, whichever state the core stood for and whatever the disk does, and each is
@@ -24,11 +25,13 @@ pub record RunsCalls (honest : Bool) (old : Held) (calls : List Call) (replies :
   pub owes : OwesAll old calls replies new
 
 -- A core that was opened on this disk: it stands for what stands there. Where the disk held a store, whatever a crash
--- leaves of it, the core opened as that store, and a crash at each moment of the opening leaves it.
+-- leaves of it, the core opened as that store, and a crash at each moment of the opening leaves it; where a crash of the
+-- disk may leave different ones, as that which stands there.
 pub record OpenedOn (honest : Bool) (disk : Meaning) (core : Held) : Type 0 where
   pub opened : IsTrue honest → OpensOn (standing (state_in disk)) core
   pub safe : IsTrue honest → (store : Store) → HoldsStore (state_in disk) store → OpensAs core store
   pub any_moment : IsTrue honest → KeepsStore disk core.disk
+  pub amid : IsTrue honest → (base : Store) (pending : List Command) → HoldsAmid (state_in disk) base pending → OpensAmid disk core base pending
   pub stands : (store : Store) × (next : ℕ) × Opens core store next
 
 -- A core refused to be opened on this disk, for its cause: `Io` only where the count of faults rose. Whatever store the
@@ -46,9 +49,12 @@ IsNoDisk false (Io kind) = Unit {0}
 IsNoDisk false Locked = Unit {0}
 IsNoDisk honest error = ⊥
 
--- nothing was ever put on the disk
+-- a disk on which nothing was ever put
+abbrev pub new_disk : Meaning
+new_disk = record { places = []; steps = []; faults = 0; misuses = 0 }
+
 abbrev pub IsNew : Meaning → Type 0
-IsNew disk = disk ≡ record { places = []; steps = []; faults = 0; misuses = 0 }
+IsNew disk = disk ≡ new_disk
 
 -- a core that a session begins with: in memory, over a new disk, which holds no keyspace
 pub record Begins (honest : Bool) (core : Held) : Type 0 where

@@ -1,5 +1,5 @@
 -- What the program writes for an input.
-use Rattle.std.specs.Prelude.{◌≡◌, ℕ, Bool, false, codes, List, [], ◌++◌, Option, Some, None, IfSome, Result, Err}
+use Rattle.std.specs.Prelude.{◌≡◌, ℕ, Bool, false, codes, List, [], ◌++◌, Option, Some, None, IfSome, IsTrue, Result, Err}
 use Rattle.std.specs.List.{AllZip, list_all}
 use Rattle.std.specs.Str.{bytes_eq}
 use Rattle.std.specs.Io.KnownBytes.{Appends, Keeps}
@@ -12,6 +12,7 @@ use Rattle.fjall_run.specs.declared.run.Status.TheVariants.{Failure}
 use Rattle.fjall_run.specs.Lines.{lines_of, Reads}
 use Rattle.fjall_run.specs.Answers.{refusal_line, text_of}
 use Rattle.fjall_core.specs.Holding.{Held}
+use Rattle.fjall_run.specs.Lived.{HasLived, HasLivedIfAny}
 use Rattle.fjall_run.specs.Machine.{IsClosed}
 use Rattle.fjall_run.specs.Sessions.{Ends, IsAnswer, Session}
 
@@ -26,7 +27,8 @@ abbrev pub Hears : Bool → List ℕ → Option Command → Type 0
 Hears honest line found = (read : Option Command) × (Reads line read × (found ≡ heard honest read))
 
 -- Each line of the text is read as a command or as none, a session of these came to its end, the core was
--- closed, and what was printed was added: an answer for each.
+-- closed, and what was printed was added: an answer for each. Over a disk that returns what it holds the session came to lives
+-- of engines one after another.
 pub record AnswersInput (honest : Bool) (text : List ℕ) (old new : Option (List ℕ)) : Type 0 where
   pub commands : List (Option Command)
   pub core : Held
@@ -34,11 +36,13 @@ pub record AnswersInput (honest : Bool) (text : List ℕ) (old new : Option (Lis
   pub reads : AllZip (Hears honest) (lines_of text) commands
   pub session : Session honest commands core printed []
   pub closed : IsClosed honest core
+  pub lived : IsTrue honest → HasLived commands [] printed core
   pub answers : AllZip IsAnswer commands printed
   pub appends : Appends old new (text_of printed)
 
 -- Each line of the text is read as a command or as none, and a session of these ended so. What it printed are the answers to
--- the commands of a beginning, one for each; the rest has none.
+-- the commands of a beginning, one for each; the rest has none. Over a disk that returns what it holds it came to lives of
+-- engines one after another, where it printed anything.
 pub record RunsInput (honest : Bool) (text : List ℕ) (ended : Result Unit Error) (printed : List (List ℕ)) : Type 0 where
   pub commands : List (Option Command)
   pub front : List (Option Command)
@@ -47,6 +51,7 @@ pub record RunsInput (honest : Bool) (text : List ℕ) (ended : Result Unit Erro
   pub split : commands ≡ front ++ rest
   pub answers : AllZip IsAnswer front printed
   pub ends : Ends honest commands printed rest ended
+  pub lived : IsTrue honest → HasLivedIfAny commands rest printed
 
 -- the input or the output failed
 abbrev pub IsIo : Error → Type 0

@@ -1,0 +1,5 @@
+use Rattle.fjall_core.proofs.Running as Running
+use Rattle.fjall_core.proofs.laws.runs_go_on.Goals as goal
+
+pub returns : goal.returns
+returns c = Running.runs_behind
