@@ -1,5 +1,5 @@
 -- What a crash leaves of a folder stands for the base with a beginning of what is pending.
-use Rattle.std.proofs.Common.{◌≡◌, inl, ℕ, suc, arith, List, [], ◌∷◌, ◌++◌, map, refl, sym, ◌∙◌, ap, subst, append_assoc}
+use Rattle.std.proofs.Common.{◌≡◌, inl, suc, arith, List, [], ◌∷◌, ◌++◌, map, refl, sym, ◌∙◌, ap, subst, append_assoc}
 use Rattle.std.specs.Prelude.{Contains}
 use Rattle.std.proofs.lemmas.List.{append-nil, map-append}
 use Rattle.fjall_base.specs.Store.{Store, Command, fold, kept}

@@ -25,7 +25,7 @@ mod Keyspacing
 mod Deleting
 mod Closings
 mod Opening
-mod Kept
+pub mod Kept
 pub mod Lasting
 pub mod Lives
 pub mod Reopening

@@ -1,8 +1,8 @@
 -- What engines one after another leave of a disk.
-use Rattle.std.proofs.Common.{◌≡◌, ℕ, true, false, List, [], ◌∷◌, ◌++◌, Option, Some, None, IsSome, Result, Ok, Err, refl, sym, ◌∙◌, ap, subst, append_assoc}
+use Rattle.std.proofs.Common.{◌≡◌, true, false, List, [], ◌∷◌, ◌++◌, Option, Some, None, IsSome, Result, Ok, Err, refl, sym, ◌∙◌, ap, subst, append_assoc}
 use Rattle.std.proofs.lemmas.List.{append-nil, append_cancel_left}
 use Rattle.std.proofs.lemmas.Bool.{true≢false}
-use Rattle.std.specs.List.{AllByRecursion, flat_map}
+use Rattle.std.specs.List.{AllByRecursion}
 use Rattle.fjall_base.specs.Store.{Command, Store, fold, kept}
 use Rattle.fjall_base.specs.Crash.{IsHoused}
 use Rattle.fjall_base.specs.Disk.{Image, IsImage, Leaves, Meaning, State, Step, Took, disk_of, state_in}
@@ -22,14 +22,14 @@ use Rattle.fjall_machine.specs.Machine.{present}
 use Rattle.fjall_machine.specs.Histories.{latest}
 use Rattle.fjall_core.specs.Holding.{Held}
 use Rattle.fjall_core.specs.Durables.{Durable, IsBeginning, Passes, StandsAmid}
-use Rattle.fjall_core.specs.Crashes.{Settled, Tried, at_most_one}
+use Rattle.fjall_core.specs.Crashes.{BlamesEach, Settled, Tried, at_most_one}
 use Rattle.fjall_core.specs.Openings.{OpensAmid, OpensAs}
-use Rattle.fjall_core.specs.Standing.{Closes, OwesAll, OwesClosing, Runs, StandsOn}
-use Rattle.fjall_core.specs.Lives.{AreLeftOf, Closed, CutBehind, CutBehindSync, CutInCalls, CutInClosing, CutInOpening, Dropped, Ended, GoesOn, HoldsFold, IsLeftOf, Life, LastSync, Lived, Lives, NoLife, NoSync, OneMore, Opened, Served, Unclosed, Unopened, UpTo, all_left, begun, start_of, unlived}
-use Rattle.fjall_core.proofs.Amids.{no_more, run_passes}
+use Rattle.fjall_core.specs.Standing.{Closes, OwesAll, Runs, StandsOn}
+use Rattle.fjall_core.specs.Lives.{AreLeftOf, Closed, CutBehind, CutBehindSync, CutInCalls, CutInClosing, CutInOpening, Dropped, Ended, GoesOn, HoldsFold, IsLeftOf, Life, LastSync, Lived, Lives, NoLife, NoSync, OneMore, Opened, Served, Unclosed, Unopened, UpTo, all_left, begun, start_of}
+use Rattle.fjall_core.proofs.Amids.{no_more, run_blames, run_passes}
 use Rattle.fjall_core.proofs.Kept.{crash_holds}
 use Rattle.fjall_core.proofs.Reopening.{a_core_holds_amid, holds_store_amid}
-use Rattle.fjall_core.proofs.Owing.{owes_run, owes_step}
+use Rattle.fjall_core.proofs.Owing.{owes_run}
 
 -- ---- what is left
 
@@ -259,6 +259,14 @@ lived_tidy old base pending life new next waits tidy (Opened core after calls re
 pub lives_stay_tidy : (first : State) (start : Store) (lives : List Life) (new : State) (base : Store) (pending : List Command) → IsTidy first → Lives first start lives new base pending → IsTidy new
 lives_stay_tidy first start lives new base pending tidy NoLife = tidy
 lives_stay_tidy first start lives new base pending tidy (OneMore before life old mid waits to next more lived_before one) = lived_tidy old mid waits life to next more (lives_stay_tidy first start before (state_in old) mid waits tidy lived_before) one
+
+-- so each fault of a run behind them was the device's
+pub lives_blame : (first : State) (start : Store) (lives : List Life) (old : Meaning) (base : Store) (pending : List Command) (core new : Held) (calls : List Call) (replies : List Reply) → IsTidy first → Lives first start lives (state_in old) base pending
+    → (opened : OpensAmid old core base pending) (run : Served core (kept (fold base opened.front)) opened.opens calls replies new)
+    → BlamesEach (start_of core (kept (fold base opened.front)) opened.opens) (begun core (kept (fold base opened.front))) calls replies run.tried run.state run.durable run.run
+lives_blame first start lives old base pending core new calls replies tidy lived_before opened run =
+    let store = kept (fold base opened.front) in
+    run_blames (start_of core store opened.opens) run.state (begun core store) run.durable calls replies run.tried (tidy_on old core.disk opened.kinds (lives_stay_tidy first start lives (state_in old) base pending tidy lived_before)) run.run
 
 -- what calls owe whatever the disk is makes them a run of the machine
 pub owed_runs : (old new : Held) (calls : List Call) (replies : List Reply) → OwesAll old calls replies new → Runs old calls replies new

@@ -24,7 +24,7 @@ use Rattle.fjall_repair.specs.Opened.{ComesBack}
 use Rattle.fjall_repair.specs.Opened as repair
 use Rattle.fjall_core.specs.Holding.{Held}
 use Rattle.fjall_core.specs.Durables.{Durable, IsFinished, StaysFinished}
-use Rattle.fjall_core.specs.Openings.{OpensAmid, OpensAs}
+use Rattle.fjall_core.specs.Openings.{OpensAmid}
 use Rattle.fjall_core.specs.Standing.{HoldsStore, StandsOn}
 use Rattle.fjall_core.proofs.Opening.{core_of, opens_as}
 

@@ -1,5 +1,5 @@
 -- Runs of calls over a disk that may crash, and what the syncs among them make safe.
-use Rattle.std.specs.Prelude.{◌≡◌, ℕ, ◌<◌, ◌^◌, zero, suc, List, [], ◌∷◌, ◌++◌, take, Option, Some, None, IsSome, true, false, if◌then◌else◌}
+use Rattle.std.specs.Prelude.{◌≡◌, ℕ, zero, suc, List, [], ◌∷◌, ◌++◌, take, Option, Some, None, IsSome, true, false, if◌then◌else◌}
 use Rattle.fjall_base.specs.Store.{Command, Create, Delete, fold, kept}
 use Rattle.fjall_base.specs.Disk.{DeviceFailed, Image, IsImage, Meaning, Took, LeavesOnly, state_in}
 use Rattle.fjall_base.specs.Disk as disk

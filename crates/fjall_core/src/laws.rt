@@ -11,7 +11,7 @@ ghost use Rattle.fjall_opening.specs.Folders.{StandsFor};
 ghost use Rattle.fjall_places.specs.Amid.{HoldsAmid};
 ghost use Rattle.fjall_core.specs.Durables.{IsBeginning, StandsAmid, Durable};
 ghost use Rattle.fjall_core.specs.Holding.{Held};
-ghost use Rattle.fjall_core.specs.Lives.{AreLeftOf, GoesOn, HoldsFold, LastSync, Life, Lived, Lives, Served, all_left};
+ghost use Rattle.fjall_core.specs.Lives.{AreLeftOf, GoesOn, HoldsFold, LastSync, Life, Lived, Lives, Served, all_left, begun, start_of};
 ghost use Rattle.fjall_core.specs.Standing.{HoldsStore, Owes, OwesAll, Runs, RunsOn, RunsSafely, StandsOn, Steps};
 ghost use Rattle.fjall_machine.specs.declared.call.Call.{Call};
 ghost use Rattle.fjall_machine.specs.declared.call.Reply.{Reply};
@@ -111,6 +111,13 @@ pub fn crash_stays_tidy()
 /// Nor does anything behind lives of engines, wherever they were cut off, dropped or refused.
 pub fn lives_stay_tidy()
     ensures { (first : State) (start : Store) (lives : List Life) (new : State) (base : Store) (pending : List Command) → IsTidy first → Lives first start lives new base pending → IsTidy new }
+{}
+
+/// So each `Io` of a run behind such lives is told where the device failed, where nothing stood in the way of the first.
+pub fn lives_blame_the_device()
+    ensures { (first : State) (start : Store) (lives : List Life) (old : Meaning) (base : Store) (pending : List Command) (core new : Held) (calls : List Call) (replies : List Reply) → IsTidy first → Lives first start lives (state_in old) base pending
+        → (opened : OpensAmid old core base pending) (run : Served core (kept (fold base opened.front)) opened.opens calls replies new)
+        → BlamesEach (start_of core (kept (fold base opened.front)) opened.opens) (begun core (kept (fold base opened.front))) calls replies run.tried run.state run.durable run.run }
 {}
 
 /// Where nothing stands in the way, each `Io` of a run is told where the device failed, and no call of the disk was one that

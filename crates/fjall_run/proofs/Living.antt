@@ -19,10 +19,11 @@ use Rattle.fjall_machine.specs.declared.call.Reply.{Reply}
 use Rattle.fjall_machine.specs.Machine.{present}
 use Rattle.fjall_core.specs.Holding.{Held}
 use Rattle.fjall_core.specs.Lives.{Closed, CutBehind, Ended, Life, Lives, NoLife, OneMore, Opened, Served, Unclosed, begun, start_of}
-use Rattle.fjall_core.specs.Openings.{OpensAmid, OpensAs}
+use Rattle.fjall_core.specs.Openings.{OpensAmid}
 use Rattle.fjall_core.specs.Standing.{OwesAll}
 use Rattle.fjall_core.proofs.Lasting.{a_last_sync}
-use Rattle.fjall_core.proofs.Lives.{lives_hold, lives_open}
+use Rattle.fjall_core.proofs.Kept.{new_disk_tidy}
+use Rattle.fjall_core.proofs.Lives.{lives_blame, lives_hold, lives_open}
 use Rattle.fjall_core.proofs.Reopening.{holds_store_amid}
 use Rattle.fjall_core.proofs.Running.{no_run, runs_behind}
 use Rattle.fjall_run.specs.declared.command.Command.{Command}
@@ -306,6 +307,7 @@ has_lived commands rest core printed session =
       calls = s.calls;
       replies = s.replies;
       run = s.run;
+      device = lives_blame (state_in new_disk) (bare no_keyspaces) s.lives s.disk s.base s.pending s.first core s.calls s.replies (new_disk_tidy (state_in new_disk) (λ name. refl)) s.before s.opened s.run;
       calls_are = s.calls_are;
       printed_are = s.printed_are;
       fronts = behind.0;

@@ -1,5 +1,5 @@
 -- What a session over a disk that returns what it holds comes to: engines one after another on one disk, which was new.
-use Rattle.std.specs.Prelude.{◌≡◌, ℕ, List, [], ◌∷◌, ◌++◌, codes, Option, Some, None, IsTrue, Bool, ◌⊎◌}
+use Rattle.std.specs.Prelude.{◌≡◌, ℕ, List, [], ◌∷◌, ◌++◌, codes, Option, Some, None, ◌⊎◌}
 use Rattle.std.specs.List.{flat_map}
 use Rattle.fjall_base.specs.Store.{Store, fold, kept}
 use Rattle.fjall_base.specs.Store as store
@@ -9,7 +9,8 @@ use Rattle.fjall_versions.specs.Replays.{bare}
 use Rattle.fjall_machine.specs.declared.call.Call.{Call}
 use Rattle.fjall_machine.specs.declared.call.Reply.{Reply}
 use Rattle.fjall_core.specs.Holding.{Held}
-use Rattle.fjall_core.specs.Lives.{AreLeftOf, Life, Lives, Served, all_left}
+use Rattle.fjall_core.specs.Crashes.{BlamesEach}
+use Rattle.fjall_core.specs.Lives.{AreLeftOf, Life, Lives, Served, all_left, begun, start_of}
 use Rattle.fjall_core.specs.Openings.{OpensAmid, OpensAs}
 use Rattle.fjall_run.specs.declared.command.Command.{Command}
 use Rattle.fjall_run.specs.declared.command.Command.TheVariants.{Crash, Reopen}
@@ -30,7 +31,7 @@ answers_through (Some command ∷ rest) (reply ∷ replies) = reply_text command
 -- A session has come as far as this rest. Each crash and each reopening ended the life of an engine, and the core as it stands
 -- is of one more. Their calls are those of the lines, and what was printed are the answers by their replies. The last of
 -- them opened as the fold of what is left of the lives before it, in order: of each a beginning of what it tried, with all
--- that a sync followed that succeeded.
+-- that a sync followed that succeeded. Each `Io` of its calls was told where the device failed.
 pub record HasLived (commands rest : List (Option Command)) (printed : List (List ℕ)) (core : Held) : Type 0 where
   pub front : List (Option Command)
   pub split : commands ≡ front ++ rest
@@ -44,6 +45,7 @@ pub record HasLived (commands rest : List (Option Command)) (printed : List (Lis
   pub calls : List Call
   pub replies : List Reply
   pub run : Served first (kept (fold base opened.front)) opened.opens calls replies core
+  pub device : BlamesEach (start_of first (kept (fold base opened.front)) opened.opens) (begun first (kept (fold base opened.front))) calls replies run.tried run.state run.durable run.run
   pub calls_are : calls_of front ≡ flat_map (λ life. life.calls) lives ++ calls
   pub printed_are : printed ≡ answers_through front (flat_map (λ life. life.replies) lives ++ replies)
   pub fronts : List (List store.Command)
