@@ -9,11 +9,11 @@ use Rattle.std.specs.List.Sorted.{IsStrictlyIncreasing}
 use Rattle.fjall_base.specs.declared.error.FormatVersion.TheVariants.{V3}
 use Rattle.fjall_base.specs.Disk.{Name, Entry, Missing, File, Folder, Place, State, SyncFolder, Meaning, Took, IsFile, IsNoFile, IsNoFolder, folder_of, standing, state_in}
 use Rattle.fjall_base.proofs.States.{differs, settle-in, settle-out}
-use Rattle.fjall_regions.specs.Regions.{IsSafe, Within, is_under}
-use Rattle.fjall_regions.proofs.Changes.{settle-now, within_state}
+use Rattle.fjall_files.specs.Regions.{IsSafe, Within, is_under}
+use Rattle.fjall_files.proofs.Changes.{settle-now, within_state}
 use Rattle.fjall_journal.specs.Batches.{Written, IsWritten, shown}
-use Rattle.fjall_recovery.specs.Marker.{header}
-use Rattle.fjall_recovery.specs.Names.{IsMisnamed, IsNameOf, journal_name, keyspace_folder, current_name}
+use Rattle.fjall_files.specs.Marker.{header}
+use Rattle.fjall_files.specs.Names.{IsMisnamed, IsNameOf, journal_name, keyspace_folder, current_name}
 use Rattle.fjall_keyspaces.specs.Keyspaces.{AreKeyspaces, no_keyspaces}
 use Rattle.fjall_catalog.specs.Catalog.{fields, first_catalog, only}
 use Rattle.fjall_catalog.proofs.Naming.{folder_of-folder}

@@ -7,8 +7,8 @@ use Rattle.std.proofs.lemmas.List.Elements.{recursion_from_All}
 use Rattle.fjall_base.specs.declared.error.Error.{Error}
 use Rattle.fjall_base.specs.Disk.{Name, Entry, Missing, File, Folder, Place, State, Image, IsFile, Put, Append, Sync, Loosen, Cut, SyncFolder, Meaning, Took, TookOrNot, TookPart, TookCut, alter, all_synced, appended, cut_to, loosened, making, standing, state_in}
 use Rattle.fjall_base.proofs.States.{alter-same, differs, put-same, settle-in}
-use Rattle.fjall_regions.proofs.Changes.{settle-now}
-use Rattle.fjall_recovery.specs.Names.{journal_name}
+use Rattle.fjall_files.proofs.Changes.{settle-now}
+use Rattle.fjall_files.specs.Names.{journal_name}
 use Rattle.fjall_opening.specs.Folders.{Contents, IsSound, IsUnfinished}
 use Rattle.fjall_opening.specs.Journals.{Journal}
 use Rattle.fjall_places.specs.Places.{LiesInRoot, journal_ids}

@@ -4,7 +4,7 @@ use Rattle.std.proofs.lemmas.List.Elements.{All-append, All-cons, All-head, All-
 use Rattle.std.proofs.Math.Seq.{take-suc}
 use Rattle.std.specs.Str.{bytes_eq}
 use Rattle.fjall_base.specs.Disk.{Name, File, Place, State}
-use Rattle.fjall_recovery.specs.Names.{journal_name}
+use Rattle.fjall_files.specs.Names.{journal_name}
 use Rattle.fjall_beginning.specs.Making.{CanHold}
 use Rattle.fjall_beginning.proofs.Fronts.{bool_cases, same}
 use Rattle.fjall_beginning.proofs.Holding.{journal_holds}

@@ -6,8 +6,8 @@ use Rattle.fjall_base.specs.Disk.{File, Folder}
 use Rattle.fjall_journal.proofs.Cuts.{none_at_nil}
 use Rattle.fjall_tree.specs.Records.{IsRecord, IsRecords}
 use Rattle.fjall_tree.proofs.Currents.{texts_are_records}
-use Rattle.fjall_recovery.specs.Marker.{header}
-use Rattle.fjall_recovery.specs.Names.{journal_name, current_name}
+use Rattle.fjall_files.specs.Marker.{header}
+use Rattle.fjall_files.specs.Names.{journal_name, current_name}
 use Rattle.fjall_catalog.specs.Catalog.{fields, first_catalog}
 use Rattle.fjall_opening.specs.Folders.{IsBegun}
 use Rattle.fjall_beginning.specs.Making.{CanHold, MayMark, MayStand}

@@ -11,11 +11,11 @@ use Rattle.fjall_base.specs.Disk.{Name, Entry, Missing, File, Folder, Place, Sta
 use Rattle.fjall_base.proofs.Covers.{LeftAt}
 use Rattle.fjall_base.proofs.Moments.{stays, steps_on}
 use Rattle.fjall_base.proofs.States.{settle-in, settle-out}
-use Rattle.fjall_regions.specs.Regions.{IsImageIn}
-use Rattle.fjall_regions.proofs.Parts.{in_region, region_along, region_settle}
+use Rattle.fjall_files.specs.Regions.{IsImageIn}
+use Rattle.fjall_files.proofs.Parts.{in_region, region_along, region_settle}
 use Rattle.fjall_journal.specs.Batches.{Written, shown}
-use Rattle.fjall_recovery.specs.declared.marker.Marker.TheVariants.{Unfinished}
-use Rattle.fjall_recovery.specs.Marker.{header, marker_tells}
+use Rattle.fjall_files.specs.declared.marker.Marker.TheVariants.{Unfinished}
+use Rattle.fjall_files.specs.Marker.{header, marker_tells}
 use Rattle.fjall_keyspaces.specs.Keyspaces.{no_keyspaces}
 use Rattle.fjall_catalog.specs.Catalog.{fields, first_catalog, only}
 use Rattle.fjall_versions.specs.Replays.{bare, store_in}

@@ -8,9 +8,9 @@ use Rattle.fjall_base.specs.declared.error.Error.{Error}
 use Rattle.fjall_base.specs.Disk.{Name, Entry, Missing, File, Folder, Place, State, Image, Step, Put, Append, Sync, Loosen, Cut, SyncFolder, Meaning, Took, TookCut, TookOrNot, TookPart, Leaves, after, all_synced, alter, appended, change, cut_to, folder_of, loosened, making, put, settle, state_in}
 use Rattle.fjall_base.proofs.States.{alter-same, alter-other, differs, put-same, put-other, settle-in, settle-out}
 use Rattle.fjall_base.proofs.Moments.{runs_on, stays}
-use Rattle.fjall_regions.specs.Regions.{AreUnder, Within, is_under, target}
-use Rattle.fjall_regions.proofs.Made.{took_both}
-use Rattle.fjall_recovery.specs.Names.{table_name}
+use Rattle.fjall_files.specs.Regions.{AreUnder, Within, is_under, target}
+use Rattle.fjall_files.proofs.Made.{took_both}
+use Rattle.fjall_files.specs.Names.{table_name}
 use Rattle.fjall_opening.specs.Journals.{text_in}
 use Rattle.fjall_beginning.specs.Making.{CanHold, ChangesAt, GoesOn, IsKept, IsMaking, KeepsTables, MayStand, StaysAt}
 use Rattle.fjall_beginning.proofs.Fronts.{bool_cases, same}

@@ -8,8 +8,8 @@ use Rattle.std.proofs.Math.Seq.{get_or-append_right}
 use Rattle.std.proofs.lemmas.List.Elements.{All-cons, All-nil}
 use Rattle.fjall_base.specs.declared.error.FormatVersion.TheVariants.{V3}
 use Rattle.fjall_base.specs.Disk.{Image, Name}
-use Rattle.fjall_recovery.specs.Marker.{header}
-use Rattle.fjall_recovery.specs.Names.{journal_name}
+use Rattle.fjall_files.specs.Marker.{header}
+use Rattle.fjall_files.specs.Names.{journal_name}
 use Rattle.fjall_catalog.proofs.Naming.{current_zero}
 use Rattle.fjall_opening.specs.Journals.{AreJournalIds, text_in}
 use Rattle.fjall_beginning.specs.declared.plan.Found.{Found}

@@ -5,16 +5,16 @@ use Rattle.fjall_base.specs.declared.error.Error.{Error}
 use Rattle.fjall_base.specs.declared.error.FormatVersion.TheVariants.{V3}
 use Rattle.fjall_base.specs.Disk.{Name, Entry, Missing, File, Folder, Place, State, Meaning, SyncFolder, Took, IsFile, IsLong, IsNoFile, IsNoFolder, CanCreate, CanMakeFolder, making, state_in}
 use Rattle.fjall_base.proofs.States.{differs}
-use Rattle.fjall_regions.proofs.Changes.{settle-now}
-use Rattle.fjall_regions.proofs.Fitting.{fits_current, fits_folder, fits_journal}
-use Rattle.fjall_regions.proofs.Serving.{can_make_journal}
+use Rattle.fjall_files.proofs.Changes.{settle-now}
+use Rattle.fjall_files.proofs.Fitting.{fits_current, fits_folder, fits_journal}
+use Rattle.fjall_files.proofs.Serving.{can_make_journal}
 use Rattle.fjall_tree.proofs.Currents.{records_apart}
-use Rattle.fjall_recovery.specs.Marker.{header}
-use Rattle.fjall_recovery.specs.Names.{AllKeyspaces, Current, Journal, Keyspace, Version, journal_name, keyspace_folder, current_name}
-use Rattle.fjall_recovery.specs.Tidy.{FitsAt, IsTidy, StaysTidy}
-use Rattle.fjall_recovery.proofs.Distinct.{kept}
-use Rattle.fjall_recovery.proofs.OfKinds.{kind_now}
-use Rattle.fjall_recovery.proofs.Tidying.{stays_making, stays_none as tidy_none}
+use Rattle.fjall_files.specs.Marker.{header}
+use Rattle.fjall_files.specs.Names.{AllKeyspaces, Current, Journal, Keyspace, Version, journal_name, keyspace_folder, current_name}
+use Rattle.fjall_files.specs.Tidy.{FitsAt, IsTidy, StaysTidy}
+use Rattle.fjall_files.proofs.Distinct.{kept}
+use Rattle.fjall_files.proofs.OfKinds.{kind_now}
+use Rattle.fjall_files.proofs.Tidying.{stays_making, stays_none as tidy_none}
 use Rattle.fjall_catalog.specs.Catalog.{fields, first_catalog}
 use Rattle.fjall_catalog.proofs.Naming.{current_zero, folder_zero}
 use Rattle.fjall_opening.specs.Journals.{text_in}

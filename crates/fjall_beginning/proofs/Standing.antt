@@ -6,9 +6,9 @@ use Rattle.fjall_base.specs.Disk.{Name, Entry, Missing, File, Folder, State, Ima
 use Rattle.fjall_journal.specs.Batches.{NoneAt}
 use Rattle.fjall_journal.proofs.Cuts.{none_at_nil}
 use Rattle.fjall_tree.proofs.Currents.{texts_are_records}
-use Rattle.fjall_recovery.specs.declared.marker.Marker.TheVariants.{Unfinished}
-use Rattle.fjall_recovery.specs.Marker.{marker_tells}
-use Rattle.fjall_recovery.specs.Names.{IsNameOf, journal_name, keyspace_folder, current_name}
+use Rattle.fjall_files.specs.declared.marker.Marker.TheVariants.{Unfinished}
+use Rattle.fjall_files.specs.Marker.{marker_tells}
+use Rattle.fjall_files.specs.Names.{IsNameOf, journal_name, keyspace_folder, current_name}
 use Rattle.fjall_opening.specs.Folders.{IsBegun, IsUnfinished, file_bytes}
 use Rattle.fjall_opening.specs.Journals.{text_in}
 use Rattle.fjall_places.proofs.Holding.{there_or_not}

@@ -1,7 +1,7 @@
 -- What was begun: a database without keyspaces, whose journals hold nothing, and which of them is active.
 use Rattle.std.specs.Prelude.{◌≡◌, ◌⊎◌, ℕ, ◌<◌, ◌≤◌, ◌^◌, [], ◌∷◌}
 use Rattle.fjall_base.specs.Disk.{Image, State, IsFile}
-use Rattle.fjall_recovery.specs.Names.{journal_name}
+use Rattle.fjall_files.specs.Names.{journal_name}
 use Rattle.fjall_keyspaces.specs.Keyspaces.{no_keyspaces}
 use Rattle.fjall_catalog.specs.Catalog.{fields, first_catalog}
 use Rattle.fjall_opening.specs.Journals.{batches_in}

@@ -4,9 +4,9 @@ use Rattle.std.specs.List.{AllByRecursion}
 use Rattle.fjall_base.specs.declared.error.FormatVersion.TheVariants.{V3}
 use Rattle.fjall_base.specs.Disk.{Name, Entry, File, Folder, State, Image, IsFile, Step, Put, Append, Sync, Loosen, Cut, SyncFolder, Meaning, Took, LeavesOnly, folder_of, state_in}
 use Rattle.fjall_journal.specs.Batches.{NoneAt}
-use Rattle.fjall_recovery.specs.declared.marker.Marker.TheVariants.{Unfinished}
-use Rattle.fjall_recovery.specs.Marker.{header, marker_tells}
-use Rattle.fjall_recovery.specs.Names.{IsMisnamed, IsNameOf, journal_name, keyspace_folder, current_name, table_name}
+use Rattle.fjall_files.specs.declared.marker.Marker.TheVariants.{Unfinished}
+use Rattle.fjall_files.specs.Marker.{header, marker_tells}
+use Rattle.fjall_files.specs.Names.{IsMisnamed, IsNameOf, journal_name, keyspace_folder, current_name, table_name}
 use Rattle.fjall_opening.specs.Folders.{IsBegun, file_bytes}
 use Rattle.fjall_opening.specs.Journals.{text_in}
 pub use Rattle.fjall_places.specs.Amid.{AreLeft, ComesBackUnfinished}

@@ -4,10 +4,10 @@ use Rattle.std.specs.List.Sorted.{IsStrictlyIncreasing}
 use Rattle.std.specs.Str.{bytes_eq}
 use Rattle.fjall_base.specs.declared.error.FormatVersion.TheVariants.{V3}
 use Rattle.fjall_base.specs.Disk.{Name, File, Folder, State, Image, IsFile, folder_of}
-use Rattle.fjall_regions.specs.Regions.{IsSafe}
+use Rattle.fjall_files.specs.Regions.{IsSafe}
 use Rattle.fjall_tree.specs.Records.{record_text}
-use Rattle.fjall_recovery.specs.Marker.{header}
-use Rattle.fjall_recovery.specs.Names.{journal_name, keyspace_folder, current_name}
+use Rattle.fjall_files.specs.Marker.{header}
+use Rattle.fjall_files.specs.Names.{journal_name, keyspace_folder, current_name}
 use Rattle.fjall_keyspaces.specs.Keyspaces.{no_keyspaces}
 use Rattle.fjall_catalog.specs.Catalog.{fields, first_catalog, only, records_in}
 use Rattle.fjall_opening.specs.Journals.{Journal, text_in}

@@ -2,8 +2,8 @@
 
 ghost use Rattle.std.specs.Prelude.{◌≡◌, ◌≢◌, ◌<◌, ◌^◌, ℕ, [], false, All, Bool, IsTrue, List, OnOk, map, string_bytes};
 ghost use Rattle.fjall_base.specs.Disk.{CanCreate, File, Name, OnlyFaults, state_in};
-ghost use Rattle.fjall_recovery.specs.Names.{journal_name};
-ghost use Rattle.fjall_recovery.specs.Tidy.{FitsAt, IsTidy, StaysTidy};
+ghost use Rattle.fjall_files.specs.Names.{journal_name};
+ghost use Rattle.fjall_files.specs.Tidy.{FitsAt, IsTidy, StaysTidy};
 ghost use Rattle.fjall_beginning.specs.Making.{CanHold, GoesOn, StaysAt};
 
 use fjall_base::{Disk, Result};

@@ -4,9 +4,9 @@ ghost use Rattle.std.specs.Prelude.{◌≡◌, ◌<◌, ◌^◌, ℕ, false, tru
 ghost use Rattle.fjall_base.specs.declared.error.FormatVersion.TheVariants.{V3};
 ghost use Rattle.fjall_base.specs.Disk.{IsFile, LeavesOnly, OnlyFaults, standing, state_in};
 ghost use Rattle.fjall_keyspaces.specs.Keyspaces.{no_keyspaces};
-ghost use Rattle.fjall_recovery.specs.Marker.{header as header_of};
-ghost use Rattle.fjall_recovery.specs.Tidy.{IsTidy, StaysTidy};
-ghost use Rattle.fjall_recovery.specs.Names.{journal_name};
+ghost use Rattle.fjall_files.specs.Marker.{header as header_of};
+ghost use Rattle.fjall_files.specs.Tidy.{IsTidy, StaysTidy};
+ghost use Rattle.fjall_files.specs.Names.{journal_name};
 ghost use Rattle.fjall_versions.specs.Replays.{bare};
 ghost use Rattle.fjall_opening.specs.Folders.{IsUnfinished, StandsFor};
 ghost use Rattle.fjall_opening.specs.Journals.{text_in};

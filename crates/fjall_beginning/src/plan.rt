@@ -3,8 +3,8 @@
 ghost use Rattle.std.specs.Prelude.{◌≡◌, ◌≢◌, ◌≤◌, ◌∷◌, ◌++◌, ℕ, [], IfErr, IfOk, IsOkUnless, IsTrue, List, map, string_bytes};
 ghost use Rattle.fjall_base.specs.Disk.{HasCause, Took, standing, state_in};
 ghost use Rattle.fjall_base.specs.declared.error.FormatVersion.TheVariants.{V3};
-ghost use Rattle.fjall_recovery.specs.Marker.{header as header_of};
-ghost use Rattle.fjall_recovery.specs.Names.{journal_name as name_of_journal};
+ghost use Rattle.fjall_files.specs.Marker.{header as header_of};
+ghost use Rattle.fjall_files.specs.Names.{journal_name as name_of_journal};
 ghost use Rattle.fjall_opening.specs.Journals.{AreJournalIds, text_in};
 ghost use Rattle.fjall_opening.specs.Naming.{JournalsAreNamed};
 ghost use Rattle.fjall_opening.specs.Refusals.{HasRisen, IsDue, IsOpeningRefusal};
@@ -14,7 +14,7 @@ ghost use Rattle.fjall_beginning.specs.Plans.{AreToBe, IsFound, IsPlan};
 use crate::tree::CURRENT;
 use fjall_base::{Disk, Error, Result};
 use fjall_catalog::first_record;
-use fjall_recovery::{journal_name, journals, write_file_header};
+use fjall_files::{journal_name, journals, write_file_header};
 use std::alloc::Global;
 
 /// The file of the marker.

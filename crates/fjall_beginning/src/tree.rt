@@ -2,9 +2,9 @@
 
 ghost use Rattle.std.specs.Prelude.{◌≡◌, [], codes, false, IsTrue, OnOk};
 ghost use Rattle.fjall_base.specs.Disk.{File, Folder, OnlyFaults, standing, state_in};
-ghost use Rattle.fjall_regions.specs.Regions.{Within};
-ghost use Rattle.fjall_recovery.specs.Names.{current_name, keyspace_folder};
-ghost use Rattle.fjall_recovery.specs.Tidy.{IsTidy, StaysTidy};
+ghost use Rattle.fjall_files.specs.Regions.{Within};
+ghost use Rattle.fjall_files.specs.Names.{current_name, keyspace_folder};
+ghost use Rattle.fjall_files.specs.Tidy.{IsTidy, StaysTidy};
 ghost use Rattle.fjall_catalog.specs.Catalog.{records_in};
 ghost use Rattle.fjall_beginning.specs.Making.{GoesOn, KeepsHomes};
 ghost use Rattle.fjall_beginning.specs.Plans.{HasFirstTree, IsFound, first_text};

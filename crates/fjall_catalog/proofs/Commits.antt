@@ -9,13 +9,13 @@ use Rattle.fjall_base.specs.Disk.{Name, Entry, File, Folder, Place, State, Image
 use Rattle.fjall_base.proofs.States.{differs, alter-same, alter-other}
 use Rattle.fjall_base.proofs.Lists.{front_of_part}
 use Rattle.fjall_base.proofs.Moments.{started, steps_in_part, perhaps_on}
-use Rattle.fjall_regions.specs.Regions.{IsImageIn, IsSafe}
-use Rattle.fjall_regions.proofs.Parts.{in_region, left_at, region_sync}
+use Rattle.fjall_files.specs.Regions.{IsImageIn, IsSafe}
+use Rattle.fjall_files.proofs.Parts.{in_region, left_at, region_sync}
 use Rattle.fjall_tree.specs.declared.record.TableInfo.{TableInfo}
 use Rattle.fjall_tree.specs.Records.{Fields, IsRecord, IsRecords, body, record_text, last_of}
 use Rattle.fjall_tree.proofs.Currents.{cut_reads, last_behind}
 use Rattle.fjall_tree.proofs.Lists.{each_more}
-use Rattle.fjall_recovery.specs.Names.{keyspace_folder, current_name, table_name}
+use Rattle.fjall_files.specs.Names.{keyspace_folder, current_name, table_name}
 use Rattle.fjall_keyspaces.specs.declared.entry.MetaEntry.{MetaEntry}
 use Rattle.fjall_keyspaces.specs.Keyspaces.{Keyspaces, AreKeyspaces}
 use Rattle.fjall_keyspaces.specs.Entries.{entries_of}

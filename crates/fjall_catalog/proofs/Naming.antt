@@ -8,9 +8,9 @@ use Rattle.std.proofs.lemmas.Fmt.{decimal_digit, decimal_injective, digits_decim
 use Rattle.std.specs.Str.Parse.{AllDigits, digits_value}
 use Rattle.std.proofs.lemmas.Str.Parse.{IsNumeralModel, numerals_by_value, tells_digits, not_in_digits}
 use Rattle.fjall_base.specs.Disk.{Name, folder_of}
-use Rattle.fjall_regions.specs.Regions.{join, is_under}
-use Rattle.fjall_regions.proofs.Under.{IsPlain, folder_of-join, folder_is_shorter, join_name, shorter_out, under_inner, under_join}
-use Rattle.fjall_recovery.specs.Names.{keyspace_folder, current_name, table_name}
+use Rattle.fjall_files.specs.Regions.{join, is_under}
+use Rattle.fjall_files.proofs.Under.{IsPlain, folder_of-join, folder_is_shorter, join_name, shorter_out, under_inner, under_join}
+use Rattle.fjall_files.specs.Names.{keyspace_folder, current_name, table_name}
 
 pub bool_cases : (b : Bool) → (b ≡ true) ⊎ (b ≡ false)
 bool_cases true = inl refl

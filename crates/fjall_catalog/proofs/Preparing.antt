@@ -3,7 +3,7 @@ use Rattle.std.proofs.Common.{◌≡◌, ℕ, ◌+◌, ◌<◌, ◌^◌, List, [
 use Rattle.std.specs.Option.{option_map}
 use Rattle.fjall_tree.specs.declared.record.TableInfo.{TableInfo}
 use Rattle.fjall_tree.specs.Records.{Fits, record_text}
-use Rattle.fjall_recovery.specs.Names.{table_name}
+use Rattle.fjall_files.specs.Names.{table_name}
 use Rattle.fjall_keyspaces.specs.declared.entry.MetaEntry.{MetaEntry}
 use Rattle.fjall_keyspaces.specs.Keyspaces.{Keyspaces}
 use Rattle.fjall_keyspaces.specs.Entries.{entries_of}

@@ -11,11 +11,10 @@ use Rattle.fjall_base.specs.Errors.{IsFaultOrMemory, Rose}
 use Rattle.fjall_tree.specs.declared.record.TableInfo.{TableInfo}
 use Rattle.fjall_tree.specs.Reading.{DamagedWhere}
 use Rattle.fjall_tree.specs.Records.{Fields, last_of}
-use Rattle.fjall_recovery.specs.Names.{current_name, table_name}
+use Rattle.fjall_files.specs.Names.{current_name, table_name}
 use Rattle.fjall_keyspaces.specs.declared.entry.MetaEntry.{MetaEntry}
-use Rattle.fjall_keyspaces.specs.Keyspaces.{Keyspaces, AreKeyspaces}
+use Rattle.fjall_keyspaces.specs.Keyspaces.{Keyspaces, AreKeyspaces, is_name}
 use Rattle.fjall_keyspaces.specs.Entries.{entries_of}
-use Rattle.fjall_keyspaces.specs.Keyspaces.{is_name}
 use Rattle.fjall_meta.specs.declared.options.stored_option.StoredOption.{StoredOption}
 use Rattle.fjall_meta.specs.Options.{config_key, is_value, name_key, option_name, stored_options, stored_value, stored_values, valid_value, value_of}
 use Rattle.fjall_meta.specs.Reading.{◌>>=◌}

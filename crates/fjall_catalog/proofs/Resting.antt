@@ -4,12 +4,12 @@ use Rattle.std.specs.List.{flat_map, AllByRecursion}
 use Rattle.std.proofs.lemmas.List.{append-nil}
 use Rattle.fjall_base.specs.Disk.{Name, Entry, File, Folder, State, Image, IsFile, IsThere, Survives, folder_of}
 use Rattle.fjall_base.proofs.States.{survives_whole}
-use Rattle.fjall_regions.specs.Regions.{IsImageIn, IsSafe}
-use Rattle.fjall_regions.proofs.Parts.{left_at}
+use Rattle.fjall_files.specs.Regions.{IsImageIn, IsSafe}
+use Rattle.fjall_files.proofs.Parts.{left_at}
 use Rattle.fjall_tree.specs.declared.record.TableInfo.{TableInfo}
 use Rattle.fjall_tree.specs.Records.{Fields, HasRoom, IsRecord, IsRecords, record_text, last_of}
 use Rattle.fjall_tree.proofs.Currents.{texts_are_records}
-use Rattle.fjall_recovery.specs.Names.{keyspace_folder, current_name, table_name}
+use Rattle.fjall_files.specs.Names.{keyspace_folder, current_name, table_name}
 use Rattle.fjall_keyspaces.specs.declared.entry.MetaEntry.{MetaEntry}
 use Rattle.fjall_keyspaces.specs.Keyspaces.{Keyspaces}
 use Rattle.fjall_keyspaces.specs.Entries.{entries_of}

@@ -8,14 +8,14 @@ use Rattle.fjall_base.specs.declared.error.Error.{Error}
 use Rattle.fjall_base.specs.Disk.{Name, Entry, Missing, File, Folder, Place, State, Image, IsImage, SyncFolder, Meaning, Took, LeavesOnly, state_in, settle, folder_of, removing}
 use Rattle.fjall_base.proofs.States.{put-now, settle-in, settle-out}
 use Rattle.fjall_base.proofs.Moments.{started, stays, steps_on}
-use Rattle.fjall_regions.specs.Regions.{is_under, IsSafe, Within}
-use Rattle.fjall_regions.proofs.Under.{folder_is_shorter, in_folder, shorter_out}
-use Rattle.fjall_regions.proofs.Changes.{settle-now, within_state}
-use Rattle.fjall_regions.proofs.Parts.{in_region, leaves_outside}
-use Rattle.fjall_regions.proofs.Made.{removing_within, safe_file, within_none}
+use Rattle.fjall_files.specs.Regions.{is_under, IsSafe, Within}
+use Rattle.fjall_files.proofs.Under.{folder_is_shorter, in_folder, shorter_out}
+use Rattle.fjall_files.proofs.Changes.{settle-now, within_state}
+use Rattle.fjall_files.proofs.Parts.{in_region, leaves_outside}
+use Rattle.fjall_files.proofs.Made.{removing_within, safe_file, within_none}
 use Rattle.fjall_tree.specs.declared.record.TableInfo.{TableInfo}
 use Rattle.fjall_tree.specs.Records.{Fields, IsRecord}
-use Rattle.fjall_recovery.specs.Names.{keyspace_folder, current_name, table_name}
+use Rattle.fjall_files.specs.Names.{keyspace_folder, current_name, table_name}
 use Rattle.fjall_keyspaces.specs.declared.entry.MetaEntry.{MetaEntry}
 use Rattle.fjall_keyspaces.specs.Keyspaces.{Keyspaces}
 use Rattle.fjall_keyspaces.specs.Entries.{entries_of}

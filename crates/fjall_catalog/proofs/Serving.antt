@@ -8,9 +8,9 @@ use Rattle.fjall_base.proofs.States.{alter-same, alter-other}
 use Rattle.fjall_tree.specs.Records.{Fields}
 use Rattle.fjall_keyspaces.specs.Keyspaces.{Keyspaces}
 use Rattle.fjall_catalog.specs.declared.catalog.Catalog.{Catalog}
-use Rattle.fjall_recovery.specs.Names.{keyspace_folder, current_name, table_name}
-use Rattle.fjall_recovery.specs.Tidy.{FitsAt}
-use Rattle.fjall_regions.proofs.Fitting.{fits_table}
+use Rattle.fjall_files.specs.Names.{keyspace_folder, current_name, table_name}
+use Rattle.fjall_files.specs.Tidy.{FitsAt}
+use Rattle.fjall_files.proofs.Fitting.{fits_table}
 use Rattle.std.specs.Prelude.{Option, None, Some, IfSome}
 use Rattle.fjall_tree.specs.declared.record.TableInfo.{TableInfo}
 use Rattle.fjall_keyspaces.specs.declared.entry.MetaEntry.{MetaEntry}

@@ -6,7 +6,7 @@ use Rattle.fjall_base.specs.declared.error.Error.TheVariants.{NumbersUsedUp, Out
 use Rattle.fjall_base.specs.Disk.{Missing, State, Image}
 use Rattle.fjall_tree.specs.declared.record.TableInfo.{TableInfo}
 use Rattle.fjall_tree.specs.Records.{Fields, IsRecord, record_text}
-use Rattle.fjall_recovery.specs.Names.{table_name}
+use Rattle.fjall_files.specs.Names.{table_name}
 use Rattle.fjall_keyspaces.specs.declared.entry.MetaEntry.{MetaEntry}
 use Rattle.fjall_keyspaces.specs.Keyspaces.{Keyspaces}
 use Rattle.fjall_keyspaces.specs.Entries.{entries_of}

@@ -15,7 +15,7 @@ use crate::table::decode_entries;
 use crate::writing::CURRENT;
 use fjall_base::{Disk, Error, Result, StorageError};
 use fjall_keyspaces::{MetaEntry, MetaKeyspace};
-use fjall_recovery::table_name;
+use fjall_files::table_name;
 use fjall_tree::{Current, TableInfo, read_current};
 use std::alloc::Global;
 

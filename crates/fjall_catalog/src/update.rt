@@ -2,7 +2,7 @@
 
 ghost use Rattle.std.specs.Prelude.{◌≡◌, ◌<◌, ◌^◌, ◌+◌, [], IfOk, IfErr, IsOkUnless, MatchOption, All, length, string_bytes};
 ghost use Rattle.std.specs.Option.{option_map};
-ghost use Rattle.fjall_recovery.specs.Names.{table_name};
+ghost use Rattle.fjall_files.specs.Names.{table_name};
 ghost use Rattle.fjall_keyspaces.specs.Keyspaces.{Keyspaces, without_keyspace};
 ghost use Rattle.fjall_keyspaces.specs.Entries.{IsAscending, entries_of};
 ghost use Rattle.fjall_catalog.specs.Catalog.{IsTableOf};
@@ -12,7 +12,7 @@ use crate::catalog::Catalog;
 use crate::table::encode_entries;
 use fjall_base::{Error, Result};
 use fjall_keyspaces::{MetaEntry, MetaKeyspace};
-use fjall_recovery::table_name;
+use fjall_files::table_name;
 use fjall_tree::{Level, TableInfo};
 use std::alloc::Global;
 

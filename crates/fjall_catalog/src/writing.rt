@@ -2,10 +2,10 @@
 
 ghost use Rattle.std.specs.Prelude.{◌≡◌, ◌++◌, ◌∷◌, [], ℕ, List, IfSome, OnOk, IsTrue};
 ghost use Rattle.fjall_base.specs.Disk.{IsNoFolder, LeavesOnly, Name, OnlyFaults, state_in};
-ghost use Rattle.fjall_regions.specs.Regions.{Within};
+ghost use Rattle.fjall_files.specs.Regions.{Within};
 ghost use Rattle.fjall_tree.specs.Records.{Fields, IsRecord};
-ghost use Rattle.fjall_recovery.specs.Names.{keyspace_folder, table_name};
-ghost use Rattle.fjall_recovery.specs.Tidy.{StaysTidy};
+ghost use Rattle.fjall_files.specs.Names.{keyspace_folder, table_name};
+ghost use Rattle.fjall_files.specs.Tidy.{StaysTidy};
 ghost use Rattle.fjall_keyspaces.specs.Keyspaces.{AreKeyspaces, Keyspaces};
 ghost use Rattle.fjall_catalog.specs.Catalog.{fields, Says, IsReady};
 ghost use Rattle.fjall_catalog.specs.Updates.{IsTableGone, IsUpdate, IsWritten, SaysEither};
@@ -13,7 +13,7 @@ ghost use Rattle.fjall_catalog.specs.Updates.{IsTableGone, IsUpdate, IsWritten, 
 use crate::catalog::Catalog;
 use crate::update::Update;
 use fjall_base::{Disk, Result};
-use fjall_regions::make_file;
+use fjall_files::make_file;
 
 /// The folder of tree 0.
 const FOLDER: &str = "keyspaces/0";

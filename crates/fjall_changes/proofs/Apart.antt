@@ -7,9 +7,9 @@ use Rattle.std.proofs.lemmas.Fmt.{decimal_injective, digits_decimal}
 use Rattle.std.specs.Str.Parse.{AllDigits, digits_value}
 use Rattle.std.proofs.lemmas.Str.Parse.{IsNumeralModel, numerals_by_value, tells_digits, not_in_digits}
 use Rattle.fjall_base.specs.Disk.{Name, Step, Meaning, folder_of}
-use Rattle.fjall_regions.specs.Regions.{AreUnder, Within, is_under}
-use Rattle.fjall_regions.proofs.Under.{IsPlain, folder_of-join, under_front, under_join, under_same}
-use Rattle.fjall_recovery.specs.Names.{IsNameOf, keyspace_folder, current_name}
+use Rattle.fjall_files.specs.Regions.{AreUnder, Within, is_under}
+use Rattle.fjall_files.proofs.Under.{IsPlain, folder_of-join, under_front, under_join, under_same}
+use Rattle.fjall_files.specs.Names.{IsNameOf, keyspace_folder, current_name}
 use Rattle.fjall_catalog.proofs.Naming.{beside, bool_cases}
 use Rattle.fjall_opening.proofs.Listed.{in_keyspaces}
 

@@ -7,12 +7,12 @@ use Rattle.std.proofs.lemmas.List.Elements.{All-head, All-tail}
 use Rattle.std.proofs.lemmas.Slice.Eq.{bytes_eq-Decides}
 use Rattle.fjall_base.specs.Disk.{Name, Entry, Missing, File, Folder, Place, State, Image, IsNoFolder, SomeSurvives, Survives, folder_of, settle}
 use Rattle.fjall_base.proofs.States.{settle-in, settle-out, survives_whole}
-use Rattle.fjall_regions.specs.Regions.{IsImageIn, is_under}
-use Rattle.fjall_regions.proofs.Changes.{SameOutside}
-use Rattle.fjall_regions.proofs.Parts.{left_at}
-use Rattle.fjall_regions.proofs.Under.{under_self}
+use Rattle.fjall_files.specs.Regions.{IsImageIn, is_under}
+use Rattle.fjall_files.proofs.Changes.{SameOutside}
+use Rattle.fjall_files.proofs.Parts.{left_at}
+use Rattle.fjall_files.proofs.Under.{under_self}
 use Rattle.fjall_tree.specs.Records.{Fields}
-use Rattle.fjall_recovery.specs.Names.{IsNameOf, keyspace_folder, current_name}
+use Rattle.fjall_files.specs.Names.{IsNameOf, keyspace_folder, current_name}
 use Rattle.fjall_keyspaces.specs.declared.living.LivingKeyspace.{LivingKeyspace}
 use Rattle.fjall_catalog.specs.Catalog.{Says, only}
 use Rattle.fjall_catalog.proofs.Naming.{bool_cases}

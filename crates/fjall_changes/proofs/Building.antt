@@ -11,15 +11,15 @@ use Rattle.fjall_base.specs.Crash.{IsHoused}
 use Rattle.fjall_base.specs.Disk.{Name, Entry, Missing, File, Folder, Place, State, Image, IsEmpty, Meaning, LeavesOnly, Survives, SyncFolder, Took, folder_of, removing, settle, state_in}
 use Rattle.fjall_base.proofs.Moments.{started, stays, steps_on, runs_on}
 use Rattle.fjall_base.proofs.States.{settle-in}
-use Rattle.fjall_regions.specs.Regions.{IsImageIn, IsMade, IsSafe, Within, is_under}
-use Rattle.fjall_regions.proofs.Under.{folder_is_shorter, shorter_out, under_self}
-use Rattle.fjall_regions.proofs.Changes.{SameOutside, settle-now, within_state}
-use Rattle.fjall_regions.proofs.Parts.{in_region, leaves_outside}
-use Rattle.fjall_regions.proofs.Made.{removing_within, safe_file, settled_within, within_both, within_none}
+use Rattle.fjall_files.specs.Regions.{IsImageIn, IsMade, IsSafe, Within, is_under}
+use Rattle.fjall_files.proofs.Under.{folder_is_shorter, shorter_out, under_self}
+use Rattle.fjall_files.proofs.Changes.{SameOutside, settle-now, within_state}
+use Rattle.fjall_files.proofs.Parts.{in_region, leaves_outside}
+use Rattle.fjall_files.proofs.Made.{removing_within, safe_file, settled_within, within_both, within_none}
 use Rattle.fjall_tree.specs.declared.record.TableInfo.{TableInfo}
 use Rattle.fjall_tree.specs.Records.{Fields, IsRecords, record_text}
 use Rattle.fjall_tree.proofs.Currents.{texts_are_records}
-use Rattle.fjall_recovery.specs.Names.{keyspace_folder, current_name, table_name}
+use Rattle.fjall_files.specs.Names.{keyspace_folder, current_name, table_name}
 use Rattle.fjall_keyspaces.specs.Keyspaces.{Keyspaces}
 use Rattle.fjall_catalog.specs.declared.catalog.Catalog.{Catalog}
 use Rattle.fjall_catalog.specs.declared.update.Update.{Update}

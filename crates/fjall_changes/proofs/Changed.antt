@@ -4,11 +4,11 @@ use Rattle.std.proofs.lemmas.List.{append_cancel_left}
 use Rattle.fjall_base.specs.declared.error.Error.{Error}
 use Rattle.fjall_base.specs.Disk.{Name, Entry, Missing, File, Folder, State, Image, IsFile, IsThere, Step, Meaning, Leaves, LeavesOnly, Survives, change, folder_of, state_in}
 use Rattle.fjall_base.proofs.Moments.{runs_on, weaken}
-use Rattle.fjall_regions.specs.Regions.{IsImageIn, Within}
-use Rattle.fjall_regions.proofs.Changes.{within_state}
-use Rattle.fjall_regions.proofs.Parts.{region_run}
+use Rattle.fjall_files.specs.Regions.{IsImageIn, Within}
+use Rattle.fjall_files.proofs.Changes.{within_state}
+use Rattle.fjall_files.proofs.Parts.{region_run}
 use Rattle.fjall_tree.specs.Records.{Fields, IsRecord}
-use Rattle.fjall_recovery.specs.Names.{keyspace_folder, current_name}
+use Rattle.fjall_files.specs.Names.{keyspace_folder, current_name}
 use Rattle.fjall_keyspaces.specs.Keyspaces.{AreKeyspaces, Keyspaces}
 use Rattle.fjall_catalog.specs.declared.catalog.Catalog.{Catalog}
 use Rattle.fjall_catalog.specs.Catalog.{Says, IsReady, fields}

@@ -2,7 +2,7 @@
 use Rattle.std.specs.Prelude.{◌≡◌, ◌≢◌, ℕ, ◌<◌, ◌^◌, [], ◌∷◌, All, map, string_bytes}
 use Rattle.fjall_base.specs.Disk.{IsEmpty, Missing, State}
 use Rattle.fjall_keyspaces.specs.Keyspaces.{Keyspaces}
-use Rattle.fjall_recovery.specs.Names.{keyspace_folder, current_name}
+use Rattle.fjall_files.specs.Names.{keyspace_folder, current_name}
 use Rattle.fjall_catalog.specs.Catalog.{only}
 use Rattle.fjall_changes.specs.declared.removal.Removal.{Removal}
 

@@ -2,10 +2,10 @@
 
 ghost use Rattle.std.specs.Prelude.{◌≡◌, ◌++◌, ◌∷◌, [], ℕ, List, IsTrue, OnOk};
 ghost use Rattle.fjall_base.specs.Disk.{LeavesOnly, OnlyFaults, state_in};
-ghost use Rattle.fjall_regions.specs.Regions.{Within};
+ghost use Rattle.fjall_files.specs.Regions.{Within};
 ghost use Rattle.fjall_tree.specs.Records.{Fields};
-ghost use Rattle.fjall_recovery.specs.Names.{keyspace_folder};
-ghost use Rattle.fjall_recovery.specs.Tidy.{StaysTidy};
+ghost use Rattle.fjall_files.specs.Names.{keyspace_folder};
+ghost use Rattle.fjall_files.specs.Tidy.{StaysTidy};
 ghost use Rattle.fjall_keyspaces.specs.Keyspaces.{Keyspaces};
 ghost use Rattle.fjall_catalog.specs.declared.catalog.Catalog.{Catalog};
 ghost use Rattle.fjall_catalog.specs.Catalog.{fields};

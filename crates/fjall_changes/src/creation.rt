@@ -2,9 +2,9 @@
 
 ghost use Rattle.std.specs.Prelude.{◌≡◌, ◌<◌, ◌≤◌, ◌^◌, ◌++◌, ◌∷◌, [], true, ℕ, List, IfErr, IfOk, IsTrue, OnOk, codes};
 ghost use Rattle.fjall_base.specs.Disk.{CanMakeFolder, File, Folder, IsNoFolder, LeavesOnly, OnlyFaults, folder_of, state_in};
-ghost use Rattle.fjall_regions.specs.Regions.{IsMade, Within, is_under};
+ghost use Rattle.fjall_files.specs.Regions.{IsMade, Within, is_under};
 ghost use Rattle.fjall_tree.specs.Records.{Fields};
-ghost use Rattle.fjall_recovery.specs.Tidy.{FitsAt, StaysTidy};
+ghost use Rattle.fjall_files.specs.Tidy.{FitsAt, StaysTidy};
 ghost use Rattle.fjall_keyspaces.specs.Keyspaces.{AreKeyspaces, Keyspaces};
 ghost use Rattle.fjall_catalog.specs.declared.catalog.Catalog.{Catalog};
 ghost use Rattle.fjall_catalog.specs.Catalog.{fields, first_of};
@@ -19,8 +19,7 @@ use crate::change::change_tree;
 use fjall_base::{Disk, Result};
 use fjall_catalog::{Catalog, Update, first_record_of, prepare};
 use fjall_keyspaces::MetaKeyspace;
-use fjall_recovery::{current_name, keyspace_folder};
-use fjall_regions::make_file;
+use fjall_files::{current_name, keyspace_folder, make_file};
 use std::alloc::Global;
 
 /// The folder of all keyspaces.

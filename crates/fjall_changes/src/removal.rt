@@ -2,10 +2,10 @@
 
 ghost use Rattle.std.specs.Prelude.{◌≡◌, ◌<◌, ◌^◌, [], ◌∷◌, map, true, ℕ, List, All, IfOk, IsOkUnless, IsTrue, OnOk, codes, string_bytes};
 ghost use Rattle.fjall_base.specs.Disk.{LeavesOnly, Missing, Name, OnlyFaults, state_in};
-ghost use Rattle.fjall_regions.specs.Regions.{HoldsOnly, Within, is_under};
+ghost use Rattle.fjall_files.specs.Regions.{HoldsOnly, Within, is_under};
 ghost use Rattle.fjall_tree.specs.Records.{Fields};
-ghost use Rattle.fjall_recovery.specs.Names.{current_name, keyspace_folder};
-ghost use Rattle.fjall_recovery.specs.Tidy.{StaysTidy};
+ghost use Rattle.fjall_files.specs.Names.{current_name, keyspace_folder};
+ghost use Rattle.fjall_files.specs.Tidy.{StaysTidy};
 ghost use Rattle.fjall_catalog.specs.Catalog.{only};
 ghost use Rattle.fjall_places.specs.Halves.{HasTree, Tree};
 ghost use Rattle.fjall_places.specs.Places.{LiesInTree};
@@ -13,7 +13,7 @@ ghost use Rattle.fjall_changes.specs.Removals.{IsRemoval, IsRemoved, IsUnused};
 
 use crate::creation::KEYSPACES;
 use fjall_base::{Disk, Error, Result};
-use fjall_recovery::{current_name, keyspace_folder};
+use fjall_files::{current_name, keyspace_folder};
 use std::alloc::Global;
 
 /// What is removed of a deleted keyspace.

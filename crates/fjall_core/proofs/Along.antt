@@ -1,10 +1,10 @@
 -- Keyspaces lie as they did where only the root changed.
 use Rattle.std.proofs.Common.{◌≡◌, ℕ, true, Option, Some, None, List, [], refl, sym, ◌∙◌, ap, subst, codes, All}
 use Rattle.fjall_base.specs.Disk.{Name, Place, State}
-use Rattle.fjall_regions.proofs.Under.{in_folder}
+use Rattle.fjall_files.proofs.Under.{in_folder}
 use Rattle.fjall_tree.specs.declared.record.TableInfo.{TableInfo}
 use Rattle.fjall_tree.specs.Records.{Fields}
-use Rattle.fjall_recovery.specs.Names.{current_name, keyspace_folder, table_name}
+use Rattle.fjall_files.specs.Names.{current_name, keyspace_folder, table_name}
 use Rattle.fjall_keyspaces.specs.declared.entry.MetaEntry.{MetaEntry}
 use Rattle.fjall_keyspaces.specs.declared.living.LivingKeyspace.{LivingKeyspace}
 use Rattle.fjall_keyspaces.specs.Entries.{entries_of}

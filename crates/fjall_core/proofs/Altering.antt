@@ -8,7 +8,7 @@ use Rattle.std.specs.Option.{option_or}
 use Rattle.fjall_base.specs.Store.{Store, Command, apply, kept}
 use Rattle.fjall_base.specs.Disk.{Image, LeavesOnly, Meaning, state_in}
 use Rattle.fjall_base.proofs.Moments.{at_end, weaken}
-use Rattle.fjall_regions.specs.Regions.{Within}
+use Rattle.fjall_files.specs.Regions.{Within}
 use Rattle.fjall_journal.specs.Batches.{Shown, shown}
 use Rattle.fjall_tree.specs.Records.{Fields}
 use Rattle.fjall_versions.specs.Replays.{Unordered, journal_commands, fault_of, first_fault, least_after}

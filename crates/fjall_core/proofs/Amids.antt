@@ -5,8 +5,8 @@ use Rattle.fjall_base.specs.Store.{Store, Command, fold, kept}
 use Rattle.fjall_base.specs.Disk.{Image, IsImage, Meaning, Took, LeavesOnly, state_in, after}
 use Rattle.fjall_base.specs.Disk as disk
 use Rattle.fjall_base.proofs.Moments.{after-append, started, runs_on, weaken}
-use Rattle.fjall_recovery.specs.Tidy.{IsTidy, StaysTidy}
-use Rattle.fjall_recovery.proofs.Tidying.{stays_both, stays_start, tidy_on}
+use Rattle.fjall_files.specs.Tidy.{IsTidy, StaysTidy}
+use Rattle.fjall_files.proofs.Tidying.{stays_both, stays_start, tidy_on}
 use Rattle.fjall_machine.specs.declared.call.Call.{Call}
 use Rattle.fjall_machine.specs.declared.call.Reply.{Reply}
 use Rattle.fjall_machine.specs.Machine.{State, Step}

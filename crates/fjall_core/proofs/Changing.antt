@@ -4,7 +4,7 @@ use Rattle.std.proofs.lemmas.List.{append-nil}
 use Rattle.fjall_base.specs.Store.{Store, Command, Create, Delete, apply, kept}
 use Rattle.fjall_base.specs.Disk.{LeavesOnly, state_in}
 use Rattle.fjall_base.proofs.Moments.{weaken}
-use Rattle.fjall_regions.specs.Regions.{Within}
+use Rattle.fjall_files.specs.Regions.{Within}
 use Rattle.fjall_journal.specs.Batches.{shown}
 use Rattle.fjall_tree.specs.Records.{Fields}
 use Rattle.fjall_keyspaces.specs.Keyspaces.{AreKeyspaces, with_keyspace, without_keyspace}

@@ -10,7 +10,7 @@ use Rattle.fjall_journal.specs.Writer.{Journal, persist_steps}
 use Rattle.fjall_places.specs.Amid.{HoldsAmid}
 use Rattle.fjall_places.specs.Places.{contents_with}
 use Rattle.fjall_places.proofs.Holding.{a_rest_holds}
-use Rattle.fjall_recovery.specs.Tidy.{StaysTidy}
+use Rattle.fjall_files.specs.Tidy.{StaysTidy}
 use Rattle.fjall_journaling.proofs.Tidied.{persist_stays}
 use Rattle.fjall_journaling.proofs.Leaving.{persist_apart, persist_leaves, persist_out}
 use Rattle.fjall_machine.specs.declared.call.Call.TheVariants.{Persist}

@@ -17,8 +17,8 @@ use Rattle.fjall_machine.specs.Machine.{HasLongOption, State, is_living, present
 use Rattle.fjall_machine.specs.Remembered.{IsLawful, facts_of, poisoned, with_deletion}
 use Rattle.fjall_machine.proofs.Dues.{may_delete}
 use Rattle.fjall_machine.proofs.Lawful.{deletion_is_lawful}
-use Rattle.fjall_recovery.specs.Tidy.{StaysTidy}
-use Rattle.fjall_recovery.proofs.Tidying.{stays_both, stays_start}
+use Rattle.fjall_files.specs.Tidy.{StaysTidy}
+use Rattle.fjall_files.proofs.Tidying.{stays_both, stays_start}
 use Rattle.fjall_core.specs.Holding.{Held}
 use Rattle.fjall_core.specs.Durables.{Durable, Passes}
 use Rattle.fjall_core.specs.Standing.{Deletes, Owes, OwesRefusal, Poisons, ReplacesTable, Serves, StandsFor, StandsOn, held_due, is_io, store_in}

@@ -2,9 +2,9 @@
 use Rattle.std.proofs.Common.{◌≡◌, ℕ, ◌<◌, ◌^◌, true, false, refl, sym, subst}
 use Rattle.std.proofs.lemmas.Bool.{true≢false}
 use Rattle.fjall_base.specs.Disk.{DeviceFailed, IsNoFile, IsNoFolder, Meaning, Name, Place, state_in}
-use Rattle.fjall_recovery.specs.Names.{current_name, keyspace_folder}
-use Rattle.fjall_recovery.specs.Tidy.{IsTidy}
-use Rattle.fjall_regions.proofs.Fitting.{current_kind, folder_kind}
+use Rattle.fjall_files.specs.Names.{current_name, keyspace_folder}
+use Rattle.fjall_files.specs.Tidy.{IsTidy}
+use Rattle.fjall_files.proofs.Fitting.{current_kind, folder_kind}
 use Rattle.fjall_places.specs.Halves.{is_of_keyspaces}
 use Rattle.fjall_places.proofs.Named.{current_within, folder_within}
 use Rattle.fjall_changes.specs.Changes.{HasRoom}

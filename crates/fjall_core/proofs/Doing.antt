@@ -7,7 +7,7 @@ use Rattle.fjall_base.specs.declared.error.Error.TheVariants.{Io}
 use Rattle.fjall_journal.specs.declared.entry.ValueType.{ValueType}
 use Rattle.fjall_journal.specs.Batches.{Written, of_item}
 use Rattle.fjall_journal.specs.Writer.{goes_out}
-use Rattle.fjall_recovery.proofs.Tidying.{stays_part}
+use Rattle.fjall_files.proofs.Tidying.{stays_part}
 use Rattle.fjall_journaling.proofs.Writing.{command_part}
 use Rattle.fjall_versions.specs.declared.version.Version.{Version}
 use Rattle.fjall_machine.specs.declared.call.Reply.{Reply}

@@ -3,8 +3,8 @@ use Rattle.std.proofs.Common.{◌≡◌, inl, inr, false, List, [], ◌∷◌, O
 use Rattle.std.specs.List.{AllByRecursion}
 use Rattle.fjall_base.specs.Store.{Command, Store, fold, kept}
 use Rattle.fjall_base.specs.Disk.{Image, IsImage, Leaves, Missing, Name, Place, State, Step, disk_of}
-use Rattle.fjall_recovery.specs.Tidy.{FitsAt, IsTidy, IsTidyStep}
-use Rattle.fjall_recovery.proofs.Tidying.{fits_missing, left_tidy}
+use Rattle.fjall_files.specs.Tidy.{FitsAt, IsTidy, IsTidyStep}
+use Rattle.fjall_files.proofs.Tidying.{fits_missing, left_tidy}
 use Rattle.fjall_keyspaces.specs.Keyspaces.{no_keyspaces}
 use Rattle.fjall_versions.specs.Replays.{bare}
 use Rattle.fjall_opening.specs.Folders.{Contents, IsUnfinished, StandsFor}

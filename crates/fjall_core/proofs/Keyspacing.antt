@@ -26,8 +26,8 @@ use Rattle.fjall_machine.proofs.Facts.{named_is}
 use Rattle.fjall_machine.proofs.Lawful.{creation_is_lawful}
 use Rattle.fjall_base.specs.Errors.{Rose}
 use Rattle.fjall_journal.specs.declared.persist_mode.PersistMode.TheVariants.{SyncAll}
-use Rattle.fjall_recovery.specs.Tidy.{IsTidy, StaysTidy}
-use Rattle.fjall_recovery.proofs.Tidying.{stays_both, stays_start}
+use Rattle.fjall_files.specs.Tidy.{IsTidy, StaysTidy}
+use Rattle.fjall_files.proofs.Tidying.{stays_both, stays_start}
 use Rattle.fjall_core.specs.Holding.{Held}
 use Rattle.fjall_core.specs.Durables.{Durable, Passes}
 use Rattle.fjall_core.specs.Crashes.{attempt}

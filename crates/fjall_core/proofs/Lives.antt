@@ -9,9 +9,9 @@ use Rattle.fjall_base.specs.Disk.{Image, IsImage, Leaves, Meaning, State, Step, 
 use Rattle.fjall_base.specs.declared.error.Error.{Error}
 use Rattle.fjall_versions.proofs.Kept.{kept_along, kept_twice}
 use Rattle.fjall_versions.proofs.Slots.{fold-append}
-use Rattle.fjall_regions.proofs.Made.{took_both}
-use Rattle.fjall_recovery.specs.Tidy.{IsTidy, IsTidyStep, StaysTidy}
-use Rattle.fjall_recovery.proofs.Tidying.{each_tidy, image_tidy, left_tidy, stays_by, tidy_on}
+use Rattle.fjall_files.proofs.Made.{took_both}
+use Rattle.fjall_files.specs.Tidy.{IsTidy, IsTidyStep, StaysTidy}
+use Rattle.fjall_files.proofs.Tidying.{each_tidy, image_tidy, left_tidy, stays_by, tidy_on}
 use Rattle.fjall_opening.specs.Folders.{StandsFor}
 use Rattle.fjall_opening.proofs.Alone.{one_store}
 use Rattle.fjall_places.specs.Amid.{HoldsAmid}

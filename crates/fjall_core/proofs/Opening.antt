@@ -13,7 +13,7 @@ use Rattle.fjall_versions.proofs.Keeping.{nothing_to_keep}
 use Rattle.fjall_opening.specs.Folders.{Contents, StandsFor, number_of, store_of}
 use Rattle.fjall_opening.specs.Journals.{batches_in}
 use Rattle.fjall_places.specs.Held.{Holds, number_held, store_held}
-use Rattle.fjall_recovery.specs.Names.{journal_name}
+use Rattle.fjall_files.specs.Names.{journal_name}
 use Rattle.fjall_places.specs.Places.{contents_with, texts_of}
 use Rattle.fjall_journaling.proofs.Lying.{begins}
 use Rattle.fjall_repair.specs.declared.opened.Opened.{Opened}

@@ -9,10 +9,10 @@ use Rattle.fjall_base.specs.Store.{kept}
 use Rattle.fjall_base.specs.Disk.{Meaning, state_in}
 use Rattle.fjall_base.specs.declared.error.Error.{Error}
 use Rattle.fjall_base.specs.declared.error.Error.TheVariants.{Io, UnknownKeyspace}
-use Rattle.fjall_regions.specs.Regions.{Within}
-use Rattle.fjall_regions.proofs.Fitting.{holds_records}
-use Rattle.fjall_recovery.specs.Tidy.{IsTidy, StaysTidy}
-use Rattle.fjall_recovery.proofs.Tidying.{stays_start}
+use Rattle.fjall_files.specs.Regions.{Within}
+use Rattle.fjall_files.proofs.Fitting.{holds_records}
+use Rattle.fjall_files.specs.Tidy.{IsTidy, StaysTidy}
+use Rattle.fjall_files.proofs.Tidying.{stays_start}
 use Rattle.fjall_keyspaces.specs.declared.living.LivingKeyspace.{LivingKeyspace}
 use Rattle.fjall_keyspaces.specs.Keyspaces.{AreKeyspaces, Keyspaces, keyspace_at}
 use Rattle.fjall_versions.specs.Versions.{store_of}

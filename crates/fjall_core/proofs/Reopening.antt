@@ -7,9 +7,9 @@ use Rattle.fjall_base.proofs.Wholes.{all_kept, all_kept_is_left}
 use Rattle.fjall_base.specs.Disk.{Image, IsFile, IsImage, LeavesOnly, Meaning, State, standing, state_in}
 use Rattle.fjall_journal.specs.Batches.{shown}
 use Rattle.fjall_keyspaces.specs.Keyspaces.{no_keyspaces}
-use Rattle.fjall_recovery.specs.Names.{journal_name}
-use Rattle.fjall_recovery.specs.Marker.{marker_tells}
-use Rattle.fjall_recovery.specs.Tidy.{StaysTidy}
+use Rattle.fjall_files.specs.Names.{journal_name}
+use Rattle.fjall_files.specs.Marker.{marker_tells}
+use Rattle.fjall_files.specs.Tidy.{StaysTidy}
 use Rattle.fjall_versions.proofs.Keeping.{nothing_to_keep}
 use Rattle.fjall_opening.specs.Folders.{Contents, IsSound, IsUnfinished, StandsFor}
 use Rattle.fjall_opening.specs.Journals.{Journal, batches_in}

@@ -13,7 +13,7 @@ use Rattle.fjall_machine.specs.declared.call.Call.TheVariants.{GetAt, PageAt, Re
 use Rattle.fjall_machine.specs.declared.call.Reply.TheVariants.{Done, Flag, Names, Number, Pairs, Value, Refused}
 use Rattle.fjall_machine.specs.Machine.{due_in, first_due, has_name, read_refusals}
 use Rattle.fjall_machine.specs.Remembered.{IsDueOrMemory, Remembered, facts_of, retained}
-use Rattle.fjall_recovery.proofs.Tidying.{stays_start}
+use Rattle.fjall_files.proofs.Tidying.{stays_start}
 use Rattle.fjall_core.specs.Holding.{Held}
 use Rattle.fjall_core.specs.Standing.{Owes, Serves, names_reply, pairs_reply, reply_of, store_in, value_reply}
 use Rattle.fjall_core.proofs.Serving.{answer_serves, either_serves, led_by, memory_owes, memory_serves, serves_by}

@@ -5,11 +5,11 @@ use Rattle.std.proofs.lemmas.List.{append_cancel_left}
 use Rattle.std.proofs.lemmas.Bool.{true≢false}
 use Rattle.std.specs.List.{AllByRecursion}
 use Rattle.fjall_base.specs.Disk.{Image, LeavesOnly, Leaves, Meaning, Name, State, Step, Survives, folder_of, state_in}
-use Rattle.fjall_regions.specs.Regions.{IsImageIn, IsSafe, Within, is_under}
-use Rattle.fjall_regions.proofs.Changes.{within_state}
-use Rattle.fjall_regions.proofs.Parts.{region_run}
+use Rattle.fjall_files.specs.Regions.{IsImageIn, IsSafe, Within, is_under}
+use Rattle.fjall_files.proofs.Changes.{within_state}
+use Rattle.fjall_files.proofs.Parts.{region_run}
 use Rattle.fjall_journal.specs.Writer as writer
-use Rattle.fjall_recovery.specs.Names.{IsMisnamed, journal_name}
+use Rattle.fjall_files.specs.Names.{IsMisnamed, journal_name}
 use Rattle.fjall_opening.specs.Journals.{Journal}
 use Rattle.fjall_places.specs.Halves.{is_of_root}
 use Rattle.fjall_places.specs.Places.{IsNeverFile, Journaling, LiesInRoot, texts_of}

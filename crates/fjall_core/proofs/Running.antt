@@ -3,7 +3,7 @@ use Rattle.std.proofs.Common.{◌≡◌, ℕ, ◌+◌, ◌<◌, List, [], ◌∷
 use Rattle.std.proofs.lemmas.List.{take_more}
 use Rattle.fjall_base.specs.Store.{Command}
 use Rattle.fjall_base.specs.Disk.{LeavesOnly}
-use Rattle.fjall_recovery.specs.Tidy.{StaysTidy}
+use Rattle.fjall_files.specs.Tidy.{StaysTidy}
 use Rattle.fjall_machine.specs.declared.call.Call.{Call}
 use Rattle.fjall_machine.specs.declared.call.Reply.{Reply}
 use Rattle.fjall_machine.specs.Machine.{State}

@@ -6,15 +6,15 @@ use Rattle.fjall_base.specs.Disk.{Meaning, state_in}
 use Rattle.fjall_base.specs.Disk as disk
 use Rattle.fjall_base.specs.declared.error.Error.{Error}
 use Rattle.fjall_base.specs.declared.error.Error.TheVariants.{Io, OutOfMemory, ValueTooLong}
-use Rattle.fjall_regions.specs.Regions.{IsSafe}
+use Rattle.fjall_files.specs.Regions.{IsSafe}
 use Rattle.fjall_tree.specs.declared.record.TableInfo.{TableInfo}
-use Rattle.fjall_recovery.specs.Names.{table_name}
+use Rattle.fjall_files.specs.Names.{table_name}
 use Rattle.fjall_keyspaces.specs.declared.entry.MetaEntry.{MetaEntry}
 use Rattle.fjall_catalog.specs.declared.catalog.Catalog.{Catalog}
 use Rattle.fjall_catalog.specs.Catalog.{AreSafe}
 use Rattle.fjall_catalog.specs.Updates.{IsTableGone}
-use Rattle.fjall_recovery.specs.Tidy.{IsTidy, StaysTidy}
-use Rattle.fjall_recovery.proofs.Tidying.{stays_start}
+use Rattle.fjall_files.specs.Tidy.{IsTidy, StaysTidy}
+use Rattle.fjall_files.proofs.Tidying.{stays_start}
 use Rattle.fjall_machine.specs.declared.call.Call.{Call}
 use Rattle.fjall_machine.specs.declared.call.Reply.{Reply}
 use Rattle.fjall_machine.specs.declared.call.Reply.TheVariants.{Refused}

@@ -3,11 +3,11 @@ use Rattle.std.proofs.Common.{◌≡◌, ◌<◌, ◌≤◌, ◌^◌, inl, inr, 
 use Rattle.std.proofs.lemmas.Bool.{true≢false}
 use Rattle.fjall_base.specs.Disk.{LeavesOnly, Meaning, state_in}
 use Rattle.fjall_base.specs.declared.error.Error.{Error}
-use Rattle.fjall_regions.specs.Regions.{Within}
+use Rattle.fjall_files.specs.Regions.{Within}
 use Rattle.fjall_journal.specs.declared.persist_mode.PersistMode.TheVariants.{SyncAll}
 use Rattle.fjall_journal.specs.Writer.{Journal}
 use Rattle.fjall_tree.specs.Records.{Fields}
-use Rattle.fjall_recovery.specs.Tidy.{StaysTidy}
+use Rattle.fjall_files.specs.Tidy.{StaysTidy}
 use Rattle.fjall_keyspaces.specs.Keyspaces.{AreKeyspaces, Keyspaces, without_keyspace}
 use Rattle.fjall_catalog.specs.declared.catalog.Catalog.{Catalog}
 use Rattle.fjall_catalog.specs.declared.update.Update.{Update}

@@ -4,9 +4,9 @@ use Rattle.fjall_base.specs.Store.{Store, Command, fold, kept}
 use Rattle.fjall_base.specs.Disk.{Image, IsFile, IsImage, Meaning, LeavesOnly, State, state_in}
 use Rattle.fjall_journal.specs.Batches.{shown}
 use Rattle.fjall_tree.specs.Records.{Fields}
-use Rattle.fjall_recovery.specs.declared.marker.Marker.TheVariants.{Whole}
-use Rattle.fjall_recovery.specs.Marker.{marker_tells}
-use Rattle.fjall_recovery.specs.Names.{journal_name}
+use Rattle.fjall_files.specs.declared.marker.Marker.TheVariants.{Whole}
+use Rattle.fjall_files.specs.Marker.{marker_tells}
+use Rattle.fjall_files.specs.Names.{journal_name}
 use Rattle.fjall_versions.specs.Replays.{journal_commands}
 use Rattle.fjall_opening.specs.Folders.{marker_bytes, number_of, store_of}
 pub use Rattle.fjall_places.specs.Amid.{IsBeginning, StandsAmid}

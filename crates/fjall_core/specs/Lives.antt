@@ -7,7 +7,7 @@ use Rattle.fjall_base.specs.Disk.{Image, IsImage, Leaves, LeavesOnly, Meaning, S
 use Rattle.fjall_base.specs.declared.error.Error.{Error}
 use Rattle.fjall_opening.specs.Folders.{StandsFor}
 use Rattle.fjall_places.specs.Amid.{HoldsAmid}
-use Rattle.fjall_recovery.specs.Tidy.{StaysTidy}
+use Rattle.fjall_files.specs.Tidy.{StaysTidy}
 use Rattle.fjall_machine.specs.Machine as machine
 use Rattle.fjall_machine.specs.Machine.{opened_state, present}
 use Rattle.fjall_machine.specs.declared.call.Call.{Call}

@@ -4,8 +4,8 @@ use Rattle.fjall_base.specs.Store.{Store, Command, fold, kept}
 use Rattle.fjall_base.specs.Disk.{Image, LeavesOnly, Meaning, State, Took, standing, state_in}
 use Rattle.fjall_base.specs.declared.error.Error.{Error}
 use Rattle.fjall_base.specs.declared.error.Error.TheVariants.{Io}
-use Rattle.fjall_recovery.specs.Tidy.{StaysTidy}
-use Rattle.fjall_regions.specs.Regions.{IsSafe}
+use Rattle.fjall_files.specs.Tidy.{StaysTidy}
+use Rattle.fjall_files.specs.Regions.{IsSafe}
 use Rattle.fjall_journal.specs.Writer.{Journal}
 use Rattle.fjall_opening.specs.Folders as folders
 use Rattle.fjall_opening.specs.Folders.{Contents}

@@ -9,12 +9,12 @@ use Rattle.fjall_base.specs.Disk as disk
 use Rattle.fjall_base.specs.Errors.{Rose}
 use Rattle.fjall_base.specs.declared.error.Error.{Error}
 use Rattle.fjall_base.specs.declared.error.Error.TheVariants.{Io, OutOfMemory, Poisoned, ValueTooLong}
-use Rattle.fjall_regions.specs.Regions.{IsSafe, Within}
-use Rattle.fjall_recovery.specs.Tidy.{StaysTidy}
+use Rattle.fjall_files.specs.Regions.{IsSafe, Within}
+use Rattle.fjall_files.specs.Tidy.{StaysTidy}
 use Rattle.fjall_places.specs.Amid.{HoldsAmid}
 use Rattle.fjall_journal.specs.declared.persist_mode.PersistMode.TheVariants.{SyncAll}
 use Rattle.fjall_journal.specs.Writer.{after_command, command_steps, goes_out, persist_steps, written_out}
-use Rattle.fjall_recovery.specs.Names.{table_name}
+use Rattle.fjall_files.specs.Names.{table_name}
 use Rattle.fjall_keyspaces.specs.Keyspaces.{id_of}
 use Rattle.fjall_catalog.specs.declared.catalog.Catalog.{Catalog}
 use Rattle.fjall_catalog.specs.Updates.{IsTableGone}

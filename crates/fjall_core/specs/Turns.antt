@@ -6,9 +6,9 @@ use Rattle.fjall_base.specs.declared.error.Error.{Error}
 use Rattle.fjall_base.specs.declared.error.Error.TheVariants.{Io, OutOfMemory}
 use Rattle.fjall_journal.specs.declared.entry.ValueType.{ValueType}
 use Rattle.fjall_journal.specs.Batches.{Written, batch_text}
-use Rattle.fjall_regions.specs.Regions.{HoldsOnly, Within}
-use Rattle.fjall_recovery.specs.Names.{current_name, keyspace_folder}
-use Rattle.fjall_recovery.specs.Tidy.{StaysTidy}
+use Rattle.fjall_files.specs.Regions.{HoldsOnly, Within}
+use Rattle.fjall_files.specs.Names.{current_name, keyspace_folder}
+use Rattle.fjall_files.specs.Tidy.{StaysTidy}
 use Rattle.fjall_journal.specs.declared.persist_mode.PersistMode.{PersistMode}
 use Rattle.fjall_journal.specs.declared.persist_mode.PersistMode.TheVariants.{SyncAll}
 use Rattle.fjall_journal.specs.Writer.{Journal, after_command, command_steps, goes_out, written_out}

@@ -17,7 +17,7 @@ ghost use Rattle.fjall_keyspaces.specs.Keyspaces.{id_of};
 ghost use Rattle.fjall_machine.specs.Remembered.{IsLawful, poisoned};
 ghost use Rattle.fjall_opening.specs.Refusals.{AreOne, FolderRefuses, HasRisen, IsDue, IsOpeningRefusal};
 ghost use Rattle.fjall_repair.specs.Sweeps.{IsSwept};
-ghost use Rattle.fjall_recovery.specs.Tidy.{IsTidy, StaysTidy};
+ghost use Rattle.fjall_files.specs.Tidy.{IsTidy, StaysTidy};
 ghost use Rattle.fjall_core.specs.Crashes.{BlamesDevice};
 ghost use Rattle.fjall_core.specs.Durables.{Durable};
 ghost use Rattle.fjall_core.specs.Openings.{IsDueTo, KeepsStore, Opens, OpensAs, OpensOn, OpensAmid, StaysAmid};

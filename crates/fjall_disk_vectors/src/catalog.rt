@@ -7,7 +7,7 @@ use fjall_catalog::{
 };
 use fjall_keyspaces::MetaKeyspace;
 use fjall_meta::KeyspaceCreateOptions;
-use fjall_regions::make_file;
+use fjall_files::make_file;
 use std::alloc::Global;
 use std::test::Fail;
 

@@ -1,7 +1,7 @@
 //! Worked rows, and each call that allocates on its happy path.
 
 use fjall_base::{DirEntry, Error, FormatVersion, JournalRecoveryError, Result};
-use fjall_recovery::{
+use fjall_files::{
     Marker, current_name, journal_name, journals, keyspace_folder, keyspaces, parse_file_header,
     parse_journal_name, read_marker, table_name, tables, version_of, write_file_header,
 };

@@ -1,7 +1,7 @@
 //! Each moment of a folder that is made and removed, on a disk in memory.
 
 use fjall_base::{Disk, Error, MemoryDisk};
-use fjall_regions::{append_synced, end_file, make_file, make_home, put_file, remove_home};
+use fjall_files::{append_synced, end_file, make_file, make_home, put_file, remove_home};
 use std::alloc::Global;
 use std::test::Fail;
 

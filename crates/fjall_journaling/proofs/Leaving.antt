@@ -5,13 +5,13 @@ use Rattle.std.proofs.lemmas.Bool.{true≢false}
 use Rattle.std.specs.List.{AllByRecursion}
 use Rattle.fjall_base.specs.Disk.{Name, State, Image, Survives, IsImage, Step, Append, Sync, Meaning, Took, TookPart, Leaves, LeavesOnly, after, appended, change, state_in}
 use Rattle.fjall_base.proofs.Moments.{Leaves-append, after-append}
-use Rattle.fjall_regions.specs.Regions.{IsImageIn}
-use Rattle.fjall_regions.proofs.Parts.{in_region, region_along}
+use Rattle.fjall_files.specs.Regions.{IsImageIn}
+use Rattle.fjall_files.proofs.Parts.{in_region, region_along}
 use Rattle.fjall_journal.specs.declared.persist_mode.PersistMode.{PersistMode}
 use Rattle.fjall_journal.specs.declared.persist_mode.PersistMode.TheVariants.{Buffer, SyncData, SyncAll}
 use Rattle.fjall_journal.specs.Batches.{Written, IsWritten, shown}
 use Rattle.fjall_journal.specs.Writer.{Journal, PersistTook, appending, persist_steps, written_out}
-use Rattle.fjall_recovery.specs.Names.{journal_name}
+use Rattle.fjall_files.specs.Names.{journal_name}
 use Rattle.fjall_versions.specs.Replays.{first_fault}
 use Rattle.fjall_opening.specs.Journals.{batches_in}
 use Rattle.fjall_places.specs.Halves.{HasRoot, is_of_keyspaces, is_of_root}

@@ -5,8 +5,8 @@ use Rattle.fjall_base.specs.Disk.{Meaning, Name, Took}
 use Rattle.fjall_journal.specs.Writer.{Journal, PersistTook, appending, persist_steps, syncing}
 use Rattle.fjall_journal.specs.declared.persist_mode.PersistMode.{PersistMode}
 use Rattle.fjall_journal.specs.declared.persist_mode.PersistMode.TheVariants.{Buffer, SyncData, SyncAll}
-use Rattle.fjall_recovery.specs.Tidy.{IsTidyStep, StaysTidy}
-use Rattle.fjall_recovery.proofs.Tidying.{all_both, stays_by, stays_part}
+use Rattle.fjall_files.specs.Tidy.{IsTidyStep, StaysTidy}
+use Rattle.fjall_files.proofs.Tidying.{all_both, stays_by, stays_part}
 
 appending_tidy : (name : Name) (bytes : List ℕ) → AllByRecursion IsTidyStep (appending name bytes)
 appending_tidy name [] = tt

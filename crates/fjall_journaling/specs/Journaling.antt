@@ -1,13 +1,13 @@
 -- The active journal of a database as it is written: batches go out behind those that stand, and are synced.
 use Rattle.std.specs.Prelude.{◌≡◌, ℕ, ◌<◌, ◌≤◌, ◌^◌, Bool, false, if◌then◌else◌, List, [], ◌∷◌, ◌++◌, length, map, take}
 use Rattle.fjall_base.specs.Disk.{State, Image, Survives}
-use Rattle.fjall_regions.specs.Regions.{IsImageIn}
+use Rattle.fjall_files.specs.Regions.{IsImageIn}
 use Rattle.fjall_journal.specs.declared.entry.ValueType.{ValueType}
 use Rattle.fjall_journal.specs.declared.persist_mode.PersistMode.{PersistMode}
 use Rattle.fjall_journal.specs.declared.persist_mode.PersistMode.TheVariants.{Buffer, SyncData, SyncAll}
 use Rattle.fjall_journal.specs.Batches.{Written, shown}
 use Rattle.fjall_journal.specs.Writer.{Journal}
-use Rattle.fjall_recovery.specs.Names.{journal_name}
+use Rattle.fjall_files.specs.Names.{journal_name}
 use Rattle.fjall_versions.specs.Replays.{is_indirection, least_after}
 use Rattle.fjall_opening.specs.Journals.{batches_in}
 use Rattle.fjall_places.specs.Halves.{HasRoot, is_of_keyspaces}

@@ -8,12 +8,12 @@ use Rattle.fjall_base.specs.Disk.{Name, Entry, Missing, File, Folder, Place, Sta
 use Rattle.fjall_base.proofs.Frames.{replaced, replaced-same, replaced-other}
 use Rattle.fjall_base.proofs.Moments.{at_end, started, stays, steps_on}
 use Rattle.fjall_base.proofs.States.{differs, put-same, put-other}
-use Rattle.fjall_regions.proofs.Changes.{may_be_missing, settle-now}
-use Rattle.fjall_regions.proofs.Parts.{in_region, region_put_back}
+use Rattle.fjall_files.proofs.Changes.{may_be_missing, settle-now}
+use Rattle.fjall_files.proofs.Parts.{in_region, region_put_back}
 use Rattle.fjall_journal.specs.Batches.{NoneAt}
 use Rattle.fjall_journal.proofs.Cuts.{none_at_nil}
-use Rattle.fjall_recovery.specs.Marker.{marker_tells}
-use Rattle.fjall_recovery.specs.Names.{journal_name, current_name}
+use Rattle.fjall_files.specs.Marker.{marker_tells}
+use Rattle.fjall_files.specs.Names.{journal_name, current_name}
 use Rattle.fjall_catalog.specs.Catalog as catalog
 use Rattle.fjall_opening.specs.Folders.{Contents, IsBegun, IsSound, IsUnfinished, StandsFor, store_of, file_bytes}
 use Rattle.fjall_opening.specs.Journals.{Journal, AreJournalIds, text_in}

@@ -5,13 +5,13 @@ use Rattle.std.proofs.lemmas.List.{length-drop, length-take, take_all}
 use Rattle.fjall_base.specs.Store.{Store, Command}
 use Rattle.fjall_base.specs.Disk.{Name, Entry, Folder, State, Image, IsFile, IsImage, standing}
 use Rattle.fjall_base.proofs.Lists.{front_of_part}
-use Rattle.fjall_regions.specs.Trims.{IsTrimmed}
+use Rattle.fjall_files.specs.Trims.{IsTrimmed}
 use Rattle.fjall_journal.specs.declared.batch.Tail.TheVariants.{Clean, Torn}
 use Rattle.fjall_journal.specs.Batches.{Written, IsWhole}
 use Rattle.fjall_journal.proofs.Wholes as Wholes
 use Rattle.fjall_tree.specs.Records.{last_of}
-use Rattle.fjall_recovery.specs.Marker.{marker_tells}
-use Rattle.fjall_recovery.specs.Names.{journal_name, current_name, table_name}
+use Rattle.fjall_files.specs.Marker.{marker_tells}
+use Rattle.fjall_files.specs.Names.{journal_name, current_name, table_name}
 use Rattle.fjall_opening.specs.Folders.{Contents, IsSound, file_bytes}
 use Rattle.fjall_opening.specs.Journals.{Journal, ReadsAs, AreRead, journal_text, text_in}
 use Rattle.fjall_places.specs.Halves.{HasRoot}

@@ -9,7 +9,7 @@ use Rattle.fjall_base.specs.Disk.{Name, Entry, Missing, File, Folder, Place, Sta
 use Rattle.fjall_base.proofs.Moments.{at_end, runs_on, weaken}
 use Rattle.fjall_tree.specs.Records.{Fields, IsRecords, last_of}
 use Rattle.fjall_tree.proofs.Currents as Currents
-use Rattle.fjall_recovery.specs.Names.{journal_name, keyspace_folder, current_name}
+use Rattle.fjall_files.specs.Names.{journal_name, keyspace_folder, current_name}
 use Rattle.fjall_opening.specs.Folders.{Contents, IsSound, StandsFor, store_of}
 use Rattle.fjall_opening.specs.Journals.{Journal, text_in}
 use Rattle.fjall_places.specs.Held.{Holds}

@@ -7,9 +7,9 @@ use Rattle.fjall_base.specs.Store.{Store, Command, fold, kept}
 use Rattle.fjall_base.specs.Disk.{Name, Entry, Missing, File, Folder, Place, State, Image, IsImage, IsFile, IsThere, LeavesOnly, Meaning, Survives, SomeSurvives, all_synced, folder_of, standing, state_in}
 use Rattle.fjall_base.proofs.Moments.{at_end, runs_on, weaken}
 use Rattle.fjall_base.proofs.States.{survives_whole}
-use Rattle.fjall_recovery.specs.declared.marker.Marker.{Marker}
-use Rattle.fjall_recovery.specs.declared.marker.Marker.TheVariants.{Whole, Unfinished}
-use Rattle.fjall_recovery.specs.Marker.{marker_tells}
+use Rattle.fjall_files.specs.declared.marker.Marker.{Marker}
+use Rattle.fjall_files.specs.declared.marker.Marker.TheVariants.{Whole, Unfinished}
+use Rattle.fjall_files.specs.Marker.{marker_tells}
 use Rattle.fjall_opening.specs.Folders.{Contents, IsSound, StandsFor, file_bytes, marker_bytes, store_of}
 use Rattle.fjall_opening.specs.Journals.{text_in}
 use Rattle.fjall_places.specs.Amid.{StandsAmid}

@@ -2,7 +2,7 @@
 use Rattle.std.proofs.Common.{◌≡◌, ◌⊎◌, inl, inr, ℕ, zero, suc, ◌≤◌, [], ◌∷◌, length, refl, sym, ◌∙◌, ap, subst, arith}
 use Rattle.fjall_base.specs.Disk.{Name, Entry, Missing, File, Folder, State, Image, IsImage, IsThere, Survives, folder_of}
 use Rattle.fjall_base.specs.Crash.{keeping}
-use Rattle.fjall_regions.proofs.Under.{folder_is_shorter}
+use Rattle.fjall_files.proofs.Under.{folder_is_shorter}
 
 -- an entry, where its folder stands so
 inside : Name → Entry → Entry → Entry

@@ -7,9 +7,9 @@ use Rattle.fjall_base.specs.Crash.{IsHoused}
 use Rattle.fjall_base.specs.Disk.{Name, Entry, File, State, Image, IsImage, IsFile, LeavesOnly, Meaning, Place, Took, SyncFolder, making, folder_of, standing, state_in}
 use Rattle.fjall_base.proofs.Moments.{at_end}
 use Rattle.fjall_base.proofs.Wholes.{all_kept, all_kept_is_left}
-use Rattle.fjall_regions.proofs.Changes.{settle-now}
-use Rattle.fjall_recovery.specs.declared.marker.Marker.TheVariants.{Whole, Unfinished}
-use Rattle.fjall_recovery.specs.Names.{journal_name}
+use Rattle.fjall_files.proofs.Changes.{settle-now}
+use Rattle.fjall_files.specs.declared.marker.Marker.TheVariants.{Whole, Unfinished}
+use Rattle.fjall_files.specs.Names.{journal_name}
 use Rattle.fjall_opening.specs.Folders.{Contents, IsSound, IsUnfinished}
 use Rattle.fjall_opening.specs.Journals.{Journal}
 use Rattle.fjall_places.specs.Amid.{ComesBackUnfinished, HoldsAmid, StandsAmid}

@@ -2,7 +2,7 @@
 use Rattle.std.proofs.Common.{◌≡◌, List, [], ◌∷◌, length, Some, refl, sym, ◌∙◌, ap}
 use Rattle.fjall_base.specs.Disk.{Name, State}
 use Rattle.fjall_tree.specs.Records.{last_of}
-use Rattle.fjall_recovery.specs.Names.{journal_name}
+use Rattle.fjall_files.specs.Names.{journal_name}
 use Rattle.fjall_opening.specs.declared.folder.Finished.{Finished}
 use Rattle.fjall_opening.specs.Folders.{Contents}
 use Rattle.fjall_opening.specs.Journals.{Journal, batches_in}

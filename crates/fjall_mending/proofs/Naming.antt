@@ -10,11 +10,11 @@ use Rattle.std.proofs.lemmas.Str.Parse.{IsNumeralModel, numerals_by_value, tells
 use Rattle.std.specs.Str.{bytes_eq}
 use Rattle.std.proofs.lemmas.Slice.Eq.{bytes_eq-Decides}
 use Rattle.fjall_base.specs.Disk.{Name, folder_of}
-use Rattle.fjall_regions.specs.Regions.{join}
-use Rattle.fjall_regions.proofs.Under.{IsPlain, folder_of-join, folder_of-plain}
+use Rattle.fjall_files.specs.Regions.{join}
+use Rattle.fjall_files.proofs.Under.{IsPlain, folder_of-join, folder_of-plain}
 use Rattle.fjall_tree.proofs.Currents.{last_behind}
 use Rattle.fjall_tree.specs.Records.{last_of}
-use Rattle.fjall_recovery.specs.Names.{journal_name, keyspace_folder, current_name, table_name}
+use Rattle.fjall_files.specs.Names.{journal_name, keyspace_folder, current_name, table_name}
 
 -- ---- names by their last byte
 

@@ -4,9 +4,9 @@ use Rattle.std.proofs.lemmas.List.{append-nil}
 use Rattle.fjall_base.specs.Disk.{Name, Entry, Missing, File, Folder, Place, State, Image, IsImage, IsFile, Survives, LeavesOnly, Meaning, Took, TookOrNot, Sync, SyncFolder, all_synced, alter, settle, folder_of, state_in}
 use Rattle.fjall_base.proofs.Moments.{at_end, perhaps_on, steps_on}
 use Rattle.fjall_base.proofs.States.{alter-same, alter-other, differs, settle-in, settle-out}
-use Rattle.fjall_regions.proofs.Changes.{settle-now}
-use Rattle.fjall_regions.proofs.Parts.{in_region, region_settle}
-use Rattle.fjall_regions.proofs.Trimmed.{synced_image}
+use Rattle.fjall_files.proofs.Changes.{settle-now}
+use Rattle.fjall_files.proofs.Parts.{in_region, region_settle}
+use Rattle.fjall_files.proofs.Trimmed.{synced_image}
 use Rattle.fjall_mending.specs.Steps.{IsSame, IsSynced}
 use Rattle.fjall_mending.proofs.Naming.{same_or_not}
 

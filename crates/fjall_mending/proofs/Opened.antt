@@ -8,13 +8,13 @@ use Rattle.fjall_base.specs.Disk.{Name, Entry, Missing, File, Folder, Place, Sta
 use Rattle.fjall_base.proofs.Frames.{replaced, replaced-same, replaced-other}
 use Rattle.fjall_base.proofs.Moments.{at_end, started, stays, steps_on, weaken}
 use Rattle.fjall_base.proofs.States.{differs, put-same, put-other}
-use Rattle.fjall_regions.proofs.Changes.{settle-now, may_be_missing}
-use Rattle.fjall_regions.proofs.Parts.{in_region, region_put_back}
+use Rattle.fjall_files.proofs.Changes.{settle-now, may_be_missing}
+use Rattle.fjall_files.proofs.Parts.{in_region, region_put_back}
 use Rattle.fjall_journal.specs.declared.batch.Tail.TheVariants.{Clean}
 use Rattle.fjall_journal.specs.Batches.{Written, shown}
 use Rattle.fjall_journal.proofs.Cuts.{none_at_nil}
-use Rattle.fjall_recovery.specs.Marker.{marker_tells}
-use Rattle.fjall_recovery.specs.Names.{journal_name, current_name, table_name}
+use Rattle.fjall_files.specs.Marker.{marker_tells}
+use Rattle.fjall_files.specs.Names.{journal_name, current_name, table_name}
 use Rattle.fjall_versions.specs.Replays.{store_in}
 use Rattle.fjall_opening.specs.Folders.{Contents, IsSound, StandsFor, store_of, file_bytes}
 use Rattle.fjall_opening.specs.Journals.{Journal, ReadsAs, AreJournalIds, batches_in, text_in}

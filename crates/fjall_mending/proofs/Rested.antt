@@ -7,14 +7,14 @@ use Rattle.std.proofs.lemmas.List.{append-nil, get_or_default, length-append, le
 use Rattle.std.proofs.Math.Seq.{get_or-append_right}
 use Rattle.fjall_base.specs.Crash.{keeping}
 use Rattle.fjall_base.specs.Disk.{Name, Entry, Missing, File, Folder, State, Image, IsFile, IsNoFile, IsNoFolder, IsThere, folder_of}
-use Rattle.fjall_regions.specs.Regions.{IsSafe}
+use Rattle.fjall_files.specs.Regions.{IsSafe}
 use Rattle.fjall_journal.specs.declared.batch.Tail.TheVariants.{Clean, Torn}
 use Rattle.fjall_journal.specs.Batches.{Written, IsWritten, shown}
 use Rattle.fjall_tree.specs.declared.record.TableInfo.{TableInfo}
 use Rattle.fjall_tree.specs.Records.{Fields, IsRecord, IsRecords, last_of, record_text}
 use Rattle.fjall_tree.proofs.Currents.{last_behind}
-use Rattle.fjall_recovery.specs.Marker.{marker_tells}
-use Rattle.fjall_recovery.specs.Names.{journal_name, keyspace_folder, current_name, table_name}
+use Rattle.fjall_files.specs.Marker.{marker_tells}
+use Rattle.fjall_files.specs.Names.{journal_name, keyspace_folder, current_name, table_name}
 use Rattle.fjall_keyspaces.specs.declared.entry.MetaEntry.{MetaEntry}
 use Rattle.fjall_keyspaces.specs.declared.living.LivingKeyspace.{LivingKeyspace}
 use Rattle.fjall_keyspaces.specs.Entries.{entries_of}

@@ -6,13 +6,13 @@ use Rattle.std.proofs.lemmas.List.{append-nil, length-take}
 use Rattle.fjall_base.specs.Crash.{IsHoused}
 use Rattle.fjall_base.specs.Disk.{Name, Entry, Missing, File, Folder, Place, State, Image, IsFile, IsLong, IsThere, CanCreate, Meaning, all_synced, folder_of, standing, state_in}
 use Rattle.fjall_tree.specs.Records.{Fields}
-use Rattle.fjall_recovery.specs.declared.marker.Marker.TheVariants.{Whole}
-use Rattle.fjall_recovery.specs.Marker.{marker_tells}
-use Rattle.fjall_recovery.specs.Names.{Current, journal_name, keyspace_folder, current_name}
-use Rattle.fjall_recovery.specs.Tidy.{FitsAt, IsTidy}
-use Rattle.fjall_recovery.proofs.Distinct.{kept}
-use Rattle.fjall_regions.proofs.Fitting.{fits_journal, folder_of-folder}
-use Rattle.fjall_regions.proofs.Serving.{can_make_journal}
+use Rattle.fjall_files.specs.declared.marker.Marker.TheVariants.{Whole}
+use Rattle.fjall_files.specs.Marker.{marker_tells}
+use Rattle.fjall_files.specs.Names.{Current, journal_name, keyspace_folder, current_name}
+use Rattle.fjall_files.specs.Tidy.{FitsAt, IsTidy}
+use Rattle.fjall_files.proofs.Distinct.{kept}
+use Rattle.fjall_files.proofs.Fitting.{fits_journal, folder_of-folder}
+use Rattle.fjall_files.proofs.Serving.{can_make_journal}
 use Rattle.fjall_keyspaces.specs.declared.living.LivingKeyspace.{LivingKeyspace}
 use Rattle.fjall_opening.specs.declared.folder.Finished.{Finished}
 use Rattle.fjall_opening.specs.declared.homes.Home.{Home}

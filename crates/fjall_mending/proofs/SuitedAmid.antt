@@ -1,7 +1,7 @@
 -- A folder that was read, mended as it is planned, where a crash may leave different stores.
 use Rattle.std.proofs.Common.{◌≡◌, string_bytes, ◌∙◌, ap}
 use Rattle.fjall_base.specs.Disk.{Image, Meaning, State, standing, state_in}
-use Rattle.fjall_recovery.specs.Names.{journal_name}
+use Rattle.fjall_files.specs.Names.{journal_name}
 use Rattle.fjall_opening.specs.declared.folder.Finished.{Finished}
 use Rattle.fjall_opening.specs.Folders.{Contents, IsFinished, IsSound, Shows}
 use Rattle.fjall_mending.specs.declared.plan.Plan.{Plan}

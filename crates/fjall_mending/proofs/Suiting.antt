@@ -8,7 +8,7 @@ use Rattle.fjall_base.specs.Disk.{Name, Entry, Missing, File, Folder, Image, IsF
 use Rattle.fjall_journal.specs.Batches.{IsWhole, IsTail}
 use Rattle.fjall_tree.specs.Records.{Fields, IsRecords, last_of, record_text}
 use Rattle.fjall_tree.proofs.Currents.{records_apart}
-use Rattle.fjall_recovery.specs.Names.{journal_name, current_name}
+use Rattle.fjall_files.specs.Names.{journal_name, current_name}
 use Rattle.fjall_keyspaces.specs.Keyspaces.{Keyspaces}
 use Rattle.fjall_keyspaces.specs.declared.living.LivingKeyspace.{LivingKeyspace}
 use Rattle.fjall_opening.specs.declared.folder.Finished.{Finished}

@@ -8,9 +8,9 @@ use Rattle.fjall_base.proofs.Lists.{front_of_part}
 use Rattle.fjall_journal.specs.declared.batch.Tail.TheVariants.{Clean, Torn}
 use Rattle.fjall_tree.specs.Records.{Fields, IsRecords, last_of}
 use Rattle.fjall_keyspaces.proofs.Rising.{Rises, from_pairs}
-use Rattle.fjall_recovery.specs.Names.{journal_name, current_name, table_name}
+use Rattle.fjall_files.specs.Names.{journal_name, current_name, table_name}
 use Rattle.fjall_catalog.proofs.Resting.{last_has}
-use Rattle.fjall_recovery.specs.Marker.{marker_tells}
+use Rattle.fjall_files.specs.Marker.{marker_tells}
 use Rattle.fjall_opening.specs.Folders.{Contents, IsSound, file_bytes}
 use Rattle.fjall_opening.specs.Homes.{HasLast}
 use Rattle.fjall_opening.specs.Journals.{Journal, ReadsAs, AreRead, journal_text, text_in}

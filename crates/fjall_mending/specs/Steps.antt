@@ -3,7 +3,7 @@ use Rattle.std.specs.Prelude.{◌≡◌, ◌⊎◌, ◌≢◌, ℕ, ◌-◌, ◌
 use Rattle.std.specs.List.{AllByRecursion}
 use Rattle.fjall_base.specs.Disk.{Name, Entry, Missing, File, Place, State, Image, IsFile, IsImage, all_synced, folder_of}
 use Rattle.fjall_tree.specs.Records.{Fields, IsRecords, last_of}
-use Rattle.fjall_recovery.specs.Names.{journal_name, keyspace_folder, current_name}
+use Rattle.fjall_files.specs.Names.{journal_name, keyspace_folder, current_name}
 use Rattle.fjall_opening.specs.declared.folder.Finished.{Finished}
 use Rattle.fjall_opening.specs.declared.homes.Home.{Home}
 use Rattle.fjall_opening.specs.Folders.{Contents, IsSound}

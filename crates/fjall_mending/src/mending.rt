@@ -3,8 +3,8 @@
 ghost use Rattle.std.specs.Prelude.{◌≡◌, ℕ, List, IfOk, IsTrue, OnOk, [], Some, string_bytes, ◌<◌, ◌^◌, Contains, map};
 ghost use Rattle.fjall_base.specs.Store.{Command, Store};
 ghost use Rattle.fjall_base.specs.Disk.{HasCause, Image, LeavesOnly, OnlyFaults, Took, standing, state_in};
-ghost use Rattle.fjall_recovery.specs.Names.{current_name, table_name};
-ghost use Rattle.fjall_recovery.specs.Tidy.{IsTidy, StaysTidy};
+ghost use Rattle.fjall_files.specs.Names.{current_name, table_name};
+ghost use Rattle.fjall_files.specs.Tidy.{IsTidy, StaysTidy};
 ghost use Rattle.fjall_opening.specs.declared.folder.Finished.{Finished};
 ghost use Rattle.fjall_opening.specs.Folders.{Contents, IsFinished, IsSound, Shows, StandsFor, store_of};
 ghost use Rattle.fjall_places.specs.Amid.{HoldsAmid, StandsAmid};

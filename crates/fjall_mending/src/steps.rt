@@ -3,8 +3,8 @@
 ghost use Rattle.std.specs.Prelude.{◌≡◌, ◌≢◌, ◌⊎◌, List, [], All, IsTrue, OnOk, map, string_bytes, Some};
 ghost use Rattle.fjall_base.specs.Store.{Command, Store};
 ghost use Rattle.fjall_base.specs.Disk.{Image, IsFile, IsImage, LeavesOnly, Name, OnlyFaults, Took, folder_of, standing, state_in, CanCreate, File, IsThere};
-ghost use Rattle.fjall_recovery.specs.Names.{journal_name};
-ghost use Rattle.fjall_recovery.specs.Tidy.{FitsAt, IsTidy, StaysTidy};
+ghost use Rattle.fjall_files.specs.Names.{journal_name};
+ghost use Rattle.fjall_files.specs.Tidy.{FitsAt, IsTidy, StaysTidy};
 ghost use Rattle.fjall_opening.specs.Folders.{Contents, IsSound, StandsFor, store_of};
 ghost use Rattle.fjall_places.specs.Amid.{HoldsAmid, StandsAmid};
 ghost use Rattle.fjall_places.specs.Held.{Holds};
@@ -13,7 +13,7 @@ ghost use Rattle.fjall_mending.specs.Steps.{IsEnded, IsOpened, IsRested, IsRight
 
 use crate::plan::{FileEnd, Plan};
 use fjall_base::{Disk, Result};
-use fjall_regions::end_file;
+use fjall_files::end_file;
 
 /// Makes the active journal where it is missing, and syncs the names in the root.
 fn settle_root<D: Disk>(disk: &mut D, active: &str) -> Result<()>

@@ -14,9 +14,9 @@ use Rattle.fjall_tree.proofs.Currents as Currents
 use Rattle.fjall_keyspaces.specs.Keyspaces.{Keyspaces}
 use Rattle.fjall_keyspaces.specs.declared.living.LivingKeyspace.{LivingKeyspace}
 use Rattle.fjall_keyspaces.proofs.Rising.{Rises, from_pairs}
-use Rattle.fjall_recovery.specs.declared.marker.Marker.{Marker}
-use Rattle.fjall_recovery.specs.declared.marker.Marker.TheVariants.{Whole, Unfinished}
-use Rattle.fjall_recovery.specs.Marker.{marker_tells}
+use Rattle.fjall_files.specs.declared.marker.Marker.{Marker}
+use Rattle.fjall_files.specs.declared.marker.Marker.TheVariants.{Whole, Unfinished}
+use Rattle.fjall_files.specs.Marker.{marker_tells}
 use Rattle.fjall_catalog.proofs.Meanings.{one_catalog}
 use Rattle.fjall_opening.specs.Folders.{Contents, IsSound, StandsFor, marker_bytes, store_of}
 use Rattle.fjall_opening.specs.Homes.{HasLast, HaveHomes}

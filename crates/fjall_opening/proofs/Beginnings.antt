@@ -12,7 +12,7 @@ use Rattle.fjall_journal.specs.Batches.{Shown, Written, IsWritten, IsWhole, None
 use Rattle.fjall_tree.specs.Frame.{NoFrame}
 use Rattle.fjall_tree.specs.Records.{Fields, HasContradiction, IsRecord, IsRecords, record_text}
 use Rattle.fjall_tree.proofs.Currents.{contradiction_has_no_reading}
-use Rattle.fjall_recovery.specs.Names.{journal_name}
+use Rattle.fjall_files.specs.Names.{journal_name}
 use Rattle.fjall_catalog.specs.Catalog.{fields, first_catalog}
 use Rattle.fjall_opening.specs.Folders.{AreEmpty, IsBegun}
 use Rattle.fjall_opening.specs.Journals.{AreJournalIds, IsReadAs, journal_text, text_in}

@@ -14,10 +14,10 @@ use Rattle.fjall_base.specs.declared.error.Error.{Error}
 use Rattle.fjall_base.specs.declared.error.Error.TheVariants.{OutOfMemory}
 use Rattle.fjall_base.specs.declared.disk.DirEntry.{DirEntry}
 use Rattle.fjall_base.specs.Disk.{Name, Entry, Missing, File, Folder, State, Image, IsFile, Lists, IsListed, Tells, folder_of, standing}
-use Rattle.fjall_regions.specs.Regions.{join}
-use Rattle.fjall_regions.proofs.Under.{IsPlain, folder_of-join, folder_of-plain}
-use Rattle.fjall_recovery.specs.Names.{IsMisnamed, IsNameOf, journal_name, keyspace_folder}
-use Rattle.fjall_recovery.specs.Lists.{AreIds, IsJournal, IsKeyspace, IsMisnamedFile, IsStrayFolder}
+use Rattle.fjall_files.specs.Regions.{join}
+use Rattle.fjall_files.proofs.Under.{IsPlain, folder_of-join, folder_of-plain}
+use Rattle.fjall_files.specs.Names.{IsMisnamed, IsNameOf, journal_name, keyspace_folder}
+use Rattle.fjall_files.specs.Lists.{AreIds, IsJournal, IsKeyspace, IsMisnamedFile, IsStrayFolder}
 use Rattle.fjall_opening.specs.Naming.{AreFolderIds, JournalsAreNamed, KeyspacesAreNamed}
 use Rattle.fjall_opening.specs.Journals.{AreJournalIds}
 use Rattle.fjall_opening.specs.Refusals.{IsDue}

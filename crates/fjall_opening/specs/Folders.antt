@@ -6,9 +6,9 @@ use Rattle.fjall_journal.specs.Batches.{NoneAt, shown, view}
 use Rattle.fjall_tree.specs.Records.{Fields, IsRecords}
 use Rattle.fjall_tree.specs.Records as records
 use Rattle.fjall_keyspaces.specs.Keyspaces.{Keyspaces, no_keyspaces}
-use Rattle.fjall_recovery.specs.declared.marker.Marker.TheVariants.{Whole, Unfinished}
-use Rattle.fjall_recovery.specs.Marker.{marker_tells}
-use Rattle.fjall_recovery.specs.Names.{keyspace_folder}
+use Rattle.fjall_files.specs.declared.marker.Marker.TheVariants.{Whole, Unfinished}
+use Rattle.fjall_files.specs.Marker.{marker_tells}
+use Rattle.fjall_files.specs.Names.{keyspace_folder}
 use Rattle.fjall_catalog.specs.declared.catalog.Catalog.{Catalog}
 use Rattle.fjall_catalog.specs.Catalog.{Says, fields, first_catalog, records_in}
 use Rattle.fjall_versions.specs.Replays.{bare, store_in, least_after}

@@ -7,7 +7,7 @@ use Rattle.fjall_journal.specs.declared.batch.Tail.{Tail}
 use Rattle.fjall_journal.specs.declared.batch.Tail.TheVariants.{Clean, Torn}
 use Rattle.fjall_journal.specs.Batches.{Written, Shown, IsWhole, IsTail, shown}
 use Rattle.fjall_versions.specs.Replays.{first_fault, least_after}
-use Rattle.fjall_recovery.specs.Names.{journal_name}
+use Rattle.fjall_files.specs.Names.{journal_name}
 
 -- the bytes of a file, and none where there is no file
 abbrev pub text_in : Entry → List ℕ

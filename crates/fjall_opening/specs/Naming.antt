@@ -2,7 +2,7 @@
 use Rattle.std.specs.Prelude.{◌≡◌, ◌↔◌, ℕ, ◌<◌, ◌^◌, List, [], codes, Contains}
 use Rattle.std.specs.List.Sorted.{IsStrictlyIncreasing}
 use Rattle.fjall_base.specs.Disk.{Name, Folder, Image, IsFile, folder_of}
-use Rattle.fjall_recovery.specs.Names.{IsMisnamed, IsNameOf, keyspace_folder}
+use Rattle.fjall_files.specs.Names.{IsMisnamed, IsNameOf, keyspace_folder}
 
 -- no file of the root is named nearly like a journal
 abbrev pub JournalsAreNamed : Image → Type 0

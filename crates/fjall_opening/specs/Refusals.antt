@@ -14,10 +14,10 @@ use Rattle.fjall_tree.specs.Records.{Fields, HasContradiction}
 use Rattle.fjall_keyspaces.specs.Keyspaces.{Keyspaces}
 use Rattle.fjall_keyspaces.specs.declared.living.LivingKeyspace.{LivingKeyspace}
 use Rattle.fjall_base.specs.declared.error.JournalRecoveryError.TheVariants.{InvalidFileName}
-use Rattle.fjall_recovery.specs.declared.marker.Marker.{Marker}
-use Rattle.fjall_recovery.specs.declared.marker.Marker.TheVariants.{Whole, Unfinished}
-use Rattle.fjall_recovery.specs.Marker.{marker_tells}
-use Rattle.fjall_recovery.specs.Names.{keyspace_folder}
+use Rattle.fjall_files.specs.declared.marker.Marker.{Marker}
+use Rattle.fjall_files.specs.declared.marker.Marker.TheVariants.{Whole, Unfinished}
+use Rattle.fjall_files.specs.Marker.{marker_tells}
+use Rattle.fjall_files.specs.Names.{keyspace_folder}
 use Rattle.fjall_catalog.specs.declared.catalog.Catalog.{Catalog}
 use Rattle.fjall_catalog.specs.Catalog.{Says, records_in}
 use Rattle.fjall_catalog.specs.Refusals.{IsDamage}

@@ -3,8 +3,8 @@
 ghost use Rattle.std.specs.Prelude.{◌≡◌, ◌<◌, ◌≤◌, ◌↔◌, [], ◌^◌, map, All, IsTrue, IfErr, IfOk, OnOk, List, Ok, Err};
 ghost use Rattle.fjall_base.specs.Disk.{Folder, Image, Took, standing, state_in};
 ghost use Rattle.fjall_base.specs.Store.{Store};
-ghost use Rattle.fjall_recovery.specs.Marker.{marker_tells};
-ghost use Rattle.fjall_recovery.specs.Names.{keyspace_folder};
+ghost use Rattle.fjall_files.specs.Marker.{marker_tells};
+ghost use Rattle.fjall_files.specs.Names.{keyspace_folder};
 ghost use Rattle.fjall_tree.specs.Records.{Fields, view};
 ghost use Rattle.fjall_keyspaces.specs.Keyspaces.{Keyspaces};
 ghost use Rattle.fjall_catalog.specs.declared.catalog.Catalog.{Catalog};
@@ -21,7 +21,7 @@ use crate::unfinished::check_unfinished;
 use fjall_base::{Disk, Error, Result, StorageError};
 use fjall_catalog::{Catalog, Found, read_catalog};
 use fjall_keyspaces::LivingKeyspace;
-use fjall_recovery::{Marker, read_marker};
+use fjall_files::{Marker, read_marker};
 use std::alloc::Global;
 
 /// What a folder holds that was made to its end.

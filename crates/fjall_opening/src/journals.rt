@@ -12,7 +12,7 @@ ghost use Rattle.fjall_opening.specs.Refusals.{HasRisen, IsDue, IsOpeningRefusal
 use crate::file::read_text;
 use fjall_base::{Disk, Error, Result};
 use fjall_journal::{Batch, Contents, Tail, read_journal};
-use fjall_recovery::journal_name;
+use fjall_files::journal_name;
 use fjall_versions::check_batches;
 use std::alloc::Global;
 

@@ -9,7 +9,7 @@ ghost use Rattle.fjall_opening.specs.Naming.{AreFolderIds, JournalsAreNamed, Key
 ghost use Rattle.fjall_opening.specs.Refusals.{HasRisen, IsDue, IsOpeningRefusal};
 
 use fjall_base::{Disk, Error, JournalRecoveryError, Result};
-use fjall_recovery::{journals, keyspaces};
+use fjall_files::{journals, keyspaces};
 use std::alloc::Global;
 
 /// The ids of the journals in the root, ascending. A file that is named nearly like one is `InvalidFileName`.

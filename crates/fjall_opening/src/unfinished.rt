@@ -13,7 +13,7 @@ use crate::journals::read_one;
 use crate::listing::list_keyspaces;
 use fjall_base::{Disk, Error, Result};
 use fjall_catalog::first_record;
-use fjall_recovery::current_name;
+use fjall_files::current_name;
 use fjall_tree::read_current;
 use std::alloc::Global;
 

@@ -4,8 +4,8 @@ use Rattle.fjall_base.specs.declared.error.Error.{Error}
 use Rattle.fjall_base.specs.Store.{Store, Command, fold, kept}
 use Rattle.fjall_base.specs.Crash.{IsHoused}
 use Rattle.fjall_base.specs.Disk.{State, Image, IsImage, standing}
-use Rattle.fjall_recovery.specs.declared.marker.Marker.{Marker}
-use Rattle.fjall_recovery.specs.declared.marker.Marker.TheVariants.{Whole, Unfinished}
+use Rattle.fjall_files.specs.declared.marker.Marker.{Marker}
+use Rattle.fjall_files.specs.declared.marker.Marker.TheVariants.{Whole, Unfinished}
 use Rattle.fjall_opening.specs.Journals.{Journal}
 use Rattle.fjall_opening.proofs.Alone.{one_list_of_journals}
 use Rattle.fjall_places.specs.Amid.{HoldsAmid, StandsAmid}

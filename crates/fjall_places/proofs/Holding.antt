@@ -2,8 +2,8 @@
 use Rattle.std.proofs.Common.{◌≡◌, ◌⊎◌, inl, inr, ⊎_elim, ℕ, zero, suc, ◌+◌, ◌<◌, List, [], ◌∷◌, ◌++◌, length, Option, None, Some, refl, sym, ◌∙◌, subst, arith}
 use Rattle.fjall_base.specs.Disk.{Name, Entry, Missing, File, Folder, State, Image, Step, Survives, SomeSurvives, IsImage, IsThere, Leaves, change, disk_of, folder_of, standing}
 use Rattle.fjall_base.proofs.States.{survives_whole}
-use Rattle.fjall_regions.proofs.Parts.{in_region}
-use Rattle.fjall_regions.proofs.Under.{folder_is_shorter}
+use Rattle.fjall_files.proofs.Parts.{in_region}
+use Rattle.fjall_files.proofs.Under.{folder_is_shorter}
 use Rattle.fjall_journal.specs.Batches.{Written}
 use Rattle.fjall_tree.specs.Records.{Fields}
 use Rattle.fjall_opening.specs.Folders.{Contents, IsSound, StandsFor}

@@ -7,9 +7,9 @@ use Rattle.std.proofs.lemmas.Bool.{true≢false}
 use Rattle.std.proofs.lemmas.List.Folds.{list_any-append}
 use Rattle.std.proofs.lemmas.Slice.Eq.{bytes_eq-Decides}
 use Rattle.fjall_base.specs.Disk.{Name, folder_of}
-use Rattle.fjall_regions.specs.Regions.{is_under}
-use Rattle.fjall_regions.proofs.Under.{in_folder, under_front, under_inner}
-use Rattle.fjall_recovery.specs.Names.{IsMisnamed, journal_name, keyspace_folder, current_name}
+use Rattle.fjall_files.specs.Regions.{is_under}
+use Rattle.fjall_files.proofs.Under.{in_folder, under_front, under_inner}
+use Rattle.fjall_files.specs.Names.{IsMisnamed, journal_name, keyspace_folder, current_name}
 use Rattle.fjall_catalog.specs.Catalog.{is_counted}
 use Rattle.fjall_opening.proofs.Listed.{in_root}
 use Rattle.fjall_places.specs.Halves.{is_of_keyspaces, is_of_root}

@@ -8,14 +8,14 @@ use Rattle.std.proofs.lemmas.List.{append-nil, drop_at, map-append}
 use Rattle.std.proofs.lemmas.Grind.{flat_map-append}
 use Rattle.std.proofs.Math.Seq.{drop-append-add}
 use Rattle.fjall_base.specs.Disk.{Name, Entry, File, State, Image, Survives, IsFile, folder_of, standing}
-use Rattle.fjall_regions.specs.Regions.{IsImageIn, IsSafe}
+use Rattle.fjall_files.specs.Regions.{IsImageIn, IsSafe}
 use Rattle.fjall_journal.specs.declared.batch.Tail.TheVariants.{Clean, Torn}
 use Rattle.fjall_journal.specs.Batches.{Written, IsWritten, IsWhole, IsTail, shown}
 use Rattle.fjall_journal.proofs.Cuts.{cut_reads}
 use Rattle.fjall_journal.proofs.Wholes.{texts_are_whole, whole_behind}
-use Rattle.fjall_recovery.specs.declared.marker.Marker.TheVariants.{Whole}
-use Rattle.fjall_recovery.specs.Marker.{marker_tells}
-use Rattle.fjall_recovery.specs.Names.{IsMisnamed, journal_name}
+use Rattle.fjall_files.specs.declared.marker.Marker.TheVariants.{Whole}
+use Rattle.fjall_files.specs.Marker.{marker_tells}
+use Rattle.fjall_files.specs.Names.{IsMisnamed, journal_name}
 use Rattle.fjall_versions.specs.Replays.{first_fault}
 use Rattle.fjall_versions.proofs.Faults.{first_fault-append}
 use Rattle.fjall_opening.specs.Folders.{file_bytes, marker_bytes}

@@ -1,11 +1,11 @@
 -- The two halves of a sound folder: the root with its journals, and the keyspaces.
 use Rattle.std.specs.Prelude.{◌≡◌, Bool, not, List, codes, Ok}
 use Rattle.fjall_base.specs.Disk.{Name, Folder, Image}
-use Rattle.fjall_regions.specs.Regions.{is_under}
+use Rattle.fjall_files.specs.Regions.{is_under}
 use Rattle.fjall_tree.specs.Records.{Fields}
-use Rattle.fjall_recovery.specs.declared.marker.Marker.TheVariants.{Whole}
-use Rattle.fjall_recovery.specs.Marker.{marker_tells}
-use Rattle.fjall_recovery.specs.Names.{keyspace_folder}
+use Rattle.fjall_files.specs.declared.marker.Marker.TheVariants.{Whole}
+use Rattle.fjall_files.specs.Marker.{marker_tells}
+use Rattle.fjall_files.specs.Names.{keyspace_folder}
 use Rattle.fjall_keyspaces.specs.Keyspaces.{Keyspaces}
 use Rattle.fjall_catalog.specs.declared.catalog.Catalog.{Catalog}
 use Rattle.fjall_catalog.specs.Catalog.{Says}

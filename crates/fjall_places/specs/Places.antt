@@ -3,12 +3,12 @@ use Rattle.std.specs.Prelude.{◌≡◌, ℕ, ◌<◌, ◌^◌, ◌==◌, if◌t
 use Rattle.std.specs.List.{flat_map, AllByRecursion}
 use Rattle.std.specs.List.Sorted.{IsStrictlyIncreasing}
 use Rattle.fjall_base.specs.Disk.{Name, Place, State, File, Folder, IsNoFile, IsNoFolder, folder_of}
-use Rattle.fjall_regions.specs.Regions.{IsSafe}
+use Rattle.fjall_files.specs.Regions.{IsSafe}
 use Rattle.fjall_journal.specs.Batches.{Written, IsWritten, batch_text, shown}
 use Rattle.fjall_tree.specs.Records.{Fields}
-use Rattle.fjall_recovery.specs.declared.marker.Marker.TheVariants.{Whole}
-use Rattle.fjall_recovery.specs.Marker.{marker_tells}
-use Rattle.fjall_recovery.specs.Names.{IsMisnamed, IsNameOf, journal_name, keyspace_folder, current_name}
+use Rattle.fjall_files.specs.declared.marker.Marker.TheVariants.{Whole}
+use Rattle.fjall_files.specs.Marker.{marker_tells}
+use Rattle.fjall_files.specs.Names.{IsMisnamed, IsNameOf, journal_name, keyspace_folder, current_name}
 use Rattle.fjall_keyspaces.specs.declared.living.LivingKeyspace.{LivingKeyspace}
 use Rattle.fjall_catalog.specs.Catalog.{Rests, IsFree, only}
 use Rattle.fjall_versions.specs.Replays.{first_fault}

@@ -2,10 +2,10 @@
 
 ghost use Rattle.std.specs.Prelude.{◌≡◌, ◌++◌, ◌<◌, ◌^◌, ℕ, List, [], Option, Some, true};
 ghost use Rattle.fjall_base.specs.Disk.{Image, Leaves, Name, State, Step, Survives, disk_of};
-ghost use Rattle.fjall_regions.specs.Regions.{IsImageIn};
+ghost use Rattle.fjall_files.specs.Regions.{IsImageIn};
 ghost use Rattle.fjall_journal.specs.Batches.{Written};
 ghost use Rattle.fjall_tree.specs.Records.{Fields};
-ghost use Rattle.fjall_recovery.specs.Names.{journal_name};
+ghost use Rattle.fjall_files.specs.Names.{journal_name};
 ghost use Rattle.fjall_opening.specs.Folders.{Contents, IsSound, StandsFor};
 ghost use Rattle.fjall_opening.specs.Journals.{Journal};
 ghost use Rattle.fjall_places.specs.Halves.{HasRoot, HasTree, Tree, is_of_keyspaces, is_of_root};

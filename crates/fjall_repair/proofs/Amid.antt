@@ -5,7 +5,7 @@ use Rattle.fjall_base.specs.Store.{Store, Command, fold, kept}
 use Rattle.fjall_base.specs.Crash.{IsHoused}
 use Rattle.fjall_base.specs.Disk.{State, Image, IsFile, IsImage, LeavesOnly, Meaning, Place, Took, standing, state_in}
 use Rattle.fjall_base.proofs.Moments.{at_end, started, weaken}
-use Rattle.fjall_recovery.specs.Names.{journal_name}
+use Rattle.fjall_files.specs.Names.{journal_name}
 use Rattle.fjall_opening.specs.Folders.{Contents, IsSound, IsUnfinished, StandsFor, store_of}
 use Rattle.fjall_opening.proofs.Alone.{one_store}
 use Rattle.fjall_places.specs.Amid.{ComesBackUnfinished, HoldsAmid, StandsAmid}

@@ -8,9 +8,9 @@ use Rattle.std.proofs.lemmas.Fmt.{decimal_injective, digits_decimal}
 use Rattle.std.specs.Str.Parse.{AllDigits, digits_value}
 use Rattle.std.proofs.lemmas.Str.Parse.{IsNumeralModel, numerals_by_value, tells_digits, not_in_digits}
 use Rattle.fjall_base.specs.Disk.{Name, folder_of}
-use Rattle.fjall_regions.specs.Regions.{join, is_under}
-use Rattle.fjall_regions.proofs.Under.{IsPlain, folder_of-join, join_name}
-use Rattle.fjall_recovery.specs.Names.{keyspace_folder, current_name, table_name}
+use Rattle.fjall_files.specs.Regions.{join, is_under}
+use Rattle.fjall_files.proofs.Under.{IsPlain, folder_of-join, join_name}
+use Rattle.fjall_files.specs.Names.{keyspace_folder, current_name, table_name}
 use Rattle.fjall_catalog.proofs.Naming.{tables_apart}
 use Rattle.fjall_places.proofs.Trees.{folder_of-home}
 

@@ -11,7 +11,7 @@ use Rattle.std.specs.declared.alloc.Global.{Global}
 use Rattle.fjall_base.specs.declared.disk.DirEntry.{DirEntry}
 use Rattle.fjall_base.specs.Disk.{Name, Meaning, Missing, State, Lists, Took, folder_of}
 use Rattle.fjall_base.proofs.Lists.{Any-more}
-use Rattle.fjall_recovery.specs.Names.{keyspace_folder, table_name}
+use Rattle.fjall_files.specs.Names.{keyspace_folder, table_name}
 use Rattle.fjall_keyspaces.specs.declared.living.LivingKeyspace.{LivingKeyspace}
 use Rattle.fjall_repair.specs.declared.plan.UnnamedHome.{UnnamedHome}
 use Rattle.fjall_repair.specs.Listing.{AreTables}

@@ -7,15 +7,15 @@ use Rattle.fjall_base.specs.Disk.{Name, State, Image, Survives, LeavesBy, Leaves
 use Rattle.fjall_base.specs.declared.error.Error.{Error}
 use Rattle.fjall_base.specs.declared.error.Error.TheVariants.{Io, OutOfMemory}
 use Rattle.fjall_base.proofs.Moments.{started}
-use Rattle.fjall_regions.proofs.Made.{took_both}
+use Rattle.fjall_files.proofs.Made.{took_both}
 use Rattle.fjall_journal.specs.Batches.{Shown, Written, shown, view}
 use Rattle.fjall_keyspaces.specs.Keyspaces.{Keyspaces}
 use Rattle.fjall_versions.specs.declared.version.Version.{Version}
 use Rattle.fjall_versions.proofs.Replaying.{replay_makes_the_store}
 use Rattle.fjall_journal.specs.Writer.{Journal}
-use Rattle.fjall_recovery.specs.Names.{journal_name}
+use Rattle.fjall_files.specs.Names.{journal_name}
 use Rattle.fjall_versions.specs.Versions.{store_of as store_behind, versions_behind}
-use Rattle.fjall_places.specs.Places.{texts_of}
+use Rattle.fjall_places.specs.Places.{texts_of, contents_with}
 use Rattle.fjall_versions.specs.Replays.{store_in, least_after}
 use Rattle.fjall_tree.specs.Records.{Fields, IsRecord, last_of}
 use Rattle.fjall_tree.specs.Records as records
@@ -29,10 +29,9 @@ use Rattle.fjall_opening.specs.Homes.{AreHomesRead}
 use Rattle.fjall_opening.specs.Refusals.{FolderRefuses, HasRisen, IsDue}
 use Rattle.fjall_opening.proofs.Alone.{one_contents}
 use Rattle.fjall_journal.proofs.Writing.{took_none}
-use Rattle.fjall_recovery.specs.declared.marker.Marker.TheVariants.{Whole, Unfinished}
+use Rattle.fjall_files.specs.declared.marker.Marker.TheVariants.{Whole, Unfinished}
 use Rattle.fjall_opening.specs.Journals.{batches_in}
 use Rattle.fjall_places.specs.Held.{Holds, IsFolder, number_held, store_held}
-use Rattle.fjall_places.specs.Places.{contents_with}
 use Rattle.fjall_places.proofs.Holding.{folder_stands, tree_of}
 use Rattle.fjall_beginning.proofs.Beginning as Beginning
 use Rattle.fjall_repair.specs.declared.opened.Opened.{Opened}

@@ -8,11 +8,11 @@ use Rattle.std.proofs.lemmas.List.Elements.{All-append, All-contains, All-from_r
 use Rattle.std.proofs.lemmas.List.Concat.{flat_map-cons}
 use Rattle.fjall_base.specs.declared.error.Error.{Error}
 use Rattle.fjall_base.specs.Disk.{Name, Entry, Missing, File, Folder, State, Meaning, folder_of, standing, state_in}
-use Rattle.fjall_regions.specs.Regions.{is_under, Within}
-use Rattle.fjall_regions.proofs.Under.{in_folder}
+use Rattle.fjall_files.specs.Regions.{is_under, Within}
+use Rattle.fjall_files.proofs.Under.{in_folder}
 use Rattle.fjall_tree.specs.declared.record.TableInfo.{TableInfo}
 use Rattle.fjall_tree.specs.Records.{Fields}
-use Rattle.fjall_recovery.specs.Names.{keyspace_folder, current_name, table_name}
+use Rattle.fjall_files.specs.Names.{keyspace_folder, current_name, table_name}
 use Rattle.fjall_keyspaces.specs.declared.living.LivingKeyspace.{LivingKeyspace}
 use Rattle.fjall_keyspaces.specs.Keyspaces.{AreKeyspaces, Keyspaces}
 use Rattle.fjall_catalog.specs.declared.catalog.Catalog.{Catalog}

@@ -11,8 +11,8 @@ use Rattle.std.proofs.Math.Seq.{take-suc}
 use Rattle.fjall_base.specs.declared.error.Error.{Error}
 use Rattle.fjall_base.specs.Disk.{Name, Entry, Missing, File, Folder, Place, State, Step, Put, Meaning, Took, IsNoFile, IsNoFolder, after, put, removing, state_in}
 use Rattle.fjall_base.proofs.States.{put-now, put-other, put-same}
-use Rattle.fjall_regions.specs.Regions.{is_under, AreUnder, Within}
-use Rattle.fjall_regions.proofs.Made.{gone, took_both}
+use Rattle.fjall_files.specs.Regions.{is_under, AreUnder, Within}
+use Rattle.fjall_files.proofs.Made.{gone, took_both}
 use Rattle.fjall_repair.specs.Sweeps.{AreGone, Removes, removals}
 
 -- ---- lists

@@ -6,10 +6,10 @@ use Rattle.std.specs.Option.{option_map}
 use Rattle.std.proofs.lemmas.List.Elements.{All-contains}
 use Rattle.fjall_base.specs.Disk.{Name, State, Meaning, LeavesOnly, state_in}
 use Rattle.fjall_base.specs.declared.error.Error.{Error}
-use Rattle.fjall_regions.specs.Regions.{is_under}
+use Rattle.fjall_files.specs.Regions.{is_under}
 use Rattle.fjall_journal.specs.Batches.{Written, shown}
 use Rattle.fjall_tree.specs.Records.{Fields}
-use Rattle.fjall_recovery.specs.Names.{journal_name, table_name}
+use Rattle.fjall_files.specs.Names.{journal_name, table_name}
 use Rattle.fjall_base.specs.Store.{Store}
 use Rattle.fjall_keyspaces.specs.Keyspaces.{Keyspaces}
 use Rattle.fjall_catalog.specs.declared.catalog.Catalog.{Catalog}

@@ -4,11 +4,11 @@ use Rattle.std.specs.Prelude.{not}
 use Rattle.std.specs.List.{AllByRecursion}
 use Rattle.std.proofs.lemmas.List.Elements.{recursion_from_All}
 use Rattle.fjall_base.specs.Disk.{Name, State, Meaning, LeavesOnly, state_in}
-use Rattle.fjall_regions.specs.Regions.{IsSafe, Within, is_under}
-use Rattle.fjall_regions.proofs.Changes.{within_state}
-use Rattle.fjall_regions.proofs.Parts.{region_run}
+use Rattle.fjall_files.specs.Regions.{IsSafe, Within, is_under}
+use Rattle.fjall_files.proofs.Changes.{within_state}
+use Rattle.fjall_files.proofs.Parts.{region_run}
 use Rattle.fjall_tree.specs.Records.{Fields}
-use Rattle.fjall_recovery.specs.Names.{IsMisnamed, journal_name}
+use Rattle.fjall_files.specs.Names.{IsMisnamed, journal_name}
 use Rattle.fjall_opening.specs.Folders.{StandsFor, store_of}
 use Rattle.fjall_opening.specs.Journals.{Journal}
 use Rattle.fjall_places.specs.Halves.{Tree, is_of_keyspaces, is_of_root}

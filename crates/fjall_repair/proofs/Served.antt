@@ -7,9 +7,9 @@ use Rattle.std.proofs.lemmas.List.Elements.{All-push}
 use Rattle.std.proofs.lemmas.Slice.Eq.{bytes_eq-Decides}
 use Rattle.fjall_base.specs.Disk.{Name, Entry, Missing, File, Folder, Place, State, Meaning, CanRemoveFolder, IsNoFile, IsNoFolder, after, folder_of, put, state_in}
 use Rattle.fjall_base.proofs.States.{put-other, put-same}
-use Rattle.fjall_recovery.specs.Names.{Current, Keyspace, Table, keyspace_folder, current_name}
-use Rattle.fjall_recovery.specs.Tidy.{IsTidy}
-use Rattle.fjall_recovery.proofs.OfKinds.{kind_now}
+use Rattle.fjall_files.specs.Names.{Current, Keyspace, Table, keyspace_folder, current_name}
+use Rattle.fjall_files.specs.Tidy.{IsTidy}
+use Rattle.fjall_files.proofs.OfKinds.{kind_now}
 use Rattle.fjall_keyspaces.specs.declared.living.LivingKeyspace.{LivingKeyspace}
 use Rattle.fjall_repair.specs.declared.plan.UnnamedHome.{UnnamedHome}
 use Rattle.fjall_repair.specs.Sweeps.{AreGone, HasAll, IsHomeFound, IsUnnamedHome, IsUnnamedTable, Lives, Removes, removals}

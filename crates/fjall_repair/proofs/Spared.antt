@@ -3,9 +3,9 @@ use Rattle.std.proofs.Common.{◌≡◌, ◌≢◌, inl, inr, ℕ, List, [], ◌
 use Rattle.std.specs.List.{AllByRecursion}
 use Rattle.fjall_base.specs.Disk.{Name, Missing, State, Image, Meaning, Survives, LeavesBy, LeavesOnly, after, folder_of, put, state_in}
 use Rattle.fjall_base.proofs.States.{differs, put-other}
-use Rattle.fjall_regions.proofs.Parts.{in_region}
+use Rattle.fjall_files.proofs.Parts.{in_region}
 use Rattle.fjall_tree.specs.Records.{Fields}
-use Rattle.fjall_recovery.specs.Names.{IsNameOf, keyspace_folder, current_name}
+use Rattle.fjall_files.specs.Names.{IsNameOf, keyspace_folder, current_name}
 use Rattle.fjall_keyspaces.specs.declared.living.LivingKeyspace.{LivingKeyspace}
 use Rattle.fjall_catalog.proofs.Resting.{At, rests_along}
 use Rattle.fjall_catalog.proofs.Runs.{at_more}

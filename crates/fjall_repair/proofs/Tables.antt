@@ -11,8 +11,8 @@ use Rattle.std.specs.declared.alloc.Global.{Global}
 use Rattle.fjall_base.specs.declared.error.Error.{Error}
 use Rattle.fjall_base.specs.declared.disk.DirEntry.{DirEntry}
 use Rattle.fjall_base.specs.Disk.{Name, Missing, State, Lists}
-use Rattle.fjall_recovery.specs.Names.{keyspace_folder, table_name}
-use Rattle.fjall_recovery.specs.Lists.{AreIds, IsTableIn}
+use Rattle.fjall_files.specs.Names.{keyspace_folder, table_name}
+use Rattle.fjall_files.specs.Lists.{AreIds, IsTableIn}
 use Rattle.fjall_repair.specs.Listing.{AreTables, as_file, is_other, other_tables}
 use Rattle.fjall_repair.proofs.Apart as Apart
 

@@ -2,7 +2,7 @@
 use Rattle.std.specs.Prelude.{◌≡◌, ◌≢◌, ◌⊎◌, ◌==◌, ℕ, ◌<◌, ◌^◌, Bool, true, false, not, List, filter, map, Contains, Option, None, Some}
 use Rattle.fjall_base.specs.Disk.{Name, Missing, State}
 use Rattle.fjall_base.specs.declared.disk.DirEntry.{DirEntry}
-use Rattle.fjall_recovery.specs.Names.{table_name}
+use Rattle.fjall_files.specs.Names.{table_name}
 
 -- the id isn't the one that is named
 abbrev pub is_other : Option ℕ → ℕ → Bool

@@ -6,7 +6,7 @@ ghost use Rattle.fjall_base.specs.Disk.{Image, Took, standing, state_in};
 ghost use Rattle.fjall_journal.specs.Batches.{view};
 ghost use Rattle.fjall_keyspaces.specs.Keyspaces.{AreKeyspaces, no_keyspaces};
 ghost use Rattle.fjall_catalog.specs.Catalog.{first_catalog};
-ghost use Rattle.fjall_recovery.specs.Names.{journal_name};
+ghost use Rattle.fjall_files.specs.Names.{journal_name};
 ghost use Rattle.fjall_versions.specs.Versions.{versions_behind};
 ghost use Rattle.fjall_opening.specs.Folders.{IsFinished, IsUnfinished, past_records};
 ghost use Rattle.fjall_opening.specs.Naming.{AreFolderIds, KeyspacesAreNamed};
@@ -26,7 +26,7 @@ use fjall_journal::{Batch, Writer};
 use fjall_keyspaces::MetaKeyspace;
 use fjall_mending::{Plan as Mending, plan_mending};
 use fjall_opening::Finished;
-use fjall_recovery::{journal_name, keyspaces};
+use fjall_files::{journal_name, keyspaces};
 use fjall_versions::{Version, replay};
 use std::alloc::Global;
 

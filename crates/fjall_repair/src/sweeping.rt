@@ -3,11 +3,11 @@
 ghost use Rattle.std.specs.Prelude.{◌≡◌, ◌∷◌, ◌++◌, ℕ, All, List, IsTrue, OnOk, Option, codes, map, string_bytes};
 ghost use Rattle.std.specs.List.{flat_map, Contains};
 ghost use Rattle.fjall_base.specs.Disk.{IsNoFolder, LeavesOnly, OnlyFaults, state_in};
-ghost use Rattle.fjall_recovery.specs.Tidy.{IsTidy, StaysTidy};
+ghost use Rattle.fjall_files.specs.Tidy.{IsTidy, StaysTidy};
 ghost use Rattle.fjall_keyspaces.specs.declared.living.LivingKeyspace.{LivingKeyspace};
 ghost use Rattle.fjall_places.specs.Halves.{HasTree, Tree};
 ghost use Rattle.fjall_places.specs.Places.{LiesInTree, RestsInTree};
-ghost use Rattle.fjall_regions.specs.Regions.{Within};
+ghost use Rattle.fjall_files.specs.Regions.{Within};
 ghost use Rattle.fjall_repair.specs.Sweeps.{AreGone, FindsTables, HasAll, IsPlan, IsUnnamedHome, Removes, home_names, named_in, planned};
 ghost use Rattle.fjall_tree.specs.Records.{Fields};
 

@@ -6,7 +6,7 @@ use Rattle.fjall_beginning.proofs.Filled.{emptied, made_text, synced_whole}
 use Rattle.fjall_beginning.proofs.Moments.{either_cut, either_sync, goes_both, goes_cut, goes_made, goes_none, goes_synced, stays_both, stays_cut, stays_made, stays_none, stays_synced}
 use Rattle.fjall_beginning.proofs.Standing.{empty_stands}
 use Rattle.fjall_beginning.proofs.Backs.{cut_older, made_older, none_older, older_then, sync_older}
-use Rattle.fjall_recovery.proofs.Tidying.{stays_both as tidy_both, stays_cut as tidy_cut, stays_cutting, stays_making, stays_none as tidy_none, stays_syncing}
+use Rattle.fjall_files.proofs.Tidying.{stays_both as tidy_both, stays_cut as tidy_cut, stays_cutting, stays_making, stays_none as tidy_none, stays_syncing}
 use Rattle.fjall_beginning.proofs.Served.{empty_file_is, other_long, whole_file}
 use Rattle.fjall_beginning.proofs.file.complete_file.Goals as goal
 

@@ -4,7 +4,7 @@ use Rattle.fjall_beginning.proofs.Moments.{either_sync, goes_appended, goes_both
 use Rattle.fjall_beginning.proofs.Filled.{filled}
 use Rattle.fjall_beginning.proofs.Backs.{append_older, part_older, sync_older}
 use Rattle.fjall_base.proofs.Served.{file_stays}
-use Rattle.fjall_recovery.proofs.Tidying.{stays_appending, stays_both as tidy_both, stays_part as tidy_part, stays_syncing}
+use Rattle.fjall_files.proofs.Tidying.{stays_appending, stays_both as tidy_both, stays_part as tidy_part, stays_syncing}
 use Rattle.fjall_beginning.proofs.file.fill.Goals as goal
 
 pub returns-in_err-append-clause-goes : goal.returns-in_err-append-clause-goes

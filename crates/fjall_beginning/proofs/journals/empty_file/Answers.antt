@@ -3,7 +3,7 @@ use Rattle.fjall_base.specs.Disk.{File, Meaning, state_in}
 use Rattle.fjall_beginning.proofs.Filled.{emptied}
 use Rattle.fjall_beginning.proofs.Moments.{either_cut, goes_both, goes_cut, goes_made, goes_none, stays_both, stays_cut, stays_made, stays_none}
 use Rattle.fjall_beginning.proofs.Standing.{empty_stands}
-use Rattle.fjall_recovery.proofs.Tidying.{stays_both as tidy_both, stays_cutting, stays_making, stays_none as tidy_none}
+use Rattle.fjall_files.proofs.Tidying.{stays_both as tidy_both, stays_cutting, stays_making, stays_none as tidy_none}
 use Rattle.fjall_beginning.proofs.Served.{file_long}
 use Rattle.fjall_beginning.proofs.journals.empty_file.Goals as goal
 

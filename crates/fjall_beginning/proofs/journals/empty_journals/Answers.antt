@@ -5,7 +5,7 @@ use Rattle.fjall_base.specs.Disk.{Meaning, state_in}
 use Rattle.fjall_base.proofs.States.{differs}
 use Rattle.fjall_beginning.proofs.Emptying.{AreEmptied, emptied_more, journal_can, other_name}
 use Rattle.fjall_beginning.proofs.Moments.{elsewhere, goes_both, goes_none_at}
-use Rattle.fjall_recovery.proofs.Tidying.{stays_both as tidy_both, stays_start, tidy_on}
+use Rattle.fjall_files.proofs.Tidying.{stays_both as tidy_both, stays_start, tidy_on}
 use Rattle.fjall_beginning.proofs.Served.{journal_fits, journal_made}
 use Rattle.fjall_beginning.proofs.journals.empty_journals.Goals as goal
 

@@ -1,8 +1,8 @@
 use Rattle.std.proofs.Common.{◌≡◌, ◌≢◌, ◌<◌, ◌≤◌, ◌^◌, ℕ, All, List, map, take, false}
 use Rattle.std.specs.Prelude.{IsTrue, string_bytes}
 use Rattle.fjall_base.specs.Disk.{Name, state_in}
-use Rattle.fjall_recovery.specs.Names.{journal_name}
-use Rattle.fjall_recovery.specs.Tidy.{IsTidy, StaysTidy}
+use Rattle.fjall_files.specs.Names.{journal_name}
+use Rattle.fjall_files.specs.Tidy.{IsTidy, StaysTidy}
 use Rattle.fjall_beginning.specs.Making.{GoesOn}
 use Rattle.fjall_beginning.proofs.Emptying.{AreEmptied}
 use Rattle.fjall_beginning.proofs.journals.empty_journals.Given as goal

@@ -1,13 +1,13 @@
 use Rattle.std.proofs.Common.{sym, subst, ◌∙◌}
 use Rattle.fjall_base.specs.Disk.{Entry, Meaning, standing, state_in}
 use Rattle.fjall_base.specs.declared.error.FormatVersion.TheVariants.{V3}
-use Rattle.fjall_recovery.specs.Marker.{header}
+use Rattle.fjall_files.specs.Marker.{header}
 use Rattle.fjall_opening.specs.Journals.{text_in}
 use Rattle.fjall_beginning.specs.Plans.{IsFound}
 use Rattle.fjall_beginning.proofs.Beginning.{before, comes_back_kept, then_done}
 use Rattle.fjall_beginning.proofs.Standing.{kept_more, making_of, unfinished_of}
 use Rattle.fjall_beginning.proofs.Backs.{has_some, kept_back, not_both}
-use Rattle.fjall_recovery.proofs.Tidying.{stays_both as tidy_both, tidy_on}
+use Rattle.fjall_files.proofs.Tidying.{stays_both as tidy_both, tidy_on}
 use Rattle.fjall_beginning.proofs.Served.{homes_both}
 use Rattle.fjall_beginning.proofs.making.begin.Goals as goal
 

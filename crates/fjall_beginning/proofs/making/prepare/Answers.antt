@@ -1,12 +1,12 @@
 use Rattle.std.proofs.Common.{◌≡◌, ◌∷◌, ◌++◌, [], ◌∙◌, ap, false, inl, refl, map}
 use Rattle.std.specs.Prelude.{string_bytes}
 use Rattle.fjall_base.specs.Disk.{Meaning, Place, SyncFolder, Took}
-use Rattle.fjall_recovery.specs.Names.{current_name, journal_name}
+use Rattle.fjall_files.specs.Names.{current_name, journal_name}
 use Rattle.fjall_beginning.specs.Making.{GoesOn}
 use Rattle.fjall_beginning.proofs.Awaiting.{awaits, marker_stays}
 use Rattle.fjall_beginning.proofs.Moments.{goes_both, goes_settled}
 use Rattle.fjall_beginning.proofs.Trees.{on_ok_as}
-use Rattle.fjall_recovery.proofs.Tidying.{stays_both as tidy_both, stays_settling, tidy_on}
+use Rattle.fjall_files.proofs.Tidying.{stays_both as tidy_both, stays_settling, tidy_on}
 use Rattle.fjall_beginning.proofs.Served.{homes_settled, journals_no_home}
 use Rattle.fjall_beginning.proofs.making.prepare.Goals as goal
 

@@ -2,7 +2,7 @@ use Rattle.std.proofs.Common.{◌≡◌, List, ℕ, [], ◌∷◌, codes, true, 
 use Rattle.fjall_base.specs.Disk.{File, Meaning, SyncFolder, Took, state_in, Place}
 use Rattle.fjall_base.proofs.Moments.{weaken}
 use Rattle.fjall_base.specs.declared.error.FormatVersion.TheVariants.{V3}
-use Rattle.fjall_recovery.specs.Marker.{header}
+use Rattle.fjall_files.specs.Marker.{header}
 use Rattle.fjall_keyspaces.specs.Keyspaces.{no_keyspaces}
 use Rattle.fjall_versions.specs.Replays.{bare}
 use Rattle.fjall_opening.specs.Folders.{StandsFor}
@@ -16,9 +16,9 @@ use Rattle.fjall_beginning.proofs.Backs.{active_there, marking_back, older_stand
 use Rattle.fjall_base.proofs.States.{differs}
 use Rattle.fjall_beginning.proofs.Moments.{elsewhere, goes_settled}
 use Rattle.fjall_beginning.proofs.Standing.{kept_more}
-use Rattle.fjall_recovery.proofs.Tidying.{stays_both as tidy_both, stays_settling}
-use Rattle.fjall_regions.proofs.Fitting.{fits_version}
-use Rattle.fjall_regions.proofs.Serving.{can_make_marker}
+use Rattle.fjall_files.proofs.Tidying.{stays_both as tidy_both, stays_settling}
+use Rattle.fjall_files.proofs.Fitting.{fits_version}
+use Rattle.fjall_files.proofs.Serving.{can_make_marker}
 use Rattle.fjall_beginning.proofs.Served.{homes_at, homes_both, homes_settled, marker_no_home, marker_some}
 use Rattle.fjall_beginning.proofs.marker.mark.Goals as goal
 

@@ -1,6 +1,6 @@
 use Rattle.std.proofs.Common.{◌∙◌, List, ℕ, ap, map, sym}
 use Rattle.fjall_base.specs.Disk.{standing, state_in}
-use Rattle.fjall_recovery.specs.Names.{journal_name}
+use Rattle.fjall_files.specs.Names.{journal_name}
 use Rattle.fjall_beginning.proofs.Plannings.{active_is, plan_of}
 use Rattle.fjall_beginning.proofs.plan.plan_beginning.Goals as goal
 

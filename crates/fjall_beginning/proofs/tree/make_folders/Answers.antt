@@ -1,13 +1,13 @@
 use Rattle.std.proofs.Common.{◌≡◌, Ok, false, codes, refl, ◌∙◌, ap}
 use Rattle.fjall_base.specs.Disk.{Folder, Meaning, Name, Place, State, state_in}
-use Rattle.fjall_regions.proofs.Made.{within_both, within_none}
-use Rattle.fjall_recovery.specs.Names.{current_name}
+use Rattle.fjall_files.proofs.Made.{within_both, within_none}
+use Rattle.fjall_files.specs.Names.{current_name}
 use Rattle.fjall_catalog.proofs.Naming.{folder_zero}
 use Rattle.fjall_beginning.proofs.Moments.{goes_both, goes_none}
 use Rattle.fjall_beginning.proofs.Named.{keyspaces_no_table}
 use Rattle.fjall_beginning.proofs.Trees.{folder_other, goes_folder, inner_no_table, inner_records, inner_stands, keyspaces_stands, on_ok_as, on_ok_of, outer_records, records_along, within_folder}
-use Rattle.fjall_recovery.proofs.Tidying.{stays_both as tidy_both, stays_making, stays_none as tidy_none, tidy_on}
-use Rattle.fjall_regions.proofs.Fitting.{fits_keyspaces}
+use Rattle.fjall_files.proofs.Tidying.{stays_both as tidy_both, stays_making, stays_none as tidy_none, tidy_on}
+use Rattle.fjall_files.proofs.Fitting.{fits_keyspaces}
 use Rattle.fjall_beginning.proofs.Served.{can_make_keyspaces, can_make_tree, homes_both, homes_made, keyspaces_no_home, making_folder, tree_fits, tree_no_home}
 use Rattle.fjall_beginning.proofs.tree.make_folders.Goals as goal
 

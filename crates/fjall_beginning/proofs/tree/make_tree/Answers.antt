@@ -1,9 +1,9 @@
 use Rattle.std.proofs.Common.{codes, false, refl, ◌∙◌}
 use Rattle.fjall_base.specs.Disk.{Meaning, state_in}
-use Rattle.fjall_regions.proofs.Made.{within_both}
+use Rattle.fjall_files.proofs.Made.{within_both}
 use Rattle.fjall_beginning.proofs.Moments.{goes_both, stays_within}
 use Rattle.fjall_beginning.proofs.Trees.{current_filled, inner_still, outer_still, records_found, records_hold}
-use Rattle.fjall_recovery.proofs.Tidying.{stays_both as tidy_both, tidy_on}
+use Rattle.fjall_files.proofs.Tidying.{stays_both as tidy_both, tidy_on}
 use Rattle.fjall_beginning.proofs.Served.{can_make_records, homes_at, homes_both, records_fit, records_no_home, records_some}
 use Rattle.fjall_beginning.proofs.tree.make_tree.Goals as goal
 

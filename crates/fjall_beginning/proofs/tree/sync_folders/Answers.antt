@@ -1,10 +1,10 @@
 use Rattle.std.proofs.Common.{◌≡◌, Ok, inr, codes, false, refl, ap, subst, ◌∙◌}
 use Rattle.fjall_base.specs.Disk.{Folder, Meaning, Name, State, state_in}
-use Rattle.fjall_recovery.specs.Names.{current_name}
-use Rattle.fjall_regions.proofs.Made.{within_both, within_none}
+use Rattle.fjall_files.specs.Names.{current_name}
+use Rattle.fjall_files.proofs.Made.{within_both, within_none}
 use Rattle.fjall_beginning.proofs.Moments.{goes_both, goes_none, goes_settled}
 use Rattle.fjall_beginning.proofs.Trees.{first_tree, settled_under}
-use Rattle.fjall_recovery.proofs.Tidying.{stays_both as tidy_both, stays_none as tidy_none, stays_settling}
+use Rattle.fjall_files.proofs.Tidying.{stays_both as tidy_both, stays_none as tidy_none, stays_settling}
 use Rattle.fjall_catalog.proofs.Naming.{folder_zero}
 use Rattle.fjall_beginning.proofs.Served.{homes_both, homes_settled, outer_settled}
 use Rattle.fjall_beginning.proofs.tree.sync_folders.Goals as goal

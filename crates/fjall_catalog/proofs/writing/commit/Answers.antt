@@ -1,15 +1,14 @@
 use Rattle.std.proofs.Common.{[], ◌∷◌, List, ℕ, OnOk, OnErr, codes, sym, ◌∙◌, subst}
-use Rattle.fjall_base.specs.Disk.{Name, Meaning, Took, TookOrNot, TookPart, Append, Sync}
-use Rattle.fjall_regions.proofs.Made.{appended_within, part_within, synced_within, within_both}
-use Rattle.fjall_recovery.specs.Names.{keyspace_folder}
+use Rattle.fjall_base.specs.Disk.{Name, Meaning, Took, TookOrNot, TookPart, Append, Sync, state_in}
+use Rattle.fjall_files.proofs.Made.{appended_within, part_within, synced_within, within_both}
+use Rattle.fjall_files.specs.Names.{keyspace_folder}
 use Rattle.fjall_tree.specs.Records.{record_text}
 use Rattle.fjall_catalog.specs.Catalog.{fields}
 use Rattle.fjall_catalog.proofs.Naming.{current_zero, current_under}
 use Rattle.fjall_catalog.proofs.Commits as Commits
-use Rattle.fjall_base.specs.Disk.{state_in}
 use Rattle.fjall_base.proofs.Served.{file_stays}
 use Rattle.fjall_catalog.proofs.Serving.{both_kind, current_there, part_kind}
-use Rattle.fjall_recovery.proofs.Tidying.{stays_appending, stays_both, stays_part, stays_syncing}
+use Rattle.fjall_files.proofs.Tidying.{stays_appending, stays_both, stays_part, stays_syncing}
 use Rattle.fjall_catalog.proofs.writing.commit.Goals as goal
 
 pub returns-in_err-append-clause-within : goal.returns-in_err-append-clause-within

@@ -3,13 +3,13 @@ use Rattle.std.specs.Option.{option_map}
 use Rattle.std.specs.Prelude.{IfSome}
 use Rattle.fjall_base.specs.Disk.{IsNoFolder, Meaning, Name, state_in}
 use Rattle.fjall_tree.specs.declared.record.TableInfo.{TableInfo}
-use Rattle.fjall_regions.specs.Regions.{is_under}
-use Rattle.fjall_regions.proofs.Made.{removed_within}
-use Rattle.fjall_recovery.specs.Names.{keyspace_folder, table_name}
+use Rattle.fjall_files.specs.Regions.{is_under}
+use Rattle.fjall_files.proofs.Made.{removed_within}
+use Rattle.fjall_files.specs.Names.{keyspace_folder, table_name}
 use Rattle.fjall_keyspaces.specs.Entries.{entries_of}
 use Rattle.fjall_catalog.proofs.Naming.{table_under}
 use Rattle.fjall_catalog.proofs.Runs as Runs
-use Rattle.fjall_recovery.proofs.Tidying.{stays_removing, stays_start}
+use Rattle.fjall_files.proofs.Tidying.{stays_removing, stays_start}
 use Rattle.fjall_catalog.proofs.writing.remove_old.Goals as goal
 
 no_name : (found : Option (String Global)) → ((name : String Global) → found ≡ Some name → ⊥) → (bytes : List ℕ) → option_map string_bytes found ≡ Some bytes → ⊥

@@ -1,14 +1,14 @@
 use Rattle.std.proofs.Common.{[], ◌∷◌, ◌≡◌, List, ℕ, OnOk, codes, ap, sym, ◌∙◌, subst}
 use Rattle.fjall_base.specs.Disk.{File, Meaning, Name, Took, SyncFolder, state_in}
-use Rattle.fjall_regions.specs.Regions.{Within}
-use Rattle.fjall_regions.proofs.Made.{settled_within, within_both}
-use Rattle.fjall_regions.proofs.Under.{under_self}
-use Rattle.fjall_recovery.specs.Names.{keyspace_folder, table_name}
+use Rattle.fjall_files.specs.Regions.{Within}
+use Rattle.fjall_files.proofs.Made.{settled_within, within_both}
+use Rattle.fjall_files.proofs.Under.{under_self}
+use Rattle.fjall_files.specs.Names.{keyspace_folder, table_name}
 use Rattle.fjall_keyspaces.specs.Entries.{entries_of}
 use Rattle.fjall_catalog.proofs.Naming.{folder_zero}
 use Rattle.fjall_catalog.proofs.Runs as Runs
 use Rattle.fjall_catalog.proofs.Serving.{can_make, fits_next, folder_there}
-use Rattle.fjall_recovery.proofs.Tidying.{stays_both, stays_settling, stays_start}
+use Rattle.fjall_files.proofs.Tidying.{stays_both, stays_settling, stays_start}
 use Rattle.fjall_catalog.proofs.writing.write_table.Goals as goal
 
 pub returns-in_default-clause-any_moment : goal.returns-in_default-clause-any_moment

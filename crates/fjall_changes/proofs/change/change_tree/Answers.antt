@@ -1,12 +1,12 @@
 use Rattle.std.proofs.Common.{[], ◌∷◌, ◌++◌, ◌∙◌}
 use Rattle.fjall_base.specs.Disk.{Meaning, state_in}
-use Rattle.fjall_regions.proofs.Made.{within_both}
-use Rattle.fjall_recovery.specs.Names.{keyspace_folder}
+use Rattle.fjall_files.proofs.Made.{within_both}
+use Rattle.fjall_files.specs.Names.{keyspace_folder}
 use Rattle.fjall_catalog.specs.Catalog.{fields}
 use Rattle.fjall_places.specs.Places.{LiesInTree}
 use Rattle.fjall_catalog.proofs.Serving.{kinds_on, safe_kind}
 use Rattle.fjall_changes.proofs.Changed as Changed
-use Rattle.fjall_recovery.proofs.Tidying.{stays_both}
+use Rattle.fjall_files.proofs.Tidying.{stays_both}
 use Rattle.fjall_changes.proofs.change.change_tree.Goals as goal
 
 pub returns-in_err-write_table-clause-any_moment : goal.returns-in_err-write_table-clause-any_moment

@@ -1,17 +1,15 @@
-use Rattle.std.proofs.Common.{[], ◌∷◌, ◌∙◌, subst}
-use Rattle.fjall_base.specs.Disk.{File, Folder, Meaning, Name, SyncFolder, Took, state_in}
-use Rattle.std.proofs.Common.{inr, ap, sym}
-use Rattle.fjall_base.specs.Disk.{IsNoFolder, IsThere, Place, folder_of, standing}
+use Rattle.std.proofs.Common.{[], ◌∷◌, ◌∙◌, subst, inr, ap, sym}
+use Rattle.fjall_base.specs.Disk.{File, Folder, Meaning, Name, SyncFolder, Took, state_in, IsNoFolder, IsThere, Place, folder_of, standing}
 use Rattle.fjall_places.proofs.Trees.{folder_of-home}
-use Rattle.fjall_regions.proofs.Made.{within_both}
-use Rattle.fjall_recovery.specs.Names.{keyspace_folder, current_name}
+use Rattle.fjall_files.proofs.Made.{within_both}
+use Rattle.fjall_files.specs.Names.{keyspace_folder, current_name}
 use Rattle.fjall_opening.proofs.Listed.{in_keyspaces}
 use Rattle.fjall_changes.proofs.Served.{can_make_home, keyspaces_there}
 use Rattle.fjall_changes.proofs.Apart.{within_keyspaces}
 use Rattle.fjall_changes.proofs.Building as Building
-use Rattle.fjall_recovery.specs.Tidy.{FitsAt}
-use Rattle.fjall_recovery.proofs.Tidying.{stays_both, stays_by, stays_none, stays_settling}
-use Rattle.fjall_regions.proofs.Fitting.{fits_current, fits_folder}
+use Rattle.fjall_files.specs.Tidy.{FitsAt}
+use Rattle.fjall_files.proofs.Tidying.{stays_both, stays_by, stays_none, stays_settling}
+use Rattle.fjall_files.proofs.Fitting.{fits_current, fits_folder}
 use Rattle.fjall_changes.proofs.creation.build_home.Goals as goal
 
 -- ---- the folder or its file wasn't written

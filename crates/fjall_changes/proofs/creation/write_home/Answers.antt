@@ -1,11 +1,10 @@
 use Rattle.fjall_base.specs.Disk.{Folder, Meaning, removing}
-use Rattle.fjall_regions.proofs.Under.{under_self}
-use Rattle.fjall_regions.proofs.Made.{making_within, removing_within, within_both, within_none}
+use Rattle.fjall_files.proofs.Under.{under_self}
+use Rattle.fjall_files.proofs.Made.{making_within, removing_within, within_both, within_none, can_fill}
 use Rattle.std.proofs.Common.{◌∙◌}
-use Rattle.fjall_regions.proofs.Made.{can_fill}
 use Rattle.fjall_changes.proofs.Served.{still_can}
 use Rattle.fjall_changes.proofs.Building as Building
-use Rattle.fjall_recovery.proofs.Tidying.{removing_tidy, stays_both, stays_by, stays_making, stays_none}
+use Rattle.fjall_files.proofs.Tidying.{removing_tidy, stays_both, stays_by, stays_making, stays_none}
 use Rattle.fjall_changes.proofs.creation.write_home.Goals as goal
 
 pub returns-in_err-make_folder-clause-within : goal.returns-in_err-make_folder-clause-within

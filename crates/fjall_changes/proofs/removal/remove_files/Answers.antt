@@ -2,10 +2,10 @@ use Rattle.std.proofs.Common.{◌≡◌, ◌∙◌, List, map, ap, arith, subst,
 use Rattle.std.proofs.lemmas.List.{drop_all}
 use Rattle.std.specs.Prelude.{string_bytes}
 use Rattle.fjall_base.specs.Disk.{Meaning, Name, removing, state_in}
-use Rattle.fjall_regions.specs.Regions.{HoldsOnly, is_under}
-use Rattle.fjall_regions.proofs.Removed.{next_kind, next_removed}
-use Rattle.fjall_regions.proofs.Made.{removing_within, within_both, within_none}
-use Rattle.fjall_recovery.proofs.Tidying.{removing_tidy, stays_both, stays_by, stays_none}
+use Rattle.fjall_files.specs.Regions.{HoldsOnly, is_under}
+use Rattle.fjall_files.proofs.Removed.{next_kind, next_removed}
+use Rattle.fjall_files.proofs.Made.{removing_within, within_both, within_none}
+use Rattle.fjall_files.proofs.Tidying.{removing_tidy, stays_both, stays_by, stays_none}
 use Rattle.fjall_changes.proofs.removal.remove_files.Goals as goal
 
 pub returns-in_err-remove-clause-within : goal.returns-in_err-remove-clause-within

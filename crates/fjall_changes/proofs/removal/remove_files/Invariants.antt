@@ -1,9 +1,9 @@
 use Rattle.std.proofs.Common.{◌≡◌, ◌≤◌, true, All, map}
 use Rattle.std.specs.Prelude.{IsTrue, string_bytes}
 use Rattle.fjall_base.specs.Disk.{Name, state_in}
-use Rattle.fjall_recovery.specs.Tidy.{StaysTidy}
-use Rattle.fjall_regions.proofs.Removed.{names_from}
-use Rattle.fjall_regions.specs.Regions.{HoldsOnly, Within, is_under}
+use Rattle.fjall_files.specs.Tidy.{StaysTidy}
+use Rattle.fjall_files.proofs.Removed.{names_from}
+use Rattle.fjall_files.specs.Regions.{HoldsOnly, Within, is_under}
 use Rattle.fjall_changes.proofs.removal.remove_files.Given as goal
 
 abbrev pub invariant-loop-file : goal.invariant-loop-file

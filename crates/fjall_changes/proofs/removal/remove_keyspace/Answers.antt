@@ -1,13 +1,13 @@
 use Rattle.std.proofs.Common.{map, ◌∙◌, List, ap, sym, subst, string_bytes}
 use Rattle.fjall_base.specs.Disk.{CanRemoveFolder, Meaning, Name, removing, state_in}
-use Rattle.fjall_regions.specs.Regions.{HoldsOnly}
-use Rattle.fjall_regions.proofs.Made.{within_both}
-use Rattle.fjall_regions.proofs.Removed.{emptied}
+use Rattle.fjall_files.specs.Regions.{HoldsOnly}
+use Rattle.fjall_files.proofs.Made.{within_both}
+use Rattle.fjall_files.proofs.Removed.{emptied}
 use Rattle.fjall_changes.proofs.Served.{keyspaces_there}
-use Rattle.fjall_recovery.specs.Names.{keyspace_folder}
+use Rattle.fjall_files.specs.Names.{keyspace_folder}
 use Rattle.fjall_changes.proofs.Apart.{within_keyspaces}
 use Rattle.fjall_changes.proofs.Building as Building
-use Rattle.fjall_recovery.proofs.Tidying.{removing_tidy, stays_both, stays_by, stays_none, stays_settling}
+use Rattle.fjall_files.proofs.Tidying.{removing_tidy, stays_both, stays_by, stays_none, stays_settling}
 use Rattle.fjall_changes.proofs.removal.remove_keyspace.Goals as goal
 
 -- ---- a file wasn't removed

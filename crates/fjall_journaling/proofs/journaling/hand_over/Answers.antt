@@ -6,7 +6,7 @@ use Rattle.fjall_journaling.specs.Journaling.{IsWriting, LeavesRoot, after_persi
 use Rattle.fjall_journaling.proofs.Leaving.{persist_leaves, failed_leaves, persist_out, persist_apart, failed_apart}
 use Rattle.fjall_journaling.proofs.Filed.{writing_file}
 use Rattle.fjall_journaling.proofs.Results.{either_way, on_both}
-use Rattle.fjall_recovery.specs.Tidy.{StaysTidy}
+use Rattle.fjall_files.specs.Tidy.{StaysTidy}
 use Rattle.fjall_journaling.proofs.Tidied.{failed_stays, persist_stays}
 use Rattle.fjall_journaling.proofs.journaling.hand_over.Goals as goal
 

@@ -11,7 +11,7 @@ use Rattle.fjall_journaling.proofs.Leaving.{part_apart}
 use Rattle.fjall_journaling.proofs.Filed.{writing_file, written_file}
 use Rattle.fjall_journaling.proofs.Results.{either_way, on_both, on_err, on_ok}
 use Rattle.fjall_journaling.proofs.Writing.{after_name, batch_leaves, batch_on, by_hand_steps, command_part, half_written, twice_out, waits_below, waits_by_hand, whole_written}
-use Rattle.fjall_recovery.proofs.Tidying.{stays_part}
+use Rattle.fjall_files.proofs.Tidying.{stays_part}
 use Rattle.fjall_journaling.proofs.journaling.write_through.Goals as goal
 
 pub returns-in_err-write_raw-clause-any_moment : goal.returns-in_err-write_raw-clause-any_moment

@@ -1,6 +1,6 @@
 use Rattle.std.specs.Prelude.{string_bytes}
 use Rattle.fjall_base.specs.Disk.{Meaning, standing, state_in}
-use Rattle.fjall_recovery.specs.Names.{table_name, current_name}
+use Rattle.fjall_files.specs.Names.{table_name, current_name}
 use Rattle.fjall_mending.specs.Mended.{IsMended}
 use Rattle.fjall_mending.specs.Steps.{IsRested, with_active}
 use Rattle.fjall_mending.proofs.Suited.{mended_by, no_active, no_ends, no_whole, on_ok_then, suited}

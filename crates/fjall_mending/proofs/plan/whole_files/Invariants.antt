@@ -1,5 +1,5 @@
 use Rattle.std.proofs.Common.{◌≡◌, ◌∷◌, codes, map, take, string_bytes}
-use Rattle.fjall_recovery.specs.Names.{journal_name}
+use Rattle.fjall_files.specs.Names.{journal_name}
 use Rattle.fjall_mending.proofs.plan.whole_files.Given as goal
 
 abbrev pub invariant-loop-id : goal.invariant-loop-id

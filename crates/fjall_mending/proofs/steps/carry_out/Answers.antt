@@ -1,7 +1,7 @@
 use Rattle.std.proofs.Common.{◌∙◌, [], inr, ◌≢◌, All, String, Global, map, string_bytes, sym, ap, subst}
 use Rattle.fjall_base.specs.Disk.{Meaning, standing, state_in, File, IsFile, Name, Place}
-use Rattle.fjall_recovery.specs.Tidy.{FitsAt}
-use Rattle.fjall_recovery.proofs.Tidying.{stays_both}
+use Rattle.fjall_files.specs.Tidy.{FitsAt}
+use Rattle.fjall_files.proofs.Tidying.{stays_both}
 use Rattle.fjall_mending.specs.declared.plan.FileEnd.{FileEnd}
 use Rattle.fjall_places.specs.Amid.{StandsAmid}
 use Rattle.fjall_mending.specs.Steps.{active_of, with_active, IsOpened}

@@ -1,7 +1,7 @@
 use Rattle.std.proofs.Common.{arith, inl, refl, subst, All, ◌∙◌}
 use Rattle.std.proofs.lemmas.List.{take_all}
 use Rattle.fjall_base.specs.Disk.{Meaning, state_in, standing}
-use Rattle.fjall_recovery.proofs.Tidying.{stays_both, stays_start}
+use Rattle.fjall_files.proofs.Tidying.{stays_both, stays_start}
 use Rattle.fjall_base.proofs.Moments.{started}
 use Rattle.fjall_mending.specs.Amids.{StaysAmid}
 use Rattle.fjall_mending.specs.Steps.{IsEnded, Stays, end_of, IsRightEnd}

@@ -1,7 +1,7 @@
 use Rattle.std.proofs.Common.{◌≢◌, inr, All, Ok, arith, subst, sym, ◌∙◌, string_bytes}
 use Rattle.std.proofs.lemmas.List.{take_all}
 use Rattle.fjall_base.specs.Disk.{IsFile, Meaning, Name, Sync, state_in}
-use Rattle.fjall_recovery.proofs.Tidying.{stays_both, stays_perhaps, stays_syncing}
+use Rattle.fjall_files.proofs.Tidying.{stays_both, stays_perhaps, stays_syncing}
 use Rattle.fjall_mending.specs.Steps.{IsSynced}
 use Rattle.fjall_mending.proofs.Items.{all_more, all_to, item_has}
 use Rattle.fjall_mending.proofs.Narrowing.{file_moment, file_same, file_elsewhere, file_is_synced, same_then, synced_still}

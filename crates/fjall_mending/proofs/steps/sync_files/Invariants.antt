@@ -1,7 +1,7 @@
 use Rattle.std.proofs.Common.{◌≡◌, ◌≢◌, ◌≤◌, All, take, string_bytes}
 use Rattle.std.specs.Prelude.{IsTrue}
 use Rattle.fjall_base.specs.Disk.{IsFile, IsImage, LeavesOnly, Name, state_in}
-use Rattle.fjall_recovery.specs.Tidy.{StaysTidy}
+use Rattle.fjall_files.specs.Tidy.{StaysTidy}
 use Rattle.fjall_mending.specs.Steps.{IsSame, IsSynced}
 use Rattle.fjall_mending.proofs.steps.sync_files.Given as goal
 

@@ -1,7 +1,7 @@
 use Rattle.std.proofs.Common.{◌≡◌, [], All, arith, ap, subst, sym, ◌∙◌, string_bytes, Ok}
 use Rattle.std.proofs.lemmas.List.{take_all}
 use Rattle.fjall_base.specs.Disk.{IsThere, Meaning, Name, State, folder_of, standing, state_in}
-use Rattle.fjall_recovery.proofs.Tidying.{stays_both, stays_none, stays_settling}
+use Rattle.fjall_files.proofs.Tidying.{stays_both, stays_none, stays_settling}
 use Rattle.fjall_mending.proofs.Items.{all_more, all_to, item_has}
 use Rattle.fjall_mending.proofs.Narrowing.{folder_moment, folder_same, folder_still, folder_empty}
 use Rattle.fjall_mending.proofs.Served.{still_there}

@@ -1,7 +1,7 @@
 use Rattle.std.proofs.Common.{◌≡◌, ◌≤◌, [], All, take, string_bytes}
 use Rattle.std.specs.Prelude.{IsTrue}
 use Rattle.fjall_base.specs.Disk.{IsImage, IsThere, LeavesOnly, Name, folder_of, standing, state_in}
-use Rattle.fjall_recovery.specs.Tidy.{StaysTidy}
+use Rattle.fjall_files.specs.Tidy.{StaysTidy}
 use Rattle.fjall_mending.proofs.steps.sync_folders.Given as goal
 
 abbrev pub invariant-loop-folder : goal.invariant-loop-folder

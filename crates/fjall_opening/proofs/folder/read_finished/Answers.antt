@@ -2,7 +2,7 @@ use Rattle.std.proofs.Common.{◌≡◌, ◌∙◌, ap, subst, sym}
 use Rattle.std.proofs.lemmas.Result.{err_from_is_err_and}
 use Rattle.fjall_base.specs.Disk.{Folder, Image, standing, state_in}
 use Rattle.fjall_base.specs.declared.error.Error.TheVariants.{Unrecoverable}
-use Rattle.fjall_recovery.specs.Names.{keyspace_folder}
+use Rattle.fjall_files.specs.Names.{keyspace_folder}
 use Rattle.fjall_catalog.specs.Catalog.{Says}
 use Rattle.fjall_opening.specs.Journals.{AreJournalIds}
 use Rattle.fjall_opening.specs.Naming.{KeyspacesAreNamed}

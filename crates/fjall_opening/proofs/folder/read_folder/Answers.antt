@@ -3,7 +3,7 @@ use Rattle.std.proofs.lemmas.Result.{err_from_is_err_and}
 use Rattle.fjall_base.specs.Disk.{Image, standing, state_in}
 use Rattle.fjall_base.specs.declared.error.Error.TheVariants.{JournalRecovery}
 use Rattle.fjall_base.specs.declared.error.JournalRecoveryError.TheVariants.{InvalidFileName}
-use Rattle.fjall_recovery.specs.Marker.{marker_tells}
+use Rattle.fjall_files.specs.Marker.{marker_tells}
 use Rattle.fjall_opening.specs.Folders.{IsSound, marker_bytes}
 use Rattle.fjall_opening.specs.Journals.{AreJournalIds}
 use Rattle.fjall_opening.specs.Naming.{JournalsAreNamed}

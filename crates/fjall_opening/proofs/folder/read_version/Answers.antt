@@ -1,6 +1,6 @@
 use Rattle.std.proofs.Common.{List, Option, Some, ◌∙◌, ℕ, ap, codes, sym}
 use Rattle.fjall_base.specs.Disk.{standing, state_in}
-use Rattle.fjall_recovery.specs.Marker.{marker_tells}
+use Rattle.fjall_files.specs.Marker.{marker_tells}
 use Rattle.fjall_opening.proofs.Finishing.{marker_due, file_read}
 use Rattle.fjall_opening.proofs.folder.read_version.Goals as goal
 

@@ -11,8 +11,8 @@ use Rattle.fjall_mending.specs.Mended.{IsMendingOf}
 use Rattle.fjall_repair.specs.Sweeps.{BringsNoTable, FindsTables, IsSwept, HasAll}
 use Rattle.fjall_repair.proofs.Planned.{is_swept, lives_small}
 use Rattle.fjall_repair.proofs.Openings.{held_early, holds_on, makes_store, number_is, numbers, opens_of, run_on, stands_now, takes_contents}
-use Rattle.fjall_recovery.specs.Tidy.{IsTidy}
-use Rattle.fjall_recovery.proofs.Tidying.{stays_both, stays_none as tidy_none}
+use Rattle.fjall_files.specs.Tidy.{IsTidy}
+use Rattle.fjall_files.proofs.Tidying.{stays_both, stays_none as tidy_none}
 use Rattle.fjall_repair.proofs.Amid.{amid_now, amid_on}
 use Rattle.fjall_repair.proofs.opening.open_finished.Goals as goal
 

@@ -11,8 +11,8 @@ use Rattle.fjall_places.proofs.Holding.{folder_stands}
 use Rattle.fjall_beginning.specs.Making.{ComesBackUnfinished}
 use Rattle.fjall_repair.specs.Opened.{ComesBack, Opens}
 use Rattle.fjall_repair.proofs.Openings.{finished_is, held_up, holds_on, opened_from, run_on, stands_now, swept_on, unfinished_is, unopened}
-use Rattle.fjall_recovery.specs.Tidy.{IsTidy}
-use Rattle.fjall_recovery.proofs.Tidying.{stays_both, stays_none as tidy_none}
+use Rattle.fjall_files.specs.Tidy.{IsTidy}
+use Rattle.fjall_files.proofs.Tidying.{stays_both, stays_none as tidy_none}
 use Rattle.fjall_repair.proofs.Amid.{amid_now, amid_on}
 use Rattle.fjall_repair.proofs.opening.open_folder.Goals as goal
 

@@ -3,7 +3,7 @@ use Rattle.std.specs.Prelude.{string_bytes}
 use Rattle.std.proofs.lemmas.Result.{err_from_is_err_and}
 use Rattle.fjall_base.specs.Disk.{Meaning, State, standing, state_in}
 use Rattle.fjall_base.proofs.Moments.{stays}
-use Rattle.fjall_recovery.specs.Names.{journal_name}
+use Rattle.fjall_files.specs.Names.{journal_name}
 use Rattle.fjall_keyspaces.specs.Keyspaces.{AreKeyspaces, Keyspaces, no_keyspaces}
 use Rattle.fjall_catalog.specs.declared.catalog.Catalog.{Catalog}
 use Rattle.fjall_catalog.specs.Catalog.{first_catalog}
@@ -13,8 +13,8 @@ use Rattle.fjall_repair.specs.Opened.{nothing}
 use Rattle.fjall_repair.specs.Sweeps.{BringsNoTable, FindsTables, IsSwept, HasAll}
 use Rattle.fjall_repair.proofs.Planned.{is_swept, lives_small}
 use Rattle.fjall_repair.proofs.Openings.{held_early, holds_on, makes_store, opens_of, run_on, stands_now}
-use Rattle.fjall_recovery.specs.Tidy.{IsTidy}
-use Rattle.fjall_recovery.proofs.Tidying.{stays_both, stays_none as tidy_none}
+use Rattle.fjall_files.specs.Tidy.{IsTidy}
+use Rattle.fjall_files.proofs.Tidying.{stays_both, stays_none as tidy_none}
 use Rattle.fjall_repair.proofs.Amid.{amid_now, amid_on}
 use Rattle.fjall_opening.specs.Folders.{IsUnfinished}
 use Rattle.fjall_repair.proofs.opening.open_unfinished.Goals as goal

@@ -1,7 +1,7 @@
 use Rattle.std.proofs.Common.{List, ◌∙◌, sym, subst}
 use Rattle.fjall_base.specs.Disk.{state_in}
-use Rattle.fjall_recovery.specs.Lists.{AreIds, IsTableIn}
-use Rattle.fjall_recovery.specs.Names.{keyspace_folder}
+use Rattle.fjall_files.specs.Lists.{AreIds, IsTableIn}
+use Rattle.fjall_files.specs.Names.{keyspace_folder}
 use Rattle.fjall_repair.proofs.Tables.{tables_ok}
 use Rattle.fjall_repair.proofs.plan.list_tables.Goals as goal
 

@@ -2,7 +2,7 @@ use Rattle.std.proofs.Common.{[], ◌∷◌, ◌∙◌, ap, lit<, inr, refl, Non
 use Rattle.std.specs.List.{Contains}
 use Rattle.fjall_base.specs.Disk.{Meaning, state_in}
 use Rattle.fjall_base.proofs.Moments.{runs_on}
-use Rattle.fjall_recovery.specs.Names.{journal_name, table_name}
+use Rattle.fjall_files.specs.Names.{journal_name, table_name}
 use Rattle.fjall_catalog.specs.Catalog.{fields, first_catalog}
 use Rattle.fjall_keyspaces.specs.Keyspaces.{no_keyspaces}
 use Rattle.fjall_versions.specs.Replays.{bare}
@@ -12,7 +12,7 @@ use Rattle.fjall_repair.specs.Opened.{IsRepaired, nothing}
 use Rattle.fjall_repair.specs.Sweeps.{planned}
 use Rattle.fjall_repair.proofs.Removals.{stays_missing}
 use Rattle.fjall_repair.proofs.Repairing.{finds_still, no_end, on_ok_then, repaired, stands, root_kept}
-use Rattle.fjall_recovery.proofs.Tidying.{stays_both, tidy_on}
+use Rattle.fjall_files.proofs.Tidying.{stays_both, tidy_on}
 use Rattle.fjall_repair.proofs.Served.{have_all_on}
 use Rattle.fjall_repair.proofs.Amid.{held_begun, held_swept, run_amid}
 use Rattle.fjall_repair.proofs.repair.begin_and_sweep.Goals as goal

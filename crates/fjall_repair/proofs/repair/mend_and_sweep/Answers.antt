@@ -4,14 +4,14 @@ use Rattle.fjall_base.specs.Disk.{Meaning, state_in, standing}
 use Rattle.fjall_base.proofs.Moments.{runs_on}
 use Rattle.std.specs.Prelude.{string_bytes}
 use Rattle.fjall_opening.specs.Folders.{store_of}
-use Rattle.fjall_recovery.specs.Names.{table_name}
+use Rattle.fjall_files.specs.Names.{table_name}
 use Rattle.fjall_places.proofs.Holding.{tree_of}
 use Rattle.fjall_places.specs.Places.{LiesInTree}
 use Rattle.fjall_repair.specs.Opened.{IsRepaired}
 use Rattle.fjall_repair.specs.Sweeps.{planned}
 use Rattle.fjall_repair.proofs.Removals.{stays_missing}
 use Rattle.fjall_repair.proofs.Repairing.{finds_of, finds_still, on_ok_then, plan_of, repaired, stands, root_kept}
-use Rattle.fjall_recovery.proofs.Tidying.{stays_both, tidy_on}
+use Rattle.fjall_files.proofs.Tidying.{stays_both, tidy_on}
 use Rattle.fjall_repair.proofs.Served.{have_all_on}
 use Rattle.fjall_repair.proofs.Amid.{held_swept, run_amid}
 use Rattle.fjall_repair.proofs.repair.mend_and_sweep.Goals as goal

@@ -1,11 +1,10 @@
-use Rattle.std.proofs.Common.{List, Ok, arith, refl, subst, sym, ◌∙◌}
+use Rattle.std.proofs.Common.{List, Ok, arith, refl, subst, sym, ◌∙◌, map}
 use Rattle.std.specs.Prelude.{string_bytes}
 use Rattle.std.specs.List.{Contains}
-use Rattle.std.proofs.Common.{map}
 use Rattle.fjall_base.specs.Disk.{IsNoFolder, Meaning, Name, state_in}
 use Rattle.fjall_repair.specs.Sweeps.{AreGone}
 use Rattle.fjall_repair.proofs.Removals as Removals
-use Rattle.fjall_recovery.proofs.Tidying.{stays_both, stays_none, stays_removing, stays_start}
+use Rattle.fjall_files.proofs.Tidying.{stays_both, stays_none, stays_removing, stays_start}
 use Rattle.fjall_mending.proofs.Items.{item_has}
 use Rattle.fjall_repair.proofs.Served.{no_folder_still}
 use Rattle.fjall_repair.proofs.sweeping.remove_all.Goals as goal

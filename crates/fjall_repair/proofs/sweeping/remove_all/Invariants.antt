@@ -2,7 +2,7 @@ use Rattle.std.proofs.Common.{◌≡◌, ◌≤◌, All, map, take}
 use Rattle.std.specs.Prelude.{IsTrue, string_bytes}
 use Rattle.std.specs.List.{Contains}
 use Rattle.fjall_base.specs.Disk.{IsNoFolder, state_in}
-use Rattle.fjall_recovery.specs.Tidy.{StaysTidy}
+use Rattle.fjall_files.specs.Tidy.{StaysTidy}
 use Rattle.fjall_repair.specs.Sweeps.{AreGone, Removes}
 use Rattle.fjall_repair.proofs.sweeping.remove_all.Given as goal
 

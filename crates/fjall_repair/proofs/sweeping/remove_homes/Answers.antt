@@ -2,7 +2,7 @@ use Rattle.std.proofs.Common.{arith, refl, ◌∙◌}
 use Rattle.fjall_base.specs.Disk.{Meaning, state_in}
 use Rattle.fjall_repair.specs.Sweeps.{HasAll, IsUnnamedHome, home_names}
 use Rattle.fjall_repair.proofs.Removals as Removals
-use Rattle.fjall_recovery.proofs.Tidying.{stays_both, stays_start, tidy_on}
+use Rattle.fjall_files.proofs.Tidying.{stays_both, stays_start, tidy_on}
 use Rattle.fjall_mending.proofs.Items.{item_has}
 use Rattle.fjall_repair.proofs.Served.{has_all_still}
 use Rattle.fjall_repair.proofs.sweeping.remove_homes.Goals as goal

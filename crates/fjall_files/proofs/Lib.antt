@@ -1,0 +1,19 @@
+mod Numbers
+mod Partings
+mod LastDots
+mod Folders
+mod Headers
+mod Collecting
+mod Refusing
+pub mod Distinct
+pub mod Tidying
+pub mod OfKinds
+mod Comparisons
+pub mod Trimmed
+pub mod Under
+pub mod Changes
+pub mod Parts
+pub mod Made
+pub mod Removed
+pub mod Fitting
+pub mod Serving

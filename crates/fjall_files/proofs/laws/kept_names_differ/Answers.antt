@@ -1,0 +1,5 @@
+use Rattle.fjall_files.proofs.Distinct as Distinct
+use Rattle.fjall_files.proofs.laws.kept_names_differ.Goals as goal
+
+pub returns : goal.returns
+returns c = Distinct.kept

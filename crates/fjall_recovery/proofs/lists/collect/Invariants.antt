@@ -1,6 +1,0 @@
-use Rattle.fjall_recovery.specs.Sought.{Is}
-use Rattle.fjall_recovery.proofs.Collecting.{Collected}
-use Rattle.fjall_recovery.proofs.lists.collect.Given as goal
-
-abbrev pub invariant-loop-entry : goal.invariant-loop-entry
-invariant-loop-entry l = Collected (Is l.sought) l.listed l.entry-index l.ids.items

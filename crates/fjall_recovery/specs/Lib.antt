@@ -1,5 +1,0 @@
-pub mod Marker
-pub mod Names
-pub mod Lists
-pub mod Sought
-pub mod Tidy
