@@ -14,7 +14,7 @@ use Rattle.fjall_files.proofs.Changes.{settle-now, within_state}
 use Rattle.fjall_journal.specs.Batches.{Written, IsWritten, shown}
 use Rattle.fjall_files.specs.Marker.{header}
 use Rattle.fjall_files.specs.Names.{IsMisnamed, IsNameOf, journal_name, keyspace_folder, current_name}
-use Rattle.fjall_keyspaces.specs.Keyspaces.{AreKeyspaces, no_keyspaces}
+use Rattle.fjall_meta.specs.Keyspaces.{AreKeyspaces, no_keyspaces}
 use Rattle.fjall_catalog.specs.Catalog.{fields, first_catalog, only}
 use Rattle.fjall_catalog.proofs.Naming.{folder_of-folder}
 use Rattle.fjall_versions.specs.Replays.{first_fault}

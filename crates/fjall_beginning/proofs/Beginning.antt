@@ -5,7 +5,7 @@ use Rattle.std.specs.List.{AllByRecursion}
 use Rattle.std.specs.Str.{bytes_eq}
 use Rattle.fjall_base.specs.Disk.{Name, Entry, Missing, File, Folder, State, Image, Survives, SomeSurvives, Meaning, Took, LeavesOnly, all_synced, standing, state_in}
 use Rattle.fjall_base.proofs.Moments.{runs_on, started, stays, weaken}
-use Rattle.fjall_keyspaces.specs.Keyspaces.{no_keyspaces}
+use Rattle.fjall_meta.specs.Keyspaces.{no_keyspaces}
 use Rattle.fjall_versions.specs.Replays.{bare}
 use Rattle.fjall_opening.specs.Folders.{IsUnfinished, StandsFor}
 use Rattle.fjall_beginning.specs.Making.{AreLeft, ComesBackUnfinished, GoesOn, IsKept, IsMaking, MayStand}

@@ -16,7 +16,7 @@ use Rattle.fjall_files.proofs.Parts.{in_region, region_along, region_settle}
 use Rattle.fjall_journal.specs.Batches.{Written, shown}
 use Rattle.fjall_files.specs.declared.marker.Marker.TheVariants.{Unfinished}
 use Rattle.fjall_files.specs.Marker.{header, marker_tells}
-use Rattle.fjall_keyspaces.specs.Keyspaces.{no_keyspaces}
+use Rattle.fjall_meta.specs.Keyspaces.{no_keyspaces}
 use Rattle.fjall_catalog.specs.Catalog.{fields, first_catalog, only}
 use Rattle.fjall_versions.specs.Replays.{bare, store_in}
 use Rattle.fjall_opening.specs.Folders.{StandsFor, file_bytes, store_of}

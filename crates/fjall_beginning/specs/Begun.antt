@@ -2,7 +2,7 @@
 use Rattle.std.specs.Prelude.{◌≡◌, ◌⊎◌, ℕ, ◌<◌, ◌≤◌, ◌^◌, [], ◌∷◌}
 use Rattle.fjall_base.specs.Disk.{Image, State, IsFile}
 use Rattle.fjall_files.specs.Names.{journal_name}
-use Rattle.fjall_keyspaces.specs.Keyspaces.{no_keyspaces}
+use Rattle.fjall_meta.specs.Keyspaces.{no_keyspaces}
 use Rattle.fjall_catalog.specs.Catalog.{fields, first_catalog}
 use Rattle.fjall_opening.specs.Journals.{batches_in}
 use Rattle.fjall_places.specs.Places.{Journaling, LiesInRoot, RestsInTree, journals_with}

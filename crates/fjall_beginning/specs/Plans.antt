@@ -8,7 +8,7 @@ use Rattle.fjall_files.specs.Regions.{IsSafe}
 use Rattle.fjall_tree.specs.Records.{record_text}
 use Rattle.fjall_files.specs.Marker.{header}
 use Rattle.fjall_files.specs.Names.{journal_name, keyspace_folder, current_name}
-use Rattle.fjall_keyspaces.specs.Keyspaces.{no_keyspaces}
+use Rattle.fjall_meta.specs.Keyspaces.{no_keyspaces}
 use Rattle.fjall_catalog.specs.Catalog.{fields, first_catalog, only, records_in}
 use Rattle.fjall_opening.specs.Journals.{Journal, text_in}
 use Rattle.fjall_places.specs.Halves.{Tree}

@@ -2,7 +2,7 @@
 
 ghost use Rattle.std.specs.Prelude.{◌≡◌, [], codes, false, IsTrue, OnOk};
 ghost use Rattle.fjall_base.specs.Disk.{LeavesOnly, OnlyFaults, standing, state_in};
-ghost use Rattle.fjall_keyspaces.specs.Keyspaces.{no_keyspaces};
+ghost use Rattle.fjall_meta.specs.Keyspaces.{no_keyspaces};
 ghost use Rattle.fjall_files.specs.Tidy.{IsTidy, StaysTidy};
 ghost use Rattle.fjall_versions.specs.Replays.{bare};
 ghost use Rattle.fjall_opening.specs.Folders.{Contents, IsSound, IsUnfinished, StandsFor};

@@ -3,7 +3,7 @@
 ghost use Rattle.std.specs.Prelude.{◌≡◌, ◌<◌, ◌^◌, ℕ, false, true, codes, IsTrue, List, OnOk};
 ghost use Rattle.fjall_base.specs.declared.error.FormatVersion.TheVariants.{V3};
 ghost use Rattle.fjall_base.specs.Disk.{IsFile, LeavesOnly, OnlyFaults, standing, state_in};
-ghost use Rattle.fjall_keyspaces.specs.Keyspaces.{no_keyspaces};
+ghost use Rattle.fjall_meta.specs.Keyspaces.{no_keyspaces};
 ghost use Rattle.fjall_files.specs.Marker.{header as header_of};
 ghost use Rattle.fjall_files.specs.Tidy.{IsTidy, StaysTidy};
 ghost use Rattle.fjall_files.specs.Names.{journal_name};

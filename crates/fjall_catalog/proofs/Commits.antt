@@ -16,9 +16,9 @@ use Rattle.fjall_tree.specs.Records.{Fields, IsRecord, IsRecords, body, record_t
 use Rattle.fjall_tree.proofs.Currents.{cut_reads, last_behind}
 use Rattle.fjall_tree.proofs.Lists.{each_more}
 use Rattle.fjall_files.specs.Names.{keyspace_folder, current_name, table_name}
-use Rattle.fjall_keyspaces.specs.declared.entry.MetaEntry.{MetaEntry}
-use Rattle.fjall_keyspaces.specs.Keyspaces.{Keyspaces, AreKeyspaces}
-use Rattle.fjall_keyspaces.specs.Entries.{entries_of}
+use Rattle.fjall_meta.specs.declared.entry.MetaEntry.{MetaEntry}
+use Rattle.fjall_meta.specs.Keyspaces.{Keyspaces, AreKeyspaces}
+use Rattle.fjall_meta.specs.Entries.{entries_of}
 use Rattle.fjall_catalog.specs.declared.catalog.Catalog.{Catalog}
 use Rattle.fjall_catalog.specs.Catalog.{fields, text_in, records_in, HoldsEntries, Says, only, AreSafe, Rests, IsReady}
 use Rattle.fjall_catalog.specs.Updates.{IsWritten, SaysEither}

@@ -10,10 +10,10 @@ use Rattle.fjall_tree.specs.Records.{Fields, IsRecords, last_of}
 use Rattle.fjall_tree.proofs.Currents.{one_reading}
 use Rattle.fjall_tree.proofs.TableLaws.{one_list_of_entries}
 use Rattle.fjall_files.specs.Names.{keyspace_folder, current_name, table_name}
-use Rattle.fjall_keyspaces.specs.declared.entry.MetaEntry.{MetaEntry}
-use Rattle.fjall_keyspaces.specs.Keyspaces.{Keyspaces}
-use Rattle.fjall_keyspaces.specs.Entries.{entries_of}
-use Rattle.fjall_keyspaces.proofs.Alike.{one_list}
+use Rattle.fjall_meta.specs.declared.entry.MetaEntry.{MetaEntry}
+use Rattle.fjall_meta.specs.Keyspaces.{Keyspaces}
+use Rattle.fjall_meta.specs.Entries.{entries_of}
+use Rattle.fjall_meta.proofs.Alike.{one_list}
 use Rattle.fjall_catalog.specs.declared.catalog.Catalog.{Catalog}
 use Rattle.fjall_catalog.specs.Catalog.{fields, text_in, records_in, table_entry, IsTableOf, HoldsEntries, Says, Rests, is_counted}
 use Rattle.fjall_catalog.proofs.Naming.{some_folder, folder_of-current, table_under}

@@ -17,8 +17,8 @@ use Rattle.fjall_tree.specs.TableReading.{HasNoIndex, IsNoTable}
 use Rattle.fjall_tree.proofs.TableBlocks.{one_index}
 use Rattle.fjall_tree.proofs.TableLaws.{one_list_of_entries, tables_have_an_index}
 use Rattle.std.proofs.lemmas.List.{length-map}
-use Rattle.fjall_keyspaces.specs.declared.entry.MetaEntry.{MetaEntry}
-use Rattle.fjall_keyspaces.specs.Entries.{IsAscending}
+use Rattle.fjall_meta.specs.declared.entry.MetaEntry.{MetaEntry}
+use Rattle.fjall_meta.specs.Entries.{IsAscending}
 use Rattle.fjall_catalog.specs.Catalog.{IsTableOf, table_entry}
 
 -- ---- written

@@ -4,9 +4,9 @@ use Rattle.std.specs.Option.{option_map}
 use Rattle.fjall_tree.specs.declared.record.TableInfo.{TableInfo}
 use Rattle.fjall_tree.specs.Records.{Fits, record_text}
 use Rattle.fjall_files.specs.Names.{table_name}
-use Rattle.fjall_keyspaces.specs.declared.entry.MetaEntry.{MetaEntry}
-use Rattle.fjall_keyspaces.specs.Keyspaces.{Keyspaces}
-use Rattle.fjall_keyspaces.specs.Entries.{entries_of}
+use Rattle.fjall_meta.specs.declared.entry.MetaEntry.{MetaEntry}
+use Rattle.fjall_meta.specs.Keyspaces.{Keyspaces}
+use Rattle.fjall_meta.specs.Entries.{entries_of}
 use Rattle.fjall_catalog.specs.declared.catalog.Catalog.{Catalog}
 use Rattle.fjall_catalog.specs.declared.update.TableFile.{TableFile}
 use Rattle.fjall_catalog.specs.declared.update.Update.{Update}

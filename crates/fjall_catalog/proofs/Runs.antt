@@ -16,9 +16,9 @@ use Rattle.fjall_files.proofs.Made.{removing_within, safe_file, within_none}
 use Rattle.fjall_tree.specs.declared.record.TableInfo.{TableInfo}
 use Rattle.fjall_tree.specs.Records.{Fields, IsRecord}
 use Rattle.fjall_files.specs.Names.{keyspace_folder, current_name, table_name}
-use Rattle.fjall_keyspaces.specs.declared.entry.MetaEntry.{MetaEntry}
-use Rattle.fjall_keyspaces.specs.Keyspaces.{Keyspaces}
-use Rattle.fjall_keyspaces.specs.Entries.{entries_of}
+use Rattle.fjall_meta.specs.declared.entry.MetaEntry.{MetaEntry}
+use Rattle.fjall_meta.specs.Keyspaces.{Keyspaces}
+use Rattle.fjall_meta.specs.Entries.{entries_of}
 use Rattle.fjall_catalog.specs.declared.catalog.Catalog.{Catalog}
 use Rattle.fjall_catalog.specs.Catalog.{fields, listed, IsTableOf, Says, only, AreSafe, Rests, IsFree, IsReady}
 use Rattle.fjall_catalog.specs.declared.update.TableFile.{TableFile}

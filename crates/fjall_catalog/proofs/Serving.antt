@@ -6,14 +6,14 @@ use Rattle.fjall_base.specs.declared.error.Error.{Error}
 use Rattle.fjall_base.specs.Disk.{Name, Entry, Missing, File, Folder, Place, State, Meaning, Took, TookOrNot, TookPart, Append, Sync, CanCreate, IsFile, IsNoFolder, IsThere, all_synced, alter, appended, folder_of, standing, state_in}
 use Rattle.fjall_base.proofs.States.{alter-same, alter-other}
 use Rattle.fjall_tree.specs.Records.{Fields}
-use Rattle.fjall_keyspaces.specs.Keyspaces.{Keyspaces}
+use Rattle.fjall_meta.specs.Keyspaces.{Keyspaces}
 use Rattle.fjall_catalog.specs.declared.catalog.Catalog.{Catalog}
 use Rattle.fjall_files.specs.Names.{keyspace_folder, current_name, table_name}
 use Rattle.fjall_files.specs.Tidy.{FitsAt}
 use Rattle.fjall_files.proofs.Fitting.{fits_table}
 use Rattle.std.specs.Prelude.{Option, None, Some, IfSome}
 use Rattle.fjall_tree.specs.declared.record.TableInfo.{TableInfo}
-use Rattle.fjall_keyspaces.specs.declared.entry.MetaEntry.{MetaEntry}
+use Rattle.fjall_meta.specs.declared.entry.MetaEntry.{MetaEntry}
 use Rattle.fjall_catalog.specs.Catalog.{AreSafe, IsReady, Rests}
 use Rattle.fjall_catalog.proofs.Naming.{bool_cases, current_zero, folder_zero}
 use Rattle.fjall_catalog.proofs.Runs.{name_inside, name_missing, named}

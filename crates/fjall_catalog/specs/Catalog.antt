@@ -10,9 +10,9 @@ use Rattle.fjall_tree.specs.Records.{Fields, IsRecord, IsRecords, record_text, l
 use Rattle.fjall_tree.specs.Blocks as blocks
 use Rattle.fjall_tree.specs.Tables.{IsTable}
 use Rattle.fjall_files.specs.Names.{keyspace_folder, current_name, table_name}
-use Rattle.fjall_keyspaces.specs.declared.entry.MetaEntry.{MetaEntry}
-use Rattle.fjall_keyspaces.specs.Keyspaces.{Keyspaces, AreKeyspaces}
-use Rattle.fjall_keyspaces.specs.Entries.{entries_of}
+use Rattle.fjall_meta.specs.declared.entry.MetaEntry.{MetaEntry}
+use Rattle.fjall_meta.specs.Keyspaces.{Keyspaces, AreKeyspaces}
+use Rattle.fjall_meta.specs.Entries.{entries_of}
 use Rattle.fjall_catalog.specs.declared.catalog.Catalog.{Catalog}
 
 -- ---- what the record says

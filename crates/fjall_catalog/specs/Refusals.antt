@@ -8,8 +8,8 @@ use Rattle.fjall_base.specs.Disk.{Image}
 use Rattle.fjall_base.specs.Errors.{Rose}
 use Rattle.fjall_tree.specs.declared.record.TableInfo.{TableInfo}
 use Rattle.fjall_tree.specs.Records.{Fields, IsRecords, last_of}
-use Rattle.fjall_keyspaces.specs.declared.entry.MetaEntry.{MetaEntry}
-use Rattle.fjall_keyspaces.specs.Reading.{IsReadingRefusal}
+use Rattle.fjall_meta.specs.declared.entry.MetaEntry.{MetaEntry}
+use Rattle.fjall_meta.specs.Reading.{IsReadingRefusal}
 use Rattle.fjall_catalog.specs.declared.catalog.Catalog.{Catalog}
 use Rattle.fjall_catalog.specs.Catalog.{fields, records_in, IsAtLevel1, HoldsEntries}
 

@@ -7,9 +7,9 @@ use Rattle.fjall_base.specs.Disk.{Missing, State, Image}
 use Rattle.fjall_tree.specs.declared.record.TableInfo.{TableInfo}
 use Rattle.fjall_tree.specs.Records.{Fields, IsRecord, record_text}
 use Rattle.fjall_files.specs.Names.{table_name}
-use Rattle.fjall_keyspaces.specs.declared.entry.MetaEntry.{MetaEntry}
-use Rattle.fjall_keyspaces.specs.Keyspaces.{Keyspaces}
-use Rattle.fjall_keyspaces.specs.Entries.{entries_of}
+use Rattle.fjall_meta.specs.declared.entry.MetaEntry.{MetaEntry}
+use Rattle.fjall_meta.specs.Keyspaces.{Keyspaces}
+use Rattle.fjall_meta.specs.Entries.{entries_of}
 use Rattle.fjall_catalog.specs.declared.catalog.Catalog.{Catalog}
 use Rattle.fjall_catalog.specs.declared.update.Update.{Update}
 use Rattle.fjall_catalog.specs.declared.update.TableFile.{TableFile}

@@ -5,7 +5,7 @@ ghost use Rattle.fjall_base.specs.Disk.{Image, IsImage, Name, State, Survives};
 ghost use Rattle.fjall_files.specs.Regions.{IsImageIn, is_under};
 ghost use Rattle.fjall_tree.specs.Records.{Fields, IsRecord};
 ghost use Rattle.fjall_files.specs.Names.{keyspace_folder};
-ghost use Rattle.fjall_keyspaces.specs.Keyspaces.{Keyspaces};
+ghost use Rattle.fjall_meta.specs.Keyspaces.{Keyspaces};
 ghost use Rattle.fjall_catalog.specs.declared.catalog.Catalog.{Catalog};
 ghost use Rattle.fjall_catalog.specs.Catalog.{Says, Rests, IsReady, fields, is_counted};
 

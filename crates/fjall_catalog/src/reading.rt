@@ -6,7 +6,7 @@ ghost use Rattle.fjall_base.specs.Errors.{IsFaultOrMemory};
 ghost use Rattle.fjall_base.specs.Disk.{Took, standing, state_in};
 ghost use Rattle.fjall_tree.specs.Reading.{DamagedWhere};
 ghost use Rattle.fjall_tree.specs.Records.{Fields, IsRecords};
-ghost use Rattle.fjall_keyspaces.specs.Keyspaces.{Keyspaces};
+ghost use Rattle.fjall_meta.specs.Keyspaces.{Keyspaces};
 ghost use Rattle.fjall_catalog.specs.Catalog.{records_in, HoldsEntries, Says, IsAtLevel1};
 ghost use Rattle.fjall_catalog.specs.Refusals.{HasLast, HasNoLast, IsRefusal, IsTableRefused, IsFaultIfIo, IsCatalogRefusal};
 
@@ -14,7 +14,7 @@ use crate::catalog::{Catalog, catalog_of};
 use crate::table::decode_entries;
 use crate::writing::CURRENT;
 use fjall_base::{Disk, Error, Result, StorageError};
-use fjall_keyspaces::{MetaEntry, MetaKeyspace};
+use fjall_meta::{MetaEntry, MetaKeyspace};
 use fjall_files::table_name;
 use fjall_tree::{Current, TableInfo, read_current};
 use std::alloc::Global;

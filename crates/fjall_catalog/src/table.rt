@@ -7,12 +7,12 @@ ghost use Rattle.fjall_tree.specs.Reading.{DamagedWhere};
 ghost use Rattle.fjall_tree.specs.Blocks.{seen};
 ghost use Rattle.fjall_tree.specs.Tables.{IsTable};
 ghost use Rattle.fjall_tree.specs.Writing.{Follows};
-ghost use Rattle.fjall_keyspaces.specs.Entries.{IsAscending};
+ghost use Rattle.fjall_meta.specs.Entries.{IsAscending};
 ghost use Rattle.fjall_catalog.specs.Catalog.{table_entry, IsTableOf};
 ghost use Rattle.fjall_catalog.specs.Updates.{HasKey, IsWritingRefusal};
 
 use fjall_base::{Error, Result, Slice, StorageError};
-use fjall_keyspaces::MetaEntry;
+use fjall_meta::MetaEntry;
 use fjall_tree::{Table, TableInfo, TableWriter, Version};
 use std::alloc::Global;
 

@@ -3,15 +3,15 @@
 ghost use Rattle.std.specs.Prelude.{◌≡◌, ◌<◌, ◌^◌, ◌+◌, [], IfOk, IfErr, IsOkUnless, MatchOption, All, length, string_bytes};
 ghost use Rattle.std.specs.Option.{option_map};
 ghost use Rattle.fjall_files.specs.Names.{table_name};
-ghost use Rattle.fjall_keyspaces.specs.Keyspaces.{Keyspaces, without_keyspace};
-ghost use Rattle.fjall_keyspaces.specs.Entries.{IsAscending, entries_of};
+ghost use Rattle.fjall_meta.specs.Keyspaces.{Keyspaces, without_keyspace};
+ghost use Rattle.fjall_meta.specs.Entries.{IsAscending, entries_of};
 ghost use Rattle.fjall_catalog.specs.Catalog.{IsTableOf};
 ghost use Rattle.fjall_catalog.specs.Updates.{HasKey, IsTableWritten, IsTableRefusal, IsUpdate, IsPreparingRefusal};
 
 use crate::catalog::Catalog;
 use crate::table::encode_entries;
 use fjall_base::{Error, Result};
-use fjall_keyspaces::{MetaEntry, MetaKeyspace};
+use fjall_meta::{MetaEntry, MetaKeyspace};
 use fjall_files::table_name;
 use fjall_tree::{Level, TableInfo};
 use std::alloc::Global;

@@ -6,7 +6,7 @@ ghost use Rattle.fjall_files.specs.Regions.{Within};
 ghost use Rattle.fjall_tree.specs.Records.{Fields, IsRecord};
 ghost use Rattle.fjall_files.specs.Names.{keyspace_folder, table_name};
 ghost use Rattle.fjall_files.specs.Tidy.{StaysTidy};
-ghost use Rattle.fjall_keyspaces.specs.Keyspaces.{AreKeyspaces, Keyspaces};
+ghost use Rattle.fjall_meta.specs.Keyspaces.{AreKeyspaces, Keyspaces};
 ghost use Rattle.fjall_catalog.specs.Catalog.{fields, Says, IsReady};
 ghost use Rattle.fjall_catalog.specs.Updates.{IsTableGone, IsUpdate, IsWritten, SaysEither};
 

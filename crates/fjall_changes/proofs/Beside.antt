@@ -13,7 +13,7 @@ use Rattle.fjall_files.proofs.Parts.{left_at}
 use Rattle.fjall_files.proofs.Under.{under_self}
 use Rattle.fjall_tree.specs.Records.{Fields}
 use Rattle.fjall_files.specs.Names.{IsNameOf, keyspace_folder, current_name}
-use Rattle.fjall_keyspaces.specs.declared.living.LivingKeyspace.{LivingKeyspace}
+use Rattle.fjall_meta.specs.declared.living.LivingKeyspace.{LivingKeyspace}
 use Rattle.fjall_catalog.specs.Catalog.{Says, only}
 use Rattle.fjall_catalog.proofs.Naming.{bool_cases}
 use Rattle.fjall_opening.specs.Folders.{AreMade}

@@ -3,7 +3,7 @@ use Rattle.std.proofs.Common.{inl, inr, ℕ, not, List, [], ◌∷◌, ◌++◌,
 use Rattle.std.proofs.lemmas.List.Elements.{All-head, All-tail}
 use Rattle.fjall_base.specs.Disk.{State}
 use Rattle.fjall_tree.specs.Records.{Fields}
-use Rattle.fjall_keyspaces.specs.declared.living.LivingKeyspace.{LivingKeyspace}
+use Rattle.fjall_meta.specs.declared.living.LivingKeyspace.{LivingKeyspace}
 use Rattle.fjall_catalog.proofs.Naming.{bool_cases}
 use Rattle.fjall_places.specs.Places.{HasSafeHome, HaveSafeHomes, homes_without}
 

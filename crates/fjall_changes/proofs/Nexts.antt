@@ -3,9 +3,9 @@ use Rattle.std.proofs.Common.{◌≡◌, ℕ, ◌+◌, ◌<◌, ◌≤◌, ◌^�
 use Rattle.std.proofs.lemmas.List.Elements.{All-filter, All-push, All-weaker}
 use Rattle.fjall_base.specs.Disk.{State}
 use Rattle.fjall_tree.specs.Records.{Fields}
-use Rattle.fjall_keyspaces.specs.declared.living.LivingKeyspace.{LivingKeyspace}
-use Rattle.fjall_keyspaces.specs.Keyspaces.{AreKeyspaces, Keyspaces, with_keyspace, without_keyspace}
-use Rattle.fjall_keyspaces.proofs.Changes.{some_are}
+use Rattle.fjall_meta.specs.declared.living.LivingKeyspace.{LivingKeyspace}
+use Rattle.fjall_meta.specs.Keyspaces.{AreKeyspaces, Keyspaces, with_keyspace, without_keyspace}
+use Rattle.fjall_meta.proofs.Changes.{some_are}
 use Rattle.fjall_catalog.specs.declared.catalog.Catalog.{Catalog}
 use Rattle.fjall_catalog.specs.declared.update.Update.{Update}
 use Rattle.fjall_catalog.specs.Catalog.{fields, first_of}

@@ -3,7 +3,7 @@ use Rattle.std.specs.Prelude.{◌≡◌, ◌⊎◌, ℕ, List, [], ◌∷◌, �
 use Rattle.fjall_base.specs.Disk.{Image, IsNoFile, IsNoFolder, State}
 use Rattle.fjall_tree.specs.Records.{record_text}
 use Rattle.fjall_files.specs.Names.{keyspace_folder, current_name}
-use Rattle.fjall_keyspaces.specs.Keyspaces.{AreKeyspaces, Keyspaces, with_keyspace, without_keyspace}
+use Rattle.fjall_meta.specs.Keyspaces.{AreKeyspaces, Keyspaces, with_keyspace, without_keyspace}
 use Rattle.fjall_catalog.specs.declared.catalog.Catalog.{Catalog}
 use Rattle.fjall_catalog.specs.Catalog.{fields, first_of}
 use Rattle.fjall_catalog.specs.Updates.{IsUpdate}

@@ -1,7 +1,7 @@
 -- A deleted keyspace's files while they are removed.
 use Rattle.std.specs.Prelude.{◌≡◌, ◌≢◌, ℕ, ◌<◌, ◌^◌, [], ◌∷◌, All, map, string_bytes}
 use Rattle.fjall_base.specs.Disk.{IsEmpty, Missing, State}
-use Rattle.fjall_keyspaces.specs.Keyspaces.{Keyspaces}
+use Rattle.fjall_meta.specs.Keyspaces.{Keyspaces}
 use Rattle.fjall_files.specs.Names.{keyspace_folder, current_name}
 use Rattle.fjall_catalog.specs.Catalog.{only}
 use Rattle.fjall_changes.specs.declared.removal.Removal.{Removal}

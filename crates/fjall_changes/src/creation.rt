@@ -5,7 +5,7 @@ ghost use Rattle.fjall_base.specs.Disk.{CanMakeFolder, File, Folder, IsNoFolder,
 ghost use Rattle.fjall_files.specs.Regions.{IsMade, Within, is_under};
 ghost use Rattle.fjall_tree.specs.Records.{Fields};
 ghost use Rattle.fjall_files.specs.Tidy.{FitsAt, StaysTidy};
-ghost use Rattle.fjall_keyspaces.specs.Keyspaces.{AreKeyspaces, Keyspaces};
+ghost use Rattle.fjall_meta.specs.Keyspaces.{AreKeyspaces, Keyspaces};
 ghost use Rattle.fjall_catalog.specs.declared.catalog.Catalog.{Catalog};
 ghost use Rattle.fjall_catalog.specs.Catalog.{fields, first_of};
 ghost use Rattle.fjall_catalog.specs.Updates.{IsPreparingRefusal, IsTableGone};
@@ -18,7 +18,7 @@ ghost use Rattle.fjall_changes.specs.Removals.{IsUnused};
 use crate::change::change_tree;
 use fjall_base::{Disk, Result};
 use fjall_catalog::{Catalog, Update, first_record_of, prepare};
-use fjall_keyspaces::MetaKeyspace;
+use fjall_meta::MetaKeyspace;
 use fjall_files::{current_name, keyspace_folder, make_file};
 use std::alloc::Global;
 

@@ -5,7 +5,7 @@ ghost use Rattle.fjall_base.specs.Disk.{LeavesOnly, OnlyFaults, state_in};
 ghost use Rattle.fjall_files.specs.Regions.{Within};
 ghost use Rattle.fjall_tree.specs.Records.{Fields};
 ghost use Rattle.fjall_files.specs.Tidy.{StaysTidy};
-ghost use Rattle.fjall_keyspaces.specs.Keyspaces.{Keyspaces, without_keyspace};
+ghost use Rattle.fjall_meta.specs.Keyspaces.{Keyspaces, without_keyspace};
 ghost use Rattle.fjall_catalog.specs.declared.catalog.Catalog.{Catalog};
 ghost use Rattle.fjall_catalog.specs.Catalog.{fields};
 ghost use Rattle.fjall_catalog.specs.Updates.{IsTableGone, IsUpdate};

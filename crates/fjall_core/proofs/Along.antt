@@ -5,9 +5,9 @@ use Rattle.fjall_files.proofs.Under.{in_folder}
 use Rattle.fjall_tree.specs.declared.record.TableInfo.{TableInfo}
 use Rattle.fjall_tree.specs.Records.{Fields}
 use Rattle.fjall_files.specs.Names.{current_name, keyspace_folder, table_name}
-use Rattle.fjall_keyspaces.specs.declared.entry.MetaEntry.{MetaEntry}
-use Rattle.fjall_keyspaces.specs.declared.living.LivingKeyspace.{LivingKeyspace}
-use Rattle.fjall_keyspaces.specs.Entries.{entries_of}
+use Rattle.fjall_meta.specs.declared.entry.MetaEntry.{MetaEntry}
+use Rattle.fjall_meta.specs.declared.living.LivingKeyspace.{LivingKeyspace}
+use Rattle.fjall_meta.specs.Entries.{entries_of}
 use Rattle.fjall_catalog.specs.Catalog.{AreSafe}
 use Rattle.fjall_places.specs.Halves.{Tree, is_of_keyspaces}
 use Rattle.fjall_places.specs.Places.{HasSafeHome, IsNeverFolder, LiesInTree}

@@ -7,7 +7,7 @@ use Rattle.fjall_base.proofs.Moments.{weaken}
 use Rattle.fjall_files.specs.Regions.{Within}
 use Rattle.fjall_journal.specs.Batches.{shown}
 use Rattle.fjall_tree.specs.Records.{Fields}
-use Rattle.fjall_keyspaces.specs.Keyspaces.{AreKeyspaces, with_keyspace, without_keyspace}
+use Rattle.fjall_meta.specs.Keyspaces.{AreKeyspaces, with_keyspace, without_keyspace}
 use Rattle.fjall_catalog.specs.declared.catalog.Catalog.{Catalog}
 use Rattle.fjall_catalog.specs.declared.update.Update.{Update}
 use Rattle.fjall_catalog.specs.Catalog.{fields}

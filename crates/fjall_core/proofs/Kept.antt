@@ -5,7 +5,7 @@ use Rattle.fjall_base.specs.Store.{Command, Store, fold, kept}
 use Rattle.fjall_base.specs.Disk.{Image, IsImage, Leaves, Missing, Name, Place, State, Step, disk_of}
 use Rattle.fjall_files.specs.Tidy.{FitsAt, IsTidy, IsTidyStep}
 use Rattle.fjall_files.proofs.Tidying.{fits_missing, left_tidy}
-use Rattle.fjall_keyspaces.specs.Keyspaces.{no_keyspaces}
+use Rattle.fjall_meta.specs.Keyspaces.{no_keyspaces}
 use Rattle.fjall_versions.specs.Replays.{bare}
 use Rattle.fjall_opening.specs.Folders.{Contents, IsUnfinished, StandsFor}
 use Rattle.fjall_places.specs.Held.{IsFolder, store_held}

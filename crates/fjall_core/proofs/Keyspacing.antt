@@ -6,7 +6,7 @@ use Rattle.fjall_base.specs.Store.{Create, apply, fold, kept}
 use Rattle.fjall_base.specs.Disk.{Meaning, state_in}
 use Rattle.fjall_base.specs.declared.error.Error.{Error}
 use Rattle.fjall_base.specs.declared.error.Error.TheVariants.{Io, NumbersUsedUp, OutOfMemory, ValueTooLong}
-use Rattle.fjall_keyspaces.specs.Keyspaces.{id_of, with_keyspace}
+use Rattle.fjall_meta.specs.Keyspaces.{id_of, with_keyspace}
 use Rattle.fjall_catalog.specs.Updates.{IsPreparingRefusal}
 use Rattle.fjall_versions.specs.Replays.{option_pairs}
 use Rattle.fjall_versions.specs.Versions.{store_of}
@@ -19,7 +19,7 @@ use Rattle.fjall_machine.specs.Allowed.{HasRoom}
 use Rattle.fjall_machine.specs.Machine.{HasLongOption, State, has_name, present}
 use Rattle.fjall_machine.specs.Remembered.{IsLawful, Remembered, facts_of, poisoned, with_creation}
 use Rattle.std.specs.Option.{is_some}
-use Rattle.fjall_meta.specs.Options.{AreOptions}
+use Rattle.fjall_options.specs.Options.{AreOptions}
 use Rattle.fjall_versions.proofs.Naming.{rest_is_bare}
 use Rattle.fjall_machine.proofs.Dues.{may_create}
 use Rattle.fjall_machine.proofs.Facts.{named_is}

@@ -8,7 +8,7 @@ use Rattle.fjall_base.specs.declared.error.Error.TheVariants.{Io, OutOfMemory}
 use Rattle.fjall_journal.specs.declared.entry.ValueType.{ValueType}
 use Rattle.fjall_journal.specs.Batches.{batch_text, of_item}
 use Rattle.fjall_journal.specs.Writer.{after_command, command_steps, goes_out, written_out}
-use Rattle.fjall_keyspaces.specs.Keyspaces.{Keyspaces, without_keyspace}
+use Rattle.fjall_meta.specs.Keyspaces.{Keyspaces, without_keyspace}
 use Rattle.fjall_catalog.specs.declared.update.Update.{Update}
 use Rattle.fjall_catalog.specs.Updates.{IsUpdate}
 use Rattle.fjall_versions.specs.declared.version.Version.{Version}

@@ -12,9 +12,9 @@ use Rattle.fjall_base.specs.declared.error.Error.{Error}
 use Rattle.fjall_base.specs.declared.error.Error.TheVariants.{Io, OutOfMemory, ValueTooLong}
 use Rattle.fjall_journal.specs.Writer.{Journal, after_command, counted, filled, goes_out}
 use Rattle.fjall_journal.specs.Writer as writer
-use Rattle.fjall_meta.specs.Options.{AreOptions}
-use Rattle.fjall_keyspaces.specs.declared.living.LivingKeyspace.{LivingKeyspace}
-use Rattle.fjall_keyspaces.specs.Keyspaces.{id_of}
+use Rattle.fjall_options.specs.Options.{AreOptions}
+use Rattle.fjall_meta.specs.declared.living.LivingKeyspace.{LivingKeyspace}
+use Rattle.fjall_meta.specs.Keyspaces.{id_of}
 use Rattle.fjall_versions.specs.Replays.{option_pairs}
 use Rattle.fjall_versions.specs.Versions.{newest, pairs_in}
 use Rattle.fjall_versions.proofs.Kept.{kept_along}

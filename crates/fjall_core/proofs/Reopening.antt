@@ -6,7 +6,7 @@ use Rattle.fjall_base.specs.Crash.{IsHoused}
 use Rattle.fjall_base.proofs.Wholes.{all_kept, all_kept_is_left}
 use Rattle.fjall_base.specs.Disk.{Image, IsFile, IsImage, LeavesOnly, Meaning, State, standing, state_in}
 use Rattle.fjall_journal.specs.Batches.{shown}
-use Rattle.fjall_keyspaces.specs.Keyspaces.{no_keyspaces}
+use Rattle.fjall_meta.specs.Keyspaces.{no_keyspaces}
 use Rattle.fjall_files.specs.Names.{journal_name}
 use Rattle.fjall_files.specs.Marker.{marker_tells}
 use Rattle.fjall_files.specs.Tidy.{StaysTidy}

@@ -9,7 +9,7 @@ use Rattle.fjall_base.specs.declared.error.Error.TheVariants.{Io, OutOfMemory, V
 use Rattle.fjall_files.specs.Regions.{IsSafe}
 use Rattle.fjall_tree.specs.declared.record.TableInfo.{TableInfo}
 use Rattle.fjall_files.specs.Names.{table_name}
-use Rattle.fjall_keyspaces.specs.declared.entry.MetaEntry.{MetaEntry}
+use Rattle.fjall_meta.specs.declared.entry.MetaEntry.{MetaEntry}
 use Rattle.fjall_catalog.specs.declared.catalog.Catalog.{Catalog}
 use Rattle.fjall_catalog.specs.Catalog.{AreSafe}
 use Rattle.fjall_catalog.specs.Updates.{IsTableGone}

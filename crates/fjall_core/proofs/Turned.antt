@@ -8,7 +8,7 @@ use Rattle.fjall_journal.specs.declared.persist_mode.PersistMode.TheVariants.{Sy
 use Rattle.fjall_journal.specs.Writer.{Journal}
 use Rattle.fjall_tree.specs.Records.{Fields}
 use Rattle.fjall_files.specs.Tidy.{StaysTidy}
-use Rattle.fjall_keyspaces.specs.Keyspaces.{AreKeyspaces, Keyspaces, without_keyspace}
+use Rattle.fjall_meta.specs.Keyspaces.{AreKeyspaces, Keyspaces, without_keyspace}
 use Rattle.fjall_catalog.specs.declared.catalog.Catalog.{Catalog}
 use Rattle.fjall_catalog.specs.declared.update.Update.{Update}
 use Rattle.fjall_catalog.specs.Catalog.{fields}

@@ -8,8 +8,8 @@ use Rattle.fjall_base.specs.Store.{Store, Command, fold, kept}
 use Rattle.fjall_base.specs.Disk.{LeavesOnly, state_in}
 use Rattle.fjall_base.proofs.Moments.{at_end}
 use Rattle.fjall_journal.specs.Batches.{Written, of_item, shown}
-use Rattle.fjall_keyspaces.specs.declared.living.LivingKeyspace.{LivingKeyspace}
-use Rattle.fjall_keyspaces.specs.Keyspaces.{Keyspaces, keyspace_at}
+use Rattle.fjall_meta.specs.declared.living.LivingKeyspace.{LivingKeyspace}
+use Rattle.fjall_meta.specs.Keyspaces.{Keyspaces, keyspace_at}
 use Rattle.fjall_versions.specs.Replays.{counts, is_indirection, journal_commands, value_of}
 use Rattle.fjall_versions.specs.Versions.{store_of}
 use Rattle.fjall_versions.proofs.Found.{found_has}

@@ -15,7 +15,7 @@ use Rattle.fjall_places.specs.Amid.{HoldsAmid}
 use Rattle.fjall_journal.specs.declared.persist_mode.PersistMode.TheVariants.{SyncAll}
 use Rattle.fjall_journal.specs.Writer.{after_command, command_steps, goes_out, persist_steps, written_out}
 use Rattle.fjall_files.specs.Names.{table_name}
-use Rattle.fjall_keyspaces.specs.Keyspaces.{id_of}
+use Rattle.fjall_meta.specs.Keyspaces.{id_of}
 use Rattle.fjall_catalog.specs.declared.catalog.Catalog.{Catalog}
 use Rattle.fjall_catalog.specs.Updates.{IsTableGone}
 use Rattle.fjall_versions.specs.declared.version.Version.{Version}

@@ -5,7 +5,7 @@ ghost use Rattle.fjall_base.specs.Store.{Command, Store, fold, kept};
 ghost use Rattle.std.specs.List.{AllByRecursion};
 ghost use Rattle.fjall_base.specs.Disk.{Image, IsImage, Leaves, Meaning, Missing, Name, State, Step, Took, disk_of, state_in};
 ghost use Rattle.fjall_files.specs.Tidy.{IsTidy, IsTidyStep, StaysTidy};
-ghost use Rattle.fjall_keyspaces.specs.Keyspaces.{no_keyspaces};
+ghost use Rattle.fjall_meta.specs.Keyspaces.{no_keyspaces};
 ghost use Rattle.fjall_versions.specs.Replays.{bare};
 ghost use Rattle.fjall_opening.specs.Folders.{StandsFor};
 ghost use Rattle.fjall_places.specs.Amid.{HoldsAmid};

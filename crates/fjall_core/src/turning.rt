@@ -4,7 +4,7 @@ ghost use Rattle.std.specs.Prelude.{◌≡◌, ℕ, codes, IsTrue, OnOk};
 ghost use Rattle.fjall_base.specs.Disk.{LeavesOnly, OnlyFaults};
 ghost use Rattle.fjall_files.specs.Regions.{Within};
 ghost use Rattle.fjall_journal.specs.Writer.{written_out};
-ghost use Rattle.fjall_keyspaces.specs.Keyspaces.{Keyspaces};
+ghost use Rattle.fjall_meta.specs.Keyspaces.{Keyspaces};
 ghost use Rattle.fjall_catalog.specs.declared.catalog.Catalog.{Catalog};
 ghost use Rattle.fjall_catalog.specs.Updates.{IsUpdate};
 ghost use Rattle.fjall_changes.specs.Changes.{IsCreation};

@@ -5,8 +5,8 @@ use fjall_catalog::{
     Catalog, Found, Update, commit, first_record, first_record_of, prepare, read_catalog,
     remove_old, write_table,
 };
-use fjall_keyspaces::MetaKeyspace;
-use fjall_meta::KeyspaceCreateOptions;
+use fjall_meta::MetaKeyspace;
+use fjall_options::{KeyspaceCreateOptions};
 use fjall_files::make_file;
 use std::alloc::Global;
 use std::test::Fail;

@@ -5,8 +5,8 @@ use fjall_catalog::{Catalog, Found, Update, first_record, prepare, read_catalog}
 use fjall_changes::{
     Creation, create_home, delete_home, prepare_creation, prepare_removal, remove_keyspace,
 };
-use fjall_keyspaces::MetaKeyspace;
-use fjall_meta::KeyspaceCreateOptions;
+use fjall_meta::MetaKeyspace;
+use fjall_options::{KeyspaceCreateOptions};
 use fjall_files::make_file;
 use std::alloc::Global;
 use std::test::Fail;

@@ -5,10 +5,10 @@ use Rattle.std.specs.Ordering.{nat_cmp}
 use Rattle.std.specs.FinMap.{FinMap, contains_key, get, get-retain_keys, nat_cmp-IsAntisymmetric, retain_keys}
 use Rattle.fjall_base.specs.Pairs.{Bytes}
 use Rattle.fjall_base.specs.Store.{Options, Store, kept}
-use Rattle.fjall_keyspaces.specs.declared.living.LivingKeyspace.{LivingKeyspace}
-use Rattle.fjall_keyspaces.specs.Keyspaces.{Keyspaces, keyspace_at}
-use Rattle.fjall_meta.specs.declared.options.stored_option.StoredOption.TheVariants.{ManualJournalPersist}
-use Rattle.fjall_meta.specs.Options.{effective_settings, is_set, value_at, value_of}
+use Rattle.fjall_meta.specs.declared.living.LivingKeyspace.{LivingKeyspace}
+use Rattle.fjall_meta.specs.Keyspaces.{Keyspaces, keyspace_at}
+use Rattle.fjall_options.specs.declared.options.stored_option.StoredOption.TheVariants.{ManualJournalPersist}
+use Rattle.fjall_options.specs.Options.{effective_settings, is_set, value_at, value_of}
 use Rattle.fjall_versions.specs.declared.version.Version.{Version}
 use Rattle.fjall_versions.specs.Replays.{option_pairs}
 use Rattle.fjall_versions.specs.Versions.{store_of}

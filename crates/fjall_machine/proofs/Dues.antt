@@ -7,7 +7,7 @@ use Rattle.std.specs.List.{AllByRecursion}
 use Rattle.fjall_base.specs.Pairs.{Bytes}
 use Rattle.fjall_base.specs.declared.error.Error.{Error}
 use Rattle.fjall_base.specs.declared.error.Error.TheVariants.{UnknownKeyspace}
-use Rattle.fjall_keyspaces.specs.Keyspaces.{is_name}
+use Rattle.fjall_meta.specs.Keyspaces.{is_name}
 use Rattle.fjall_machine.specs.declared.call.Call.TheVariants.{Release}
 use Rattle.fjall_machine.specs.Machine.{is_unknown, Facts, creation_refusals, deletion_refusals, due_in, first_due, handles_of, has_name, is_living, write_refusals}
 use Rattle.fjall_machine.specs.Allowed.{MayCreate, MayDelete, MayWrite}

@@ -3,10 +3,10 @@ use Rattle.std.proofs.Common.{◌≡◌, ◌≢◌, ℕ, ◌+◌, ◌-◌, ◌<�
 use Rattle.std.proofs.lemmas.Bool.Decides.{nat_tests}
 use Rattle.std.proofs.lemmas.List.Elements.{All-filter, All-push, All-weaker}
 use Rattle.fjall_base.specs.Pairs.{Bytes}
-use Rattle.fjall_keyspaces.specs.declared.living.LivingKeyspace.{LivingKeyspace}
-use Rattle.fjall_keyspaces.specs.Keyspaces.{AreKeyspaces, Keyspaces, id_of, is_name}
-use Rattle.fjall_keyspaces.proofs.Changes.{none_named, one_more_are, some_are}
-use Rattle.fjall_meta.specs.Options.{AreOptions}
+use Rattle.fjall_meta.specs.declared.living.LivingKeyspace.{LivingKeyspace}
+use Rattle.fjall_meta.specs.Keyspaces.{AreKeyspaces, Keyspaces, id_of, is_name}
+use Rattle.fjall_meta.proofs.Changes.{none_named, one_more_are, some_are}
+use Rattle.fjall_options.specs.Options.{AreOptions}
 use Rattle.fjall_versions.specs.declared.version.Version.{Version}
 use Rattle.fjall_versions.specs.Versions.{store_of}
 use Rattle.fjall_machine.specs.Machine.{is_living, one_less, without}

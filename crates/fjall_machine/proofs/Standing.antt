@@ -9,8 +9,8 @@ use Rattle.std.specs.Option.{is_some}
 use Rattle.fjall_base.specs.Pairs.{Bytes, Pairs, altered, lookup}
 use Rattle.fjall_base.specs.Store.{Command, Create, Delete, Store, apply, fold, kept, map_at}
 use Rattle.fjall_base.specs.declared.error.Error.TheVariants.{KeyspaceDeleted, UnknownKeyspace}
-use Rattle.fjall_keyspaces.specs.Keyspaces.{Keyspaces, id_of, is_name}
-use Rattle.fjall_meta.specs.Options.{AreOptions}
+use Rattle.fjall_meta.specs.Keyspaces.{Keyspaces, id_of, is_name}
+use Rattle.fjall_options.specs.Options.{AreOptions}
 use Rattle.fjall_versions.specs.declared.version.Version.{Version}
 use Rattle.fjall_versions.specs.Replays.{bare, option_pairs}
 use Rattle.fjall_versions.specs.Versions.{command_of, newest, pairs_after, pairs_in, store_of}

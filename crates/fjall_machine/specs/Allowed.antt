@@ -2,7 +2,7 @@
 use Rattle.std.specs.Prelude.{◌≡◌, ◌≢◌, ℕ, ◌<◌, ◌-◌, ◌^◌, true, false, nat_le, length}
 use Rattle.std.specs.FinMap.{len}
 use Rattle.fjall_base.specs.Pairs.{Bytes}
-use Rattle.fjall_keyspaces.specs.Keyspaces.{is_name}
+use Rattle.fjall_meta.specs.Keyspaces.{is_name}
 use Rattle.fjall_machine.specs.Machine.{Facts, has_name, is_living, is_unknown}
 
 -- The keyspace lives, no fault has poisoned the engine, a number is left, and key and value have lengths that are written.

@@ -9,8 +9,8 @@ use Rattle.fjall_base.specs.Store.{Store, Command, Options, Write, Create, Delet
 use Rattle.fjall_base.specs.declared.error.Error.{Error}
 use Rattle.fjall_base.specs.declared.error.Error.TheVariants.{Io, Poisoned, KeyspaceDeleted, KeyEmpty, KeyTooLong, ValueTooLong, InvalidName, OutOfMemory, NumbersUsedUp, UnknownKeyspace}
 use Rattle.fjall_journal.specs.Writer.{counted, goes_out}
-use Rattle.fjall_meta.specs.Options.{is_set, value_of}
-use Rattle.fjall_keyspaces.specs.Keyspaces.{is_name}
+use Rattle.fjall_options.specs.Options.{is_set, value_of}
+use Rattle.fjall_meta.specs.Keyspaces.{is_name}
 use Rattle.fjall_versions.specs.Replays.{option_pairs}
 use Rattle.fjall_machine.specs.declared.call.View.{View}
 use Rattle.fjall_machine.specs.declared.call.View.TheVariants.{Present}

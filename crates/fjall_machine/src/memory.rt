@@ -5,7 +5,7 @@ ghost use Rattle.std.specs.Prelude.{◌≡◌, ◌≢◌, ◌<◌, ◌+◌, ◌-
 ghost use Rattle.std.specs.FinMap.{empty, from_entries, len, values};
 ghost use Rattle.std.specs.Option.{option_copied};
 ghost use Rattle.fjall_base.specs.Pairs.{Bytes, byte_order, page, pairs_between};
-ghost use Rattle.fjall_keyspaces.specs.Keyspaces.{id_of, is_name};
+ghost use Rattle.fjall_meta.specs.Keyspaces.{id_of, is_name};
 ghost use Rattle.fjall_versions.specs.declared.version.Version.{Version};
 ghost use Rattle.fjall_versions.specs.Versions.{newest, pairs_in, store_of};
 ghost use Rattle.fjall_machine.specs.declared.call.Call.TheVariants.{Retain};
@@ -13,8 +13,8 @@ ghost use Rattle.fjall_machine.specs.Machine.{due_in, first_due, handles_of, has
 ghost use Rattle.fjall_machine.specs.Remembered.{IsDueOrMemory, IsLawful, Remembered, facts_of, is_last, let_go, poisoned, released, remembered, retained, with_creation, with_deletion, with_version};
 
 use fjall_base::{Error, KvPair, Result, Slice, UserValue};
-use fjall_keyspaces::{LivingKeyspace, MetaKeyspace};
-use fjall_meta::KeyspaceCreateOptions;
+use fjall_meta::{LivingKeyspace, MetaKeyspace};
+use fjall_options::{KeyspaceCreateOptions};
 use fjall_versions::{KeyRange, Version, newest_value, page};
 use std::alloc::Global;
 use std::collections::BTreeMap;

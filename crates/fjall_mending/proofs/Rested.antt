@@ -15,9 +15,9 @@ use Rattle.fjall_tree.specs.Records.{Fields, IsRecord, IsRecords, last_of, recor
 use Rattle.fjall_tree.proofs.Currents.{last_behind}
 use Rattle.fjall_files.specs.Marker.{marker_tells}
 use Rattle.fjall_files.specs.Names.{journal_name, keyspace_folder, current_name, table_name}
-use Rattle.fjall_keyspaces.specs.declared.entry.MetaEntry.{MetaEntry}
-use Rattle.fjall_keyspaces.specs.declared.living.LivingKeyspace.{LivingKeyspace}
-use Rattle.fjall_keyspaces.specs.Entries.{entries_of}
+use Rattle.fjall_meta.specs.declared.entry.MetaEntry.{MetaEntry}
+use Rattle.fjall_meta.specs.declared.living.LivingKeyspace.{LivingKeyspace}
+use Rattle.fjall_meta.specs.Entries.{entries_of}
 use Rattle.fjall_versions.specs.Replays.{first_fault}
 use Rattle.fjall_catalog.specs.Catalog.{AreSafe, HoldsEntries, IsTableOf, Rests, fields, only}
 use Rattle.fjall_catalog.specs.Catalog as catalog

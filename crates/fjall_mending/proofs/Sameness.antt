@@ -8,9 +8,9 @@ use Rattle.fjall_base.proofs.States.{survives_whole}
 use Rattle.fjall_tree.specs.declared.record.TableInfo.{TableInfo}
 use Rattle.fjall_tree.specs.Records.{Fields, IsRecord, IsRecords}
 use Rattle.fjall_files.specs.Names.{journal_name, keyspace_folder, current_name, table_name}
-use Rattle.fjall_keyspaces.specs.declared.entry.MetaEntry.{MetaEntry}
-use Rattle.fjall_keyspaces.specs.declared.living.LivingKeyspace.{LivingKeyspace}
-use Rattle.fjall_keyspaces.specs.Entries.{entries_of}
+use Rattle.fjall_meta.specs.declared.entry.MetaEntry.{MetaEntry}
+use Rattle.fjall_meta.specs.declared.living.LivingKeyspace.{LivingKeyspace}
+use Rattle.fjall_meta.specs.Entries.{entries_of}
 use Rattle.fjall_catalog.specs.declared.catalog.Catalog.{Catalog}
 use Rattle.fjall_catalog.specs.Catalog.{HoldsEntries, IsTableOf, fields}
 use Rattle.fjall_catalog.specs.Catalog as catalog

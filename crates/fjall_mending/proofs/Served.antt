@@ -13,7 +13,7 @@ use Rattle.fjall_files.specs.Tidy.{FitsAt, IsTidy}
 use Rattle.fjall_files.proofs.Distinct.{kept}
 use Rattle.fjall_files.proofs.Fitting.{fits_journal, folder_of-folder}
 use Rattle.fjall_files.proofs.Serving.{can_make_journal}
-use Rattle.fjall_keyspaces.specs.declared.living.LivingKeyspace.{LivingKeyspace}
+use Rattle.fjall_meta.specs.declared.living.LivingKeyspace.{LivingKeyspace}
 use Rattle.fjall_opening.specs.declared.folder.Finished.{Finished}
 use Rattle.fjall_opening.specs.declared.homes.Home.{Home}
 use Rattle.fjall_opening.specs.Folders.{Contents, IsFinished, IsSound, file_bytes}

@@ -9,8 +9,8 @@ use Rattle.fjall_journal.specs.Batches.{IsWhole, IsTail}
 use Rattle.fjall_tree.specs.Records.{Fields, IsRecords, last_of, record_text}
 use Rattle.fjall_tree.proofs.Currents.{records_apart}
 use Rattle.fjall_files.specs.Names.{journal_name, current_name}
-use Rattle.fjall_keyspaces.specs.Keyspaces.{Keyspaces}
-use Rattle.fjall_keyspaces.specs.declared.living.LivingKeyspace.{LivingKeyspace}
+use Rattle.fjall_meta.specs.Keyspaces.{Keyspaces}
+use Rattle.fjall_meta.specs.declared.living.LivingKeyspace.{LivingKeyspace}
 use Rattle.fjall_opening.specs.declared.folder.Finished.{Finished}
 use Rattle.fjall_opening.specs.declared.homes.Home.{Home}
 use Rattle.fjall_opening.specs.Folders.{Contents, IsFinished, IsSound, Shows}

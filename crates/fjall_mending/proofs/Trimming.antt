@@ -7,7 +7,7 @@ use Rattle.fjall_base.specs.Disk.{Name, Entry, Folder, State, Image, IsFile}
 use Rattle.fjall_base.proofs.Lists.{front_of_part}
 use Rattle.fjall_journal.specs.declared.batch.Tail.TheVariants.{Clean, Torn}
 use Rattle.fjall_tree.specs.Records.{Fields, IsRecords, last_of}
-use Rattle.fjall_keyspaces.proofs.Rising.{Rises, from_pairs}
+use Rattle.fjall_meta.proofs.Rising.{Rises, from_pairs}
 use Rattle.fjall_files.specs.Names.{journal_name, current_name, table_name}
 use Rattle.fjall_catalog.proofs.Resting.{last_has}
 use Rattle.fjall_files.specs.Marker.{marker_tells}

@@ -1,4 +1,4 @@
-pub mod Trackers
+pub mod Keyspaces
+pub mod Entries
 pub mod Reading
-pub mod Policies
-pub mod Options
+pub mod Trackers

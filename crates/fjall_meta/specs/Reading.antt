@@ -1,44 +1,91 @@
--- Reading bytes from left to right, with the first fault that is met.
-use Rattle.std.specs.Prelude.{◌≡◌, ⊤, ℕ, List, [], ◌∷◌, length, drop, Result, Ok, Err, nat_lt, if◌then◌else◌}
-use Rattle.byteorder.specs.Endian.{little_number}
-use Rattle.std.specs.declared.io.ErrorKind.TheVariants.{UnexpectedEof}
+-- What pairs of the meta keyspace say of the keyspaces that they store.
+use Rattle.std.specs.Prelude.{◌≡◌, ⊤, ℕ, ◌==◌, ◌&&◌, ◌||◌, nat_le, Bool, false, if◌then◌else◌, List, [], ◌∷◌, length, map, filter_map, drop, slice_index, filter, Contains, ◌↔◌, Option, Some, None, unwrap_or, Result, Ok, Err}
+use Rattle.std.specs.List.Sorted.{IsStrictlyIncreasing}
+use Rattle.std.specs.BTreeMap.{BTreeMap, get}
+use Rattle.std.specs.Option.{option_map_or}
+use Rattle.std.specs.Ordering.{nat_cmp}
+use Rattle.std.specs.Global.{Vec}
+use Rattle.byteorder.specs.Endian.{big_number}
 use Rattle.fjall_base.specs.declared.error.Error.{Error}
 use Rattle.fjall_base.specs.declared.error.Error.TheVariants as errors
+use Rattle.fjall_base.specs.declared.error.StorageError.{StorageError}
+use Rattle.fjall_base.specs.declared.error.StorageError.TheVariants.{OptionMissing, OptionInvalid}
+use Rattle.fjall_options.specs.Options.{name_key, value_of, stored_options, stored_values}
+use Rattle.fjall_options.specs.Reading.{◌>>=◌}
+use Rattle.fjall_meta.specs.declared.entry.MetaEntry.{MetaEntry}
+use Rattle.fjall_meta.specs.declared.living.LivingKeyspace.{LivingKeyspace}
+use Rattle.fjall_meta.specs.Keyspaces.{is_name}
 
--- Why bytes can't be read: they end within a field, or a byte of the named field means nothing.
-pub data Fault : Type 0 where
-  Short : Fault
-  Invalid : List ℕ → ℕ → Fault
+-- the id in a key: eight bytes, the highest first, behind an 'n' or a 'c'
+abbrev pub key_id : List ℕ → Option ℕ
+key_id key =
+    if nat_le 9 (length key) && ((slice_index key 0 == 0x6e) || (slice_index key 0 == 0x63)) then Some (big_number 8 (drop 1 key)) else None
 
-infixl 10 ◌>>=◌
-abbrev pub ◌>>=◌ : {A B E : Type 0} → Result A E → (A → Result B E) → Result B E
-(Ok x) >>= f = f x
-(Err e) >>= f = Err e
+-- A keyspace lives where some key has its id: these are the ids, ascending.
+pub record AreIds (ids : List ℕ) (entries : List MetaEntry) : Type 0 where
+  pub ascending : IsStrictlyIncreasing ids
+  pub each : (id : ℕ) → Contains ids id ↔ Contains (filter_map (λ e. key_id e.key) entries) id
 
--- The error names the fault that reading met, or memory ran out.
-abbrev pub Fails : {Y : Type 0} → Error → Result Y Fault → Type 0
-Fails errors.OutOfMemory read = ⊤
-Fails (errors.Io kind) read = (kind ≡ UnexpectedEof) × (read ≡ Err Short)
-Fails (errors.InvalidTag tag) read = read ≡ Err (Invalid tag.0.now tag.1)
-Fails error read = ⊥
+abbrev pub pairs_of : List MetaEntry → List (List ℕ × List ℕ)
+pairs_of entries = map (λ e. (e.key, e.value)) entries
 
--- What a function answered, seen by view, is what reading gives, unless memory ran out.
-abbrev pub Gives : {X Y : Type 0} → (X → Y) → Result X Error → Result Y Fault → Type 0
-Gives view (Ok x) read = read ≡ Ok (view x)
-Gives view (Err e) read = Fails e read
+abbrev pub valid_name : Option (List ℕ) → Result (List ℕ) StorageError
+valid_name None = Err OptionMissing
+valid_name (Some name) = if is_name name then Ok name else Err OptionInvalid
 
--- what reading gives
-abbrev pub Read : Type 0 → Type 0
-Read T = Result T Fault
+-- the name that the pairs give to a keyspace
+abbrev pub stored_name : ℕ → List (List ℕ × List ℕ) → Result (List ℕ) StorageError
+stored_name id pairs = valid_name (value_of (name_key id) pairs)
 
--- What reads a value of type T: the value and the bytes behind it, or a fault.
-abbrev pub Reader : Type 0 → Type 0
-Reader T = List ℕ → Result (T × List ℕ) Fault
+-- the name and then the options that the pairs give to a keyspace, or the first refusal
+abbrev pub stored_keyspace : ℕ → List (List ℕ × List ℕ) → Result (List ℕ × List (List ℕ)) StorageError
+stored_keyspace id pairs = do
+  name ← stored_name id pairs
+  options ← stored_values id pairs stored_options
+  Ok (name, options)
 
-abbrev pub byte_at : Reader ℕ
-byte_at [] = Err Short
-byte_at (b ∷ rest) = Ok (b, rest)
+abbrev pub or_else : {Y : Type 0} → Result Y StorageError → Option StorageError → Option StorageError
+or_else (Ok y) later = later
+or_else (Err cause) later = Some cause
 
--- a number of four bytes, the lowest first
-abbrev pub number_at : Reader ℕ
-number_at bytes = if nat_lt (length bytes) 4 then Err Short else Ok (little_number 4 bytes, drop 4 bytes)
+-- what is wrong with the first of these keyspaces with which something is
+abbrev pub first_fault : List ℕ → List (List ℕ × List ℕ) → Option StorageError
+first_fault [] pairs = None
+first_fault (id ∷ ids) pairs = or_else (stored_keyspace id pairs) (first_fault ids pairs)
+
+-- the refusal is that fault, or memory ran out
+abbrev pub IsFirstFault : List ℕ → List (List ℕ × List ℕ) → Error → Type 0
+IsFirstFault ids pairs errors.OutOfMemory = ⊤
+IsFirstFault ids pairs (errors.Storage cause) = first_fault ids pairs ≡ Some cause
+IsFirstFault ids pairs error = ⊥
+
+-- Why entries are refused: for the first fault of a keyspace, the lowest id first. Where each is whole, something else stands there that no keyspaces store, which is invalid.
+abbrev pub IsReadingRefusal : List MetaEntry → Error → Type 0
+IsReadingRefusal entries errors.OutOfMemory = ⊤
+IsReadingRefusal entries (errors.Storage cause) = (ids : List ℕ) × AreIds ids entries × (cause ≡ unwrap_or (first_fault ids (pairs_of entries)) OptionInvalid)
+IsReadingRefusal entries error = ⊥
+
+-- ---- the pairs of one keyspace
+
+-- whether an id was found, and is this one
+abbrev pub is_that : ℕ → Option ℕ → Bool
+is_that id None = false
+is_that id (Some found) = found == id
+
+-- the entries in whose keys this id stands, in their order
+abbrev pub own_entries : ℕ → List MetaEntry → List MetaEntry
+own_entries id entries = filter (λ e. is_that id (key_id e.key)) entries
+
+-- the entries that a map has at this id
+abbrev pub entries_at : ℕ → BTreeMap ℕ (Vec MetaEntry) → List MetaEntry
+entries_at id groups = option_map_or (λ own. own.items) (get nat_cmp groups id) []
+
+-- the number of the first entry, 0 where there is none
+abbrev pub number_in : List MetaEntry → ℕ
+number_in [] = 0
+number_in (e ∷ entries) = e.number
+
+-- The entries store this keyspace: it has the name and the options that they give to its id, and the number of its first entry.
+pub record IsStored (entries : List MetaEntry) (k : LivingKeyspace) : Type 0 where
+  pub given : stored_keyspace k.id (pairs_of entries) ≡ Ok (k.name, k.options)
+  pub number : k.number ≡ number_in (own_entries k.id entries)

@@ -1,15 +1,19 @@
-//! What a database knows beside the data of its keyspaces: which snapshots are open, and which options
-//! each keyspace has.
+//! What a database knows beside the data of its keyspaces: which keyspaces live, under which names, ids and options, and
+//! which id comes next; and which snapshots are open.
 #![tactic(auto)]
 
+mod entry;
 mod instants;
-mod options;
+mod laws;
+mod living;
+mod meta_keyspace;
+mod name;
+mod reading;
 mod snapshot_tracker;
 
-pub use options::{
-    BlockSizePolicy, BloomConstructionPolicy, CompressionPolicy, DecodeConfig, EffectiveSettings,
-    EncodeConfig, FilterPolicy, FilterPolicyEntry, HashRatioPolicy, KeyspaceCreateOptions, Leveled,
-    Levelled, PartitioningPolicy, PinningPolicy, Policy, PolicyEntry, RestartIntervalPolicy,
-    STORED_OPTIONS, StoredOption, encode_config_key, encode_name_key,
-};
+pub use entry::MetaEntry;
+pub use laws::one_list_of_keyspaces;
+pub use living::LivingKeyspace;
+pub use meta_keyspace::MetaKeyspace;
+pub use name::is_valid_keyspace_name;
 pub use snapshot_tracker::{SeqNo, SnapshotTracker};

@@ -11,9 +11,9 @@ use Rattle.fjall_journal.specs.Batches.{Written, IsWhole}
 use Rattle.fjall_journal.proofs.Wholes as Wholes
 use Rattle.fjall_tree.specs.Records.{Fields, last_of}
 use Rattle.fjall_tree.proofs.Currents as Currents
-use Rattle.fjall_keyspaces.specs.Keyspaces.{Keyspaces}
-use Rattle.fjall_keyspaces.specs.declared.living.LivingKeyspace.{LivingKeyspace}
-use Rattle.fjall_keyspaces.proofs.Rising.{Rises, from_pairs}
+use Rattle.fjall_meta.specs.Keyspaces.{Keyspaces}
+use Rattle.fjall_meta.specs.declared.living.LivingKeyspace.{LivingKeyspace}
+use Rattle.fjall_meta.proofs.Rising.{Rises, from_pairs}
 use Rattle.fjall_files.specs.declared.marker.Marker.{Marker}
 use Rattle.fjall_files.specs.declared.marker.Marker.TheVariants.{Whole, Unfinished}
 use Rattle.fjall_files.specs.Marker.{marker_tells}

@@ -15,10 +15,10 @@ use Rattle.fjall_journal.specs.Steps.{batch_at}
 use Rattle.fjall_journal.proofs.Batches.{some_early, some_goes_on, some_other}
 use Rattle.fjall_versions.specs.Replays.{Fault, Unordered, Indirect, first_fault, least_after, Names, NamesFault}
 use Rattle.fjall_tree.specs.Records.{Fields, HasContradiction}
-use Rattle.fjall_keyspaces.specs.declared.entry.MetaEntry.{MetaEntry}
-use Rattle.fjall_keyspaces.specs.declared.living.LivingKeyspace.{LivingKeyspace}
-use Rattle.fjall_keyspaces.specs.Keyspaces.{Keyspaces}
-use Rattle.fjall_keyspaces.specs.Reading as reading
+use Rattle.fjall_meta.specs.declared.entry.MetaEntry.{MetaEntry}
+use Rattle.fjall_meta.specs.declared.living.LivingKeyspace.{LivingKeyspace}
+use Rattle.fjall_meta.specs.Keyspaces.{Keyspaces}
+use Rattle.fjall_meta.specs.Reading as reading
 use Rattle.fjall_files.specs.declared.marker.Marker.{Marker}
 use Rattle.fjall_files.specs.declared.marker.Marker.TheVariants.{Whole, Unfinished}
 use Rattle.fjall_files.specs.Marker.{marker_tells}

@@ -12,7 +12,7 @@ use Rattle.fjall_tree.specs.Reading.{DamagedWhere}
 use Rattle.fjall_tree.specs.declared.record.Record.{Record}
 use Rattle.fjall_tree.specs.Records.{Fields, IsRecords, HasContradiction, last_of, view}
 use Rattle.fjall_tree.proofs.Currents.{contradiction_has_no_reading}
-use Rattle.fjall_keyspaces.specs.declared.living.LivingKeyspace.{LivingKeyspace}
+use Rattle.fjall_meta.specs.declared.living.LivingKeyspace.{LivingKeyspace}
 use Rattle.fjall_opening.specs.declared.homes.Home.{Home}
 use Rattle.fjall_opening.specs.Homes.{AreHomesRead, HasHome, HasLast, HasNoRecord, IsPlain, IsRead, IsReadFrom, records_text}
 use Rattle.fjall_opening.specs.Refusals.{HomeRefuses, HomesRefuse, IsDue}

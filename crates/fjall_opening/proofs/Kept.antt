@@ -9,8 +9,8 @@ use Rattle.fjall_base.specs.declared.error.Error.TheVariants.{Io, OutOfMemory, S
 use Rattle.fjall_base.specs.declared.error.StorageError.TheVariants.{RecordDamaged}
 use Rattle.fjall_tree.specs.Records.{Fields}
 use Rattle.fjall_tree.proofs.Currents.{contradiction_has_no_reading}
-use Rattle.fjall_keyspaces.specs.declared.living.LivingKeyspace.{LivingKeyspace}
-use Rattle.fjall_keyspaces.specs.Keyspaces.{Keyspaces}
+use Rattle.fjall_meta.specs.declared.living.LivingKeyspace.{LivingKeyspace}
+use Rattle.fjall_meta.specs.Keyspaces.{Keyspaces}
 use Rattle.fjall_files.specs.declared.marker.Marker.{Marker}
 use Rattle.fjall_files.specs.declared.marker.Marker.TheVariants.{Whole, Unfinished}
 use Rattle.fjall_files.specs.Marker.{marker_tells}

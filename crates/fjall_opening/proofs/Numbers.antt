@@ -6,7 +6,7 @@ use Rattle.fjall_base.specs.Disk.{Image}
 use Rattle.fjall_journal.specs.Batches.{Shown, shown}
 use Rattle.fjall_versions.specs.Replays.{Fault, fault_of, first_fault, least_after}
 use Rattle.fjall_tree.specs.Records.{Fields, IsRecord}
-use Rattle.fjall_keyspaces.specs.declared.living.LivingKeyspace.{LivingKeyspace}
+use Rattle.fjall_meta.specs.declared.living.LivingKeyspace.{LivingKeyspace}
 use Rattle.fjall_catalog.specs.Catalog.{fields}
 use Rattle.fjall_catalog.proofs.Resting.{last_has}
 use Rattle.fjall_opening.specs.Folders.{Contents, IsSound, number_of, past, past_record, past_records}

@@ -19,7 +19,7 @@ use Rattle.fjall_opening.specs.Journals.{Journal, ReadsAs, AreRead, HoldsJournal
 use Rattle.fjall_opening.specs.Refusals.{HomeRefuses, HomesRefuse, JournalsRefuse, TailRefuses}
 use Rattle.fjall_opening.proofs.Alone.{one_list_of_ids}
 use Rattle.fjall_opening.proofs.Gathering.{first_fault-append}
-use Rattle.fjall_keyspaces.specs.declared.living.LivingKeyspace.{LivingKeyspace}
+use Rattle.fjall_meta.specs.declared.living.LivingKeyspace.{LivingKeyspace}
 use Rattle.fjall_tree.specs.Records.{Fields}
 
 -- ---- tails

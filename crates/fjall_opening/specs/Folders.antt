@@ -5,7 +5,7 @@ use Rattle.fjall_base.specs.Disk.{Entry, File, Folder, Image}
 use Rattle.fjall_journal.specs.Batches.{NoneAt, shown, view}
 use Rattle.fjall_tree.specs.Records.{Fields, IsRecords}
 use Rattle.fjall_tree.specs.Records as records
-use Rattle.fjall_keyspaces.specs.Keyspaces.{Keyspaces, no_keyspaces}
+use Rattle.fjall_meta.specs.Keyspaces.{Keyspaces, no_keyspaces}
 use Rattle.fjall_files.specs.declared.marker.Marker.TheVariants.{Whole, Unfinished}
 use Rattle.fjall_files.specs.Marker.{marker_tells}
 use Rattle.fjall_files.specs.Names.{keyspace_folder}

@@ -2,7 +2,7 @@
 use Rattle.std.specs.Prelude.{◌≡◌, ℕ, List, [], ◌∷◌, length, Some, None}
 use Rattle.fjall_base.specs.Disk.{Folder, Image}
 use Rattle.fjall_tree.specs.Records.{Fields, IsRecords, last_of, view}
-use Rattle.fjall_keyspaces.specs.declared.living.LivingKeyspace.{LivingKeyspace}
+use Rattle.fjall_meta.specs.declared.living.LivingKeyspace.{LivingKeyspace}
 use Rattle.fjall_files.specs.Names.{keyspace_folder, current_name}
 use Rattle.fjall_opening.specs.declared.homes.Home.{Home}
 use Rattle.fjall_opening.specs.Journals.{text_in}

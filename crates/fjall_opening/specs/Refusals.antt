@@ -11,8 +11,8 @@ use Rattle.fjall_journal.specs.declared.batch.Tail.TheVariants.{Clean, Torn, Dam
 use Rattle.fjall_journal.specs.Batches.{Written, shown}
 use Rattle.fjall_versions.specs.Replays.{first_fault, least_after, NamesFault}
 use Rattle.fjall_tree.specs.Records.{Fields, HasContradiction}
-use Rattle.fjall_keyspaces.specs.Keyspaces.{Keyspaces}
-use Rattle.fjall_keyspaces.specs.declared.living.LivingKeyspace.{LivingKeyspace}
+use Rattle.fjall_meta.specs.Keyspaces.{Keyspaces}
+use Rattle.fjall_meta.specs.declared.living.LivingKeyspace.{LivingKeyspace}
 use Rattle.fjall_base.specs.declared.error.JournalRecoveryError.TheVariants.{InvalidFileName}
 use Rattle.fjall_files.specs.declared.marker.Marker.{Marker}
 use Rattle.fjall_files.specs.declared.marker.Marker.TheVariants.{Whole, Unfinished}

@@ -6,7 +6,7 @@ ghost use Rattle.fjall_base.specs.Store.{Store};
 ghost use Rattle.fjall_files.specs.Marker.{marker_tells};
 ghost use Rattle.fjall_files.specs.Names.{keyspace_folder};
 ghost use Rattle.fjall_tree.specs.Records.{Fields, view};
-ghost use Rattle.fjall_keyspaces.specs.Keyspaces.{Keyspaces};
+ghost use Rattle.fjall_meta.specs.Keyspaces.{Keyspaces};
 ghost use Rattle.fjall_catalog.specs.declared.catalog.Catalog.{Catalog};
 ghost use Rattle.fjall_catalog.specs.Catalog.{Says, fields};
 ghost use Rattle.fjall_opening.specs.Folders.{AreMade, Contents, IsFinished, IsSound, ReadsFolder, Shows, StandsFor, marker_bytes, number_of, past, past_record, past_records};
@@ -20,7 +20,7 @@ use crate::listing::{list_journals, list_keyspaces};
 use crate::unfinished::check_unfinished;
 use fjall_base::{Disk, Error, Result, StorageError};
 use fjall_catalog::{Catalog, Found, read_catalog};
-use fjall_keyspaces::LivingKeyspace;
+use fjall_meta::LivingKeyspace;
 use fjall_files::{Marker, read_marker};
 use std::alloc::Global;
 

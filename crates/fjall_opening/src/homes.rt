@@ -9,7 +9,7 @@ ghost use Rattle.fjall_opening.specs.Refusals.{HasRisen, HomeRefuses, HomesRefus
 
 use crate::file::read_text;
 use fjall_base::{Disk, Error, Result, StorageError};
-use fjall_keyspaces::LivingKeyspace;
+use fjall_meta::LivingKeyspace;
 use fjall_files::current_name;
 use fjall_tree::{Current, Record, read_current};
 use std::alloc::Global;

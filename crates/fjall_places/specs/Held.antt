@@ -2,7 +2,7 @@
 use Rattle.std.specs.Prelude.{ℕ, Option, Some, None}
 use Rattle.fjall_base.specs.Store.{Store}
 use Rattle.fjall_base.specs.Disk.{State, Image, IsImage, standing}
-use Rattle.fjall_keyspaces.specs.Keyspaces.{no_keyspaces}
+use Rattle.fjall_meta.specs.Keyspaces.{no_keyspaces}
 use Rattle.fjall_versions.specs.Replays.{bare}
 use Rattle.fjall_opening.specs.Folders.{Contents, IsSound, IsUnfinished, number_of, store_of}
 

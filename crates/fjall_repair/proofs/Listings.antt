@@ -12,7 +12,7 @@ use Rattle.fjall_base.specs.declared.disk.DirEntry.{DirEntry}
 use Rattle.fjall_base.specs.Disk.{Name, Meaning, Missing, State, Lists, Took, folder_of}
 use Rattle.fjall_base.proofs.Lists.{Any-more}
 use Rattle.fjall_files.specs.Names.{keyspace_folder, table_name}
-use Rattle.fjall_keyspaces.specs.declared.living.LivingKeyspace.{LivingKeyspace}
+use Rattle.fjall_meta.specs.declared.living.LivingKeyspace.{LivingKeyspace}
 use Rattle.fjall_repair.specs.declared.plan.UnnamedHome.{UnnamedHome}
 use Rattle.fjall_repair.specs.Listing.{AreTables}
 use Rattle.fjall_repair.specs.Sweeps.{FindsHomes, FindsTables, FindsTablesOf, IsHomeFound, IsUnnamedHome, IsUnnamedTable, Lives}

@@ -9,7 +9,7 @@ use Rattle.fjall_base.specs.declared.error.Error.TheVariants.{Io, OutOfMemory}
 use Rattle.fjall_base.proofs.Moments.{started}
 use Rattle.fjall_files.proofs.Made.{took_both}
 use Rattle.fjall_journal.specs.Batches.{Shown, Written, shown, view}
-use Rattle.fjall_keyspaces.specs.Keyspaces.{Keyspaces}
+use Rattle.fjall_meta.specs.Keyspaces.{Keyspaces}
 use Rattle.fjall_versions.specs.declared.version.Version.{Version}
 use Rattle.fjall_versions.proofs.Replaying.{replay_makes_the_store}
 use Rattle.fjall_journal.specs.Writer.{Journal}
@@ -19,7 +19,7 @@ use Rattle.fjall_places.specs.Places.{texts_of, contents_with}
 use Rattle.fjall_versions.specs.Replays.{store_in, least_after}
 use Rattle.fjall_tree.specs.Records.{Fields, IsRecord, last_of}
 use Rattle.fjall_tree.specs.Records as records
-use Rattle.fjall_keyspaces.specs.declared.living.LivingKeyspace.{LivingKeyspace}
+use Rattle.fjall_meta.specs.declared.living.LivingKeyspace.{LivingKeyspace}
 use Rattle.fjall_catalog.specs.Catalog.{fields}
 use Rattle.fjall_catalog.proofs.Resting.{last_has}
 use Rattle.fjall_opening.specs.Folders.{Contents, IsFinished, IsSound, IsUnfinished, Shows, StandsFor, number_of, past_record, past_records, store_of}

@@ -11,7 +11,7 @@ use Rattle.fjall_journal.specs.Batches.{Written, shown}
 use Rattle.fjall_tree.specs.Records.{Fields}
 use Rattle.fjall_files.specs.Names.{journal_name, table_name}
 use Rattle.fjall_base.specs.Store.{Store}
-use Rattle.fjall_keyspaces.specs.Keyspaces.{Keyspaces}
+use Rattle.fjall_meta.specs.Keyspaces.{Keyspaces}
 use Rattle.fjall_catalog.specs.declared.catalog.Catalog.{Catalog}
 use Rattle.fjall_versions.specs.Replays.{store_in}
 use Rattle.fjall_opening.specs.declared.folder.Finished.{Finished}

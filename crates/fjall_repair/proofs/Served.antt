@@ -10,7 +10,7 @@ use Rattle.fjall_base.proofs.States.{put-other, put-same}
 use Rattle.fjall_files.specs.Names.{Current, Keyspace, Table, keyspace_folder, current_name}
 use Rattle.fjall_files.specs.Tidy.{IsTidy}
 use Rattle.fjall_files.proofs.OfKinds.{kind_now}
-use Rattle.fjall_keyspaces.specs.declared.living.LivingKeyspace.{LivingKeyspace}
+use Rattle.fjall_meta.specs.declared.living.LivingKeyspace.{LivingKeyspace}
 use Rattle.fjall_repair.specs.declared.plan.UnnamedHome.{UnnamedHome}
 use Rattle.fjall_repair.specs.Sweeps.{AreGone, HasAll, IsHomeFound, IsUnnamedHome, IsUnnamedTable, Lives, Removes, removals}
 use Rattle.fjall_repair.proofs.Removals.{after_missing, stays_missing}

@@ -6,7 +6,7 @@ use Rattle.fjall_base.proofs.States.{differs, put-other}
 use Rattle.fjall_files.proofs.Parts.{in_region}
 use Rattle.fjall_tree.specs.Records.{Fields}
 use Rattle.fjall_files.specs.Names.{IsNameOf, keyspace_folder, current_name}
-use Rattle.fjall_keyspaces.specs.declared.living.LivingKeyspace.{LivingKeyspace}
+use Rattle.fjall_meta.specs.declared.living.LivingKeyspace.{LivingKeyspace}
 use Rattle.fjall_catalog.proofs.Resting.{At, rests_along}
 use Rattle.fjall_catalog.proofs.Runs.{at_more}
 use Rattle.fjall_places.specs.Halves.{HasTree, Tree, is_of_keyspaces}

@@ -7,7 +7,7 @@ use Rattle.fjall_files.specs.Names.{journal_name}
 use Rattle.fjall_journal.specs.Batches.{Shown}
 use Rattle.fjall_tree.specs.Records.{Fields}
 use Rattle.fjall_tree.specs.Records as records
-use Rattle.fjall_keyspaces.specs.Keyspaces.{AreKeyspaces, Keyspaces, no_keyspaces}
+use Rattle.fjall_meta.specs.Keyspaces.{AreKeyspaces, Keyspaces, no_keyspaces}
 use Rattle.fjall_catalog.specs.declared.catalog.Catalog.{Catalog}
 use Rattle.fjall_catalog.specs.Catalog.{fields, first_catalog}
 use Rattle.fjall_versions.specs.Versions.{store_of as store_behind, versions_behind}

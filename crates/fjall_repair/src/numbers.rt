@@ -7,7 +7,7 @@ ghost use Rattle.fjall_opening.specs.Folders.{past, past_records};
 ghost use Rattle.fjall_repair.specs.Opened.{HasNumbers, records_of};
 
 use fjall_base::{Error, Result, StorageError};
-use fjall_keyspaces::LivingKeyspace;
+use fjall_meta::LivingKeyspace;
 use fjall_opening::Finished;
 
 /// One past the number, and 0 where there is none.

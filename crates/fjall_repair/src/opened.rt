@@ -2,7 +2,7 @@
 
 use fjall_catalog::Catalog;
 use fjall_journal::Writer;
-use fjall_keyspaces::MetaKeyspace;
+use fjall_meta::MetaKeyspace;
 use fjall_versions::Version;
 
 /// A database that was opened. All that it holds is synced.

@@ -5,7 +5,7 @@ ghost use Rattle.fjall_base.specs.declared.error.Error.{Error};
 ghost use Rattle.fjall_base.specs.Store.{Command, Store};
 ghost use Rattle.fjall_base.specs.Disk.{LeavesOnly, standing, state_in};
 ghost use Rattle.fjall_files.specs.Tidy.{IsTidy, StaysTidy};
-ghost use Rattle.fjall_keyspaces.specs.Keyspaces.{no_keyspaces};
+ghost use Rattle.fjall_meta.specs.Keyspaces.{no_keyspaces};
 ghost use Rattle.fjall_versions.specs.Replays.{bare};
 ghost use Rattle.fjall_versions.specs.Versions.{store_of as store_behind};
 ghost use Rattle.fjall_opening.specs.Folders.{Contents, IsFinished, IsUnfinished, Shows, StandsFor, number_of as number_in, store_of, IsSound};

@@ -4,7 +4,7 @@ ghost use Rattle.std.specs.Prelude.{◌≡◌, ◌<◌, ◌≤◌, [], ℕ, List
 ghost use Rattle.std.specs.Option.{option_map};
 ghost use Rattle.fjall_base.specs.Disk.{Image, Took, standing, state_in};
 ghost use Rattle.fjall_journal.specs.Batches.{view};
-ghost use Rattle.fjall_keyspaces.specs.Keyspaces.{AreKeyspaces, no_keyspaces};
+ghost use Rattle.fjall_meta.specs.Keyspaces.{AreKeyspaces, no_keyspaces};
 ghost use Rattle.fjall_catalog.specs.Catalog.{first_catalog};
 ghost use Rattle.fjall_files.specs.Names.{journal_name};
 ghost use Rattle.fjall_versions.specs.Versions.{versions_behind};
@@ -23,7 +23,7 @@ use fjall_base::{Disk, Error, Result};
 use fjall_beginning::{Plan as Making, plan_beginning};
 use fjall_catalog::Catalog;
 use fjall_journal::{Batch, Writer};
-use fjall_keyspaces::MetaKeyspace;
+use fjall_meta::MetaKeyspace;
 use fjall_mending::{Plan as Mending, plan_mending};
 use fjall_opening::Finished;
 use fjall_files::{journal_name, keyspaces};

@@ -4,7 +4,7 @@ ghost use Rattle.std.specs.Prelude.{◌≡◌, ◌∷◌, ◌++◌, ℕ, All, Li
 ghost use Rattle.std.specs.List.{flat_map, Contains};
 ghost use Rattle.fjall_base.specs.Disk.{IsNoFolder, LeavesOnly, OnlyFaults, state_in};
 ghost use Rattle.fjall_files.specs.Tidy.{IsTidy, StaysTidy};
-ghost use Rattle.fjall_keyspaces.specs.declared.living.LivingKeyspace.{LivingKeyspace};
+ghost use Rattle.fjall_meta.specs.declared.living.LivingKeyspace.{LivingKeyspace};
 ghost use Rattle.fjall_places.specs.Halves.{HasTree, Tree};
 ghost use Rattle.fjall_places.specs.Places.{LiesInTree, RestsInTree};
 ghost use Rattle.fjall_files.specs.Regions.{Within};

@@ -4,7 +4,7 @@ use Rattle.std.specs.Prelude.{IfErr, IfOk}
 use Rattle.fjall_base.specs.Disk.{Meaning, Missing, State, standing, state_in}
 use Rattle.fjall_base.specs.declared.error.Error.{Error}
 use Rattle.fjall_base.specs.declared.error.Error.TheVariants.{OutOfMemory}
-use Rattle.fjall_keyspaces.specs.Keyspaces.{no_keyspaces}
+use Rattle.fjall_meta.specs.Keyspaces.{no_keyspaces}
 use Rattle.fjall_versions.specs.Replays.{bare}
 use Rattle.fjall_opening.specs.Folders.{IsUnfinished}
 use Rattle.fjall_beginning.specs.Making.{IsKept}

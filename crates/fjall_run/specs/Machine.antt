@@ -6,7 +6,7 @@ use Rattle.fjall_base.specs.Disk.{Meaning, IsImage, disk_of, standing, state_in}
 use Rattle.fjall_base.specs.Store.{Command, Store}
 use Rattle.fjall_base.specs.declared.error.Error.{Error}
 use Rattle.fjall_base.specs.declared.error.Error.TheVariants.{Io, Locked, OutOfMemory}
-use Rattle.fjall_keyspaces.specs.Keyspaces.{no_keyspaces}
+use Rattle.fjall_meta.specs.Keyspaces.{no_keyspaces}
 use Rattle.fjall_versions.specs.Replays.{bare}
 use Rattle.fjall_opening.specs.Refusals.{HasRisen}
 use Rattle.fjall_places.specs.Amid.{HoldsAmid}

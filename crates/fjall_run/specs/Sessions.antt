@@ -13,7 +13,7 @@ use Rattle.fjall_machine.specs.declared.call.View.TheVariants.{Present}
 use Rattle.fjall_journal.specs.declared.persist_mode.PersistMode.TheVariants.{SyncAll}
 use Rattle.fjall_machine.specs.declared.call.Reply.{Reply}
 use Rattle.fjall_machine.specs.declared.call.Reply.TheVariants.{Done, Value, Pairs, Number, Refused}
-use Rattle.fjall_meta.specs.Options.{default_options}
+use Rattle.fjall_options.specs.Options.{default_options}
 use Rattle.fjall_run.specs.declared.command.Command.{Command}
 use Rattle.fjall_run.specs.declared.command.Command.TheVariants.{Keyspace, Delete, Insert, Remove, RemoveWeak, Get, Len, Scan, Persist, Crash, Reopen}
 use Rattle.fjall_run.specs.Answers.{reply_text, bad_line, text_of}

@@ -1,8 +1,8 @@
 //! Worked rows of the meta keyspace, and calls of each public function.
 
 use fjall_base::{Error, Result, Slice, StorageError};
-use fjall_keyspaces::{MetaEntry, MetaKeyspace, is_valid_keyspace_name};
-use fjall_meta::{KeyspaceCreateOptions, STORED_OPTIONS, StoredOption, encode_config_key};
+use fjall_meta::{MetaEntry, MetaKeyspace, is_valid_keyspace_name};
+use fjall_options::{KeyspaceCreateOptions, STORED_OPTIONS, StoredOption, encode_config_key};
 use std::alloc::Global;
 use std::test::Fail;
 

@@ -6,7 +6,7 @@ use Rattle.std.specs.FinMap.{get}
 use Rattle.fjall_base.specs.Pairs.{Pairs}
 use Rattle.fjall_base.specs.Store.{Store}
 use Rattle.fjall_journal.specs.Batches.{Shown}
-use Rattle.fjall_keyspaces.specs.Keyspaces.{Keyspaces}
+use Rattle.fjall_meta.specs.Keyspaces.{Keyspaces}
 use Rattle.fjall_versions.specs.declared.version.Version.{Version}
 use Rattle.fjall_versions.specs.Replays.{bare, counts, emptied, store_in}
 use Rattle.fjall_versions.specs.Versions.{version_of, versions_in, cleared, versions_after, versions_behind}

@@ -6,8 +6,8 @@ use Rattle.std.specs.FinMap.{empty, get, insert}
 use Rattle.fjall_base.specs.Pairs.{Pairs, altered}
 use Rattle.fjall_base.specs.Store.{Store, Create, apply}
 use Rattle.fjall_journal.specs.Batches.{Shown}
-use Rattle.fjall_keyspaces.specs.declared.living.LivingKeyspace.{LivingKeyspace}
-use Rattle.fjall_keyspaces.specs.Keyspaces.{Keyspaces, AreKeyspaces, keyspace_at, with_keyspace}
+use Rattle.fjall_meta.specs.declared.living.LivingKeyspace.{LivingKeyspace}
+use Rattle.fjall_meta.specs.Keyspaces.{Keyspaces, AreKeyspaces, keyspace_at, with_keyspace}
 use Rattle.fjall_versions.specs.declared.version.Version.{Version}
 use Rattle.fjall_versions.specs.Replays.{option_pairs, bare, counts, store_in}
 use Rattle.fjall_versions.specs.Versions.{store_of, versions_behind}

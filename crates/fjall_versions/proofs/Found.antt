@@ -3,7 +3,7 @@ use Rattle.std.proofs.Common.{◌≡◌, Bool, true, false, cond, List, [], ◌�
 use Rattle.std.proofs.lemmas.Bool.{true≢false}
 use Rattle.std.proofs.lemmas.List.Elements.{All-head, All-tail}
 use Rattle.std.specs.Option.{is_some}
-use Rattle.fjall_keyspaces.proofs.Rising.{Rises}
+use Rattle.fjall_meta.proofs.Rising.{Rises}
 
 none_is_not : {X : Type 0} (x : X) → None ≡ Some x → ⊥
 none_is_not x e = true≢false (sym (ap is_some e))

@@ -11,8 +11,8 @@ use Rattle.std.specs.Cmp.{nat_cmp_total}
 use Rattle.std.specs.FinMap.{empty, get, insert, from_entries, get-from_entries, from_entries_push, nat_cmp-IsAntisymmetric}
 use Rattle.std.specs.FinMap as maps
 use Rattle.fjall_base.specs.Pairs.{Pairs}
-use Rattle.fjall_keyspaces.specs.declared.living.LivingKeyspace.{LivingKeyspace}
-use Rattle.fjall_keyspaces.specs.Keyspaces.{Keyspaces, keyspace_at}
+use Rattle.fjall_meta.specs.declared.living.LivingKeyspace.{LivingKeyspace}
+use Rattle.fjall_meta.specs.Keyspaces.{Keyspaces, keyspace_at}
 use Rattle.fjall_versions.specs.Replays.{by_id, bare, counts}
 use Rattle.fjall_versions.proofs.Slots.{either_way}
 

@@ -15,9 +15,9 @@ use Rattle.std.specs.FinMap.{entries, from_entries, from_sorted, get, contains_k
 use Rattle.std.specs.FinMap.Entries.{below_all}
 use Rattle.fjall_base.specs.Pairs.{Bytes}
 use Rattle.fjall_journal.specs.Batches.{Shown}
-use Rattle.fjall_keyspaces.specs.declared.living.LivingKeyspace.{LivingKeyspace}
-use Rattle.fjall_keyspaces.specs.Keyspaces.{Keyspaces, AreKeyspaces, keyspace_at, id_of}
-use Rattle.fjall_keyspaces.proofs.Rising.{Rises, from_pairs}
+use Rattle.fjall_meta.specs.declared.living.LivingKeyspace.{LivingKeyspace}
+use Rattle.fjall_meta.specs.Keyspaces.{Keyspaces, AreKeyspaces, keyspace_at, id_of}
+use Rattle.fjall_meta.proofs.Rising.{Rises, from_pairs}
 use Rattle.fjall_versions.specs.declared.version.Version.{Version}
 use Rattle.fjall_versions.specs.Replays.{option_pairs, by_id, bare, counts}
 use Rattle.fjall_versions.specs.Versions.{store_of, version_of, versions_in, cleared, versions_after, versions_behind}

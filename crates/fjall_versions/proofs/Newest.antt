@@ -7,8 +7,8 @@ use Rattle.std.specs.Cmp.Lexicographic.{nat_list_cmp_total, texts_ties}
 use Rattle.std.specs.FinMap.{empty, get, get-insert, get-remove, get-empty}
 use Rattle.fjall_base.specs.Pairs.{Bytes, Pairs, byte_order, altered, lookup}
 use Rattle.fjall_base.specs.Store.{map_at}
-use Rattle.fjall_keyspaces.specs.declared.living.LivingKeyspace.{LivingKeyspace}
-use Rattle.fjall_keyspaces.specs.Keyspaces.{Keyspaces, keyspace_at}
+use Rattle.fjall_meta.specs.declared.living.LivingKeyspace.{LivingKeyspace}
+use Rattle.fjall_meta.specs.Keyspaces.{Keyspaces, keyspace_at}
 use Rattle.fjall_versions.specs.declared.version.Version.{Version}
 use Rattle.fjall_versions.specs.Replays.{bare}
 use Rattle.fjall_versions.specs.Versions.{store_of, pairs_after, pairs_in, newest_after, newest}

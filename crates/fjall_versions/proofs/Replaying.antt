@@ -11,7 +11,7 @@ use Rattle.fjall_base.specs.Store.{Store, Item, Command, Write, Clear, apply, fo
 use Rattle.fjall_journal.specs.declared.entry.ValueType.{ValueType}
 use Rattle.fjall_journal.specs.declared.batch.ReadBatchItem.{ReadBatchItem}
 use Rattle.fjall_journal.specs.Batches.{Shown, shown, of_item}
-use Rattle.fjall_keyspaces.specs.Keyspaces.{Keyspaces}
+use Rattle.fjall_meta.specs.Keyspaces.{Keyspaces}
 use Rattle.fjall_versions.specs.declared.version.Version.{Version}
 use Rattle.fjall_versions.specs.Replays.{bare, counts, emptied, item_of, value_of, writing, commands_of, journal_commands, store_in}
 use Rattle.fjall_versions.specs.Versions.{command_of, store_of, version_of, versions_in, cleared, versions_after, versions_behind}

@@ -12,9 +12,9 @@ use Rattle.fjall_journal.specs.declared.entry.ValueType.{ValueType}
 use Rattle.fjall_journal.specs.declared.entry.ValueType.TheVariants.{Value, Indirection}
 use Rattle.fjall_journal.specs.declared.batch.ReadBatchItem.{ReadBatchItem}
 use Rattle.fjall_journal.specs.Batches.{Shown}
-use Rattle.fjall_meta.specs.Options.{stored_options, option_name, value_at}
-use Rattle.fjall_keyspaces.specs.declared.living.LivingKeyspace.{LivingKeyspace}
-use Rattle.fjall_keyspaces.specs.Keyspaces.{Keyspaces, keyspace_at}
+use Rattle.fjall_options.specs.Options.{stored_options, option_name, value_at}
+use Rattle.fjall_meta.specs.declared.living.LivingKeyspace.{LivingKeyspace}
+use Rattle.fjall_meta.specs.Keyspaces.{Keyspaces, keyspace_at}
 
 -- ---- the store
 

@@ -7,7 +7,7 @@ use Rattle.fjall_base.specs.Pairs.{Bytes, Pairs, altered}
 use Rattle.fjall_base.specs.Store.{Store, Command, Write, fold}
 use Rattle.fjall_journal.specs.declared.batch.ReadBatchItem.{ReadBatchItem}
 use Rattle.fjall_journal.specs.Batches.{Shown}
-use Rattle.fjall_keyspaces.specs.Keyspaces.{Keyspaces}
+use Rattle.fjall_meta.specs.Keyspaces.{Keyspaces}
 use Rattle.fjall_versions.specs.declared.version.Version.{Version}
 use Rattle.fjall_versions.specs.Replays.{bare, counts, emptied, value_of}
 

@@ -7,7 +7,7 @@ ghost use Rattle.fjall_base.specs.Pairs.{Bytes, lookup};
 ghost use Rattle.fjall_base.specs.Store.{Command, Create, Delete, Store, Write, apply, fold, kept, map_at};
 ghost use Rattle.fjall_journal.specs.Batches.{Shown, of_item, shown};
 ghost use Rattle.fjall_journal.specs.declared.entry.ValueType.{ValueType};
-ghost use Rattle.fjall_keyspaces.specs.Keyspaces.{AreKeyspaces, Keyspaces, id_of, keyspace_at, with_keyspace, without_keyspace};
+ghost use Rattle.fjall_meta.specs.Keyspaces.{AreKeyspaces, Keyspaces, id_of, keyspace_at, with_keyspace, without_keyspace};
 ghost use Rattle.fjall_versions.specs.declared.version.Version.{Version};
 ghost use Rattle.fjall_versions.specs.Replays.{bare, commands_of, counts, first_fault, journal_commands, least_after, option_pairs, store_in, value_of};
 ghost use Rattle.fjall_versions.specs.Versions.{command_of, newest, pairs_in, store_of, versions_behind};

@@ -9,7 +9,7 @@ ghost use Rattle.fjall_versions.specs.Versions.{versions_after, versions_behind,
 use crate::version::Version;
 use fjall_base::{Error, Result, UserValue};
 use fjall_journal::{Batch, ReadBatchItem, ValueType};
-use fjall_keyspaces::MetaKeyspace;
+use fjall_meta::MetaKeyspace;
 use std::alloc::AllocError;
 
 /// What an item makes of its key.

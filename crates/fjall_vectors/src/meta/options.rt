@@ -3,12 +3,7 @@
 ghost use Rattle.std.specs.Prelude.{◌<◌, length};
 
 use fjall_base::{CompressionType, Error, KvPair, Result, Slice, StorageError};
-use fjall_meta::{
-    BlockSizePolicy, BloomConstructionPolicy, CompressionPolicy, DecodeConfig, EffectiveSettings,
-    EncodeConfig, FilterPolicy, FilterPolicyEntry, HashRatioPolicy, KeyspaceCreateOptions, Leveled,
-    PartitioningPolicy, PinningPolicy, Policy, PolicyEntry, RestartIntervalPolicy,
-    encode_config_key, encode_name_key,
-};
+use fjall_options::{BlockSizePolicy, BloomConstructionPolicy, CompressionPolicy, DecodeConfig, EffectiveSettings, EncodeConfig, FilterPolicy, FilterPolicyEntry, HashRatioPolicy, KeyspaceCreateOptions, Leveled, PartitioningPolicy, PinningPolicy, Policy, PolicyEntry, RestartIntervalPolicy, encode_config_key, encode_name_key};
 use std::alloc::Global;
 use std::io::ErrorKind;
 use std::test::Fail;

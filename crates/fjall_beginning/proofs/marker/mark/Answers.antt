@@ -3,7 +3,7 @@ use Rattle.fjall_base.specs.Disk.{File, Meaning, SyncFolder, Took, state_in, Pla
 use Rattle.fjall_base.proofs.Moments.{weaken}
 use Rattle.fjall_base.specs.declared.error.FormatVersion.TheVariants.{V3}
 use Rattle.fjall_files.specs.Marker.{header}
-use Rattle.fjall_keyspaces.specs.Keyspaces.{no_keyspaces}
+use Rattle.fjall_meta.specs.Keyspaces.{no_keyspaces}
 use Rattle.fjall_versions.specs.Replays.{bare}
 use Rattle.fjall_opening.specs.Folders.{StandsFor}
 use Rattle.fjall_opening.specs.Journals.{text_in}

@@ -1,8 +1,8 @@
 use Rattle.std.proofs.Common.{◌≡◌, ◌∙◌, ℕ, Err, List, ap, codes, rules, subst, sym}
 use Rattle.fjall_base.specs.Disk.{Image, Meaning, Name, State, standing, state_in}
 use Rattle.fjall_tree.specs.Records.{IsRecords}
-use Rattle.fjall_keyspaces.specs.declared.entry.MetaEntry.{MetaEntry}
-use Rattle.fjall_keyspaces.specs.Entries.{entries_of}
+use Rattle.fjall_meta.specs.declared.entry.MetaEntry.{MetaEntry}
+use Rattle.fjall_meta.specs.Entries.{entries_of}
 use Rattle.fjall_catalog.specs.declared.catalog.Catalog.{Catalog}
 use Rattle.fjall_catalog.specs.Catalog.{HoldsEntries, records_in}
 use Rattle.fjall_catalog.specs.Refusals.{HasLast, IsTableRefused}

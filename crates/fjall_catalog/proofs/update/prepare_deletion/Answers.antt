@@ -1,4 +1,4 @@
-use Rattle.fjall_keyspaces.specs.Keyspaces.{without_keyspace}
+use Rattle.fjall_meta.specs.Keyspaces.{without_keyspace}
 use Rattle.fjall_catalog.proofs.Keys.{have_keys}
 use Rattle.fjall_catalog.proofs.update.prepare_deletion.Goals as goal
 

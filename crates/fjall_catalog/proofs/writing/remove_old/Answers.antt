@@ -6,7 +6,7 @@ use Rattle.fjall_tree.specs.declared.record.TableInfo.{TableInfo}
 use Rattle.fjall_files.specs.Regions.{is_under}
 use Rattle.fjall_files.proofs.Made.{removed_within}
 use Rattle.fjall_files.specs.Names.{keyspace_folder, table_name}
-use Rattle.fjall_keyspaces.specs.Entries.{entries_of}
+use Rattle.fjall_meta.specs.Entries.{entries_of}
 use Rattle.fjall_catalog.proofs.Naming.{table_under}
 use Rattle.fjall_catalog.proofs.Runs as Runs
 use Rattle.fjall_files.proofs.Tidying.{stays_removing, stays_start}

@@ -4,7 +4,7 @@ use Rattle.fjall_files.specs.Regions.{Within}
 use Rattle.fjall_files.proofs.Made.{settled_within, within_both}
 use Rattle.fjall_files.proofs.Under.{under_self}
 use Rattle.fjall_files.specs.Names.{keyspace_folder, table_name}
-use Rattle.fjall_keyspaces.specs.Entries.{entries_of}
+use Rattle.fjall_meta.specs.Entries.{entries_of}
 use Rattle.fjall_catalog.proofs.Naming.{folder_zero}
 use Rattle.fjall_catalog.proofs.Runs as Runs
 use Rattle.fjall_catalog.proofs.Serving.{can_make, fits_next, folder_there}

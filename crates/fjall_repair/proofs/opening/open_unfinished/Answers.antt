@@ -4,7 +4,7 @@ use Rattle.std.proofs.lemmas.Result.{err_from_is_err_and}
 use Rattle.fjall_base.specs.Disk.{Meaning, State, standing, state_in}
 use Rattle.fjall_base.proofs.Moments.{stays}
 use Rattle.fjall_files.specs.Names.{journal_name}
-use Rattle.fjall_keyspaces.specs.Keyspaces.{AreKeyspaces, Keyspaces, no_keyspaces}
+use Rattle.fjall_meta.specs.Keyspaces.{AreKeyspaces, Keyspaces, no_keyspaces}
 use Rattle.fjall_catalog.specs.declared.catalog.Catalog.{Catalog}
 use Rattle.fjall_catalog.specs.Catalog.{first_catalog}
 use Rattle.fjall_beginning.specs.Making.{ComesBackUnfinished}

@@ -4,7 +4,7 @@ use Rattle.fjall_base.specs.Disk.{Meaning, state_in}
 use Rattle.fjall_base.proofs.Moments.{runs_on}
 use Rattle.fjall_files.specs.Names.{journal_name, table_name}
 use Rattle.fjall_catalog.specs.Catalog.{fields, first_catalog}
-use Rattle.fjall_keyspaces.specs.Keyspaces.{no_keyspaces}
+use Rattle.fjall_meta.specs.Keyspaces.{no_keyspaces}
 use Rattle.fjall_versions.specs.Replays.{bare}
 use Rattle.fjall_places.proofs.Holding.{tree_of}
 use Rattle.fjall_places.specs.Places.{LiesInTree}

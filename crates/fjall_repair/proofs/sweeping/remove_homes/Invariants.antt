@@ -3,7 +3,7 @@ use Rattle.std.specs.Prelude.{IsTrue}
 use Rattle.std.specs.List.{Contains, flat_map}
 use Rattle.fjall_base.specs.Disk.{state_in}
 use Rattle.fjall_files.specs.Tidy.{IsTidy, StaysTidy}
-use Rattle.fjall_keyspaces.specs.declared.living.LivingKeyspace.{LivingKeyspace}
+use Rattle.fjall_meta.specs.declared.living.LivingKeyspace.{LivingKeyspace}
 use Rattle.fjall_repair.specs.Sweeps.{AreGone, HasAll, IsUnnamedHome, Removes, home_names}
 use Rattle.fjall_repair.proofs.sweeping.remove_homes.Given as goal
 

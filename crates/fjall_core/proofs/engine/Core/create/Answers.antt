@@ -1,8 +1,8 @@
 use Rattle.std.proofs.Common.{◌≡◌, ℕ, List, if◌then◌else◌, IsTrue, Ok, Err, sym, ◌∙◌, ap, subst}
 use Rattle.std.proofs.lemmas.Result.{err_from_is_err_and}
-use Rattle.fjall_meta.specs.Options.{AreOptions}
+use Rattle.fjall_options.specs.Options.{AreOptions}
 use Rattle.fjall_base.specs.declared.error.Error.TheVariants.{OutOfMemory}
-use Rattle.fjall_keyspaces.specs.Keyspaces.{id_of}
+use Rattle.fjall_meta.specs.Keyspaces.{id_of}
 use Rattle.fjall_machine.specs.Machine.{has_name}
 use Rattle.fjall_machine.specs.declared.call.Call.TheVariants.{Keyspace}
 use Rattle.fjall_machine.specs.declared.call.Reply.TheVariants.{Number, Refused}

@@ -1,5 +1,5 @@
 use Rattle.std.proofs.Common.{sym, ◌∙◌, ap}
-use Rattle.fjall_keyspaces.specs.Keyspaces.{id_of}
+use Rattle.fjall_meta.specs.Keyspaces.{id_of}
 use Rattle.fjall_machine.specs.declared.call.Call.TheVariants.{Keyspace}
 use Rattle.fjall_core.specs.Holding.{Held}
 use Rattle.fjall_core.specs.Standing.{held_due}

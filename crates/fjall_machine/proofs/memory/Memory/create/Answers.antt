@@ -1,5 +1,5 @@
 use Rattle.std.proofs.Common.{◌≡◌, ◌+◌, ap, subst, rules, ◌∙◌}
-use Rattle.fjall_keyspaces.specs.Keyspaces.{AreKeyspaces, with_keyspace}
+use Rattle.fjall_meta.specs.Keyspaces.{AreKeyspaces, with_keyspace}
 use Rattle.fjall_machine.specs.Remembered.{IsLawful, Remembered, with_creation}
 use Rattle.fjall_machine.proofs.Lawful.{alike, made_is_lawful}
 use Rattle.fjall_machine.proofs.memory.Memory.create.Goals as goal

@@ -1,5 +1,5 @@
 use Rattle.std.proofs.Common.{◌+◌, ◌∙◌, ap, subst}
-use Rattle.fjall_keyspaces.specs.Keyspaces.{without_keyspace}
+use Rattle.fjall_meta.specs.Keyspaces.{without_keyspace}
 use Rattle.fjall_machine.specs.Remembered.{IsLawful, Remembered, with_deletion}
 use Rattle.fjall_machine.proofs.Lawful.{alike, deletion_is_lawful}
 use Rattle.fjall_machine.proofs.memory.Memory.delete.Goals as goal

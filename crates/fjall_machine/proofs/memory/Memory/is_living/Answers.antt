@@ -1,6 +1,6 @@
 use Rattle.std.proofs.Common.{◌≡◌, ◌∙◌, ap, sym, rules}
 use Rattle.std.specs.Option.{is_some}
-use Rattle.fjall_keyspaces.specs.Keyspaces.{keyspace_at}
+use Rattle.fjall_meta.specs.Keyspaces.{keyspace_at}
 use Rattle.fjall_versions.proofs.Naming.{living_names}
 use Rattle.fjall_machine.specs.Remembered.{Remembered}
 use Rattle.fjall_machine.proofs.memory.Memory.is_living.Goals as goal

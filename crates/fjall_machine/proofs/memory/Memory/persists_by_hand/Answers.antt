@@ -1,8 +1,8 @@
 use Rattle.std.proofs.Common.{◌≡◌, ◌∙◌, Bool, false, ap, refl, sym}
 use Rattle.std.specs.Option.{option_copied, option_map}
-use Rattle.fjall_meta.specs.declared.options.effective.EffectiveSettings.{EffectiveSettings}
-use Rattle.fjall_keyspaces.specs.declared.living.LivingKeyspace.{LivingKeyspace}
-use Rattle.fjall_keyspaces.specs.Keyspaces.{keyspace_at}
+use Rattle.fjall_options.specs.declared.options.effective.EffectiveSettings.{EffectiveSettings}
+use Rattle.fjall_meta.specs.declared.living.LivingKeyspace.{LivingKeyspace}
+use Rattle.fjall_meta.specs.Keyspaces.{keyspace_at}
 use Rattle.fjall_machine.specs.Remembered.{Remembered}
 use Rattle.fjall_machine.proofs.ByHand.{held_says, says_by_hand}
 use Rattle.fjall_machine.proofs.memory.Memory.persists_by_hand.Goals as goal

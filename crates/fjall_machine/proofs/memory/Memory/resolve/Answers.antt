@@ -1,6 +1,6 @@
 use Rattle.std.proofs.Common.{◌∙◌, ap, sym, subst}
 use Rattle.std.specs.Option.{is_some}
-use Rattle.fjall_keyspaces.specs.Keyspaces.{id_of}
+use Rattle.fjall_meta.specs.Keyspaces.{id_of}
 use Rattle.fjall_machine.specs.Remembered.{IsLawful, Remembered}
 use Rattle.fjall_machine.proofs.Facts.{named_is}
 use Rattle.fjall_machine.proofs.memory.Memory.resolve.Goals as goal

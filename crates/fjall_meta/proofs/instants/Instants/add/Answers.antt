@@ -5,8 +5,8 @@ use Rattle.std.specs.BTreeMap.{is_at}
 use Rattle.std.proofs.lemmas.Map.Views.{All-values-insert_entry}
 use Rattle.std.proofs.lemmas.Result.{err_from_is_err_and}
 use Rattle.fjall_meta.specs.Trackers.{instants_of, with_instant, is_open}
-use Rattle.fjall_meta.proofs.Entries.{with-insert_entry, count_le, open-lookup}
-use Rattle.fjall_meta.proofs.Openings.{length-with_instant}
+use Rattle.fjall_meta.proofs.TrackerEntries.{with-insert_entry, count_le, open-lookup}
+use Rattle.fjall_meta.proofs.TrackerOpenings.{length-with_instant}
 use Rattle.fjall_meta.proofs.instants.Instants.add.Goals as goal
 
 pub overflow_add-count : goal.overflow_add-count

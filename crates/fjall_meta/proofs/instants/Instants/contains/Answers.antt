@@ -1,6 +1,6 @@
 use Rattle.std.proofs.Common.{ap, ◌∙◌}
 use Rattle.fjall_meta.specs.Trackers.{is_open}
-use Rattle.fjall_meta.proofs.Entries.{open-lookup}
+use Rattle.fjall_meta.proofs.TrackerEntries.{open-lookup}
 use Rattle.fjall_meta.proofs.instants.Instants.contains.Goals as goal
 
 pub returns : goal.returns

@@ -1,7 +1,7 @@
 use Rattle.std.proofs.Common.{ap, ◌∙◌, sym, ◌≡◌, ℕ, slice_get}
 use Rattle.std.specs.Prelude.{Some}
 use Rattle.std.specs.Option.{option_map}
-use Rattle.fjall_meta.proofs.Entries.{least-first}
+use Rattle.fjall_meta.proofs.TrackerEntries.{least-first}
 use Rattle.fjall_meta.proofs.instants.Instants.least.Goals as goal
 
 pub returns : goal.returns

@@ -1,6 +1,6 @@
 use Rattle.std.proofs.Common.{ap, ◌∙◌}
 use Rattle.fjall_meta.specs.Trackers.{instant_count}
-use Rattle.fjall_meta.proofs.Entries.{count-entries}
+use Rattle.fjall_meta.proofs.TrackerEntries.{count-entries}
 use Rattle.fjall_meta.proofs.instants.Instants.len.Goals as goal
 
 pub returns : goal.returns

@@ -1,8 +1,8 @@
 use Rattle.std.proofs.Common.{◌-◌, ℕ, ◌<◌, ◌≤◌, length, arith, ap, sym, ◌∙◌, is_some}
 use Rattle.std.specs.BTreeMap.{BTreeMap}
 use Rattle.fjall_meta.specs.Trackers.{instants_of, without_instant, is_open}
-use Rattle.fjall_meta.proofs.Entries.{closes-written, closes-removed, closes-counted, some-counted, counted_le, open-lookup}
-use Rattle.fjall_meta.proofs.Openings.{without-none}
+use Rattle.fjall_meta.proofs.TrackerEntries.{closes-written, closes-removed, closes-counted, some-counted, counted_le, open-lookup}
+use Rattle.fjall_meta.proofs.TrackerOpenings.{without-none}
 use Rattle.fjall_meta.proofs.instants.Instants.remove.Goals as goal
 
 pub returns-in_default-clause-was_open : goal.returns-in_default-clause-was_open

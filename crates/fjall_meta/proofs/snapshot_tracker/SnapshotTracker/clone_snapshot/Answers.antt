@@ -1,5 +1,5 @@
 use Rattle.std.proofs.Common.{sym, ◌∙◌}
-use Rattle.fjall_meta.proofs.Sound.{sound-opening_open}
+use Rattle.fjall_meta.proofs.TrackerSound.{sound-opening_open}
 use Rattle.fjall_meta.proofs.snapshot_tracker.SnapshotTracker.clone_snapshot.Goals as goal
 
 pub invariant_of-self-2 : goal.invariant_of-self-2

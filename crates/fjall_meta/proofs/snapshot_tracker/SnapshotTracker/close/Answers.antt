@@ -1,7 +1,7 @@
 use Rattle.std.proofs.Common.{◌≡◌, ℕ, ◌+◌, List, ap, sym, ◌∙◌, arith, false}
 use Rattle.fjall_meta.specs.Trackers.{Tracker, is_open}
-use Rattle.fjall_meta.proofs.Openings.{without-none}
-use Rattle.fjall_meta.proofs.Sound.{sound-closed, closing-none}
+use Rattle.fjall_meta.proofs.TrackerOpenings.{without-none}
+use Rattle.fjall_meta.proofs.TrackerSound.{sound-closed, closing-none}
 use Rattle.fjall_meta.proofs.snapshot_tracker.SnapshotTracker.close.Goals as goal
 
 unchanged : (c : goal.Then-not-remove) → c.remove.new.self ≡ c.self.inside.instants

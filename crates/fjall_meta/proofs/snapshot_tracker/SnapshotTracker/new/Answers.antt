@@ -1,4 +1,4 @@
-use Rattle.fjall_meta.proofs.Sound.{sound-fresh_tracker}
+use Rattle.fjall_meta.proofs.TrackerSound.{sound-fresh_tracker}
 use Rattle.fjall_meta.proofs.snapshot_tracker.SnapshotTracker.new.Goals as goal
 
 pub invariant_of-result : goal.invariant_of-result

@@ -1,4 +1,4 @@
-use Rattle.fjall_meta.proofs.Sound.{sound-opening_visible}
+use Rattle.fjall_meta.proofs.TrackerSound.{sound-opening_visible}
 use Rattle.fjall_meta.proofs.snapshot_tracker.SnapshotTracker.open.Goals as goal
 
 pub invariant_of-self-2 : goal.invariant_of-self-2

@@ -1,7 +1,0 @@
-use Rattle.std.proofs.Common.{arith}
-use Rattle.fjall_meta.proofs.OptionTables.{place_below}
-use Rattle.fjall_keyspaces.proofs.Options.{tag_is}
-use Rattle.fjall_keyspaces.proofs.entry.pair_of.Goals as goal
-
-pub bounds-pairs-option : goal.bounds-pairs-option
-bounds-pairs-option c = omega (arith, tag_is c.args.option, place_below c.args.option, c.requires)

@@ -1,8 +1,0 @@
-use Rattle.std.proofs.Common.{◌≡◌, ◌∙◌, sym, refl}
-use Rattle.fjall_keyspaces.proofs.entry.put_name.Goals as goal
-
-pub returns-clause-ok : goal.returns-clause-ok
-returns-clause-ok c =
-    let h = c.in_ok-clone.ensures.cases in
-    let same : c.in_ok-clone.field-0 ≡ c.args.keyspace.now.name = sym h.3 ∙ h.4 ∙ h.2 in
-    rw (c.in_ok-push.ensures.items, same, c.in_ok-encode_name_key.ensures.ok) refl

@@ -1,3 +1,0 @@
-pub mod Keyspaces
-pub mod Entries
-pub mod Reading
