@@ -3,7 +3,7 @@
 use crate::data::{RECORD_LEN, key_of, value_of};
 use fjall_base::{Disk, Result};
 use fjall_core::{Config, Core, PersistMode, View};
-use fjall_options::{KeyspaceCreateOptions};
+use fjall_options::KeyspaceCreateOptions;
 use sha2::{Digest, Sha256};
 use std::alloc::Global;
 

@@ -33,7 +33,7 @@ use fjall_changes::{prepare_creation, prepare_removal, remove_keyspace};
 use fjall_journal::{PersistMode, ValueType, Writer};
 use fjall_journaling::{hand_over, write_through};
 use fjall_machine::{Call, Change, Memory, Reply, View};
-use fjall_options::{KeyspaceCreateOptions};
+use fjall_options::KeyspaceCreateOptions;
 use fjall_repair::open_folder;
 use fjall_versions::{KeyRange, Version};
 use std::alloc::Global;

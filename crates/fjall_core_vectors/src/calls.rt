@@ -3,7 +3,7 @@
 use crate::database::{Database, has, items, opened};
 use fjall_base::{ClosedDisk, Disk, Error, MemoryDisk, Slice};
 use fjall_core::{Call, Config, KeyRange, PersistMode, Reply, View};
-use fjall_options::{KeyspaceCreateOptions};
+use fjall_options::KeyspaceCreateOptions;
 use std::alloc::Global;
 use std::ops::Bound;
 use std::test::Fail;

@@ -4,7 +4,7 @@
 
 use fjall_base::{Disk, Error, KvPair, MemoryDisk, Refused, Result, Slice, UserValue};
 use fjall_core::{Call, Config, Core, KeyRange, PersistMode, Reply, View};
-use fjall_options::{KeyspaceCreateOptions};
+use fjall_options::KeyspaceCreateOptions;
 use std::alloc::Global;
 use std::process::Abort;
 

@@ -6,7 +6,7 @@ use fjall_catalog::{
     remove_old, write_table,
 };
 use fjall_meta::MetaKeyspace;
-use fjall_options::{KeyspaceCreateOptions};
+use fjall_options::KeyspaceCreateOptions;
 use fjall_files::make_file;
 use std::alloc::Global;
 use std::test::Fail;

@@ -6,7 +6,7 @@ use fjall_changes::{
     Creation, create_home, delete_home, prepare_creation, prepare_removal, remove_keyspace,
 };
 use fjall_meta::MetaKeyspace;
-use fjall_options::{KeyspaceCreateOptions};
+use fjall_options::KeyspaceCreateOptions;
 use fjall_files::make_file;
 use std::alloc::Global;
 use std::test::Fail;

@@ -3,7 +3,7 @@
 use fjall_base::{Disk, MemoryDisk, Result, Slice};
 use fjall_catalog::{commit, first_record, first_record_of, prepare, read_catalog, write_table};
 use fjall_journal::{PersistMode, ValueType, Writer};
-use fjall_options::{KeyspaceCreateOptions};
+use fjall_options::KeyspaceCreateOptions;
 use fjall_files::{make_file, make_home};
 use std::alloc::Global;
 

@@ -2,7 +2,7 @@
 
 use fjall_base::{Error, KvPair, Slice, UserKey, UserValue};
 use fjall_journal::PersistMode;
-use fjall_options::{KeyspaceCreateOptions};
+use fjall_options::KeyspaceCreateOptions;
 use fjall_versions::KeyRange;
 
 /// What a read shows.

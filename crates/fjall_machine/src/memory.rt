@@ -14,7 +14,7 @@ ghost use Rattle.fjall_machine.specs.Remembered.{IsDueOrMemory, IsLawful, Rememb
 
 use fjall_base::{Error, KvPair, Result, Slice, UserValue};
 use fjall_meta::{LivingKeyspace, MetaKeyspace};
-use fjall_options::{KeyspaceCreateOptions};
+use fjall_options::KeyspaceCreateOptions;
 use fjall_versions::{KeyRange, Version, newest_value, page};
 use std::alloc::Global;
 use std::collections::BTreeMap;

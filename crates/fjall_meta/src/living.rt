@@ -1,7 +1,7 @@
 //! A keyspace that lives.
 
 use fjall_base::Slice;
-use fjall_options::{KeyspaceCreateOptions};
+use fjall_options::KeyspaceCreateOptions;
 
 /// A keyspace that lives, as the meta keyspace knows it.
 #[derive(Debug, Drop)]

@@ -11,7 +11,7 @@ use crate::command::Command;
 use crate::place::Place;
 use fjall_base::{Disk, Error, Result};
 use fjall_core::{Call, Config, Core, PersistMode, Reply, View};
-use fjall_options::{KeyspaceCreateOptions};
+use fjall_options::KeyspaceCreateOptions;
 use std::alloc::{AllocError, Global};
 use std::ops::Bound;
 

@@ -3,7 +3,7 @@
 use fjall_base::{Error, Result, Slice};
 use fjall_journal::{Batch, ReadBatchItem, ValueType, read_journal};
 use fjall_meta::MetaKeyspace;
-use fjall_options::{KeyspaceCreateOptions};
+use fjall_options::KeyspaceCreateOptions;
 use fjall_versions::{KeyRange, Version, check_batches, newest_value, page, replay};
 use std::alloc::Global;
 use std::ops::Bound;

@@ -1,7 +1,7 @@
 //! Worked runs of a tracker.
 
 use fjall_base::Error;
-use fjall_meta::{SnapshotTracker};
+use fjall_meta::SnapshotTracker;
 use std::test::Fail;
 
 #[test]
