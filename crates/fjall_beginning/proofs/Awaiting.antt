@@ -18,10 +18,10 @@ use Rattle.fjall_meta.specs.Keyspaces.{AreKeyspaces, no_keyspaces}
 use Rattle.fjall_catalog.specs.Catalog.{fields, first_catalog, only}
 use Rattle.fjall_catalog.proofs.Naming.{folder_of-folder}
 use Rattle.fjall_versions.specs.Replays.{first_fault}
-use Rattle.fjall_opening.specs.Journals.{Journal, batches_in}
-use Rattle.fjall_opening.proofs.Listed.{in_root}
-use Rattle.fjall_places.specs.Places.{IsNeverFile, IsNeverFolder, LiesInRoot, RestsInTree, journal_ids, journals_with, texts_of}
-use Rattle.fjall_places.proofs.Named.{journal_within}
+use Rattle.fjall_recovery.specs.Journals.{Journal, batches_in}
+use Rattle.fjall_recovery.proofs.Listed.{in_root}
+use Rattle.fjall_recovery.specs.Places.{IsNeverFile, IsNeverFolder, LiesInRoot, RestsInTree, journal_ids, journals_with, texts_of}
+use Rattle.fjall_recovery.proofs.Named.{journal_within}
 use Rattle.fjall_beginning.specs.Making.{IsMaking}
 use Rattle.fjall_beginning.specs.Plans.{AreToBe, AwaitsMarker, HasFirstTree, empty_journals, first_text, first_tree, marked}
 use Rattle.fjall_beginning.proofs.Emptying.{AreEmptied}

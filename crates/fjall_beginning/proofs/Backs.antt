@@ -9,9 +9,9 @@ use Rattle.fjall_base.specs.Disk.{Name, Entry, Missing, File, Folder, Place, Sta
 use Rattle.fjall_base.proofs.States.{alter-same, differs, put-same, settle-in}
 use Rattle.fjall_files.proofs.Changes.{settle-now}
 use Rattle.fjall_files.specs.Names.{journal_name}
-use Rattle.fjall_opening.specs.Folders.{Contents, IsSound, IsUnfinished}
-use Rattle.fjall_opening.specs.Journals.{Journal}
-use Rattle.fjall_places.specs.Places.{LiesInRoot, journal_ids}
+use Rattle.fjall_recovery.specs.Folders.{Contents, IsSound, IsUnfinished}
+use Rattle.fjall_recovery.specs.Journals.{Journal}
+use Rattle.fjall_recovery.specs.Places.{LiesInRoot, journal_ids}
 use Rattle.fjall_beginning.specs.Making.{ComesBackUnfinished, IsKept, MayStand, StaysAt}
 use Rattle.fjall_beginning.specs.Plans.{AwaitsMarker, empty_journals, marked}
 use Rattle.fjall_beginning.proofs.Awaiting.{marked_other}

@@ -7,7 +7,7 @@ use Rattle.fjall_base.specs.Disk.{Name, Entry, Missing, File, Folder, State, Ima
 use Rattle.fjall_base.proofs.Moments.{runs_on, started, stays, weaken}
 use Rattle.fjall_meta.specs.Keyspaces.{no_keyspaces}
 use Rattle.fjall_versions.specs.Replays.{bare}
-use Rattle.fjall_opening.specs.Folders.{IsUnfinished, StandsFor}
+use Rattle.fjall_recovery.specs.Folders.{IsUnfinished, StandsFor}
 use Rattle.fjall_beginning.specs.Making.{AreLeft, ComesBackUnfinished, GoesOn, IsKept, IsMaking, MayStand}
 use Rattle.fjall_beginning.proofs.Fronts.{bool_cases, same, same_test}
 use Rattle.fjall_beginning.proofs.Standing.{some_left, kept_image, making_of, stands_same, unfinished_of}

@@ -9,7 +9,7 @@ use Rattle.fjall_tree.proofs.Currents.{texts_are_records}
 use Rattle.fjall_files.specs.Marker.{header}
 use Rattle.fjall_files.specs.Names.{journal_name, current_name}
 use Rattle.fjall_catalog.specs.Catalog.{fields, first_catalog}
-use Rattle.fjall_opening.specs.Folders.{IsBegun}
+use Rattle.fjall_recovery.specs.Folders.{IsBegun}
 use Rattle.fjall_beginning.specs.Making.{CanHold, MayMark, MayStand}
 use Rattle.fjall_beginning.specs.Plans.{first_text}
 use Rattle.fjall_beginning.proofs.Fronts.{begun_front, header_marks}

@@ -19,9 +19,9 @@ use Rattle.fjall_files.specs.Marker.{header, marker_tells}
 use Rattle.fjall_meta.specs.Keyspaces.{no_keyspaces}
 use Rattle.fjall_catalog.specs.Catalog.{fields, first_catalog, only}
 use Rattle.fjall_versions.specs.Replays.{bare, store_in}
-use Rattle.fjall_opening.specs.Folders.{StandsFor, file_bytes, store_of}
-use Rattle.fjall_places.specs.Places.{contents_with, LiesInRoot, RestsInTree}
-use Rattle.fjall_places.proofs.Holding.{IsLeft, a_rest_holds, crash_left}
+use Rattle.fjall_recovery.specs.Folders.{StandsFor, file_bytes, store_of}
+use Rattle.fjall_recovery.specs.Places.{contents_with, LiesInRoot, RestsInTree}
+use Rattle.fjall_recovery.proofs.Holding.{IsLeft, a_rest_holds, crash_left}
 use Rattle.fjall_beginning.specs.Begun.{IsBegunOn}
 use Rattle.fjall_beginning.specs.Making.{ChangesAt, GoesOn, IsKept, IsMaking, KeepsTables, StaysAt}
 use Rattle.fjall_beginning.specs.Plans.{AwaitsMarker, empty_journals, first_tree, marked}

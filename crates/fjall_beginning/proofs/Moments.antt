@@ -11,7 +11,7 @@ use Rattle.fjall_base.proofs.Moments.{runs_on, stays}
 use Rattle.fjall_files.specs.Regions.{AreUnder, Within, is_under, target}
 use Rattle.fjall_files.proofs.Made.{took_both}
 use Rattle.fjall_files.specs.Names.{table_name}
-use Rattle.fjall_opening.specs.Journals.{text_in}
+use Rattle.fjall_recovery.specs.Journals.{text_in}
 use Rattle.fjall_beginning.specs.Making.{CanHold, ChangesAt, GoesOn, IsKept, IsMaking, KeepsTables, MayStand, StaysAt}
 use Rattle.fjall_beginning.proofs.Fronts.{bool_cases, same}
 use Rattle.fjall_beginning.proofs.Standing.{all_appended_stands, appended_stands, cut_stands, kept_image, loosened_stands, synced_stands}

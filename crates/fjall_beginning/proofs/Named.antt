@@ -7,7 +7,7 @@ use Rattle.std.proofs.lemmas.Fmt.{decimal_injective}
 use Rattle.fjall_base.specs.Disk.{Name, folder_of}
 use Rattle.fjall_files.specs.Names.{IsMisnamed, IsNameOf, journal_name, keyspace_folder, current_name, table_name}
 use Rattle.fjall_catalog.proofs.Naming.{current_zero, folder_zero, folder_of-current, some_folder}
-use Rattle.fjall_opening.proofs.Listed.{in_root}
+use Rattle.fjall_recovery.proofs.Listed.{in_root}
 use Rattle.fjall_beginning.proofs.Moments.{IsNoTable}
 
 abbrev dot : ℕ → Bool

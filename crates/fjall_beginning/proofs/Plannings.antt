@@ -11,7 +11,7 @@ use Rattle.fjall_base.specs.Disk.{Image, Name}
 use Rattle.fjall_files.specs.Marker.{header}
 use Rattle.fjall_files.specs.Names.{journal_name}
 use Rattle.fjall_catalog.proofs.Naming.{current_zero}
-use Rattle.fjall_opening.specs.Journals.{AreJournalIds, text_in}
+use Rattle.fjall_recovery.specs.Journals.{AreJournalIds, text_in}
 use Rattle.fjall_beginning.specs.declared.plan.Found.{Found}
 use Rattle.fjall_beginning.specs.declared.plan.Plan.{Plan}
 use Rattle.fjall_beginning.specs.Begun.{IsActive}

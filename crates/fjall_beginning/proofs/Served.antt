@@ -17,7 +17,7 @@ use Rattle.fjall_files.proofs.OfKinds.{kind_now}
 use Rattle.fjall_files.proofs.Tidying.{stays_making, stays_none as tidy_none}
 use Rattle.fjall_catalog.specs.Catalog.{fields, first_catalog}
 use Rattle.fjall_catalog.proofs.Naming.{current_zero, folder_zero}
-use Rattle.fjall_opening.specs.Journals.{text_in}
+use Rattle.fjall_recovery.specs.Journals.{text_in}
 use Rattle.fjall_beginning.specs.Making.{KeepsHomes, StaysAt}
 use Rattle.fjall_beginning.specs.Plans.{first_text}
 use Rattle.fjall_beginning.proofs.Emptying.{journal_at}

@@ -9,9 +9,9 @@ use Rattle.fjall_tree.proofs.Currents.{texts_are_records}
 use Rattle.fjall_files.specs.declared.marker.Marker.TheVariants.{Unfinished}
 use Rattle.fjall_files.specs.Marker.{marker_tells}
 use Rattle.fjall_files.specs.Names.{IsNameOf, journal_name, keyspace_folder, current_name}
-use Rattle.fjall_opening.specs.Folders.{IsBegun, IsUnfinished, file_bytes}
-use Rattle.fjall_opening.specs.Journals.{text_in}
-use Rattle.fjall_places.proofs.Holding.{there_or_not}
+use Rattle.fjall_recovery.specs.Folders.{IsBegun, IsUnfinished, file_bytes}
+use Rattle.fjall_recovery.specs.Journals.{text_in}
+use Rattle.fjall_recovery.proofs.Holding.{there_or_not}
 use Rattle.fjall_beginning.specs.Making.{CanHold, IsKept, IsMaking, MayMark, MayStand}
 use Rattle.fjall_beginning.proofs.Fronts.{begun_front, mark_front, marks_more, no_file_marks, none_front}
 

@@ -13,7 +13,7 @@ use Rattle.fjall_files.specs.Names.{keyspace_folder, current_name}
 use Rattle.fjall_catalog.specs.Catalog.{fields, first_catalog, only, records_in}
 use Rattle.fjall_catalog.proofs.Naming.{current_zero, folder_zero, folder_of-current, folder_of-folder}
 use Rattle.fjall_catalog.proofs.Shapes.{first_fits}
-use Rattle.fjall_opening.specs.Journals.{text_in}
+use Rattle.fjall_recovery.specs.Journals.{text_in}
 use Rattle.fjall_beginning.specs.declared.plan.Found.{Found}
 use Rattle.fjall_beginning.specs.Making.{CanHold, GoesOn, MayStand, StaysAt}
 use Rattle.fjall_beginning.specs.Plans.{HasFirstTree, IsFound, first_text}

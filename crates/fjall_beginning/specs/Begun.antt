@@ -4,8 +4,8 @@ use Rattle.fjall_base.specs.Disk.{Image, State, IsFile}
 use Rattle.fjall_files.specs.Names.{journal_name}
 use Rattle.fjall_meta.specs.Keyspaces.{no_keyspaces}
 use Rattle.fjall_catalog.specs.Catalog.{fields, first_catalog}
-use Rattle.fjall_opening.specs.Journals.{batches_in}
-use Rattle.fjall_places.specs.Places.{Journaling, LiesInRoot, RestsInTree, journals_with}
+use Rattle.fjall_recovery.specs.Journals.{batches_in}
+use Rattle.fjall_recovery.specs.Places.{Journaling, LiesInRoot, RestsInTree, journals_with}
 
 -- A database without keyspaces rests on the disk: its journals hold nothing, and this is the id of the active one.
 pub record IsBegunOn (state : State) (active : ℕ) : Type 0 where

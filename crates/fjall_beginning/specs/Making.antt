@@ -7,9 +7,9 @@ use Rattle.fjall_journal.specs.Batches.{NoneAt}
 use Rattle.fjall_files.specs.declared.marker.Marker.TheVariants.{Unfinished}
 use Rattle.fjall_files.specs.Marker.{header, marker_tells}
 use Rattle.fjall_files.specs.Names.{IsMisnamed, IsNameOf, journal_name, keyspace_folder, current_name, table_name}
-use Rattle.fjall_opening.specs.Folders.{IsBegun, file_bytes}
-use Rattle.fjall_opening.specs.Journals.{text_in}
-pub use Rattle.fjall_places.specs.Amid.{AreLeft, ComesBackUnfinished}
+use Rattle.fjall_recovery.specs.Folders.{IsBegun, file_bytes}
+use Rattle.fjall_recovery.specs.Journals.{text_in}
+pub use Rattle.fjall_recovery.specs.Amid.{AreLeft, ComesBackUnfinished}
 
 -- What a marker may be: missing or cut short, and, while it is written, also whole.
 abbrev pub MayMark : Bool → Option (List ℕ) → Type 0

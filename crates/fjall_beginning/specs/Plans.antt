@@ -10,9 +10,9 @@ use Rattle.fjall_files.specs.Marker.{header}
 use Rattle.fjall_files.specs.Names.{journal_name, keyspace_folder, current_name}
 use Rattle.fjall_meta.specs.Keyspaces.{no_keyspaces}
 use Rattle.fjall_catalog.specs.Catalog.{fields, first_catalog, only, records_in}
-use Rattle.fjall_opening.specs.Journals.{Journal, text_in}
-use Rattle.fjall_places.specs.Halves.{Tree}
-use Rattle.fjall_places.specs.Places.{Journaling, LiesInRoot, RestsInTree}
+use Rattle.fjall_recovery.specs.Journals.{Journal, text_in}
+use Rattle.fjall_recovery.specs.Halves.{Tree}
+use Rattle.fjall_recovery.specs.Places.{Journaling, LiesInRoot, RestsInTree}
 use Rattle.fjall_beginning.specs.declared.plan.Found.{Found}
 use Rattle.fjall_beginning.specs.declared.plan.Found.TheVariants.{Nothing, Other, Whole}
 use Rattle.fjall_beginning.specs.declared.plan.Plan.{Plan}

@@ -3,7 +3,7 @@
 ghost use Rattle.std.specs.Prelude.{◌≡◌, ◌≢◌, [], Bool, IsTrue, OnOk, ◌⊎◌, ◌∷◌, ◌++◌};
 ghost use Rattle.fjall_base.specs.Disk.{CanCreate, File, IsFile, OnlyFaults, standing, state_in};
 ghost use Rattle.fjall_files.specs.Tidy.{FitsAt, StaysTidy};
-ghost use Rattle.fjall_opening.specs.Journals.{text_in};
+ghost use Rattle.fjall_recovery.specs.Journals.{text_in};
 ghost use Rattle.fjall_beginning.specs.Making.{CanHold, GoesOn, StaysAt};
 ghost use Rattle.fjall_beginning.specs.Plans.{IsFound};
 

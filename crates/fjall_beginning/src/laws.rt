@@ -2,7 +2,7 @@
 
 ghost use Rattle.std.specs.Prelude.{◌≡◌, []};
 ghost use Rattle.fjall_base.specs.Disk.{Name, State, standing};
-ghost use Rattle.fjall_opening.specs.Folders.{IsUnfinished};
+ghost use Rattle.fjall_recovery.specs.Folders.{IsUnfinished};
 ghost use Rattle.fjall_beginning.specs.Making.{ComesBackUnfinished};
 
 /// Where a crash brings nothing back, as on a disk that a crash left, nothing but what is unfinished comes back.

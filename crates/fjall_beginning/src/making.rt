@@ -5,7 +5,7 @@ ghost use Rattle.fjall_base.specs.Disk.{LeavesOnly, OnlyFaults, standing, state_
 ghost use Rattle.fjall_meta.specs.Keyspaces.{no_keyspaces};
 ghost use Rattle.fjall_files.specs.Tidy.{IsTidy, StaysTidy};
 ghost use Rattle.fjall_versions.specs.Replays.{bare};
-ghost use Rattle.fjall_opening.specs.Folders.{Contents, IsSound, IsUnfinished, StandsFor};
+ghost use Rattle.fjall_recovery.specs.Folders.{Contents, IsSound, IsUnfinished, StandsFor};
 ghost use Rattle.fjall_beginning.specs.Begun.{IsBegunOn};
 ghost use Rattle.fjall_beginning.specs.Making.{ComesBackUnfinished, GoesOn, IsMaking, KeepsHomes, KeepsTables};
 ghost use Rattle.fjall_beginning.specs.Plans.{AwaitsMarker, IsPlan};

@@ -5,9 +5,9 @@ ghost use Rattle.fjall_base.specs.Disk.{HasCause, Took, standing, state_in};
 ghost use Rattle.fjall_base.specs.declared.error.FormatVersion.TheVariants.{V3};
 ghost use Rattle.fjall_files.specs.Marker.{header as header_of};
 ghost use Rattle.fjall_files.specs.Names.{journal_name as name_of_journal};
-ghost use Rattle.fjall_opening.specs.Journals.{AreJournalIds, text_in};
-ghost use Rattle.fjall_opening.specs.Naming.{JournalsAreNamed};
-ghost use Rattle.fjall_opening.specs.Refusals.{HasRisen, IsDue, IsOpeningRefusal};
+ghost use Rattle.fjall_recovery.specs.Journals.{AreJournalIds, text_in};
+ghost use Rattle.fjall_recovery.specs.Naming.{JournalsAreNamed};
+ghost use Rattle.fjall_recovery.specs.Refusals.{HasRisen, IsDue, IsOpeningRefusal};
 ghost use Rattle.fjall_beginning.specs.Begun.{IsActive};
 ghost use Rattle.fjall_beginning.specs.Plans.{AreToBe, IsFound, IsPlan};
 

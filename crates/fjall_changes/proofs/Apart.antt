@@ -11,7 +11,7 @@ use Rattle.fjall_files.specs.Regions.{AreUnder, Within, is_under}
 use Rattle.fjall_files.proofs.Under.{IsPlain, folder_of-join, under_front, under_join, under_same}
 use Rattle.fjall_files.specs.Names.{IsNameOf, keyspace_folder, current_name}
 use Rattle.fjall_catalog.proofs.Naming.{beside, bool_cases}
-use Rattle.fjall_opening.proofs.Listed.{in_keyspaces}
+use Rattle.fjall_recovery.proofs.Listed.{in_keyspaces}
 
 own : IsNumeralModel (AllDigits 10) (digits_value 10)
 own = numerals_by_value (AllDigits 10) tells_digits

@@ -16,13 +16,13 @@ use Rattle.fjall_files.specs.Names.{IsNameOf, keyspace_folder, current_name}
 use Rattle.fjall_meta.specs.declared.living.LivingKeyspace.{LivingKeyspace}
 use Rattle.fjall_catalog.specs.Catalog.{Says, only}
 use Rattle.fjall_catalog.proofs.Naming.{bool_cases}
-use Rattle.fjall_opening.specs.Folders.{AreMade}
-use Rattle.fjall_opening.specs.Homes.{HasHome, HasLast, HaveHomes, records_text}
-use Rattle.fjall_opening.specs.Journals.{text_in}
-use Rattle.fjall_opening.specs.Naming.{KeyspacesAreNamed}
-use Rattle.fjall_opening.proofs.Listed.{in_keyspaces}
-use Rattle.fjall_places.specs.Halves.{HasTree, Tree}
-use Rattle.fjall_places.specs.Places.{HasSafeHome, HaveSafeHomes, IsNeverFolder}
+use Rattle.fjall_recovery.specs.Folders.{AreMade}
+use Rattle.fjall_recovery.specs.Homes.{HasHome, HasLast, HaveHomes, records_text}
+use Rattle.fjall_recovery.specs.Journals.{text_in}
+use Rattle.fjall_recovery.specs.Naming.{KeyspacesAreNamed}
+use Rattle.fjall_recovery.proofs.Listed.{in_keyspaces}
+use Rattle.fjall_recovery.specs.Halves.{HasTree, Tree}
+use Rattle.fjall_recovery.specs.Places.{HasSafeHome, HaveSafeHomes, IsNeverFolder}
 use Rattle.fjall_changes.proofs.Apart.{outside, outside_test, folder_of-current, current_under, other_home, keyspaces_outside, misnamed_outside}
 use Rattle.fjall_changes.proofs.Homes.{homes_along}
 

@@ -31,10 +31,10 @@ use Rattle.fjall_catalog.proofs.Resting.{folder_left, rests_along}
 use Rattle.fjall_catalog.proofs.Runs as Runs
 use Rattle.fjall_catalog.proofs.Runs.{missing_now}
 use Rattle.fjall_catalog.proofs.Shapes.{first_fits}
-use Rattle.fjall_opening.specs.Homes.{HasLast}
-use Rattle.fjall_opening.proofs.Listed.{in_keyspaces}
-use Rattle.fjall_places.specs.Halves.{HasTree, Tree}
-use Rattle.fjall_places.specs.Places.{HasSafeHome, LiesInTree}
+use Rattle.fjall_recovery.specs.Homes.{HasLast}
+use Rattle.fjall_recovery.proofs.Listed.{in_keyspaces}
+use Rattle.fjall_recovery.specs.Halves.{HasTree, Tree}
+use Rattle.fjall_recovery.specs.Places.{HasSafeHome, LiesInTree}
 use Rattle.fjall_changes.specs.Removals.{IsRemoved, IsUnused}
 use Rattle.fjall_changes.proofs.Apart.{outside, outside_test, not_under, some_home, folder_of-current, current_under, other_home, keyspaces_outside, within_keyspaces}
 use Rattle.fjall_changes.proofs.Beside.{AreOthers, Beside, beside_along, beside_settled, settled_at, tree_left}

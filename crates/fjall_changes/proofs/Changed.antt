@@ -14,8 +14,8 @@ use Rattle.fjall_catalog.specs.declared.catalog.Catalog.{Catalog}
 use Rattle.fjall_catalog.specs.Catalog.{Says, IsReady, fields}
 use Rattle.fjall_catalog.specs.Updates.{SaysEither}
 use Rattle.fjall_catalog.proofs.Resting.{last_record}
-use Rattle.fjall_places.specs.Halves.{Tree}
-use Rattle.fjall_places.specs.Places.{LiesInTree}
+use Rattle.fjall_recovery.specs.Halves.{Tree}
+use Rattle.fjall_recovery.specs.Places.{LiesInTree}
 use Rattle.fjall_changes.specs.Changes.{AreHoused, HasEither}
 use Rattle.fjall_changes.proofs.Apart.{outside, not_under, some_home, folder_of-current}
 use Rattle.fjall_changes.proofs.Beside.{AreOthers, Beside, beside_along, tree_left}

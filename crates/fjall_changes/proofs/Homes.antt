@@ -5,7 +5,7 @@ use Rattle.fjall_base.specs.Disk.{State}
 use Rattle.fjall_tree.specs.Records.{Fields}
 use Rattle.fjall_meta.specs.declared.living.LivingKeyspace.{LivingKeyspace}
 use Rattle.fjall_catalog.proofs.Naming.{bool_cases}
-use Rattle.fjall_places.specs.Places.{HasSafeHome, HaveSafeHomes, homes_without}
+use Rattle.fjall_recovery.specs.Places.{HasSafeHome, HaveSafeHomes, homes_without}
 
 -- where each home is carried over, all are
 pub homes_along : (old new : State) (P : ℕ → Type 0) → ((id : ℕ) (last : Fields) → P id → HasSafeHome old id last → HasSafeHome new id last)

@@ -10,9 +10,9 @@ use Rattle.fjall_catalog.specs.declared.catalog.Catalog.{Catalog}
 use Rattle.fjall_catalog.specs.declared.update.Update.{Update}
 use Rattle.fjall_catalog.specs.Catalog.{fields, first_of}
 use Rattle.fjall_catalog.specs.Updates.{IsUpdate}
-use Rattle.fjall_opening.specs.Folders.{AreMade, past, past_record}
-use Rattle.fjall_places.specs.Halves.{Tree}
-use Rattle.fjall_places.specs.Places.{HasSafeHome, LiesInTree}
+use Rattle.fjall_recovery.specs.Folders.{AreMade, past, past_record}
+use Rattle.fjall_recovery.specs.Halves.{Tree}
+use Rattle.fjall_recovery.specs.Places.{HasSafeHome, LiesInTree}
 use Rattle.fjall_changes.specs.Changes.{AreHoused, with_home, without_home}
 use Rattle.fjall_changes.specs.Removals.{IsUnused}
 use Rattle.fjall_changes.proofs.Homes.{homes_more, homes_but}

@@ -9,8 +9,8 @@ use Rattle.fjall_files.proofs.Made.{removing_within}
 use Rattle.fjall_files.proofs.Under.{folder_is_shorter, shorter_out, under_self}
 use Rattle.fjall_tree.specs.Records.{Fields}
 use Rattle.fjall_files.specs.Names.{keyspace_folder, current_name}
-use Rattle.fjall_places.specs.Halves.{Tree}
-use Rattle.fjall_places.specs.Places.{LiesInTree}
+use Rattle.fjall_recovery.specs.Halves.{Tree}
+use Rattle.fjall_recovery.specs.Places.{LiesInTree}
 use Rattle.fjall_changes.specs.Changes.{HasRoom}
 use Rattle.fjall_changes.proofs.Apart.{keyspaces_outside, some_home}
 

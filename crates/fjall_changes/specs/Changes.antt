@@ -7,9 +7,9 @@ use Rattle.fjall_meta.specs.Keyspaces.{AreKeyspaces, Keyspaces, with_keyspace, w
 use Rattle.fjall_catalog.specs.declared.catalog.Catalog.{Catalog}
 use Rattle.fjall_catalog.specs.Catalog.{fields, first_of}
 use Rattle.fjall_catalog.specs.Updates.{IsUpdate}
-use Rattle.fjall_opening.specs.Folders.{AreMade}
-use Rattle.fjall_places.specs.Halves.{HasTree, Tree}
-use Rattle.fjall_places.specs.Places.{HaveSafeHomes, homes_without}
+use Rattle.fjall_recovery.specs.Folders.{AreMade}
+use Rattle.fjall_recovery.specs.Halves.{HasTree, Tree}
+use Rattle.fjall_recovery.specs.Places.{HaveSafeHomes, homes_without}
 use Rattle.fjall_changes.specs.declared.creation.Creation.{Creation}
 
 -- the tree after the change of this number made a keyspace of this name; the keyspace's first record says so

@@ -10,8 +10,8 @@ ghost use Rattle.fjall_meta.specs.Keyspaces.{Keyspaces};
 ghost use Rattle.fjall_catalog.specs.declared.catalog.Catalog.{Catalog};
 ghost use Rattle.fjall_catalog.specs.Catalog.{fields};
 ghost use Rattle.fjall_catalog.specs.Updates.{IsTableGone, IsUpdate};
-ghost use Rattle.fjall_places.specs.Halves.{Tree};
-ghost use Rattle.fjall_places.specs.Places.{LiesInTree};
+ghost use Rattle.fjall_recovery.specs.Halves.{Tree};
+ghost use Rattle.fjall_recovery.specs.Places.{LiesInTree};
 ghost use Rattle.fjall_changes.specs.Changes.{AreHoused, HasEither};
 
 use fjall_base::{Disk, Result};

@@ -9,9 +9,9 @@ ghost use Rattle.fjall_meta.specs.Keyspaces.{AreKeyspaces, Keyspaces};
 ghost use Rattle.fjall_catalog.specs.declared.catalog.Catalog.{Catalog};
 ghost use Rattle.fjall_catalog.specs.Catalog.{fields, first_of};
 ghost use Rattle.fjall_catalog.specs.Updates.{IsPreparingRefusal, IsTableGone};
-ghost use Rattle.fjall_opening.specs.Folders.{past_record};
-ghost use Rattle.fjall_places.specs.Halves.{HasTree, Tree};
-ghost use Rattle.fjall_places.specs.Places.{HasSafeHome, LiesInTree};
+ghost use Rattle.fjall_recovery.specs.Folders.{past_record};
+ghost use Rattle.fjall_recovery.specs.Halves.{HasTree, Tree};
+ghost use Rattle.fjall_recovery.specs.Places.{HasSafeHome, LiesInTree};
 ghost use Rattle.fjall_changes.specs.Changes.{HasEither, HasRoom, IsCreation, with_home};
 ghost use Rattle.fjall_changes.specs.Removals.{IsUnused};
 

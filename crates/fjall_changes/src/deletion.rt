@@ -9,9 +9,9 @@ ghost use Rattle.fjall_meta.specs.Keyspaces.{Keyspaces, without_keyspace};
 ghost use Rattle.fjall_catalog.specs.declared.catalog.Catalog.{Catalog};
 ghost use Rattle.fjall_catalog.specs.Catalog.{fields};
 ghost use Rattle.fjall_catalog.specs.Updates.{IsTableGone, IsUpdate};
-ghost use Rattle.fjall_opening.specs.Folders.{past_record};
-ghost use Rattle.fjall_places.specs.Halves.{Tree};
-ghost use Rattle.fjall_places.specs.Places.{LiesInTree};
+ghost use Rattle.fjall_recovery.specs.Folders.{past_record};
+ghost use Rattle.fjall_recovery.specs.Halves.{Tree};
+ghost use Rattle.fjall_recovery.specs.Places.{LiesInTree};
 ghost use Rattle.fjall_changes.specs.Changes.{HasEither, without_home};
 
 use crate::change::change_tree;

@@ -7,8 +7,8 @@ ghost use Rattle.fjall_tree.specs.Records.{Fields};
 ghost use Rattle.fjall_files.specs.Names.{current_name, keyspace_folder};
 ghost use Rattle.fjall_files.specs.Tidy.{StaysTidy};
 ghost use Rattle.fjall_catalog.specs.Catalog.{only};
-ghost use Rattle.fjall_places.specs.Halves.{HasTree, Tree};
-ghost use Rattle.fjall_places.specs.Places.{LiesInTree};
+ghost use Rattle.fjall_recovery.specs.Halves.{HasTree, Tree};
+ghost use Rattle.fjall_recovery.specs.Places.{LiesInTree};
 ghost use Rattle.fjall_changes.specs.Removals.{IsRemoval, IsRemoved, IsUnused};
 
 use crate::creation::KEYSPACES;

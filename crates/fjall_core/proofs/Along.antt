@@ -9,8 +9,8 @@ use Rattle.fjall_meta.specs.declared.entry.MetaEntry.{MetaEntry}
 use Rattle.fjall_meta.specs.declared.living.LivingKeyspace.{LivingKeyspace}
 use Rattle.fjall_meta.specs.Entries.{entries_of}
 use Rattle.fjall_catalog.specs.Catalog.{AreSafe}
-use Rattle.fjall_places.specs.Halves.{Tree, is_of_keyspaces}
-use Rattle.fjall_places.specs.Places.{HasSafeHome, IsNeverFolder, LiesInTree}
+use Rattle.fjall_recovery.specs.Halves.{Tree, is_of_keyspaces}
+use Rattle.fjall_recovery.specs.Places.{HasSafeHome, IsNeverFolder, LiesInTree}
 use Rattle.fjall_changes.proofs.Homes.{homes_along}
 
 -- what stands in `keyspaces` is the same

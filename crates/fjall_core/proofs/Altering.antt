@@ -15,13 +15,13 @@ use Rattle.fjall_versions.specs.Replays.{Unordered, journal_commands, fault_of, 
 use Rattle.fjall_versions.specs.Versions.{store_of}
 use Rattle.fjall_versions.proofs.Keeping.{nothing_to_keep}
 use Rattle.fjall_versions.proofs.Kept.{kept_along}
-use Rattle.fjall_opening.specs.Folders.{past_record, past_records}
-use Rattle.fjall_opening.specs.Folders as folders
-use Rattle.fjall_opening.specs.Journals.{batches_in}
-use Rattle.fjall_places.specs.Halves.{HasRoot, HasTree, Tree}
-use Rattle.fjall_places.specs.Places.{Journaling, LiesInRoot, LiesInTree, contents_with, journals_with}
-use Rattle.fjall_places.proofs.Roots.{crashes_leave_the_root}
-use Rattle.fjall_places.proofs.Holding.{made}
+use Rattle.fjall_recovery.specs.Folders.{past_record, past_records}
+use Rattle.fjall_recovery.specs.Folders as folders
+use Rattle.fjall_recovery.specs.Journals.{batches_in}
+use Rattle.fjall_recovery.specs.Halves.{HasRoot, HasTree, Tree}
+use Rattle.fjall_recovery.specs.Places.{Journaling, LiesInRoot, LiesInTree, contents_with, journals_with}
+use Rattle.fjall_recovery.proofs.Roots.{crashes_leave_the_root}
+use Rattle.fjall_recovery.proofs.Holding.{made}
 use Rattle.fjall_journaling.specs.Journaling.{IsWriting}
 use Rattle.fjall_changes.specs.Changes.{HasEither}
 use Rattle.fjall_machine.specs.Remembered.{Remembered}

@@ -16,12 +16,12 @@ use Rattle.fjall_versions.specs.Replays.{option_pairs}
 use Rattle.fjall_versions.proofs.Creating as Creating
 use Rattle.fjall_versions.proofs.Keeping as Keeping
 use Rattle.fjall_versions.proofs.Keeping.{nothing_to_keep}
-use Rattle.fjall_opening.specs.Folders.{past_record}
-use Rattle.fjall_opening.specs.Folders as folders
-use Rattle.fjall_opening.specs.Journals.{batches_in}
-use Rattle.fjall_places.specs.Halves.{HasTree, Tree}
-use Rattle.fjall_places.specs.Places.{Journaling, LiesInRoot, LiesInTree, contents_with, journals_with}
-use Rattle.fjall_places.proofs.Roots.{crashes_leave_the_root, fewer_sound}
+use Rattle.fjall_recovery.specs.Folders.{past_record}
+use Rattle.fjall_recovery.specs.Folders as folders
+use Rattle.fjall_recovery.specs.Journals.{batches_in}
+use Rattle.fjall_recovery.specs.Halves.{HasTree, Tree}
+use Rattle.fjall_recovery.specs.Places.{Journaling, LiesInRoot, LiesInTree, contents_with, journals_with}
+use Rattle.fjall_recovery.proofs.Roots.{crashes_leave_the_root, fewer_sound}
 use Rattle.fjall_changes.specs.declared.creation.Creation.{Creation}
 use Rattle.fjall_changes.specs.Changes.{HasRoom, IsCreation, with_home, without_home}
 use Rattle.fjall_machine.specs.Remembered.{Remembered, with_creation, with_deletion}

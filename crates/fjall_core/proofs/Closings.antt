@@ -7,9 +7,9 @@ use Rattle.fjall_base.specs.declared.error.Error.{Error}
 use Rattle.fjall_base.specs.declared.error.Error.TheVariants.{Io, Poisoned}
 use Rattle.fjall_journal.specs.declared.persist_mode.PersistMode.TheVariants.{SyncAll}
 use Rattle.fjall_journal.specs.Writer.{Journal, persist_steps}
-use Rattle.fjall_places.specs.Amid.{HoldsAmid}
-use Rattle.fjall_places.specs.Places.{contents_with}
-use Rattle.fjall_places.proofs.Holding.{a_rest_holds}
+use Rattle.fjall_recovery.specs.Amid.{HoldsAmid}
+use Rattle.fjall_recovery.specs.Places.{contents_with}
+use Rattle.fjall_recovery.proofs.Holding.{a_rest_holds}
 use Rattle.fjall_files.specs.Tidy.{StaysTidy}
 use Rattle.fjall_journaling.proofs.Tidied.{persist_stays}
 use Rattle.fjall_journaling.proofs.Leaving.{persist_apart, persist_leaves, persist_out}

@@ -5,14 +5,14 @@ use Rattle.fjall_base.specs.Disk.{DeviceFailed, IsNoFile, IsNoFolder, Meaning, N
 use Rattle.fjall_files.specs.Names.{current_name, keyspace_folder}
 use Rattle.fjall_files.specs.Tidy.{IsTidy}
 use Rattle.fjall_files.proofs.Fitting.{current_kind, folder_kind}
-use Rattle.fjall_places.specs.Halves.{is_of_keyspaces}
-use Rattle.fjall_places.proofs.Named.{current_within, folder_within}
+use Rattle.fjall_recovery.specs.Halves.{is_of_keyspaces}
+use Rattle.fjall_recovery.proofs.Named.{current_within, folder_within}
 use Rattle.fjall_changes.specs.Changes.{HasRoom}
 use Rattle.fjall_base.specs.Errors.{IsFault, Rose}
 use Rattle.fjall_base.specs.declared.error.Error.{Error}
 use Rattle.fjall_base.specs.declared.error.Error.TheVariants.{Io}
-use Rattle.fjall_opening.specs.Refusals.{HasRisen}
-use Rattle.fjall_places.specs.Places.{Journaling}
+use Rattle.fjall_recovery.specs.Refusals.{HasRisen}
+use Rattle.fjall_recovery.specs.Places.{Journaling}
 use Rattle.fjall_journaling.specs.Journaling.{IsWriting}
 use Rattle.fjall_machine.specs.declared.call.Reply.TheVariants.{Refused}
 use Rattle.fjall_core.specs.Holding.{Held}

@@ -7,9 +7,9 @@ use Rattle.fjall_files.specs.Tidy.{FitsAt, IsTidy, IsTidyStep}
 use Rattle.fjall_files.proofs.Tidying.{fits_missing, left_tidy}
 use Rattle.fjall_meta.specs.Keyspaces.{no_keyspaces}
 use Rattle.fjall_versions.specs.Replays.{bare}
-use Rattle.fjall_opening.specs.Folders.{Contents, IsUnfinished, StandsFor}
-use Rattle.fjall_places.specs.Held.{IsFolder, store_held}
-use Rattle.fjall_places.proofs.Holding.{a_crash_holds, folder_stands}
+use Rattle.fjall_recovery.specs.Folders.{Contents, IsUnfinished, StandsFor}
+use Rattle.fjall_recovery.specs.Held.{IsFolder, store_held}
+use Rattle.fjall_recovery.proofs.Holding.{a_crash_holds, folder_stands}
 use Rattle.fjall_beginning.proofs.Standing.{missing_stands, unfinished_of}
 use Rattle.fjall_repair.proofs.Openings.{settled_comes_back}
 use Rattle.fjall_core.specs.Durables.{IsBeginning, StandsAmid}

@@ -11,13 +11,13 @@ use Rattle.fjall_versions.specs.Replays.{journal_commands, store_in}
 use Rattle.fjall_versions.proofs.Kept.{kept_along}
 use Rattle.fjall_versions.proofs.Keeping.{nothing_to_keep}
 use Rattle.fjall_versions.proofs.Replaying.{commands-append, store-append}
-use Rattle.fjall_opening.specs.Folders.{store_of}
-use Rattle.fjall_opening.specs.Journals.{Journal, batches_in}
-use Rattle.fjall_places.specs.Halves.{HasRoot, HasTree, Tree}
-use Rattle.fjall_places.specs.Places.{Journaling, LiesInRoot, LiesInTree, contents_with, journals_with}
-use Rattle.fjall_places.proofs.Roots.{batches_are}
-use Rattle.fjall_places.proofs.Trees.{crashes_leave_the_tree}
-use Rattle.fjall_places.proofs.Holding.{made}
+use Rattle.fjall_recovery.specs.Folders.{store_of}
+use Rattle.fjall_recovery.specs.Journals.{Journal, batches_in}
+use Rattle.fjall_recovery.specs.Halves.{HasRoot, HasTree, Tree}
+use Rattle.fjall_recovery.specs.Places.{Journaling, LiesInRoot, LiesInTree, contents_with, journals_with}
+use Rattle.fjall_recovery.proofs.Roots.{batches_are}
+use Rattle.fjall_recovery.proofs.Trees.{crashes_leave_the_tree}
+use Rattle.fjall_recovery.proofs.Holding.{made}
 use Rattle.fjall_journaling.specs.Journaling.{LeavesRoot}
 use Rattle.fjall_journaling.proofs.Leaving.{root_left}
 use Rattle.fjall_core.specs.Holding.{Held}

@@ -12,9 +12,9 @@ use Rattle.fjall_versions.proofs.Slots.{fold-append}
 use Rattle.fjall_files.proofs.Made.{took_both}
 use Rattle.fjall_files.specs.Tidy.{IsTidy, IsTidyStep, StaysTidy}
 use Rattle.fjall_files.proofs.Tidying.{each_tidy, image_tidy, left_tidy, stays_by, tidy_on}
-use Rattle.fjall_opening.specs.Folders.{StandsFor}
-use Rattle.fjall_opening.proofs.Alone.{one_store}
-use Rattle.fjall_places.specs.Amid.{HoldsAmid}
+use Rattle.fjall_recovery.specs.Folders.{StandsFor}
+use Rattle.fjall_recovery.proofs.Alone.{one_store}
+use Rattle.fjall_recovery.specs.Amid.{HoldsAmid}
 use Rattle.fjall_machine.specs.declared.call.Call.{Call}
 use Rattle.fjall_machine.specs.declared.call.Reply.{Reply}
 use Rattle.fjall_machine.specs.Machine as machine

@@ -6,10 +6,10 @@ use Rattle.fjall_meta.specs.declared.living.LivingKeyspace.{LivingKeyspace}
 use Rattle.fjall_catalog.specs.declared.catalog.Catalog.{Catalog}
 use Rattle.fjall_catalog.specs.Catalog.{fields, first_of}
 use Rattle.fjall_versions.specs.Replays.{least_after}
-use Rattle.fjall_opening.specs.Folders.{number_of, past, past_record, past_records}
-use Rattle.fjall_opening.specs.Journals.{batches_in}
-use Rattle.fjall_places.specs.Halves.{Tree}
-use Rattle.fjall_places.specs.Places.{Journaling, contents_with, homes_without, journals_with}
+use Rattle.fjall_recovery.specs.Folders.{number_of, past, past_record, past_records}
+use Rattle.fjall_recovery.specs.Journals.{batches_in}
+use Rattle.fjall_recovery.specs.Halves.{Tree}
+use Rattle.fjall_recovery.specs.Places.{Journaling, contents_with, homes_without, journals_with}
 use Rattle.fjall_changes.specs.Changes.{with_home, without_home}
 use Rattle.fjall_core.proofs.Dues.{bool_cases}
 

@@ -10,11 +10,11 @@ use Rattle.fjall_journal.specs.Writer.{Journal}
 use Rattle.fjall_versions.specs.Replays.{journal_commands}
 use Rattle.fjall_versions.specs.Versions.{store_of as store_behind}
 use Rattle.fjall_versions.proofs.Keeping.{nothing_to_keep}
-use Rattle.fjall_opening.specs.Folders.{Contents, StandsFor, number_of, store_of}
-use Rattle.fjall_opening.specs.Journals.{batches_in}
-use Rattle.fjall_places.specs.Held.{Holds, number_held, store_held}
+use Rattle.fjall_recovery.specs.Folders.{Contents, StandsFor, number_of, store_of}
+use Rattle.fjall_recovery.specs.Journals.{batches_in}
+use Rattle.fjall_recovery.specs.Held.{Holds, number_held, store_held}
 use Rattle.fjall_files.specs.Names.{journal_name}
-use Rattle.fjall_places.specs.Places.{contents_with, texts_of}
+use Rattle.fjall_recovery.specs.Places.{contents_with, texts_of}
 use Rattle.fjall_journaling.proofs.Lying.{begins}
 use Rattle.fjall_repair.specs.declared.opened.Opened.{Opened}
 use Rattle.fjall_repair.specs.Opened.{ComesBack, IsOpenedFrom, IsUnopened}

@@ -11,14 +11,14 @@ use Rattle.fjall_files.specs.Names.{journal_name}
 use Rattle.fjall_files.specs.Marker.{marker_tells}
 use Rattle.fjall_files.specs.Tidy.{StaysTidy}
 use Rattle.fjall_versions.proofs.Keeping.{nothing_to_keep}
-use Rattle.fjall_opening.specs.Folders.{Contents, IsSound, IsUnfinished, StandsFor}
-use Rattle.fjall_opening.specs.Journals.{Journal, batches_in}
-use Rattle.fjall_opening.proofs.Alone.{one_contents}
-use Rattle.fjall_places.specs.Amid.{ComesBackUnfinished, HoldsAmid, StandsAmid}
-use Rattle.fjall_places.specs.Held.{Holds, IsFolder, store_held}
-use Rattle.fjall_places.proofs.Alike.{kept_alike, standing_amid}
-use Rattle.fjall_places.proofs.Amidst.{told_twice}
-use Rattle.fjall_places.proofs.Holding.{folder_stands}
+use Rattle.fjall_recovery.specs.Folders.{Contents, IsSound, IsUnfinished, StandsFor}
+use Rattle.fjall_recovery.specs.Journals.{Journal, batches_in}
+use Rattle.fjall_recovery.proofs.Alone.{one_contents}
+use Rattle.fjall_recovery.specs.Amid.{ComesBackUnfinished, HoldsAmid, StandsAmid}
+use Rattle.fjall_recovery.specs.Held.{Holds, IsFolder, store_held}
+use Rattle.fjall_recovery.proofs.Alike.{kept_alike, standing_amid}
+use Rattle.fjall_recovery.proofs.Amidst.{told_twice}
+use Rattle.fjall_recovery.proofs.Holding.{folder_stands}
 use Rattle.fjall_repair.specs.declared.opened.Opened.{Opened}
 use Rattle.fjall_repair.specs.Opened.{ComesBack}
 use Rattle.fjall_repair.specs.Opened as repair

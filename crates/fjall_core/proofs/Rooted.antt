@@ -10,10 +10,10 @@ use Rattle.fjall_files.proofs.Changes.{within_state}
 use Rattle.fjall_files.proofs.Parts.{region_run}
 use Rattle.fjall_journal.specs.Writer as writer
 use Rattle.fjall_files.specs.Names.{IsMisnamed, journal_name}
-use Rattle.fjall_opening.specs.Journals.{Journal}
-use Rattle.fjall_places.specs.Halves.{is_of_root}
-use Rattle.fjall_places.specs.Places.{IsNeverFile, Journaling, LiesInRoot, texts_of}
-use Rattle.fjall_places.proofs.Named.{journal_within, keyspaces_not_misnamed, root_cases}
+use Rattle.fjall_recovery.specs.Journals.{Journal}
+use Rattle.fjall_recovery.specs.Halves.{is_of_root}
+use Rattle.fjall_recovery.specs.Places.{IsNeverFile, Journaling, LiesInRoot, texts_of}
+use Rattle.fjall_recovery.proofs.Named.{journal_within, keyspaces_not_misnamed, root_cases}
 use Rattle.fjall_journaling.specs.Journaling.{IsWriting}
 use Rattle.fjall_journaling.proofs.Lying.{active_fits}
 use Rattle.fjall_core.specs.Durables.{StaysFinished}

@@ -10,9 +10,9 @@ use Rattle.fjall_journal.specs.declared.persist_mode.PersistMode.TheVariants.{Bu
 use Rattle.fjall_catalog.specs.Catalog.{fields}
 use Rattle.fjall_versions.specs.Replays.{least_after, store_in}
 use Rattle.fjall_versions.specs.Versions.{store_of}
-use Rattle.fjall_opening.specs.Folders.{past_records}
-use Rattle.fjall_opening.specs.Journals.{Journal, batches_in}
-use Rattle.fjall_places.specs.Places.{Journaling, journals_with}
+use Rattle.fjall_recovery.specs.Folders.{past_records}
+use Rattle.fjall_recovery.specs.Journals.{Journal, batches_in}
+use Rattle.fjall_recovery.specs.Places.{Journaling, journals_with}
 use Rattle.fjall_journaling.specs.Journaling.{LeavesRoot, after_persist, synced}
 use Rattle.fjall_machine.specs.declared.call.Call.TheVariants.{Persist}
 use Rattle.fjall_machine.specs.declared.call.Reply.TheVariants.{Done}

@@ -13,9 +13,9 @@ use Rattle.fjall_catalog.specs.declared.catalog.Catalog.{Catalog}
 use Rattle.fjall_catalog.specs.declared.update.Update.{Update}
 use Rattle.fjall_catalog.specs.Catalog.{fields}
 use Rattle.fjall_catalog.specs.Updates.{IsTableGone, IsUpdate}
-use Rattle.fjall_opening.specs.Folders.{past_record}
-use Rattle.fjall_places.specs.Halves.{Tree}
-use Rattle.fjall_places.specs.Places.{LiesInTree}
+use Rattle.fjall_recovery.specs.Folders.{past_record}
+use Rattle.fjall_recovery.specs.Halves.{Tree}
+use Rattle.fjall_recovery.specs.Places.{LiesInTree}
 use Rattle.fjall_changes.specs.declared.creation.Creation.{Creation}
 use Rattle.fjall_changes.specs.Changes.{HasEither, HasRoom, IsCreation, with_home, without_home}
 use Rattle.fjall_core.specs.Turns.{HandedOut, Made, Turns, Unmade}

@@ -8,8 +8,8 @@ use Rattle.fjall_files.specs.Regions.{Within}
 use Rattle.fjall_journal.specs.declared.persist_mode.PersistMode.TheVariants.{SyncAll}
 use Rattle.fjall_versions.specs.Versions.{store_of}
 use Rattle.fjall_versions.proofs.Kept.{kept_along}
-use Rattle.fjall_places.specs.Halves.{HasTree}
-use Rattle.fjall_places.specs.Places.{LiesInTree}
+use Rattle.fjall_recovery.specs.Halves.{HasTree}
+use Rattle.fjall_recovery.specs.Places.{LiesInTree}
 use Rattle.fjall_journaling.specs.Journaling.{IsWriting}
 use Rattle.fjall_machine.specs.Remembered.{Remembered}
 use Rattle.fjall_core.specs.Holding.{Held}

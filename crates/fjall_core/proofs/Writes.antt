@@ -18,8 +18,8 @@ use Rattle.fjall_versions.proofs.Naming.{living_names}
 use Rattle.fjall_versions.proofs.Replaying.{one_item, one_more_version}
 use Rattle.fjall_versions.proofs.Slots.{fold-append}
 use Rattle.fjall_catalog.specs.Catalog.{fields}
-use Rattle.fjall_opening.specs.Folders.{past_records}
-use Rattle.fjall_places.specs.Places.{Journaling}
+use Rattle.fjall_recovery.specs.Folders.{past_records}
+use Rattle.fjall_recovery.specs.Places.{Journaling}
 use Rattle.fjall_journaling.specs.Journaling.{CanFollow, IsWriting, LeavesRoot, next_number, with_batch}
 use Rattle.fjall_journaling.proofs.Batches.{next-batch}
 use Rattle.fjall_machine.specs.Ops.{Op, Put, Remove, RemoveWeak, bytes_in, kind_of, op_text, value_in}

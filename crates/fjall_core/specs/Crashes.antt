@@ -12,7 +12,7 @@ use Rattle.fjall_machine.specs.declared.call.Reply.{Reply}
 use Rattle.fjall_machine.specs.declared.call.Reply.TheVariants.{Done, Flag, Names, Number, Pairs, Refused, Value}
 use Rattle.fjall_files.specs.Tidy.{IsTidy, StaysTidy}
 use Rattle.fjall_versions.specs.Replays.{option_pairs}
-use Rattle.fjall_opening.specs.Folders.{StandsFor}
+use Rattle.fjall_recovery.specs.Folders.{StandsFor}
 use Rattle.fjall_machine.specs.Histories.{extended}
 use Rattle.fjall_machine.specs.Machine.{State, Step, has_name, is_living, present, write_of}
 use Rattle.fjall_core.specs.Durables.{Durable, IsBeginning, StandsAmid, Passes}

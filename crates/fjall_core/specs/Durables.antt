@@ -8,10 +8,10 @@ use Rattle.fjall_files.specs.declared.marker.Marker.TheVariants.{Whole}
 use Rattle.fjall_files.specs.Marker.{marker_tells}
 use Rattle.fjall_files.specs.Names.{journal_name}
 use Rattle.fjall_versions.specs.Replays.{journal_commands}
-use Rattle.fjall_opening.specs.Folders.{marker_bytes, number_of, store_of}
-pub use Rattle.fjall_places.specs.Amid.{IsBeginning, StandsAmid}
-use Rattle.fjall_places.specs.Halves.{Tree}
-use Rattle.fjall_places.specs.Places.{Journaling, LiesInTree, contents_with}
+use Rattle.fjall_recovery.specs.Folders.{marker_bytes, number_of, store_of}
+pub use Rattle.fjall_recovery.specs.Amid.{IsBeginning, StandsAmid}
+use Rattle.fjall_recovery.specs.Halves.{Tree}
+use Rattle.fjall_recovery.specs.Places.{Journaling, LiesInTree, contents_with}
 use Rattle.fjall_journaling.specs.Journaling.{IsWriting}
 use Rattle.fjall_core.specs.Holding.{Held}
 

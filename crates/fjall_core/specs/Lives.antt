@@ -5,8 +5,8 @@ use Rattle.fjall_base.specs.Crash.{IsHoused}
 use Rattle.fjall_base.specs.Store.{Command, Store, fold, kept}
 use Rattle.fjall_base.specs.Disk.{Image, IsImage, Leaves, LeavesOnly, Meaning, State, Step, Took, disk_of, state_in}
 use Rattle.fjall_base.specs.declared.error.Error.{Error}
-use Rattle.fjall_opening.specs.Folders.{StandsFor}
-use Rattle.fjall_places.specs.Amid.{HoldsAmid}
+use Rattle.fjall_recovery.specs.Folders.{StandsFor}
+use Rattle.fjall_recovery.specs.Amid.{HoldsAmid}
 use Rattle.fjall_files.specs.Tidy.{StaysTidy}
 use Rattle.fjall_machine.specs.Machine as machine
 use Rattle.fjall_machine.specs.Machine.{opened_state, present}

@@ -7,11 +7,11 @@ use Rattle.fjall_base.specs.declared.error.Error.TheVariants.{Io}
 use Rattle.fjall_files.specs.Tidy.{StaysTidy}
 use Rattle.fjall_files.specs.Regions.{IsSafe}
 use Rattle.fjall_journal.specs.Writer.{Journal}
-use Rattle.fjall_opening.specs.Folders as folders
-use Rattle.fjall_opening.specs.Folders.{Contents}
-use Rattle.fjall_opening.specs.Refusals.{FolderRefuses, IsDue}
-use Rattle.fjall_places.specs.Amid.{HoldsAmid, IsBeginning, StandsAmid}
-use Rattle.fjall_places.specs.Held.{IsFolder, number_held, store_held}
+use Rattle.fjall_recovery.specs.Folders as folders
+use Rattle.fjall_recovery.specs.Folders.{Contents}
+use Rattle.fjall_recovery.specs.Refusals.{FolderRefuses, IsDue}
+use Rattle.fjall_recovery.specs.Amid.{HoldsAmid, IsBeginning, StandsAmid}
+use Rattle.fjall_recovery.specs.Held.{IsFolder, number_held, store_held}
 use Rattle.fjall_repair.specs.Opened.{StandsForSome}
 use Rattle.fjall_machine.specs.Machine.{Parts, opened_state}
 use Rattle.fjall_core.specs.Holding.{Held}

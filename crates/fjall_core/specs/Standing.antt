@@ -11,7 +11,7 @@ use Rattle.fjall_base.specs.declared.error.Error.{Error}
 use Rattle.fjall_base.specs.declared.error.Error.TheVariants.{Io, OutOfMemory, Poisoned, ValueTooLong}
 use Rattle.fjall_files.specs.Regions.{IsSafe, Within}
 use Rattle.fjall_files.specs.Tidy.{StaysTidy}
-use Rattle.fjall_places.specs.Amid.{HoldsAmid}
+use Rattle.fjall_recovery.specs.Amid.{HoldsAmid}
 use Rattle.fjall_journal.specs.declared.persist_mode.PersistMode.TheVariants.{SyncAll}
 use Rattle.fjall_journal.specs.Writer.{after_command, command_steps, goes_out, persist_steps, written_out}
 use Rattle.fjall_files.specs.Names.{table_name}
@@ -20,8 +20,8 @@ use Rattle.fjall_catalog.specs.declared.catalog.Catalog.{Catalog}
 use Rattle.fjall_catalog.specs.Updates.{IsTableGone}
 use Rattle.fjall_versions.specs.declared.version.Version.{Version}
 use Rattle.fjall_versions.specs.Versions.{newest, pairs_in, store_of}
-use Rattle.fjall_opening.specs.Folders.{Contents}
-use Rattle.fjall_places.specs.Held.{Holds, store_held}
+use Rattle.fjall_recovery.specs.Folders.{Contents}
+use Rattle.fjall_recovery.specs.Held.{Holds, store_held}
 use Rattle.fjall_repair.specs.Opened.{ComesBack}
 use Rattle.fjall_changes.specs.Removals.{IsRemoved}
 use Rattle.fjall_machine.specs.declared.call.Call.{Call}

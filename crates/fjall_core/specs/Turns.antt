@@ -19,9 +19,9 @@ use Rattle.fjall_catalog.specs.declared.update.Update.{Update}
 use Rattle.fjall_catalog.specs.Catalog.{fields}
 use Rattle.fjall_catalog.specs.Updates.{IsPreparingRefusal, IsTableGone, IsUpdate}
 use Rattle.fjall_versions.specs.declared.version.Version.{Version}
-use Rattle.fjall_opening.specs.Folders.{past_record}
-use Rattle.fjall_places.specs.Halves.{HasTree, Tree, is_of_keyspaces}
-use Rattle.fjall_places.specs.Places.{Journaling, LiesInTree}
+use Rattle.fjall_recovery.specs.Folders.{past_record}
+use Rattle.fjall_recovery.specs.Halves.{HasTree, Tree, is_of_keyspaces}
+use Rattle.fjall_recovery.specs.Places.{Journaling, LiesInTree}
 use Rattle.fjall_journaling.specs.Journaling.{CanFollow, IsWriting, LeavesRoot, after_persist, with_batch}
 use Rattle.fjall_changes.specs.declared.creation.Creation.{Creation}
 use Rattle.fjall_changes.specs.Changes.{HasEither, HasRoom, IsCreation, with_home, without_home}

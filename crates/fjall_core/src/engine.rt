@@ -15,13 +15,13 @@ ghost use Rattle.fjall_machine.specs.declared.call.Call.TheVariants.{Keyspace, D
 ghost use Rattle.fjall_machine.specs.declared.call.Reply.TheVariants.{Flag, Number};
 ghost use Rattle.fjall_meta.specs.Keyspaces.{id_of};
 ghost use Rattle.fjall_machine.specs.Remembered.{IsLawful, poisoned};
-ghost use Rattle.fjall_opening.specs.Refusals.{AreOne, FolderRefuses, HasRisen, IsDue, IsOpeningRefusal};
+ghost use Rattle.fjall_recovery.specs.Refusals.{AreOne, FolderRefuses, HasRisen, IsDue, IsOpeningRefusal};
 ghost use Rattle.fjall_repair.specs.Sweeps.{IsSwept};
 ghost use Rattle.fjall_files.specs.Tidy.{IsTidy, StaysTidy};
 ghost use Rattle.fjall_core.specs.Crashes.{BlamesDevice};
 ghost use Rattle.fjall_core.specs.Durables.{Durable};
 ghost use Rattle.fjall_core.specs.Openings.{IsDueTo, KeepsStore, Opens, OpensAs, OpensOn, OpensAmid, StaysAmid};
-ghost use Rattle.fjall_places.specs.Amid.{HoldsAmid};
+ghost use Rattle.fjall_recovery.specs.Amid.{HoldsAmid};
 ghost use Rattle.fjall_core.specs.Turns.{Makes, Removes, Unmakes, Writes};
 ghost use Rattle.fjall_core.specs.Standing.{HoldsStore, StandsFor, StandsOn, held_due, is_io, Owes, OwesAll, Serves, Runs, RunsSafely, OwesClosing, ClosesDisk, ClosesSafely, names_reply, number_reply, pairs_reply, reply_of, store_in, value_reply};
 

@@ -7,8 +7,8 @@ ghost use Rattle.fjall_base.specs.Disk.{Image, IsImage, Leaves, Meaning, Missing
 ghost use Rattle.fjall_files.specs.Tidy.{IsTidy, IsTidyStep, StaysTidy};
 ghost use Rattle.fjall_meta.specs.Keyspaces.{no_keyspaces};
 ghost use Rattle.fjall_versions.specs.Replays.{bare};
-ghost use Rattle.fjall_opening.specs.Folders.{StandsFor};
-ghost use Rattle.fjall_places.specs.Amid.{HoldsAmid};
+ghost use Rattle.fjall_recovery.specs.Folders.{StandsFor};
+ghost use Rattle.fjall_recovery.specs.Amid.{HoldsAmid};
 ghost use Rattle.fjall_core.specs.Durables.{IsBeginning, StandsAmid, Durable};
 ghost use Rattle.fjall_core.specs.Holding.{Held};
 ghost use Rattle.fjall_core.specs.Lives.{AreLeftOf, GoesOn, HoldsFold, LastSync, Life, Lived, Lives, Served, all_left, begun, start_of};

@@ -3,7 +3,7 @@
 use fjall_base::{Disk, Error, JournalRecoveryError, MemoryDisk, Result};
 use fjall_beginning::{begin, plan_beginning};
 use fjall_catalog::first_record;
-use fjall_opening::read_folder;
+use fjall_recovery::read_folder;
 use std::alloc::Global;
 use std::test::Fail;
 

@@ -3,7 +3,7 @@
 use crate::folder::{folder_of_items, insert, len_of};
 use fjall_base::{Disk, MemoryDisk};
 use fjall_mending::{mend, plan_mending};
-use fjall_opening::read_folder;
+use fjall_recovery::read_folder;
 use std::alloc::Global;
 use std::test::Fail;
 

@@ -4,7 +4,7 @@ use crate::folder::{create, empty_folder, folder_of_items, insert};
 use fjall_base::{
     Disk, Error, FormatVersion, JournalRecoveryError, MemoryDisk, Result, StorageError,
 };
-use fjall_opening::{Finished, read_folder};
+use fjall_recovery::{Finished, read_folder};
 use std::alloc::Global;
 use std::test::Fail;
 

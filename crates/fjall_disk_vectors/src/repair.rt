@@ -3,7 +3,7 @@
 use crate::folder::{folder_of_items, insert, len_of};
 use fjall_base::{Disk, MemoryDisk, Result};
 use fjall_catalog::first_record;
-use fjall_opening::read_folder;
+use fjall_recovery::read_folder;
 use fjall_files::make_home;
 use fjall_repair::{Opened, open_folder, plan_sweep, sweep};
 use std::alloc::Global;

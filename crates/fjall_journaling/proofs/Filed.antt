@@ -3,7 +3,7 @@ use Rattle.std.proofs.Common.{◌≡◌, Bool, true, false, cond, List, ℕ, [],
 use Rattle.fjall_base.specs.Disk.{Append, File, IsFile, Meaning, Place, State, Step, Took, state_in}
 use Rattle.fjall_base.proofs.Served.{file_as_was, file_stays}
 use Rattle.fjall_journal.specs.Writer.{Journal}
-use Rattle.fjall_places.specs.Places.{Journaling}
+use Rattle.fjall_recovery.specs.Places.{Journaling}
 use Rattle.fjall_journaling.specs.Journaling.{IsWriting}
 
 pub writing_file : (state : State) (writer : Journal) (j : Journaling) → IsWriting state writer j → IsFile (state writer.name).now

@@ -13,11 +13,11 @@ use Rattle.fjall_journal.specs.Batches.{Written, IsWritten, shown}
 use Rattle.fjall_journal.specs.Writer.{Journal, PersistTook, appending, persist_steps, written_out}
 use Rattle.fjall_files.specs.Names.{journal_name}
 use Rattle.fjall_versions.specs.Replays.{first_fault}
-use Rattle.fjall_opening.specs.Journals.{batches_in}
-use Rattle.fjall_places.specs.Halves.{HasRoot, is_of_keyspaces, is_of_root}
-use Rattle.fjall_places.specs.Places.{Journaling, LiesInRoot, journals_with, texts_of}
-use Rattle.fjall_places.proofs.Named.{journal_within}
-use Rattle.fjall_places.proofs.Roots.{crashes_leave_the_root}
+use Rattle.fjall_recovery.specs.Journals.{batches_in}
+use Rattle.fjall_recovery.specs.Halves.{HasRoot, is_of_keyspaces, is_of_root}
+use Rattle.fjall_recovery.specs.Places.{Journaling, LiesInRoot, journals_with, texts_of}
+use Rattle.fjall_recovery.proofs.Named.{journal_within}
+use Rattle.fjall_recovery.proofs.Roots.{crashes_leave_the_root}
 use Rattle.fjall_journaling.specs.Journaling.{IsWriting, HasSome, LeavesRoot, after_persist, handed, synced}
 use Rattle.fjall_journaling.proofs.Changes.{SameBut, alter_but, appended_at, appending_at, appending_but, part_but, place_of, sync_but, sync_place, syncing_all, whole_part}
 use Rattle.fjall_journaling.proofs.Lying.{active_fits, part_lies, synced_lies, whole_goes_on, with_active}

@@ -15,9 +15,9 @@ use Rattle.fjall_journal.specs.Batches.{Written, IsWritten, shown}
 use Rattle.fjall_journal.specs.Writer as journal
 use Rattle.fjall_files.specs.Names.{journal_name}
 use Rattle.fjall_versions.specs.Replays.{first_fault}
-use Rattle.fjall_opening.specs.Journals.{Journal, batches_in}
-use Rattle.fjall_places.specs.Places.{Journaling, LiesInRoot, IsNeverFile, journal_ids, journals_with, texts_of}
-use Rattle.fjall_places.proofs.Roots.{all_both, batches_are}
+use Rattle.fjall_recovery.specs.Journals.{Journal, batches_in}
+use Rattle.fjall_recovery.specs.Places.{Journaling, LiesInRoot, IsNeverFile, journal_ids, journals_with, texts_of}
+use Rattle.fjall_recovery.proofs.Roots.{all_both, batches_are}
 use Rattle.fjall_journaling.specs.Journaling.{IsWriting, handed, synced}
 use Rattle.fjall_journaling.proofs.Batches.{texts-append, batches-more}
 use Rattle.fjall_journaling.proofs.Changes.{SameBut, place_of}

@@ -12,7 +12,7 @@ use Rattle.fjall_journal.specs.Batches.{Written, IsWritten, batch_text, of_item}
 use Rattle.fjall_journal.specs.Spelling.{item_refusal}
 use Rattle.fjall_journal.specs.Writer.{Journal, after_write, appending, command_steps, counted, filled, goes_out, persist_steps, write_steps, written_out, PersistTook}
 use Rattle.fjall_files.specs.Names.{journal_name}
-use Rattle.fjall_places.specs.Places.{Journaling, texts_of}
+use Rattle.fjall_recovery.specs.Places.{Journaling, texts_of}
 use Rattle.fjall_journaling.specs.Journaling.{CanFollow, IsWriting, LeavesRoot, with_batch}
 use Rattle.fjall_journaling.proofs.Batches.{batch_sound}
 use Rattle.fjall_journaling.proofs.Changes.{appending_is, took_on, whole_part}

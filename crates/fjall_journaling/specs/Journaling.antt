@@ -9,9 +9,9 @@ use Rattle.fjall_journal.specs.Batches.{Written, shown}
 use Rattle.fjall_journal.specs.Writer.{Journal}
 use Rattle.fjall_files.specs.Names.{journal_name}
 use Rattle.fjall_versions.specs.Replays.{is_indirection, least_after}
-use Rattle.fjall_opening.specs.Journals.{batches_in}
-use Rattle.fjall_places.specs.Halves.{HasRoot, is_of_keyspaces}
-use Rattle.fjall_places.specs.Places.{Journaling, LiesInRoot, journals_with, texts_of}
+use Rattle.fjall_recovery.specs.Journals.{batches_in}
+use Rattle.fjall_recovery.specs.Halves.{HasRoot, is_of_keyspaces}
+use Rattle.fjall_recovery.specs.Places.{Journaling, LiesInRoot, journals_with, texts_of}
 
 -- The writer goes on where the active journal ends: what waits in its buffer follows what stands in the file.
 pub record IsWriting (state : State) (writer : Journal) (j : Journaling) : Type 0 where

@@ -6,8 +6,8 @@ ghost use Rattle.fjall_journal.specs.Batches.{batch_text, of_item};
 ghost use Rattle.fjall_journal.specs.Spelling.{item_refusal};
 ghost use Rattle.fjall_journal.specs.Writer.{PersistTook, after_command, command_steps, goes_out, persist_steps, written_out};
 ghost use Rattle.fjall_files.specs.Tidy.{StaysTidy};
-ghost use Rattle.fjall_places.specs.Halves.{is_of_keyspaces};
-ghost use Rattle.fjall_places.specs.Places.{Journaling};
+ghost use Rattle.fjall_recovery.specs.Halves.{is_of_keyspaces};
+ghost use Rattle.fjall_recovery.specs.Places.{Journaling};
 ghost use Rattle.fjall_journaling.specs.Journaling.{CanFollow, IsWriting, LeavesRoot, after_persist, with_batch};
 
 use fjall_base::{Disk, Error, Result};

@@ -6,8 +6,8 @@ ghost use Rattle.fjall_journal.specs.Batches.{Written};
 ghost use Rattle.fjall_journal.specs.Writer.{Journal};
 ghost use Rattle.fjall_journal.specs.declared.persist_mode.PersistMode.{PersistMode};
 ghost use Rattle.fjall_files.specs.Names.{journal_name};
-ghost use Rattle.fjall_places.specs.Halves.{HasRoot};
-ghost use Rattle.fjall_places.specs.Places.{Journaling, LiesInRoot, journals_with};
+ghost use Rattle.fjall_recovery.specs.Halves.{HasRoot};
+ghost use Rattle.fjall_recovery.specs.Places.{Journaling, LiesInRoot, journals_with};
 ghost use Rattle.fjall_journaling.specs.Journaling.{IsWriting, LeavesRoot, after_persist, next_number, with_batch};
 
 /// Where all batches are synced, a writer of the active journal with an empty buffer goes on behind them.

@@ -15,9 +15,9 @@ use Rattle.fjall_journal.proofs.Cuts.{none_at_nil}
 use Rattle.fjall_files.specs.Marker.{marker_tells}
 use Rattle.fjall_files.specs.Names.{journal_name, current_name}
 use Rattle.fjall_catalog.specs.Catalog as catalog
-use Rattle.fjall_opening.specs.Folders.{Contents, IsBegun, IsSound, IsUnfinished, StandsFor, store_of, file_bytes}
-use Rattle.fjall_opening.specs.Journals.{Journal, AreJournalIds, text_in}
-use Rattle.fjall_places.specs.Amid.{HoldsAmid, StandsAmid}
+use Rattle.fjall_recovery.specs.Folders.{Contents, IsBegun, IsSound, IsUnfinished, StandsFor, store_of, file_bytes}
+use Rattle.fjall_recovery.specs.Journals.{Journal, AreJournalIds, text_in}
+use Rattle.fjall_recovery.specs.Amid.{HoldsAmid, StandsAmid}
 use Rattle.fjall_mending.specs.Steps.{IsOpened, active_of, with_active}
 use Rattle.fjall_mending.proofs.Naming.{same_or_not, folder_of-journal, journal_current, marker_journal}
 use Rattle.fjall_mending.proofs.Opened.{active_small, active_there, ids_of, opened_sound, same_store, some_swap}

@@ -12,10 +12,10 @@ use Rattle.fjall_journal.proofs.Wholes as Wholes
 use Rattle.fjall_tree.specs.Records.{last_of}
 use Rattle.fjall_files.specs.Marker.{marker_tells}
 use Rattle.fjall_files.specs.Names.{journal_name, current_name, table_name}
-use Rattle.fjall_opening.specs.Folders.{Contents, IsSound, file_bytes}
-use Rattle.fjall_opening.specs.Journals.{Journal, ReadsAs, AreRead, journal_text, text_in}
-use Rattle.fjall_places.specs.Halves.{HasRoot}
-use Rattle.fjall_places.specs.Places.{texts_of}
+use Rattle.fjall_recovery.specs.Folders.{Contents, IsSound, file_bytes}
+use Rattle.fjall_recovery.specs.Journals.{Journal, ReadsAs, AreRead, journal_text, text_in}
+use Rattle.fjall_recovery.specs.Halves.{HasRoot}
+use Rattle.fjall_recovery.specs.Places.{texts_of}
 use Rattle.fjall_mending.specs.Amids.{StaysAmid}
 use Rattle.fjall_mending.specs.Steps.{End, EndsBatches, EndsRecords, IsRightEnd}
 use Rattle.fjall_mending.proofs.Naming.{journal_current, journal_table, marker_journal}

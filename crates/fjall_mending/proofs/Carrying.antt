@@ -10,10 +10,10 @@ use Rattle.fjall_base.proofs.Moments.{at_end, runs_on, weaken}
 use Rattle.fjall_tree.specs.Records.{Fields, IsRecords, last_of}
 use Rattle.fjall_tree.proofs.Currents as Currents
 use Rattle.fjall_files.specs.Names.{journal_name, keyspace_folder, current_name}
-use Rattle.fjall_opening.specs.Folders.{Contents, IsSound, StandsFor, store_of}
-use Rattle.fjall_opening.specs.Journals.{Journal, text_in}
-use Rattle.fjall_places.specs.Held.{Holds}
-use Rattle.fjall_places.specs.Places.{texts_of}
+use Rattle.fjall_recovery.specs.Folders.{Contents, IsSound, StandsFor, store_of}
+use Rattle.fjall_recovery.specs.Journals.{Journal, text_in}
+use Rattle.fjall_recovery.specs.Held.{Holds}
+use Rattle.fjall_recovery.specs.Places.{texts_of}
 use Rattle.fjall_mending.specs.declared.plan.FileEnd.{FileEnd}
 use Rattle.fjall_mending.specs.declared.plan.Plan.{Plan}
 use Rattle.fjall_mending.specs.Steps.{End, IsEnded, IsOpened, IsRested, IsRightEnd, IsSame, IsSynced, Stays, Suits, active_of, end_of, ended_names, folder_names, opened, whole_names, with_active}

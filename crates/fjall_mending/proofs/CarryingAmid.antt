@@ -10,11 +10,11 @@ use Rattle.fjall_base.proofs.States.{survives_whole}
 use Rattle.fjall_files.specs.declared.marker.Marker.{Marker}
 use Rattle.fjall_files.specs.declared.marker.Marker.TheVariants.{Whole, Unfinished}
 use Rattle.fjall_files.specs.Marker.{marker_tells}
-use Rattle.fjall_opening.specs.Folders.{Contents, IsSound, StandsFor, file_bytes, marker_bytes, store_of}
-use Rattle.fjall_opening.specs.Journals.{text_in}
-use Rattle.fjall_places.specs.Amid.{StandsAmid}
-use Rattle.fjall_places.proofs.Alike.{Alike, alike_sound, alike_synced}
-use Rattle.fjall_places.proofs.Holding.{there_or_not}
+use Rattle.fjall_recovery.specs.Folders.{Contents, IsSound, StandsFor, file_bytes, marker_bytes, store_of}
+use Rattle.fjall_recovery.specs.Journals.{text_in}
+use Rattle.fjall_recovery.specs.Amid.{StandsAmid}
+use Rattle.fjall_recovery.proofs.Alike.{Alike, alike_sound, alike_synced}
+use Rattle.fjall_recovery.proofs.Holding.{there_or_not}
 use Rattle.fjall_mending.specs.declared.plan.FileEnd.{FileEnd}
 use Rattle.fjall_mending.specs.declared.plan.Plan.{Plan}
 use Rattle.fjall_mending.specs.Amids.{StaysAmid}

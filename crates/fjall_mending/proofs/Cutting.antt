@@ -10,8 +10,8 @@ use Rattle.fjall_journal.specs.Batches.{Written, IsWhole, IsTail, NoneAt, EndsEa
 use Rattle.fjall_tree.specs.Frame.{NoFrame, framed}
 use Rattle.fjall_tree.specs.Records.{Fields, IsRecords, last_of}
 use Rattle.fjall_tree.proofs.Currents as Currents
-use Rattle.fjall_opening.specs.Journals.{ReadsAs}
-use Rattle.fjall_places.specs.Places.{texts_of}
+use Rattle.fjall_recovery.specs.Journals.{ReadsAs}
+use Rattle.fjall_recovery.specs.Places.{texts_of}
 
 -- ---- a beginning of a torn tail
 

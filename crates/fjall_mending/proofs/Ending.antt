@@ -4,9 +4,9 @@ use Rattle.std.proofs.lemmas.List.{append-nil, take_all, length-take}
 use Rattle.fjall_base.specs.Disk.{Name, Entry, Missing, File, Folder, Place, State, Image, IsImage, IsFile, all_synced, cut_to, standing}
 use Rattle.fjall_files.specs.Trims.{IsTrimmed, Keeps, ended, ended_place}
 use Rattle.fjall_tree.proofs.Currents as Currents
-use Rattle.fjall_opening.specs.Folders.{Contents}
-use Rattle.fjall_opening.specs.Journals.{Journal, text_in}
-use Rattle.fjall_places.specs.Places.{texts_of}
+use Rattle.fjall_recovery.specs.Folders.{Contents}
+use Rattle.fjall_recovery.specs.Journals.{Journal, text_in}
+use Rattle.fjall_recovery.specs.Places.{texts_of}
 use Rattle.fjall_mending.specs.Steps.{End, EndsBatches, EndsRecords, IsEnded, IsRightEnd, IsSynced, Stays}
 use Rattle.fjall_mending.proofs.Naming.{same_or_not, journal_current}
 use Rattle.fjall_mending.proofs.Trimming.{Cuts, IsCut, trimmed}

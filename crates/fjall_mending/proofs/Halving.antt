@@ -11,10 +11,10 @@ use Rattle.fjall_meta.specs.declared.living.LivingKeyspace.{LivingKeyspace}
 use Rattle.fjall_meta.specs.Entries.{entries_of}
 use Rattle.fjall_catalog.specs.Catalog.{HoldsEntries, IsTableOf, Says}
 use Rattle.fjall_catalog.specs.Catalog as catalog
-use Rattle.fjall_opening.specs.Folders.{Contents, IsSound, file_bytes}
-use Rattle.fjall_opening.specs.Homes.{HasLast, HaveHomes, records_text}
-use Rattle.fjall_opening.specs.Journals.{Journal, ReadsAs, AreRead, journal_text, text_in}
-use Rattle.fjall_places.specs.Halves.{HasRoot, HasTree, Tree}
+use Rattle.fjall_recovery.specs.Folders.{Contents, IsSound, file_bytes}
+use Rattle.fjall_recovery.specs.Homes.{HasLast, HaveHomes, records_text}
+use Rattle.fjall_recovery.specs.Journals.{Journal, ReadsAs, AreRead, journal_text, text_in}
+use Rattle.fjall_recovery.specs.Halves.{HasRoot, HasTree, Tree}
 
 abbrev pub tree_of : Contents → Tree
 tree_of c = record { last = c.last; keyspaces = c.keyspaces; homes = c.homes }

@@ -10,10 +10,10 @@ use Rattle.fjall_base.proofs.Wholes.{all_kept, all_kept_is_left}
 use Rattle.fjall_files.proofs.Changes.{settle-now}
 use Rattle.fjall_files.specs.declared.marker.Marker.TheVariants.{Whole, Unfinished}
 use Rattle.fjall_files.specs.Names.{journal_name}
-use Rattle.fjall_opening.specs.Folders.{Contents, IsSound, IsUnfinished}
-use Rattle.fjall_opening.specs.Journals.{Journal}
-use Rattle.fjall_places.specs.Amid.{ComesBackUnfinished, HoldsAmid, StandsAmid}
-use Rattle.fjall_places.proofs.Alike.{Alike, alike_sound, kept_alike, standing_amid}
+use Rattle.fjall_recovery.specs.Folders.{Contents, IsSound, IsUnfinished}
+use Rattle.fjall_recovery.specs.Journals.{Journal}
+use Rattle.fjall_recovery.specs.Amid.{ComesBackUnfinished, HoldsAmid, StandsAmid}
+use Rattle.fjall_recovery.proofs.Alike.{Alike, alike_sound, kept_alike, standing_amid}
 use Rattle.fjall_mending.specs.declared.plan.Plan.{Plan}
 use Rattle.fjall_mending.specs.Amids.{StaysAmid}
 use Rattle.fjall_mending.specs.Steps.{IsOpened, IsSame, active_of, with_active}

@@ -3,10 +3,10 @@ use Rattle.std.proofs.Common.{◌≡◌, List, [], ◌∷◌, length, Some, refl
 use Rattle.fjall_base.specs.Disk.{Name, State}
 use Rattle.fjall_tree.specs.Records.{last_of}
 use Rattle.fjall_files.specs.Names.{journal_name}
-use Rattle.fjall_opening.specs.declared.folder.Finished.{Finished}
-use Rattle.fjall_opening.specs.Folders.{Contents}
-use Rattle.fjall_opening.specs.Journals.{Journal, batches_in}
-use Rattle.fjall_places.specs.Places.{texts_of}
+use Rattle.fjall_recovery.specs.declared.folder.Finished.{Finished}
+use Rattle.fjall_recovery.specs.Folders.{Contents}
+use Rattle.fjall_recovery.specs.Journals.{Journal, batches_in}
+use Rattle.fjall_recovery.specs.Places.{texts_of}
 use Rattle.fjall_mending.specs.Mended.{IsMended}
 use Rattle.fjall_mending.specs.Steps.{IsRested, active_of, opened, with_active}
 use Rattle.fjall_mending.proofs.Opened.{ids_of, same_batches}

@@ -16,10 +16,10 @@ use Rattle.fjall_journal.proofs.Cuts.{none_at_nil}
 use Rattle.fjall_files.specs.Marker.{marker_tells}
 use Rattle.fjall_files.specs.Names.{journal_name, current_name, table_name}
 use Rattle.fjall_versions.specs.Replays.{store_in}
-use Rattle.fjall_opening.specs.Folders.{Contents, IsSound, StandsFor, store_of, file_bytes}
-use Rattle.fjall_opening.specs.Journals.{Journal, ReadsAs, AreJournalIds, batches_in, text_in}
-use Rattle.fjall_places.specs.Halves.{HasRoot}
-use Rattle.fjall_places.specs.Held.{Holds}
+use Rattle.fjall_recovery.specs.Folders.{Contents, IsSound, StandsFor, store_of, file_bytes}
+use Rattle.fjall_recovery.specs.Journals.{Journal, ReadsAs, AreJournalIds, batches_in, text_in}
+use Rattle.fjall_recovery.specs.Halves.{HasRoot}
+use Rattle.fjall_recovery.specs.Held.{Holds}
 use Rattle.fjall_mending.specs.Steps.{IsOpened, active_of, opened, with_active}
 use Rattle.fjall_mending.proofs.Naming.{same_or_not, folder_of-journal, journal_current, journal_table, journals_apart, marker_journal}
 use Rattle.fjall_mending.proofs.Halving.{no_folder, root_of, tree_in, tree_of, tree_along, sound_of}

@@ -22,10 +22,10 @@ use Rattle.fjall_versions.specs.Replays.{first_fault}
 use Rattle.fjall_catalog.specs.Catalog.{AreSafe, HoldsEntries, IsTableOf, Rests, fields, only}
 use Rattle.fjall_catalog.specs.Catalog as catalog
 use Rattle.fjall_catalog.proofs.Resting.{last_has, table_id}
-use Rattle.fjall_opening.specs.Folders.{Contents, IsSound, file_bytes}
-use Rattle.fjall_opening.specs.Homes.{HasLast, HaveHomes}
-use Rattle.fjall_opening.specs.Journals.{Journal, ReadsAs, AreRead, batches_in, journal_text, text_in}
-use Rattle.fjall_places.specs.Places.{HaveSafeHomes, IsNeverFile, Journaling, LiesInRoot, RestsInTree, journal_ids, journals_with, texts_of}
+use Rattle.fjall_recovery.specs.Folders.{Contents, IsSound, file_bytes}
+use Rattle.fjall_recovery.specs.Homes.{HasLast, HaveHomes}
+use Rattle.fjall_recovery.specs.Journals.{Journal, ReadsAs, AreRead, batches_in, journal_text, text_in}
+use Rattle.fjall_recovery.specs.Places.{HaveSafeHomes, IsNeverFile, Journaling, LiesInRoot, RestsInTree, journal_ids, journals_with, texts_of}
 use Rattle.fjall_mending.specs.Steps.{IsRested, IsSynced, active_of, sealed_of}
 use Rattle.fjall_mending.proofs.Naming.{folder_of-journal, folder_of-folder, folder_of-current, folder_of-table}
 use Rattle.fjall_mending.proofs.Halving.{same_text, tree_of}

@@ -16,11 +16,11 @@ use Rattle.fjall_catalog.specs.Catalog.{HoldsEntries, IsTableOf, fields}
 use Rattle.fjall_catalog.specs.Catalog as catalog
 use Rattle.fjall_catalog.proofs.Meanings.{last_one}
 use Rattle.fjall_catalog.proofs.Resting.{last_has, table_id}
-use Rattle.fjall_opening.specs.Folders.{Contents, IsSound, file_bytes}
-use Rattle.fjall_opening.specs.Homes.{HasLast, HaveHomes}
-use Rattle.fjall_opening.specs.Journals.{Journal, journal_text, text_in}
-use Rattle.fjall_places.proofs.Alike.{sound_by}
-use Rattle.fjall_places.proofs.Holding.{there_or_not}
+use Rattle.fjall_recovery.specs.Folders.{Contents, IsSound, file_bytes}
+use Rattle.fjall_recovery.specs.Homes.{HasLast, HaveHomes}
+use Rattle.fjall_recovery.specs.Journals.{Journal, journal_text, text_in}
+use Rattle.fjall_recovery.proofs.Alike.{sound_by}
+use Rattle.fjall_recovery.proofs.Holding.{there_or_not}
 use Rattle.fjall_mending.specs.Steps.{IsSynced, active_of, ended_names, folder_names, sealed_of, whole_names}
 use Rattle.fjall_mending.proofs.Naming.{folder_of-journal, folder_of-folder, folder_of-current, folder_of-table}
 use Rattle.fjall_mending.proofs.Halving.{same_text}

@@ -14,11 +14,11 @@ use Rattle.fjall_files.proofs.Distinct.{kept}
 use Rattle.fjall_files.proofs.Fitting.{fits_journal, folder_of-folder}
 use Rattle.fjall_files.proofs.Serving.{can_make_journal}
 use Rattle.fjall_meta.specs.declared.living.LivingKeyspace.{LivingKeyspace}
-use Rattle.fjall_opening.specs.declared.folder.Finished.{Finished}
-use Rattle.fjall_opening.specs.declared.homes.Home.{Home}
-use Rattle.fjall_opening.specs.Folders.{Contents, IsFinished, IsSound, file_bytes}
-use Rattle.fjall_opening.specs.Homes.{HaveHomes}
-use Rattle.fjall_opening.specs.Journals.{Journal, text_in}
+use Rattle.fjall_recovery.specs.declared.folder.Finished.{Finished}
+use Rattle.fjall_recovery.specs.declared.homes.Home.{Home}
+use Rattle.fjall_recovery.specs.Folders.{Contents, IsFinished, IsSound, file_bytes}
+use Rattle.fjall_recovery.specs.Homes.{HaveHomes}
+use Rattle.fjall_recovery.specs.Journals.{Journal, text_in}
 use Rattle.fjall_mending.specs.declared.plan.FileEnd.{FileEnd}
 use Rattle.fjall_mending.specs.declared.plan.Plan.{Plan}
 use Rattle.fjall_mending.specs.Mended.{IsMendingOf}

@@ -5,10 +5,10 @@ use Rattle.std.specs.List.{AllByRecursion}
 use Rattle.fjall_base.specs.declared.error.Error.{Error}
 use Rattle.fjall_base.specs.Disk.{Name, Meaning, State, standing, state_in}
 use Rattle.fjall_files.specs.Names.{journal_name, current_name, table_name}
-use Rattle.fjall_opening.specs.declared.folder.Finished.{Finished}
-use Rattle.fjall_opening.specs.declared.homes.Home.{Home}
-use Rattle.fjall_opening.specs.Folders.{Contents, IsFinished, Shows}
-use Rattle.fjall_places.specs.Held.{Holds}
+use Rattle.fjall_recovery.specs.declared.folder.Finished.{Finished}
+use Rattle.fjall_recovery.specs.declared.homes.Home.{Home}
+use Rattle.fjall_recovery.specs.Folders.{Contents, IsFinished, Shows}
+use Rattle.fjall_recovery.specs.Held.{Holds}
 use Rattle.fjall_mending.specs.declared.plan.FileEnd.{FileEnd}
 use Rattle.fjall_mending.specs.declared.plan.Plan.{Plan}
 use Rattle.fjall_mending.specs.Mended.{IsMended, IsMendingOf}

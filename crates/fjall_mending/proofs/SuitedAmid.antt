@@ -2,8 +2,8 @@
 use Rattle.std.proofs.Common.{◌≡◌, string_bytes, ◌∙◌, ap}
 use Rattle.fjall_base.specs.Disk.{Image, Meaning, State, standing, state_in}
 use Rattle.fjall_files.specs.Names.{journal_name}
-use Rattle.fjall_opening.specs.declared.folder.Finished.{Finished}
-use Rattle.fjall_opening.specs.Folders.{Contents, IsFinished, IsSound, Shows}
+use Rattle.fjall_recovery.specs.declared.folder.Finished.{Finished}
+use Rattle.fjall_recovery.specs.Folders.{Contents, IsFinished, IsSound, Shows}
 use Rattle.fjall_mending.specs.declared.plan.Plan.{Plan}
 use Rattle.fjall_mending.specs.Mended.{IsMended, IsMendingOf}
 use Rattle.fjall_mending.specs.Steps.{IsRested, Suits, active_of, with_active}

@@ -11,13 +11,13 @@ use Rattle.fjall_tree.proofs.Currents.{records_apart}
 use Rattle.fjall_files.specs.Names.{journal_name, current_name}
 use Rattle.fjall_meta.specs.Keyspaces.{Keyspaces}
 use Rattle.fjall_meta.specs.declared.living.LivingKeyspace.{LivingKeyspace}
-use Rattle.fjall_opening.specs.declared.folder.Finished.{Finished}
-use Rattle.fjall_opening.specs.declared.homes.Home.{Home}
-use Rattle.fjall_opening.specs.Folders.{Contents, IsFinished, IsSound, Shows}
-use Rattle.fjall_opening.specs.Homes.{AreHomesRead}
-use Rattle.fjall_opening.specs.Journals.{Journal, AreJournalIds, EndsAt, HoldsJournals, journal_text, tail_of, text_in}
-use Rattle.fjall_opening.proofs.Alone.{one_list_of_journals}
-use Rattle.fjall_places.specs.Places.{texts_of}
+use Rattle.fjall_recovery.specs.declared.folder.Finished.{Finished}
+use Rattle.fjall_recovery.specs.declared.homes.Home.{Home}
+use Rattle.fjall_recovery.specs.Folders.{Contents, IsFinished, IsSound, Shows}
+use Rattle.fjall_recovery.specs.Homes.{AreHomesRead}
+use Rattle.fjall_recovery.specs.Journals.{Journal, AreJournalIds, EndsAt, HoldsJournals, journal_text, tail_of, text_in}
+use Rattle.fjall_recovery.proofs.Alone.{one_list_of_journals}
+use Rattle.fjall_recovery.specs.Places.{texts_of}
 use Rattle.fjall_mending.specs.declared.plan.FileEnd.{FileEnd}
 use Rattle.fjall_mending.specs.declared.plan.Plan.{Plan}
 use Rattle.fjall_mending.specs.Steps.{End, IsOpened, IsPlanOf, IsRightEnd, IsTreeEnd, Suits, active_of, end_of, ended_names, folder_names, home_end, opened, whole_names, with_active}

@@ -11,11 +11,11 @@ use Rattle.fjall_meta.proofs.Rising.{Rises, from_pairs}
 use Rattle.fjall_files.specs.Names.{journal_name, current_name, table_name}
 use Rattle.fjall_catalog.proofs.Resting.{last_has}
 use Rattle.fjall_files.specs.Marker.{marker_tells}
-use Rattle.fjall_opening.specs.Folders.{Contents, IsSound, file_bytes}
-use Rattle.fjall_opening.specs.Homes.{HasLast}
-use Rattle.fjall_opening.specs.Journals.{Journal, ReadsAs, AreRead, journal_text, text_in}
-use Rattle.fjall_places.specs.Halves.{HasRoot}
-use Rattle.fjall_places.specs.Places.{texts_of}
+use Rattle.fjall_recovery.specs.Folders.{Contents, IsSound, file_bytes}
+use Rattle.fjall_recovery.specs.Homes.{HasLast}
+use Rattle.fjall_recovery.specs.Journals.{Journal, ReadsAs, AreRead, journal_text, text_in}
+use Rattle.fjall_recovery.specs.Halves.{HasRoot}
+use Rattle.fjall_recovery.specs.Places.{texts_of}
 use Rattle.fjall_mending.specs.Steps.{EndsBatches, EndsRecords, Stays}
 use Rattle.fjall_mending.proofs.Naming.{journal_current, journal_table, current_table, marker_journal, marker_current, journals_apart}
 use Rattle.fjall_mending.proofs.Halving.{file_is, no_folder, same_text, root_of, tree_in, sound_of, tree_of, root_along, tree_along, tree_with}

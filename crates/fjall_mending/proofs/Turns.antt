@@ -4,7 +4,7 @@ use Rattle.std.proofs.lemmas.List.Elements.{All-take}
 use Rattle.fjall_base.specs.Disk.{Name, LeavesOnly, Meaning, Place, State, standing, state_in}
 use Rattle.fjall_base.proofs.Moments.{at_end, runs_on, weaken}
 use Rattle.fjall_files.specs.Trims.{IsTrimmed, ended_place}
-use Rattle.fjall_opening.specs.Folders.{Contents}
+use Rattle.fjall_recovery.specs.Folders.{Contents}
 use Rattle.fjall_mending.specs.declared.plan.FileEnd.{FileEnd}
 use Rattle.fjall_mending.specs.Steps.{IsEnded, IsRightEnd, IsSynced, Stays, end_of}
 use Rattle.fjall_mending.proofs.Ending.{MayBeEnded, ended_here, ended_still, may_be_ended, moment_stays, synced_left}

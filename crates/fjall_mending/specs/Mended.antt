@@ -2,10 +2,10 @@
 use Rattle.std.specs.Prelude.{◌≡◌, List, [], length}
 use Rattle.fjall_base.specs.Disk.{Image, Name, State}
 use Rattle.fjall_tree.specs.Records.{Fields}
-use Rattle.fjall_opening.specs.declared.folder.Finished.{Finished}
-use Rattle.fjall_opening.specs.Folders.{Contents}
-use Rattle.fjall_opening.specs.Journals.{batches_in}
-use Rattle.fjall_places.specs.Places.{Journaling, LiesInRoot, RestsInTree, journals_with, texts_of}
+use Rattle.fjall_recovery.specs.declared.folder.Finished.{Finished}
+use Rattle.fjall_recovery.specs.Folders.{Contents}
+use Rattle.fjall_recovery.specs.Journals.{batches_in}
+use Rattle.fjall_recovery.specs.Places.{Journaling, LiesInRoot, RestsInTree, journals_with, texts_of}
 use Rattle.fjall_files.specs.Names.{journal_name}
 use Rattle.fjall_mending.specs.declared.plan.Plan.{Plan}
 use Rattle.fjall_mending.specs.Steps.{End, IsPlanOf, IsTreeEnd, opened}

@@ -4,11 +4,11 @@ use Rattle.std.specs.List.{AllByRecursion}
 use Rattle.fjall_base.specs.Disk.{Name, Entry, Missing, File, Place, State, Image, IsFile, IsImage, all_synced, folder_of}
 use Rattle.fjall_tree.specs.Records.{Fields, IsRecords, last_of}
 use Rattle.fjall_files.specs.Names.{journal_name, keyspace_folder, current_name}
-use Rattle.fjall_opening.specs.declared.folder.Finished.{Finished}
-use Rattle.fjall_opening.specs.declared.homes.Home.{Home}
-use Rattle.fjall_opening.specs.Folders.{Contents, IsSound}
-use Rattle.fjall_opening.specs.Journals.{Journal, text_in}
-use Rattle.fjall_places.specs.Places.{texts_of}
+use Rattle.fjall_recovery.specs.declared.folder.Finished.{Finished}
+use Rattle.fjall_recovery.specs.declared.homes.Home.{Home}
+use Rattle.fjall_recovery.specs.Folders.{Contents, IsSound}
+use Rattle.fjall_recovery.specs.Journals.{Journal, text_in}
+use Rattle.fjall_recovery.specs.Places.{texts_of}
 use Rattle.fjall_mending.specs.declared.plan.FileEnd.{FileEnd}
 use Rattle.fjall_mending.specs.declared.plan.Plan.{Plan}
 

@@ -5,16 +5,16 @@ ghost use Rattle.fjall_base.specs.Store.{Command, Store};
 ghost use Rattle.fjall_base.specs.Disk.{HasCause, Image, LeavesOnly, OnlyFaults, Took, standing, state_in};
 ghost use Rattle.fjall_files.specs.Names.{current_name, table_name};
 ghost use Rattle.fjall_files.specs.Tidy.{IsTidy, StaysTidy};
-ghost use Rattle.fjall_opening.specs.declared.folder.Finished.{Finished};
-ghost use Rattle.fjall_opening.specs.Folders.{Contents, IsFinished, IsSound, Shows, StandsFor, store_of};
-ghost use Rattle.fjall_places.specs.Amid.{HoldsAmid, StandsAmid};
-ghost use Rattle.fjall_places.specs.Held.{Holds};
+ghost use Rattle.fjall_recovery.specs.declared.folder.Finished.{Finished};
+ghost use Rattle.fjall_recovery.specs.Folders.{Contents, IsFinished, IsSound, Shows, StandsFor, store_of};
+ghost use Rattle.fjall_recovery.specs.Amid.{HoldsAmid, StandsAmid};
+ghost use Rattle.fjall_recovery.specs.Held.{Holds};
 ghost use Rattle.fjall_mending.specs.Mended.{IsMended, IsMendingOf};
 
 use crate::plan::{Plan, plan_of, read_tree_end};
 use crate::steps::carry_out;
 use fjall_base::{Disk, Result};
-use fjall_opening::Finished;
+use fjall_recovery::Finished;
 use std::alloc::Global;
 
 /// Finds out what is to be done to a folder that was read, and gets all memory for it. Nothing of the disk changes.

@@ -5,9 +5,9 @@ ghost use Rattle.fjall_base.specs.Store.{Command, Store};
 ghost use Rattle.fjall_base.specs.Disk.{Image, IsFile, IsImage, LeavesOnly, Name, OnlyFaults, Took, folder_of, standing, state_in, CanCreate, File, IsThere};
 ghost use Rattle.fjall_files.specs.Names.{journal_name};
 ghost use Rattle.fjall_files.specs.Tidy.{FitsAt, IsTidy, StaysTidy};
-ghost use Rattle.fjall_opening.specs.Folders.{Contents, IsSound, StandsFor, store_of};
-ghost use Rattle.fjall_places.specs.Amid.{HoldsAmid, StandsAmid};
-ghost use Rattle.fjall_places.specs.Held.{Holds};
+ghost use Rattle.fjall_recovery.specs.Folders.{Contents, IsSound, StandsFor, store_of};
+ghost use Rattle.fjall_recovery.specs.Amid.{HoldsAmid, StandsAmid};
+ghost use Rattle.fjall_recovery.specs.Held.{Holds};
 ghost use Rattle.fjall_mending.specs.Amids.{StaysAmid};
 ghost use Rattle.fjall_mending.specs.Steps.{IsEnded, IsOpened, IsRested, IsRightEnd, IsSame, IsSynced, Stays, Suits, active_of, end_of, with_active};
 

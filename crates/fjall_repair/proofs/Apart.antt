@@ -12,7 +12,7 @@ use Rattle.fjall_files.specs.Regions.{join, is_under}
 use Rattle.fjall_files.proofs.Under.{IsPlain, folder_of-join, join_name}
 use Rattle.fjall_files.specs.Names.{keyspace_folder, current_name, table_name}
 use Rattle.fjall_catalog.proofs.Naming.{tables_apart}
-use Rattle.fjall_places.proofs.Trees.{folder_of-home}
+use Rattle.fjall_recovery.proofs.Trees.{folder_of-home}
 
 abbrev file_of : ℕ → Name
 file_of n = decimal n ++ codes ".table"

@@ -5,9 +5,9 @@ use Rattle.std.proofs.lemmas.List.{map_more, length-map, get_or-map, take_all}
 use Rattle.std.proofs.lemmas.List.Elements.{All-head, All-tail}
 use Rattle.fjall_tree.specs.Records.{Fields, view}
 use Rattle.fjall_catalog.specs.Catalog.{fields}
-use Rattle.fjall_opening.specs.declared.folder.Finished.{Finished}
-use Rattle.fjall_opening.specs.declared.homes.Home.{Home}
-use Rattle.fjall_opening.specs.Folders.{past, past_record, past_records}
+use Rattle.fjall_recovery.specs.declared.folder.Finished.{Finished}
+use Rattle.fjall_recovery.specs.declared.homes.Home.{Home}
+use Rattle.fjall_recovery.specs.Folders.{past, past_record, past_records}
 use Rattle.fjall_repair.specs.Opened.{HasNumbers, records_of}
 
 max_assoc : (a b c : ℕ) → max a (max b c) ≡ max (max a b) c

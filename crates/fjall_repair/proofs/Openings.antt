@@ -15,24 +15,24 @@ use Rattle.fjall_versions.proofs.Replaying.{replay_makes_the_store}
 use Rattle.fjall_journal.specs.Writer.{Journal}
 use Rattle.fjall_files.specs.Names.{journal_name}
 use Rattle.fjall_versions.specs.Versions.{store_of as store_behind, versions_behind}
-use Rattle.fjall_places.specs.Places.{texts_of, contents_with}
+use Rattle.fjall_recovery.specs.Places.{texts_of, contents_with}
 use Rattle.fjall_versions.specs.Replays.{store_in, least_after}
 use Rattle.fjall_tree.specs.Records.{Fields, IsRecord, last_of}
 use Rattle.fjall_tree.specs.Records as records
 use Rattle.fjall_meta.specs.declared.living.LivingKeyspace.{LivingKeyspace}
 use Rattle.fjall_catalog.specs.Catalog.{fields}
 use Rattle.fjall_catalog.proofs.Resting.{last_has}
-use Rattle.fjall_opening.specs.Folders.{Contents, IsFinished, IsSound, IsUnfinished, Shows, StandsFor, number_of, past_record, past_records, store_of}
-use Rattle.fjall_opening.specs.declared.folder.Finished.{Finished}
-use Rattle.fjall_opening.specs.declared.homes.Home.{Home}
-use Rattle.fjall_opening.specs.Homes.{AreHomesRead}
-use Rattle.fjall_opening.specs.Refusals.{FolderRefuses, HasRisen, IsDue}
-use Rattle.fjall_opening.proofs.Alone.{one_contents}
+use Rattle.fjall_recovery.specs.Folders.{Contents, IsFinished, IsSound, IsUnfinished, Shows, StandsFor, number_of, past_record, past_records, store_of}
+use Rattle.fjall_recovery.specs.declared.folder.Finished.{Finished}
+use Rattle.fjall_recovery.specs.declared.homes.Home.{Home}
+use Rattle.fjall_recovery.specs.Homes.{AreHomesRead}
+use Rattle.fjall_recovery.specs.Refusals.{FolderRefuses, HasRisen, IsDue}
+use Rattle.fjall_recovery.proofs.Alone.{one_contents}
 use Rattle.fjall_journal.proofs.Writing.{took_none}
 use Rattle.fjall_files.specs.declared.marker.Marker.TheVariants.{Whole, Unfinished}
-use Rattle.fjall_opening.specs.Journals.{batches_in}
-use Rattle.fjall_places.specs.Held.{Holds, IsFolder, number_held, store_held}
-use Rattle.fjall_places.proofs.Holding.{folder_stands, tree_of}
+use Rattle.fjall_recovery.specs.Journals.{batches_in}
+use Rattle.fjall_recovery.specs.Held.{Holds, IsFolder, number_held, store_held}
+use Rattle.fjall_recovery.proofs.Holding.{folder_stands, tree_of}
 use Rattle.fjall_beginning.proofs.Beginning as Beginning
 use Rattle.fjall_repair.specs.declared.opened.Opened.{Opened}
 use Rattle.fjall_repair.specs.Sweeps.{IsSwept}

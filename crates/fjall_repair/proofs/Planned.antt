@@ -20,14 +20,14 @@ use Rattle.fjall_catalog.specs.Catalog.{IsFree}
 use Rattle.fjall_catalog.proofs.Naming.{folder_of-current}
 use Rattle.fjall_catalog.proofs.Resting.{last_record, table_id}
 use Rattle.fjall_catalog.proofs.Runs.{given}
-use Rattle.fjall_opening.proofs.Listed.{in_keyspaces}
-use Rattle.fjall_places.specs.Halves.{Tree}
-use Rattle.fjall_places.specs.Places.{LiesInTree, RestsInTree}
-use Rattle.fjall_places.proofs.Named.{under_within}
-use Rattle.fjall_places.proofs.Trees.{folder_of-home}
+use Rattle.fjall_recovery.proofs.Listed.{in_keyspaces}
+use Rattle.fjall_recovery.specs.Halves.{Tree}
+use Rattle.fjall_recovery.specs.Places.{LiesInTree, RestsInTree}
+use Rattle.fjall_recovery.proofs.Named.{under_within}
+use Rattle.fjall_recovery.proofs.Trees.{folder_of-home}
 use Rattle.fjall_repair.specs.declared.plan.Sweep.{Sweep}
 use Rattle.fjall_repair.specs.declared.plan.UnnamedHome.{UnnamedHome}
-use Rattle.fjall_opening.specs.Naming.{AreFolderIds}
+use Rattle.fjall_recovery.specs.Naming.{AreFolderIds}
 use Rattle.fjall_repair.specs.Sweeps.{AreGone, BringsNoTable, FindsAll, FindsTables, IsHomeFound, IsSwept, IsPlan, IsUnnamedHome, IsUnnamedTable, Lives, Removes, home_names, named_in, planned}
 use Rattle.fjall_repair.proofs.Apart as Apart
 use Rattle.fjall_repair.proofs.Removals as Removals

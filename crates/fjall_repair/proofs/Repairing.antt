@@ -14,12 +14,12 @@ use Rattle.fjall_base.specs.Store.{Store}
 use Rattle.fjall_meta.specs.Keyspaces.{Keyspaces}
 use Rattle.fjall_catalog.specs.declared.catalog.Catalog.{Catalog}
 use Rattle.fjall_versions.specs.Replays.{store_in}
-use Rattle.fjall_opening.specs.declared.folder.Finished.{Finished}
-use Rattle.fjall_opening.specs.Folders.{Contents, Shows, StandsFor, store_of}
-use Rattle.fjall_opening.specs.Journals.{batches_in}
-use Rattle.fjall_places.specs.Places.{Journaling, LiesInRoot, LiesInTree, RestsInTree, journals_with, texts_of}
-use Rattle.fjall_places.proofs.Holding.{tree_of}
-use Rattle.fjall_places.proofs.Roots.{batches_are}
+use Rattle.fjall_recovery.specs.declared.folder.Finished.{Finished}
+use Rattle.fjall_recovery.specs.Folders.{Contents, Shows, StandsFor, store_of}
+use Rattle.fjall_recovery.specs.Journals.{batches_in}
+use Rattle.fjall_recovery.specs.Places.{Journaling, LiesInRoot, LiesInTree, RestsInTree, journals_with, texts_of}
+use Rattle.fjall_recovery.proofs.Holding.{tree_of}
+use Rattle.fjall_recovery.proofs.Roots.{batches_are}
 use Rattle.fjall_repair.specs.declared.plan.Sweep.{Sweep}
 use Rattle.fjall_repair.specs.Opened.{IsRepaired}
 use Rattle.fjall_repair.specs.Sweeps.{FindsTables, IsPlan, Removes, named_in, planned}

@@ -9,13 +9,13 @@ use Rattle.fjall_files.proofs.Changes.{within_state}
 use Rattle.fjall_files.proofs.Parts.{region_run}
 use Rattle.fjall_tree.specs.Records.{Fields}
 use Rattle.fjall_files.specs.Names.{IsMisnamed, journal_name}
-use Rattle.fjall_opening.specs.Folders.{StandsFor, store_of}
-use Rattle.fjall_opening.specs.Journals.{Journal}
-use Rattle.fjall_places.specs.Halves.{Tree, is_of_keyspaces, is_of_root}
-use Rattle.fjall_places.specs.Places.{IsNeverFile, Journaling, LiesInRoot, RestsInTree, contents_with, journal_ids, texts_of}
-use Rattle.fjall_places.proofs.Named.{journal_within, keyspaces_not_misnamed, root_cases}
-use Rattle.fjall_places.proofs.Roots.{crashes_leave_the_root}
-use Rattle.fjall_places.proofs.Holding.{one_sound, some_sound}
+use Rattle.fjall_recovery.specs.Folders.{StandsFor, store_of}
+use Rattle.fjall_recovery.specs.Journals.{Journal}
+use Rattle.fjall_recovery.specs.Halves.{Tree, is_of_keyspaces, is_of_root}
+use Rattle.fjall_recovery.specs.Places.{IsNeverFile, Journaling, LiesInRoot, RestsInTree, contents_with, journal_ids, texts_of}
+use Rattle.fjall_recovery.proofs.Named.{journal_within, keyspaces_not_misnamed, root_cases}
+use Rattle.fjall_recovery.proofs.Roots.{crashes_leave_the_root}
+use Rattle.fjall_recovery.proofs.Holding.{one_sound, some_sound}
 use Rattle.fjall_repair.specs.Sweeps.{Removes, removals}
 use Rattle.fjall_repair.proofs.Removals as Removals
 use Rattle.fjall_repair.proofs.Spared.{IsSpare, moments}

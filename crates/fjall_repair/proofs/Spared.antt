@@ -9,9 +9,9 @@ use Rattle.fjall_files.specs.Names.{IsNameOf, keyspace_folder, current_name}
 use Rattle.fjall_meta.specs.declared.living.LivingKeyspace.{LivingKeyspace}
 use Rattle.fjall_catalog.proofs.Resting.{At, rests_along}
 use Rattle.fjall_catalog.proofs.Runs.{at_more}
-use Rattle.fjall_places.specs.Halves.{HasTree, Tree, is_of_keyspaces}
-use Rattle.fjall_places.specs.Places.{HaveSafeHomes, IsNeverFolder, RestsInTree}
-use Rattle.fjall_places.proofs.Trees.{crashes_leave_the_tree}
+use Rattle.fjall_recovery.specs.Halves.{HasTree, Tree, is_of_keyspaces}
+use Rattle.fjall_recovery.specs.Places.{HaveSafeHomes, IsNeverFolder, RestsInTree}
+use Rattle.fjall_recovery.proofs.Trees.{crashes_leave_the_tree}
 use Rattle.fjall_repair.specs.Sweeps.{Removes, removals}
 
 -- what holds at the folder and the records of a keyspace

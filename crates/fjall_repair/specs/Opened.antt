@@ -11,14 +11,14 @@ use Rattle.fjall_meta.specs.Keyspaces.{AreKeyspaces, Keyspaces, no_keyspaces}
 use Rattle.fjall_catalog.specs.declared.catalog.Catalog.{Catalog}
 use Rattle.fjall_catalog.specs.Catalog.{fields, first_catalog}
 use Rattle.fjall_versions.specs.Versions.{store_of as store_behind, versions_behind}
-use Rattle.fjall_opening.specs.declared.folder.Finished.{Finished}
+use Rattle.fjall_recovery.specs.declared.folder.Finished.{Finished}
 use Rattle.fjall_base.specs.Store.{Store}
-use Rattle.fjall_opening.specs.Folders.{Contents, StandsFor, number_of, store_of}
-use Rattle.fjall_opening.specs.Journals.{batches_in}
-use Rattle.fjall_opening.specs.Refusals.{FolderRefuses, IsDue}
-use Rattle.fjall_places.specs.Halves.{Tree}
-use Rattle.fjall_places.specs.Held.{IsFolder, number_held, store_held}
-use Rattle.fjall_places.specs.Places.{Journaling, LiesInRoot, LiesInTree, contents_with, journals_with, texts_of}
+use Rattle.fjall_recovery.specs.Folders.{Contents, StandsFor, number_of, store_of}
+use Rattle.fjall_recovery.specs.Journals.{batches_in}
+use Rattle.fjall_recovery.specs.Refusals.{FolderRefuses, IsDue}
+use Rattle.fjall_recovery.specs.Halves.{Tree}
+use Rattle.fjall_recovery.specs.Held.{IsFolder, number_held, store_held}
+use Rattle.fjall_recovery.specs.Places.{Journaling, LiesInRoot, LiesInTree, contents_with, journals_with, texts_of}
 use Rattle.fjall_beginning.specs.Making.{ComesBackUnfinished}
 use Rattle.fjall_repair.specs.declared.opened.Opened.{Opened}
 

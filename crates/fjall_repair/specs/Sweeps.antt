@@ -6,7 +6,7 @@ use Rattle.fjall_base.specs.Disk.{Name, Missing, Folder, State, Step, Put, Meani
 use Rattle.fjall_files.specs.Names.{keyspace_folder, table_name}
 use Rattle.fjall_meta.specs.declared.living.LivingKeyspace.{LivingKeyspace}
 use Rattle.fjall_catalog.specs.declared.catalog.Catalog.{Catalog}
-use Rattle.fjall_places.specs.Halves.{Tree}
+use Rattle.fjall_recovery.specs.Halves.{Tree}
 use Rattle.fjall_repair.specs.declared.plan.Sweep.{Sweep}
 use Rattle.fjall_repair.specs.declared.plan.UnnamedHome.{UnnamedHome}
 

@@ -2,8 +2,8 @@
 
 ghost use Rattle.std.specs.Prelude.{◌≡◌, [], Option};
 ghost use Rattle.fjall_base.specs.Disk.{Name, State, standing};
-ghost use Rattle.fjall_opening.specs.Folders.{Contents};
-ghost use Rattle.fjall_places.specs.Held.{IsFolder};
+ghost use Rattle.fjall_recovery.specs.Folders.{Contents};
+ghost use Rattle.fjall_recovery.specs.Held.{IsFolder};
 ghost use Rattle.fjall_repair.specs.Opened.{ComesBack};
 
 /// Where a crash brings nothing back, as on a disk that a crash left, nothing comes back but what stands.

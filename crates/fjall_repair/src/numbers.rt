@@ -3,12 +3,12 @@
 ghost use Rattle.std.specs.Prelude.{◌≡◌, ◌<◌, ◌^◌, All, IfErr, IfSome, OnOk, max};
 ghost use Rattle.fjall_base.specs.declared.error.Error.TheVariants.{Storage};
 ghost use Rattle.fjall_base.specs.declared.error.StorageError.TheVariants.{TableDamaged};
-ghost use Rattle.fjall_opening.specs.Folders.{past, past_records};
+ghost use Rattle.fjall_recovery.specs.Folders.{past, past_records};
 ghost use Rattle.fjall_repair.specs.Opened.{HasNumbers, records_of};
 
 use fjall_base::{Error, Result, StorageError};
 use fjall_meta::LivingKeyspace;
-use fjall_opening::Finished;
+use fjall_recovery::Finished;
 
 /// One past the number, and 0 where there is none.
 fn past(number: Option<u64>) -> u64

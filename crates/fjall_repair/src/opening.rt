@@ -8,10 +8,10 @@ ghost use Rattle.fjall_files.specs.Tidy.{IsTidy, StaysTidy};
 ghost use Rattle.fjall_meta.specs.Keyspaces.{no_keyspaces};
 ghost use Rattle.fjall_versions.specs.Replays.{bare};
 ghost use Rattle.fjall_versions.specs.Versions.{store_of as store_behind};
-ghost use Rattle.fjall_opening.specs.Folders.{Contents, IsFinished, IsUnfinished, Shows, StandsFor, number_of as number_in, store_of, IsSound};
-ghost use Rattle.fjall_opening.specs.Refusals.{AreOne, FolderRefuses, HasRisen, IsDue, IsOpeningRefusal};
-ghost use Rattle.fjall_places.specs.Held.{Holds, store_held, IsFolder};
-ghost use Rattle.fjall_places.specs.Amid.{HoldsAmid, StandsAmid};
+ghost use Rattle.fjall_recovery.specs.Folders.{Contents, IsFinished, IsUnfinished, Shows, StandsFor, number_of as number_in, store_of, IsSound};
+ghost use Rattle.fjall_recovery.specs.Refusals.{AreOne, FolderRefuses, HasRisen, IsDue, IsOpeningRefusal};
+ghost use Rattle.fjall_recovery.specs.Held.{Holds, store_held, IsFolder};
+ghost use Rattle.fjall_recovery.specs.Amid.{HoldsAmid, StandsAmid};
 ghost use Rattle.fjall_beginning.specs.Making.{ComesBackUnfinished};
 ghost use Rattle.fjall_repair.specs.Opened.{ComesBack, IsHeldUp, IsLawful, IsOpenedFrom, IsUnopened, Opens};
 ghost use Rattle.fjall_repair.specs.Sweeps.{IsSwept};
@@ -20,7 +20,7 @@ use crate::opened::Opened;
 use crate::ready::{ToBegin, ToMend, ready_to_begin, ready_to_mend};
 use crate::repair::{begin_and_sweep, mend_and_sweep};
 use fjall_base::{Disk, Result};
-use fjall_opening::{Finished, read_folder};
+use fjall_recovery::{Finished, read_folder};
 use std::alloc::Global;
 
 /// Opens a folder in which no database was made to its end.

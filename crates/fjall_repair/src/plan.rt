@@ -3,7 +3,7 @@
 ghost use Rattle.std.specs.List.{list_any};
 ghost use Rattle.std.specs.Prelude.{◌≡◌, ◌==◌, ◌↔◌, ◌⊎◌, ◌≢◌, ◌≤◌, ◌<◌, ◌^◌, ℕ, [], All, Contains, IfErr, IfOk, IsOkUnless, IsTrue, List, None, map, string_bytes};
 ghost use Rattle.fjall_base.specs.Disk.{Name, Took, folder_of, state_in};
-ghost use Rattle.fjall_opening.specs.Refusals.{HasRisen, IsDue};
+ghost use Rattle.fjall_recovery.specs.Refusals.{HasRisen, IsDue};
 ghost use Rattle.fjall_files.specs.Names.{keyspace_folder as folder_at};
 ghost use Rattle.fjall_repair.specs.Listing.{AreTables, as_file, other_tables};
 ghost use Rattle.fjall_repair.specs.Sweeps.{FindsAll, FindsHomes, FindsTables, FindsTablesOf, HasAll, IsHomeFound, IsPlan, IsUnnamedHome, IsUnnamedTable, Lives};

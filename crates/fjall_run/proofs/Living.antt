@@ -13,7 +13,7 @@ use Rattle.fjall_base.specs.Disk.{IsImage, Meaning, State, disk_of, state_in}
 use Rattle.fjall_base.specs.declared.error.Error.{Error}
 use Rattle.fjall_meta.specs.Keyspaces.{no_keyspaces}
 use Rattle.fjall_versions.specs.Replays.{bare}
-use Rattle.fjall_places.specs.Amid.{HoldsAmid}
+use Rattle.fjall_recovery.specs.Amid.{HoldsAmid}
 use Rattle.fjall_machine.specs.declared.call.Call.{Call}
 use Rattle.fjall_machine.specs.declared.call.Reply.{Reply}
 use Rattle.fjall_machine.specs.Machine.{present}

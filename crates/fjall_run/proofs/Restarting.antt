@@ -6,7 +6,7 @@ use Rattle.fjall_base.specs.declared.error.Error.{Error}
 use Rattle.fjall_base.specs.declared.error.Error.TheVariants.{OutOfMemory}
 use Rattle.fjall_meta.specs.Keyspaces.{no_keyspaces}
 use Rattle.fjall_versions.specs.Replays.{bare}
-use Rattle.fjall_opening.specs.Folders.{IsUnfinished}
+use Rattle.fjall_recovery.specs.Folders.{IsUnfinished}
 use Rattle.fjall_beginning.specs.Making.{IsKept}
 use Rattle.fjall_beginning.proofs.Standing.{kept_image, missing_stands, unfinished_of}
 use Rattle.fjall_beginning.proofs.Beginning.{settled_comes_back}

@@ -8,8 +8,8 @@ use Rattle.fjall_base.specs.declared.error.Error.{Error}
 use Rattle.fjall_base.specs.declared.error.Error.TheVariants.{Io, Locked, OutOfMemory}
 use Rattle.fjall_meta.specs.Keyspaces.{no_keyspaces}
 use Rattle.fjall_versions.specs.Replays.{bare}
-use Rattle.fjall_opening.specs.Refusals.{HasRisen}
-use Rattle.fjall_places.specs.Amid.{HoldsAmid}
+use Rattle.fjall_recovery.specs.Refusals.{HasRisen}
+use Rattle.fjall_recovery.specs.Amid.{HoldsAmid}
 use Rattle.fjall_machine.specs.declared.call.Call.{Call}
 use Rattle.fjall_machine.specs.declared.call.Reply.{Reply}
 use Rattle.fjall_core.specs.Holding.{Held}

@@ -5,8 +5,8 @@ use Rattle.fjall_base.specs.declared.error.FormatVersion.TheVariants.{V3}
 use Rattle.fjall_files.specs.Marker.{header}
 use Rattle.fjall_meta.specs.Keyspaces.{no_keyspaces}
 use Rattle.fjall_versions.specs.Replays.{bare}
-use Rattle.fjall_opening.specs.Folders.{StandsFor}
-use Rattle.fjall_opening.specs.Journals.{text_in}
+use Rattle.fjall_recovery.specs.Folders.{StandsFor}
+use Rattle.fjall_recovery.specs.Journals.{text_in}
 use Rattle.fjall_beginning.specs.Making.{CanHold}
 use Rattle.fjall_beginning.specs.Plans.{IsFound}
 use Rattle.fjall_beginning.proofs.Holding.{marker_holds}

@@ -1,6 +1,6 @@
 use Rattle.std.proofs.Common.{sym, subst}
 use Rattle.fjall_base.specs.Disk.{Lists, state_in}
-use Rattle.fjall_opening.proofs.Listed.{journal_ids_ok}
+use Rattle.fjall_recovery.proofs.Listed.{journal_ids_ok}
 use Rattle.fjall_beginning.proofs.plan.list_ids.Goals as goal
 
 pub returns-clause-ids : goal.returns-clause-ids

@@ -3,7 +3,7 @@ use Rattle.fjall_base.specs.Disk.{Meaning, state_in}
 use Rattle.fjall_files.proofs.Made.{within_both}
 use Rattle.fjall_files.specs.Names.{keyspace_folder}
 use Rattle.fjall_catalog.specs.Catalog.{fields}
-use Rattle.fjall_places.specs.Places.{LiesInTree}
+use Rattle.fjall_recovery.specs.Places.{LiesInTree}
 use Rattle.fjall_catalog.proofs.Serving.{kinds_on, safe_kind}
 use Rattle.fjall_changes.proofs.Changed as Changed
 use Rattle.fjall_files.proofs.Tidying.{stays_both}

@@ -2,7 +2,7 @@ use Rattle.std.proofs.Common.{codes, inl, refl, ◌∙◌}
 use Rattle.fjall_base.specs.Disk.{Meaning, state_in}
 use Rattle.fjall_base.proofs.Moments.{runs_on, weaken}
 use Rattle.fjall_files.proofs.Made.{within_both}
-use Rattle.fjall_places.specs.Halves.{HasTree}
+use Rattle.fjall_recovery.specs.Halves.{HasTree}
 use Rattle.fjall_changes.specs.Changes.{HasEither, with_home}
 use Rattle.fjall_changes.proofs.Apart.{within_keyspaces}
 use Rattle.fjall_changes.proofs.Nexts.{next_unused, with_housed}

@@ -1,7 +1,7 @@
 use Rattle.std.proofs.Common.{◌≡◌, ap, true}
 use Rattle.fjall_base.specs.Disk.{LeavesOnly, Name, state_in}
 use Rattle.fjall_journal.specs.Writer.{Journal}
-use Rattle.fjall_places.specs.Halves.{is_of_keyspaces}
+use Rattle.fjall_recovery.specs.Halves.{is_of_keyspaces}
 use Rattle.fjall_journaling.specs.Journaling.{IsWriting, LeavesRoot, after_persist}
 use Rattle.fjall_journaling.proofs.Leaving.{persist_leaves, failed_leaves, persist_out, persist_apart, failed_apart}
 use Rattle.fjall_journaling.proofs.Filed.{writing_file}

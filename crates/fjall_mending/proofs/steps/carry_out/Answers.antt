@@ -3,7 +3,7 @@ use Rattle.fjall_base.specs.Disk.{Meaning, standing, state_in, File, IsFile, Nam
 use Rattle.fjall_files.specs.Tidy.{FitsAt}
 use Rattle.fjall_files.proofs.Tidying.{stays_both}
 use Rattle.fjall_mending.specs.declared.plan.FileEnd.{FileEnd}
-use Rattle.fjall_places.specs.Amid.{StandsAmid}
+use Rattle.fjall_recovery.specs.Amid.{StandsAmid}
 use Rattle.fjall_mending.specs.Steps.{active_of, with_active, IsOpened}
 use Rattle.fjall_mending.proofs.Carrying.{ended_by, images_stay, prepared_by, rested_ok, right_by, settled_by, sound_then, then_images, then_stays}
 use Rattle.fjall_mending.proofs.Items.{all_to}

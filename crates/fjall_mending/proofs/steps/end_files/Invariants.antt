@@ -2,7 +2,7 @@ use Rattle.std.proofs.Common.{◌≡◌, ◌≢◌, ◌≤◌, List, All, take, 
 use Rattle.std.specs.Prelude.{IsTrue}
 use Rattle.fjall_base.specs.Store.{Command, Store}
 use Rattle.fjall_base.specs.Disk.{Image, IsImage, LeavesOnly, Name, standing, state_in}
-use Rattle.fjall_opening.specs.Folders.{Contents, IsSound}
+use Rattle.fjall_recovery.specs.Folders.{Contents, IsSound}
 use Rattle.fjall_mending.specs.Amids.{StaysAmid}
 use Rattle.fjall_files.specs.Tidy.{StaysTidy}
 use Rattle.fjall_mending.specs.declared.plan.FileEnd.{FileEnd}

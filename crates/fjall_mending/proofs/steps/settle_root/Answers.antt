@@ -1,7 +1,7 @@
 use Rattle.std.proofs.Common.{ap, inl, inr, subst, sym, [], refl, ◌∙◌}
 use Rattle.fjall_base.specs.Disk.{Meaning, State, standing, File}
 use Rattle.fjall_files.proofs.Tidying.{stays_both, stays_making, stays_none, stays_settling}
-use Rattle.fjall_opening.specs.Folders.{IsSound}
+use Rattle.fjall_recovery.specs.Folders.{IsSound}
 use Rattle.fjall_mending.proofs.Opened.{settle_moment, settle_sound, settle_opened, settle_settled, settle_elsewhere, still_stands}
 use Rattle.fjall_mending.proofs.Amidst.{settle_amid, settle_there, still_amid}
 use Rattle.fjall_mending.proofs.HeldAmid.{settle_stands}

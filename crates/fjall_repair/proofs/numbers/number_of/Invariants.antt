@@ -1,7 +1,7 @@
 use Rattle.std.proofs.Common.{◌≡◌, ◌∷◌, All, map, max, take}
 use Rattle.fjall_tree.specs.Records.{view}
 use Rattle.fjall_catalog.specs.Catalog.{fields}
-use Rattle.fjall_opening.specs.Folders.{past_records}
+use Rattle.fjall_recovery.specs.Folders.{past_records}
 use Rattle.fjall_repair.specs.Opened.{HasNumbers, records_of}
 use Rattle.fjall_repair.proofs.numbers.number_of.Given as goal
 

@@ -3,11 +3,11 @@ use Rattle.std.specs.Prelude.{IfOk}
 use Rattle.std.proofs.lemmas.Result.{err_from_is_err_and}
 use Rattle.fjall_base.specs.Disk.{Image, LeavesOnly, Meaning, State, standing, state_in}
 use Rattle.fjall_base.proofs.Moments.{stays}
-use Rattle.fjall_opening.specs.Folders.{Contents, IsFinished, ReadsFolder, StandsFor, IsSound}
-use Rattle.fjall_opening.proofs.Causes.{due_once}
-use Rattle.fjall_opening.proofs.Kept.{folder_is_kept}
-use Rattle.fjall_places.specs.Held.{Holds, store_held}
-use Rattle.fjall_places.proofs.Holding.{folder_stands}
+use Rattle.fjall_recovery.specs.Folders.{Contents, IsFinished, ReadsFolder, StandsFor, IsSound}
+use Rattle.fjall_recovery.proofs.Causes.{due_once}
+use Rattle.fjall_recovery.proofs.Kept.{folder_is_kept}
+use Rattle.fjall_recovery.specs.Held.{Holds, store_held}
+use Rattle.fjall_recovery.proofs.Holding.{folder_stands}
 use Rattle.fjall_beginning.specs.Making.{ComesBackUnfinished}
 use Rattle.fjall_repair.specs.Opened.{ComesBack, Opens}
 use Rattle.fjall_repair.proofs.Openings.{finished_is, held_up, holds_on, opened_from, run_on, stands_now, swept_on, unfinished_is, unopened}

@@ -16,7 +16,7 @@ use Rattle.fjall_repair.proofs.Openings.{held_early, holds_on, makes_store, open
 use Rattle.fjall_files.specs.Tidy.{IsTidy}
 use Rattle.fjall_files.proofs.Tidying.{stays_both, stays_none as tidy_none}
 use Rattle.fjall_repair.proofs.Amid.{amid_now, amid_on}
-use Rattle.fjall_opening.specs.Folders.{IsUnfinished}
+use Rattle.fjall_recovery.specs.Folders.{IsUnfinished}
 use Rattle.fjall_repair.proofs.opening.open_unfinished.Goals as goal
 
 pub returns-in_err-opened-clause-any_moment : goal.returns-in_err-opened-clause-any_moment

@@ -1,6 +1,6 @@
 use Rattle.std.proofs.Common.{sym, subst}
 use Rattle.fjall_base.specs.Disk.{Lists, state_in}
-use Rattle.fjall_opening.proofs.Listed.{folder_ids_ok}
+use Rattle.fjall_recovery.proofs.Listed.{folder_ids_ok}
 use Rattle.fjall_repair.proofs.ready.list_folders.Goals as goal
 
 pub returns-clause-ids : goal.returns-clause-ids

@@ -2,7 +2,7 @@ use Rattle.std.proofs.Common.{[], sym, subst}
 use Rattle.std.proofs.lemmas.Result.{err_from_is_err_and}
 use Rattle.fjall_base.specs.Disk.{Meaning, State, Took, standing}
 use Rattle.fjall_journal.proofs.Writing.{took_none}
-use Rattle.fjall_opening.specs.Naming.{JournalsAreNamed}
+use Rattle.fjall_recovery.specs.Naming.{JournalsAreNamed}
 use Rattle.fjall_repair.proofs.ready.ready_to_begin.Goals as goal
 
 pub returns-in_err-making-clause-due : goal.returns-in_err-making-clause-due

@@ -6,8 +6,8 @@ use Rattle.fjall_files.specs.Names.{journal_name, table_name}
 use Rattle.fjall_catalog.specs.Catalog.{fields, first_catalog}
 use Rattle.fjall_meta.specs.Keyspaces.{no_keyspaces}
 use Rattle.fjall_versions.specs.Replays.{bare}
-use Rattle.fjall_places.proofs.Holding.{tree_of}
-use Rattle.fjall_places.specs.Places.{LiesInTree}
+use Rattle.fjall_recovery.proofs.Holding.{tree_of}
+use Rattle.fjall_recovery.specs.Places.{LiesInTree}
 use Rattle.fjall_repair.specs.Opened.{IsRepaired, nothing}
 use Rattle.fjall_repair.specs.Sweeps.{planned}
 use Rattle.fjall_repair.proofs.Removals.{stays_missing}

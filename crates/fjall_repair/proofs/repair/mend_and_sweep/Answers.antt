@@ -3,10 +3,10 @@ use Rattle.std.specs.List.{Contains}
 use Rattle.fjall_base.specs.Disk.{Meaning, state_in, standing}
 use Rattle.fjall_base.proofs.Moments.{runs_on}
 use Rattle.std.specs.Prelude.{string_bytes}
-use Rattle.fjall_opening.specs.Folders.{store_of}
+use Rattle.fjall_recovery.specs.Folders.{store_of}
 use Rattle.fjall_files.specs.Names.{table_name}
-use Rattle.fjall_places.proofs.Holding.{tree_of}
-use Rattle.fjall_places.specs.Places.{LiesInTree}
+use Rattle.fjall_recovery.proofs.Holding.{tree_of}
+use Rattle.fjall_recovery.specs.Places.{LiesInTree}
 use Rattle.fjall_repair.specs.Opened.{IsRepaired}
 use Rattle.fjall_repair.specs.Sweeps.{planned}
 use Rattle.fjall_repair.proofs.Removals.{stays_missing}

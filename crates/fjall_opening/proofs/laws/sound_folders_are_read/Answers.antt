@@ -1,5 +1,0 @@
-use Rattle.fjall_opening.proofs.Kept as Kept
-use Rattle.fjall_opening.proofs.laws.sound_folders_are_read.Goals as goal
-
-pub returns : goal.returns
-returns c = Kept.folder_is_kept

@@ -1,5 +1,0 @@
-pub mod Naming
-pub mod Journals
-pub mod Homes
-pub mod Folders
-pub mod Refusals

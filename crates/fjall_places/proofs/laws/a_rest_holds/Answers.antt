@@ -1,5 +1,0 @@
-use Rattle.fjall_places.proofs.Holding as Holding
-use Rattle.fjall_places.proofs.laws.a_rest_holds.Goals as goal
-
-pub returns : goal.returns
-returns c = Holding.a_rest_holds

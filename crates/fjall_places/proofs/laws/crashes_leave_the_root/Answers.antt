@@ -1,5 +1,0 @@
-use Rattle.fjall_places.proofs.Roots as Roots
-use Rattle.fjall_places.proofs.laws.crashes_leave_the_root.Goals as goal
-
-pub returns : goal.returns
-returns c = Roots.crashes_leave_the_root

@@ -1,5 +1,0 @@
-use Rattle.fjall_places.proofs.Named as Named
-use Rattle.fjall_places.proofs.laws.journals_are_of_the_root.Goals as goal
-
-pub returns : goal.returns
-returns c = Named.journal_within

@@ -1,5 +1,0 @@
-use Rattle.fjall_places.proofs.Trees as Trees
-use Rattle.fjall_places.proofs.laws.trees_alike.Goals as goal
-
-pub returns : goal.returns
-returns c = Trees.trees_alike

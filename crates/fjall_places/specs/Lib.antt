@@ -1,4 +1,0 @@
-pub mod Halves
-pub mod Places
-pub mod Held
-pub mod Amid

@@ -1,0 +1,144 @@
+-- Images in which all that counts reads alike.
+use Rattle.std.proofs.Common.{◌≡◌, inl, inr, ℕ, ◌<◌, ◌^◌, List, [], ◌∷◌, ◌++◌, codes, map, Option, Some, None, refl, sym, ◌∙◌, ap, subst}
+use Rattle.std.proofs.lemmas.List.{append-nil}
+use Rattle.std.specs.Prelude.{◌↔◌}
+use Rattle.std.specs.List.{AllByRecursion}
+use Rattle.fjall_base.specs.Store.{Store, Command}
+use Rattle.fjall_base.specs.Disk.{Name, Entry, Missing, File, Folder, State, Image, IsFile, IsImage, all_synced, standing}
+use Rattle.fjall_base.specs.Crash.{IsHoused}
+use Rattle.fjall_base.proofs.Wholes.{all_kept, all_kept-is, all_kept_is_left}
+use Rattle.fjall_journal.specs.declared.batch.Tail.TheVariants.{Clean, Torn}
+use Rattle.fjall_journal.specs.Batches.{NoneAt}
+use Rattle.fjall_tree.specs.declared.record.TableInfo.{TableInfo}
+use Rattle.fjall_tree.specs.Records.{Fields, IsRecords}
+use Rattle.fjall_files.specs.Marker.{marker_tells}
+use Rattle.fjall_files.specs.Names.{journal_name, keyspace_folder, current_name, table_name}
+use Rattle.fjall_meta.specs.declared.entry.MetaEntry.{MetaEntry}
+use Rattle.fjall_meta.specs.declared.living.LivingKeyspace.{LivingKeyspace}
+use Rattle.fjall_meta.specs.Entries.{entries_of}
+use Rattle.fjall_catalog.specs.Catalog.{HoldsEntries, IsTableOf}
+use Rattle.fjall_catalog.specs.Catalog as catalog
+use Rattle.fjall_recovery.specs.Folders.{Contents, IsBegun, IsSound, IsUnfinished, StandsFor, file_bytes}
+use Rattle.fjall_recovery.specs.Homes.{HasLast, HaveHomes, records_text}
+use Rattle.fjall_recovery.specs.Journals.{Journal, ReadsAs, AreRead, journal_text, text_in}
+use Rattle.fjall_recovery.specs.Naming.{JournalsAreNamed, KeyspacesAreNamed}
+use Rattle.fjall_recovery.specs.Amid.{StandsAmid}
+
+-- ---- by what counts
+
+-- these journals read alike
+pub read_by : (image other : Image) (journals : List Journal) → AllByRecursion (λ (j : Journal). journal_text other j.id ≡ journal_text image j.id) journals → AreRead image journals → AreRead other journals
+read_by image other [] texts read = tt
+read_by image other (j ∷ []) texts read =
+    elim read [ inl clean ↦ inl (subst (λ t. ReadsAs t j.batches Clean) (sym texts.0) clean) | inr torn ↦ inr (subst (λ t. ReadsAs t j.batches Torn) (sym texts.0) torn) ]
+read_by image other (j ∷ k ∷ journals) texts read = (subst (λ t. ReadsAs t j.batches Clean) (sym texts.0) read.0, read_by image other (k ∷ journals) texts.1 read.1)
+
+-- An image is sound where its marker, its journals and its records are those of a sound one, and its table and its homes say the same.
+pub sound_by : (image other : Image) (c : Contents) → IsSound image c → file_bytes (other (codes "version")) ≡ file_bytes (image (codes "version")) → JournalsAreNamed other
+    → ((id : ℕ) → id < 2 ^ 64 → IsFile (other (journal_name id)) ↔ IsFile (image (journal_name id))) → AllByRecursion (λ (j : Journal). journal_text other j.id ≡ journal_text image j.id) c.journals
+    → KeyspacesAreNamed other → other (keyspace_folder 0) ≡ Folder → IsFile (other (current_name 0)) → catalog.records_in other ≡ catalog.records_in image
+    → HoldsEntries other c.last.table (entries_of c.keyspaces.living) → HaveHomes other c.keyspaces.living c.homes → IsSound other c
+sound_by image other c sound marker named files texts keyspaces folder file records entries homes = record {
+  marker = ap marker_tells marker ∙ sound.marker;
+  journals_named = named;
+  journals = record {
+    ids = record {
+      ascending = sound.journals.ids.ascending;
+      each = λ id. (
+        (λ has. let at = (sound.journals.ids.each id).0 has in (at.0, (files id at.0).1 at.1)),
+        (λ at. (sound.journals.ids.each id).1 (at.0, (files id at.0).0 at.1)),
+      );
+    };
+    read = read_by image other c.journals texts sound.journals.read;
+    sound = sound.journals.sound;
+  };
+  keyspaces_named = keyspaces;
+  folder = folder;
+  records = sound.records;
+  catalog = record {
+    file = file;
+    end = sound.catalog.end;
+    whole = subst (λ t. IsRecords t sound.records sound.catalog.end) (sym records) sound.catalog.whole;
+    last_is = sound.catalog.last_is;
+    entries = entries;
+    next = sound.catalog.next;
+    are = sound.catalog.are;
+  };
+  made = sound.made;
+  homes = homes;
+}
+
+-- ---- everywhere
+
+-- the two entries read alike
+pub record Alike (e d : Entry) : Type 0 where
+  pub bytes : file_bytes d ≡ file_bytes e
+  pub text : text_in d ≡ text_in e
+  pub counted : catalog.text_in d ≡ catalog.text_in e
+  pub file : IsFile e ↔ IsFile d
+  pub folder : (e ≡ Folder) ↔ (d ≡ Folder)
+
+-- an entry, and all its bytes synced
+pub alike_synced : (e : Entry) → Alike (all_synced e) e
+alike_synced Missing = record { bytes = refl; text = refl; counted = refl; file = ((λ f. f), (λ f. f)); folder = ((λ f. f), (λ f. f)) }
+alike_synced Folder = record { bytes = refl; text = refl; counted = refl; file = ((λ f. f), (λ f. f)); folder = ((λ f. f), (λ f. f)) }
+alike_synced (File synced unsynced) = record {
+  bytes = ap (λ l. Some l) (sym (append-nil (synced ++ unsynced)));
+  text = sym (append-nil (synced ++ unsynced));
+  counted = sym (append-nil (synced ++ unsynced));
+  file = ((λ f. f), (λ f. f));
+  folder = ((λ f. let no : ⊥ = cc in absurd no), (λ f. let no : ⊥ = cc in absurd no));
+}
+
+module _ (image other : Image) (alike : (q : Name) → Alike (image q) (other q)) where
+  texts_all : (journals : List Journal) → AllByRecursion (λ (j : Journal). journal_text other j.id ≡ journal_text image j.id) journals
+  texts_all [] = tt
+  texts_all (j ∷ journals) = ((alike (journal_name j.id)).text, texts_all journals)
+
+  entries_all : (table : Option TableInfo) (entries : List MetaEntry) → HoldsEntries image table entries → HoldsEntries other table entries
+  entries_all None entries none = none
+  entries_all (Some t) entries holds = record { file = (alike (table_name 0 t.id)).file.0 holds.file; is = subst (λ text. IsTableOf t text entries) (sym (alike (table_name 0 t.id)).counted) holds.is }
+
+  homes_all : (living : List LivingKeyspace) (homes : List Fields) → HaveHomes image living homes → HaveHomes other living homes
+  homes_all [] [] have = tt
+  homes_all [] (h ∷ homes) have = absurd have
+  homes_all (k ∷ living) [] have = absurd have
+  homes_all (k ∷ living) (h ∷ homes) have = (
+    record { folder = (alike (keyspace_folder k.id)).folder.0 have.0.folder; last_is = subst (λ text. HasLast text h) (sym (alike (current_name k.id)).text) have.0.last_is },
+    homes_all living homes have.1,
+  )
+
+  named_all : JournalsAreNamed image → JournalsAreNamed other
+  named_all named name in_root file = named name in_root ((alike name).file.1 file)
+
+  keyspaces_all : KeyspacesAreNamed image → KeyspacesAreNamed other
+  keyspaces_all named name inside folder = named name inside ((alike name).folder.1 folder)
+
+  pub alike_sound : (c : Contents) → IsSound image c → IsSound other c
+  alike_sound c sound = sound_by image other c sound (alike (codes "version")).bytes (named_all sound.journals_named) (λ id small. ((alike (journal_name id)).file.1, (alike (journal_name id)).file.0)) (texts_all c.journals)
+      (keyspaces_all sound.keyspaces_named) ((alike (keyspace_folder 0)).folder.0 sound.folder) ((alike (current_name 0)).file.0 sound.catalog.file) (alike (current_name 0)).counted
+      (entries_all c.last.table (entries_of c.keyspaces.living) sound.catalog.entries) (homes_all c.keyspaces.living c.homes sound.homes)
+
+  pub alike_unfinished : IsUnfinished image → IsUnfinished other
+  alike_unfinished begun = record {
+    marker = ap marker_tells (alike (codes "version")).bytes ∙ begun.marker;
+    journals_named = named_all begun.journals_named;
+    journals = λ id small. subst NoneAt (sym (alike (journal_name id)).text) (begun.journals id small);
+    keyspaces_named = keyspaces_all begun.keyspaces_named;
+    catalog = subst IsBegun (sym (alike (current_name 0)).counted) begun.catalog;
+  }
+
+  pub alike_stands : (store : Store) → StandsFor image store → StandsFor other store
+  alike_stands store (inl (c, sound, is)) = inl (c, alike_sound c sound, is)
+  alike_stands store (inr (begun, is)) = inr (alike_unfinished begun, is)
+
+-- ---- what stands
+
+pub kept_alike : (state : State) (q : Name) → Alike (all_kept state q) (standing state q)
+kept_alike state q = subst (λ (e : Entry). Alike e (state q).now) (sym (all_kept-is state q)) (alike_synced (state q).now)
+
+-- Where whatever a crash leaves stands for the base and a beginning of the commands, what stands does.
+pub standing_amid : (state : State) (base : Store) (least all : List Command) → IsHoused state → ((image : Image) → IsImage state image → StandsAmid base least all image) → StandsAmid base least all (standing state)
+standing_amid state base least all housed crash =
+    let whole = crash (all_kept state) (all_kept_is_left state housed) in
+    record { front = whole.front; holds = whole.holds; within = whole.within; stands = alike_stands (all_kept state) (standing state) (kept_alike state) _ whole.stands }

@@ -1,0 +1,132 @@
+-- An image holds one list of journals, and each keyspace's folder one last record.
+use Rattle.std.proofs.Common.{◌≡◌, ◌≢◌, ◌⊎◌, inl, inr, ⊎_elim, ℕ, zero, suc, ◌+◌, ◌<◌, List, [], ◌∷◌, ◌++◌, length, get_or, map, All, Option, None, Some, Result, Ok, refl, sym, ◌∙◌, ap, subst, arith}
+use Rattle.std.specs.Prelude.{◌↔◌, Contains}
+use Rattle.std.specs.List.Sorted.{IsStrictlyIncreasing}
+use Rattle.std.proofs.lemmas.List.Kept.{AllPairs-from_increasing}
+use Rattle.fjall_base.specs.declared.error.Error.{Error}
+use Rattle.fjall_base.specs.Store.{Store}
+use Rattle.fjall_base.specs.Disk.{Image}
+use Rattle.fjall_journal.specs.declared.batch.Tail.TheVariants.{Clean, Torn}
+use Rattle.fjall_journal.specs.Batches.{Written, IsWhole}
+use Rattle.fjall_journal.proofs.Wholes as Wholes
+use Rattle.fjall_tree.specs.Records.{Fields, last_of}
+use Rattle.fjall_tree.proofs.Currents as Currents
+use Rattle.fjall_meta.specs.Keyspaces.{Keyspaces}
+use Rattle.fjall_meta.specs.declared.living.LivingKeyspace.{LivingKeyspace}
+use Rattle.fjall_meta.proofs.Rising.{Rises, from_pairs}
+use Rattle.fjall_files.specs.declared.marker.Marker.{Marker}
+use Rattle.fjall_files.specs.declared.marker.Marker.TheVariants.{Whole, Unfinished}
+use Rattle.fjall_files.specs.Marker.{marker_tells}
+use Rattle.fjall_catalog.proofs.Meanings.{one_catalog}
+use Rattle.fjall_recovery.specs.Folders.{Contents, IsSound, StandsFor, marker_bytes, store_of}
+use Rattle.fjall_recovery.specs.Homes.{HasLast, HaveHomes}
+use Rattle.fjall_recovery.specs.Journals.{Journal, ReadsAs, AreRead, AreJournalIds, HoldsJournals, journal_text}
+
+-- ---- rising lists
+
+abbrev pub AreAlike : List ℕ → List ℕ → Type 0
+AreAlike xs ys = (n : ℕ) → Contains xs n ↔ Contains ys n
+
+first : (x : ℕ) (xs : List ℕ) → Contains (x ∷ xs) x
+first x xs = (0, omega arith, refl)
+
+behind : (x n : ℕ) (xs : List ℕ) → Contains xs n → Contains (x ∷ xs) n
+behind x n xs (k, lt, at) = (suc k, omega (arith, lt), at)
+
+cases : (x n : ℕ) (xs : List ℕ) → Contains (x ∷ xs) n → (x ≡ n) ⊎ Contains xs n
+cases x n xs (zero, lt, at) = inl at
+cases x n xs (suc k, lt, at) = inr (k, omega (arith, lt), at)
+
+above : (x n : ℕ) (xs : List ℕ) → All (λ y. x < y) xs → Contains xs n → x < n
+above x n xs all (k, lt, at) = subst (λ m. x < m) at (all k n lt)
+
+one_rising : (xs ys : List ℕ) → Rises (λ x y. x < y) xs → Rises (λ x y. x < y) ys → AreAlike xs ys → xs ≡ ys
+one_rising [] [] up down same = refl
+one_rising [] (y ∷ ys) up down same = let none : Contains [] y = (same y).1 (first y ys) in absurd (omega (arith, none.1))
+one_rising (x ∷ xs) [] up down same = let none : Contains [] x = (same x).0 (first x xs) in absurd (omega (arith, none.1))
+one_rising (x ∷ xs) (y ∷ ys) up down same =
+    let least : x ≡ y = ⊎_elim (λ e. sym e) (λ later. ⊎_elim (λ e. e) (λ other. let a = above y x ys down.0 later in let b = above x y xs up.0 other in absurd (omega (arith, a, b))) (cases x y xs ((same y).1 (first y ys)))) (cases y x ys ((same x).0 (first x xs))) in
+    let rest : AreAlike xs ys = λ n. (
+      (λ has. ⊎_elim (λ e. let lt = above x n xs up.0 has in absurd (omega (arith, lt, least, e))) (λ there. there) (cases y n ys ((same n).0 (behind x n xs has)))),
+      (λ has. ⊎_elim (λ e. let lt = above y n ys down.0 has in absurd (omega (arith, lt, least, e))) (λ there. there) (cases x n xs ((same n).1 (behind y n ys has)))),
+    ) in
+    ap (λ z. z ∷ xs) least ∙ ap (λ (l : List ℕ). y ∷ l) (one_rising xs ys up.1 down.1 rest)
+
+-- two ascending lists of the same numbers are one
+pub one_ascending : (xs ys : List ℕ) → IsStrictlyIncreasing xs → IsStrictlyIncreasing ys → AreAlike xs ys → xs ≡ ys
+one_ascending xs ys up down same = one_rising xs ys (from_pairs (λ x y. x < y) xs (AllPairs-from_increasing xs up)) (from_pairs (λ x y. x < y) ys (AllPairs-from_increasing ys down)) same
+
+pub one_list_of_ids : (image : Image) (ids others : List ℕ) → AreJournalIds image ids → AreJournalIds image others → ids ≡ others
+one_list_of_ids image ids others a b =
+    one_ascending ids others a.ascending b.ascending
+    (λ n. ((λ has. (b.each n).1 ((a.each n).0 has)), (λ has. (a.each n).1 ((b.each n).0 has))))
+
+-- ---- journals
+
+some_end : (image : Image) (j : Journal) (journals : List Journal) → AreRead image (j ∷ journals) → (end : ℕ) × IsWhole (journal_text image j.id) j.batches end
+some_end image j [] (inl clean) = (clean.end, clean.whole)
+some_end image j [] (inr torn) = (torn.end, torn.whole)
+some_end image j (k ∷ journals) read = (read.0.end, read.0.whole)
+
+rest_read : (image : Image) (j : Journal) (journals : List Journal) → AreRead image (j ∷ journals) → AreRead image journals
+rest_read image j [] read = tt
+rest_read image j (k ∷ journals) read = read.1
+
+same_journal : (j k : Journal) → j.id ≡ k.id → j.batches ≡ k.batches → j ≡ k
+same_journal j k ids batches = ap (λ i. let r : Journal = record { id = i; batches = j.batches } in r) ids ∙ ap (λ bs. let r : Journal = record { id = k.id; batches = bs } in r) batches
+
+one_reading : (image : Image) (journals others : List Journal) → map (λ (j : Journal). j.id) journals ≡ map (λ (j : Journal). j.id) others → AreRead image journals → AreRead image others → journals ≡ others
+one_reading image [] [] same a b = refl
+one_reading image [] (k ∷ others) same a b = let no : ⊥ = cc in absurd no
+one_reading image (j ∷ journals) [] same a b = let no : ⊥ = cc in absurd no
+one_reading image (j ∷ journals) (k ∷ others) same a b =
+    let ids : j.id ≡ k.id = cc in
+    let rest : map (λ (j : Journal). j.id) journals ≡ map (λ (j : Journal). j.id) others = cc in
+    let mine = some_end image j journals a in
+    let theirs = some_end image k others b in
+    let batches : j.batches ≡ k.batches = (Wholes.one_reading (journal_text image k.id) j.batches k.batches mine.0 theirs.0 (subst (λ i. IsWhole (journal_text image i) j.batches mine.0) ids mine.1) theirs.1).0 in
+    ap (λ (z : Journal). z ∷ journals) (same_journal j k ids batches) ∙ ap (λ (l : List Journal). k ∷ l) (one_reading image journals others rest (rest_read image j journals a) (rest_read image k others b))
+
+pub one_list_of_journals : (image : Image) (journals others : List Journal) → HoldsJournals image journals → HoldsJournals image others → journals ≡ others
+one_list_of_journals image journals others a b = one_reading image journals others (one_list_of_ids image _ _ a.ids b.ids) a.read b.read
+
+-- ---- keyspaces
+
+some_same : (a b : Fields) → Some a ≡ Some b → a ≡ b
+some_same a b e = cc
+
+pub one_last : (text : List ℕ) (a b : Fields) → HasLast text a → HasLast text b → a ≡ b
+one_last text a b x y = some_same a b (sym x.is ∙ ap last_of (Currents.one_reading text x.records y.records x.end y.end x.whole y.whole).0 ∙ y.is)
+
+pub one_list_of_homes : (image : Image) (living : List LivingKeyspace) (homes others : List Fields) → HaveHomes image living homes → HaveHomes image living others → homes ≡ others
+one_list_of_homes image [] [] [] a b = refl
+one_list_of_homes image [] [] (y ∷ others) a b = absurd b
+one_list_of_homes image [] (x ∷ homes) others a b = absurd a
+one_list_of_homes image (k ∷ living) [] others a b = absurd a
+one_list_of_homes image (k ∷ living) (x ∷ homes) [] a b = absurd b
+one_list_of_homes image (k ∷ living) (x ∷ homes) (y ∷ others) a b =
+    ap (λ z. z ∷ homes) (one_last _ x y a.0.last_is b.0.last_is) ∙ ap (λ (l : List Fields). y ∷ l) (one_list_of_homes image living homes others a.1 b.1)
+
+-- ---- the whole folder
+
+same_contents : (c d : Contents) → c.journals ≡ d.journals → c.keyspaces ≡ d.keyspaces → c.last ≡ d.last → c.homes ≡ d.homes → c ≡ d
+same_contents c d journals keyspaces last homes =
+    ap (λ x. let r : Contents = record { journals = x; keyspaces = c.keyspaces; last = c.last; homes = c.homes } in r) journals
+    ∙ ap (λ x. let r : Contents = record { journals = d.journals; keyspaces = x; last = c.last; homes = c.homes } in r) keyspaces
+    ∙ ap (λ x. let r : Contents = record { journals = d.journals; keyspaces = d.keyspaces; last = x; homes = c.homes } in r) last
+    ∙ ap (λ x. let r : Contents = record { journals = d.journals; keyspaces = d.keyspaces; last = d.last; homes = x } in r) homes
+
+pub one_contents : (image : Image) (c d : Contents) → IsSound image c → IsSound image d → c ≡ d
+one_contents image c d a b =
+    let catalog = one_catalog image a.records b.records c.last d.last c.keyspaces d.keyspaces a.catalog b.catalog in
+    let homes = one_list_of_homes image d.keyspaces.living c.homes d.homes (subst (λ (s : Keyspaces). HaveHomes image s.living c.homes) catalog.2 a.homes) b.homes in
+    same_contents c d (one_list_of_journals image c.journals d.journals a.journals b.journals) catalog.2 catalog.1 homes
+
+not_both : (told : Result Marker Error) → told ≡ Ok Whole → told ≡ Ok Unfinished → ⊥
+not_both told whole unfinished = let no = sym whole ∙ unfinished in cc
+
+pub one_store : (image : Image) (s t : Store) → StandsFor image s → StandsFor image t → s ≡ t
+one_store image s t (inl (c, sound, is)) (inl (d, other, at)) = is ∙ ap store_of (one_contents image c d sound other) ∙ sym at
+one_store image s t (inl (c, sound, is)) (inr (begun, at)) = absurd (not_both (marker_tells (marker_bytes image)) sound.marker begun.marker)
+one_store image s t (inr (begun, is)) (inl (c, sound, at)) = absurd (not_both (marker_tells (marker_bytes image)) sound.marker begun.marker)
+one_store image s t (inr (begun, is)) (inr (other, at)) = is ∙ sym at

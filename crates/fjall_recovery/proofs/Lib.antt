@@ -1,0 +1,17 @@
+pub mod Listed
+pub mod Gathering
+pub mod Homing
+pub mod Alone
+pub mod Finishing
+pub mod Beginnings
+pub mod Opened
+pub mod Kept
+pub mod Numbers
+pub mod Causes
+pub mod Named
+pub mod Seen
+pub mod Trees
+pub mod Roots
+pub mod Holding
+pub mod Alike
+pub mod Amidst

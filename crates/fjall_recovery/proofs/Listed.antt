@@ -1,0 +1,169 @@
+-- What the list of a folder tells of an image.
+use Rattle.std.proofs.Common.{◌≡◌, ◌≢◌, ◌⊎◌, inl, inr, ℕ, ◌<◌, ◌^◌, Bool, true, false, ◌||◌, ◌==◌, List, [], ◌∷◌, ◌++◌, length, get_or, codes, decimal, All, Any, Result, Ok, Err, refl, sym, ◌∙◌, ap, subst, arith, append_assoc}
+use Rattle.std.specs.Prelude.{Vec, IfOk, IfErr, OnOk, IsFalse, IsTrue, ◌↔◌, string_bytes}
+use Rattle.std.specs.List.{list_any, Contains}
+use Rattle.std.proofs.lemmas.List.{get_or_default}
+use Rattle.std.proofs.lemmas.List.Folds.{list_any-append, list_any_none}
+use Rattle.std.proofs.lemmas.Bool.{true≢false}
+use Rattle.std.proofs.lemmas.Bool.Decides.{nat_tests}
+use Rattle.std.proofs.lemmas.Fmt.{digits_decimal}
+use Rattle.std.specs.Str.Parse.{AllDigits, digits_value}
+use Rattle.std.proofs.lemmas.Str.Parse.{IsNumeralModel, numerals_by_value, tells_digits, not_in_digits}
+use Rattle.std.specs.declared.alloc.Global.{Global}
+use Rattle.fjall_base.specs.declared.error.Error.{Error}
+use Rattle.fjall_base.specs.declared.error.Error.TheVariants.{OutOfMemory}
+use Rattle.fjall_base.specs.declared.disk.DirEntry.{DirEntry}
+use Rattle.fjall_base.specs.Disk.{Name, Entry, Missing, File, Folder, State, Image, IsFile, Lists, IsListed, Tells, folder_of, standing}
+use Rattle.fjall_files.specs.Regions.{join}
+use Rattle.fjall_files.proofs.Under.{IsPlain, folder_of-join, folder_of-plain}
+use Rattle.fjall_files.specs.Names.{IsMisnamed, IsNameOf, journal_name, keyspace_folder}
+use Rattle.fjall_files.specs.Lists.{AreIds, IsJournal, IsKeyspace, IsMisnamedFile, IsStrayFolder}
+use Rattle.fjall_recovery.specs.Naming.{AreFolderIds, JournalsAreNamed, KeyspacesAreNamed}
+use Rattle.fjall_recovery.specs.Journals.{AreJournalIds}
+use Rattle.fjall_recovery.specs.Refusals.{IsDue}
+use Rattle.fjall_recovery.proofs.Gathering.{due}
+
+-- ---- names without a slash
+
+own : IsNumeralModel (AllDigits 10) (digits_value 10)
+own = numerals_by_value (AllDigits 10) tells_digits
+
+abbrev slash : ℕ → Bool
+slash b = b == 47
+
+plain_decimal : (n : ℕ) → n < 2 ^ 64 → list_any slash (decimal n) ≡ false
+plain_decimal n small = list_any_none slash (decimal n) (λ k d lt.
+    let other : get_or (decimal n) k 0 ≢ 47 = not_in_digits own (decimal n) 47 (digits_decimal own n small) (λ range. omega (arith, range)) k lt in
+    let same : get_or (decimal n) k d ≡ get_or (decimal n) k 0 = get_or_default (decimal n) k d 0 lt in
+    rw same (grind (arith, nat_tests)))
+
+-- journals stand in the root
+pub in_root : (id : ℕ) → id < 2 ^ 64 → folder_of (journal_name id) ≡ []
+in_root id small = folder_of-plain (journal_name id) (list_any-append slash (decimal id) (codes ".jnl") ∙ ap (λ (b : Bool). b || list_any slash (codes ".jnl")) (plain_decimal id small))
+
+-- the folders of keyspaces stand in `keyspaces`
+pub in_keyspaces : (id : ℕ) → id < 2 ^ 64 → folder_of (keyspace_folder id) ≡ codes "keyspaces"
+in_keyspaces id small = ap (λ (n : Name). folder_of n) (append_assoc (codes "keyspaces") (codes "/") (decimal id)) ∙ folder_of-join (codes "keyspaces") (decimal id) (plain_decimal id small)
+
+-- ---- entries of a list
+
+-- what an entry tells of the image
+pub listed_at : (state : State) (folder : Name) (listed : List DirEntry) (P : DirEntry → Type 0) → Lists state folder listed → Any P listed → (entry : DirEntry) × P entry × IsListed state folder entry
+listed_at state folder listed P lists (k, x, lt, at, is) = (x, is, subst (IsListed state folder) at (lists.each k x lt))
+
+file_told : (entry : Entry) (is_folder : Bool) → IsFalse is_folder → Tells entry is_folder → IsFile entry
+file_told Missing is_folder is told = absurd told
+file_told (File synced unsynced) is_folder is told = tt
+file_told Folder is_folder is told = absurd (true≢false (sym told ∙ is))
+
+folder_told : (entry : Entry) (is_folder : Bool) → IsTrue is_folder → Tells entry is_folder → entry ≡ Folder
+folder_told Missing is_folder is told = absurd told
+folder_told Folder is_folder is told = refl
+folder_told (File synced unsynced) is_folder is told = absurd (true≢false (sym is ∙ told))
+
+tells_file : (entry : Entry) (is_folder : Bool) → IsFile entry → Tells entry is_folder → IsFalse is_folder
+tells_file (File synced unsynced) is_folder file told = told
+tells_file Missing is_folder file told = absurd file
+tells_file Folder is_folder file told = absurd file
+
+tells_folder : (entry : Entry) (is_folder : Bool) → entry ≡ Folder → Tells entry is_folder → IsTrue is_folder
+tells_folder entry is_folder is told = subst (λ (e : Entry). Tells e is_folder) is told
+
+some_file : (entry : Entry) → IsFile entry → entry ≢ Missing
+some_file entry file is = subst IsFile is file
+
+some_folder : (entry : Entry) → entry ≡ Folder → entry ≢ Missing
+some_folder entry is none = let e : Folder ≡ Missing = sym is ∙ none in cc
+
+module _ (state : State) (folder : Name) (listed : List DirEntry) (lists : Lists state folder listed) where
+  -- the entry of the list that has this name, with what the list tells of it
+  at_name : (P : DirEntry → Type 0) (name : Name) → folder_of name ≡ folder → standing state name ≢ Missing
+      → ((entry : DirEntry) → string_bytes entry.name ≡ name → Tells (standing state name) entry.is_folder → P entry) → Any P listed
+  at_name P name inside some f =
+      let (k, x, lt, at, is) = lists.whole name inside some in
+      (k, x, lt, at, f x is (subst (λ (n : Name). Tells (standing state n) x.is_folder) is (subst (IsListed state folder) at (lists.each k x lt)).1))
+
+module _ (state : State) (listed : List DirEntry) (lists : Lists state [] listed) where
+  pub journal_ids : (ids : List ℕ) → AreIds IsJournal listed ids → AreJournalIds (standing state) ids
+  journal_ids ids are = record {
+    ascending = are.ascending;
+    each = λ id. (
+      (λ has.
+          let (entry, is, told) = listed_at state [] listed (λ e. IsJournal e id) lists ((are.each id).0 has) in
+          (is.1.0, subst (λ (n : Name). IsFile (standing state n)) is.1.1 (file_told (standing state (string_bytes entry.name)) entry.is_folder is.0 told.1))),
+      (λ stands. (are.each id).1
+          (at_name state [] listed lists (λ e. IsJournal e id) (journal_name id) (in_root id stands.0) (some_file (standing state (journal_name id)) stands.1)
+          (λ entry named told. (tells_file (standing state (journal_name id)) entry.is_folder stands.1 told, (stands.0, named))))),
+    );
+  }
+
+  pub journals_named : (Any IsMisnamedFile listed → ⊥) → JournalsAreNamed (standing state)
+  journals_named none name root file misnamed =
+      none (at_name state [] listed lists IsMisnamedFile name root (some_file (standing state name) file)
+      (λ entry named told. (tells_file (standing state name) entry.is_folder file told, subst IsMisnamed (sym named) misnamed)))
+
+  pub journals_misnamed : Any IsMisnamedFile listed → JournalsAreNamed (standing state) → ⊥
+  journals_misnamed some named =
+      let (entry, is, told) = listed_at state [] listed IsMisnamedFile lists some in
+      named (string_bytes entry.name) told.0 (file_told (standing state (string_bytes entry.name)) entry.is_folder is.0 told.1) is.1
+
+module _ (state : State) (listed : List DirEntry) (lists : Lists state (codes "keyspaces") listed) where
+  pub folder_ids : (ids : List ℕ) → AreIds IsKeyspace listed ids → AreFolderIds (standing state) ids
+  folder_ids ids are = record {
+    ascending = are.ascending;
+    each = λ id. (
+      (λ has.
+          let (entry, is, told) = listed_at state (codes "keyspaces") listed (λ e. IsKeyspace e id) lists ((are.each id).0 has) in
+          (is.1.0, subst (λ (n : Name). standing state n ≡ Folder) is.1.1 (folder_told (standing state (string_bytes entry.name)) entry.is_folder is.0 told.1))),
+      (λ stands. (are.each id).1
+          (at_name state (codes "keyspaces") listed lists (λ e. IsKeyspace e id) (keyspace_folder id) (in_keyspaces id stands.0) (some_folder (standing state (keyspace_folder id)) stands.1)
+          (λ entry named told. (tells_folder (standing state (keyspace_folder id)) entry.is_folder stands.1 told, (stands.0, named))))),
+    );
+  }
+
+  pub keyspaces_named : (Any IsStrayFolder listed → ⊥) → KeyspacesAreNamed (standing state)
+  keyspaces_named none name inside is stray =
+      none (at_name state (codes "keyspaces") listed lists IsStrayFolder name inside (some_folder (standing state name) is)
+      (λ entry named told. (tells_folder (standing state name) entry.is_folder is told, λ id of. stray id (subst (λ (n : Name). IsNameOf keyspace_folder n id) named of))))
+
+  pub keyspaces_misnamed : Any IsStrayFolder listed → KeyspacesAreNamed (standing state) → ⊥
+  keyspaces_misnamed some named =
+      let (entry, is, told) = listed_at state (codes "keyspaces") listed IsStrayFolder lists some in
+      named (string_bytes entry.name) told.0 (folder_told (standing state (string_bytes entry.name)) entry.is_folder is.0 told.1) is.1
+
+-- ---- over the answers
+
+pub journal_ids_ok : (state : State) (result : Result (Vec ℕ Global) Error) (listed : List DirEntry) → Lists state [] listed → IfOk result (λ ids. AreIds IsJournal listed ids.items) → IfOk result (λ ids. AreJournalIds (standing state) ids.items)
+journal_ids_ok state (Ok ids) listed lists are = journal_ids state listed lists ids.items are
+journal_ids_ok state (Err e) listed lists are = tt
+
+-- no error, where there is no cause for one
+unless : {X : Type 0} (result : Result X Error) (error : Error) (P : Type 0) → (P → result ≡ Err error) → OnOk result (P → ⊥)
+unless (Ok x) error P refused = λ some. let no : Ok x ≡ Err error = refused some in cc
+unless (Err e) error P refused = tt
+
+on_ok : {X : Type 0} (result : Result X Error) (P Q : Type 0) → (P → Q) → OnOk result P → OnOk result Q
+on_ok (Ok x) P Q f p = f p
+on_ok (Err e) P Q f p = tt
+
+pub journals_named_ok : {X : Type 0} (state : State) (result : Result X Error) (error : Error) (listed : List DirEntry) → Lists state [] listed → (Any IsMisnamedFile listed → result ≡ Err error) → OnOk result (JournalsAreNamed (standing state))
+journals_named_ok state result error listed lists refused = on_ok result (Any IsMisnamedFile listed → ⊥) (JournalsAreNamed (standing state)) (journals_named state listed lists) (unless result error (Any IsMisnamedFile listed) refused)
+
+pub journals_refused : {X : Type 0} (state : State) (result : Result X Error) (error : Error) (listed : List DirEntry) → Lists state [] listed → (result ≡ Err error → Any IsMisnamedFile listed)
+    → IfErr result (λ e. (e ≡ error) ⊎ (e ≡ OutOfMemory)) → IfErr result (IsDue (λ e. (e ≡ error) × (JournalsAreNamed (standing state) → ⊥)))
+journals_refused state (Ok x) error listed lists some only = tt
+journals_refused state (Err e) error listed lists some (inl is) = due (λ e. (e ≡ error) × (JournalsAreNamed (standing state) → ⊥)) e (is, journals_misnamed state listed lists (some (ap Err is)))
+journals_refused state (Err e) error listed lists some (inr memory) = subst (IsDue (λ e. (e ≡ error) × (JournalsAreNamed (standing state) → ⊥))) (sym memory) tt
+
+pub folder_ids_ok : (state : State) (result : Result (Vec ℕ Global) Error) (listed : List DirEntry) → Lists state (codes "keyspaces") listed → IfOk result (λ ids. AreIds IsKeyspace listed ids.items) → IfOk result (λ ids. AreFolderIds (standing state) ids.items)
+folder_ids_ok state (Ok ids) listed lists are = folder_ids state listed lists ids.items are
+folder_ids_ok state (Err e) listed lists are = tt
+
+pub keyspaces_named_ok : {X : Type 0} (state : State) (result : Result X Error) (error : Error) (listed : List DirEntry) → Lists state (codes "keyspaces") listed → (Any IsStrayFolder listed → result ≡ Err error) → OnOk result (KeyspacesAreNamed (standing state))
+keyspaces_named_ok state result error listed lists refused = on_ok result (Any IsStrayFolder listed → ⊥) (KeyspacesAreNamed (standing state)) (keyspaces_named state listed lists) (unless result error (Any IsStrayFolder listed) refused)
+
+pub keyspaces_refused : {X : Type 0} (state : State) (result : Result X Error) (error : Error) (listed : List DirEntry) → Lists state (codes "keyspaces") listed → (result ≡ Err error → Any IsStrayFolder listed)
+    → IfErr result (λ e. (e ≡ error) ⊎ (e ≡ OutOfMemory)) → IfErr result (IsDue (λ e. (e ≡ error) × (KeyspacesAreNamed (standing state) → ⊥)))
+keyspaces_refused state (Ok x) error listed lists some only = tt
+keyspaces_refused state (Err e) error listed lists some (inl is) = due (λ e. (e ≡ error) × (KeyspacesAreNamed (standing state) → ⊥)) e (is, keyspaces_misnamed state listed lists (some (ap Err is)))
+keyspaces_refused state (Err e) error listed lists some (inr memory) = subst (IsDue (λ e. (e ≡ error) × (KeyspacesAreNamed (standing state) → ⊥))) (sym memory) tt

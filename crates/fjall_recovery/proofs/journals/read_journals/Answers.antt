@@ -1,0 +1,39 @@
+use Rattle.std.proofs.Common.{◌∙◌, true, refl, sym, ap, subst}
+use Rattle.std.proofs.lemmas.Result.{err_from_is_err_and}
+use Rattle.fjall_base.specs.Disk.{standing, state_in}
+use Rattle.fjall_recovery.specs.Refusals.{TailRefuses}
+use Rattle.fjall_recovery.proofs.Gathering.{front_refuses, active_batch, active_tail, last_found}
+use Rattle.fjall_recovery.proofs.journals.read_journals.Goals as goal
+
+pub returns-in_err-journals-clause-cause : goal.returns-in_err-journals-clause-cause
+returns-in_err-journals-clause-cause g c honest =
+    let p = err_from_is_err_and c.from_residual.result c.from_residual.ensures.1 in
+    let image = standing (state_in (g.D.Disk.meaning c.args.disk.now)) in
+    rw (p.1, p.2) (front_refuses image image c.args.ids.now c.in-len1-up.len_at_least refl c.in_err-journals.field-0.0 (c.in_err-journals.ensures.cause honest _))
+
+pub returns-in_err-tail-clause-cause : goal.returns-in_err-tail-clause-cause
+returns-in_err-tail-clause-cause g c honest =
+    let p = err_from_is_err_and c.from_residual-in_err-tail.result c.from_residual-in_err-tail.ensures.1 in
+    let image = standing (state_in (g.D.Disk.meaning c.args.disk.now)) in
+    let same = ap standing (c.in_ok-journals.ensures.same honest).state in
+    rw (p.1, p.2)
+    (active_batch image _ c.args.ids.now c.in-len1-up.len_at_least same c.in_ok-journals.journals.least _ _ _ c.in_err-tail.field-0.0 (c.in_ok-contents.ensures.found honest)
+    (c.in_ok-journals.ensures.behind honest _ c.in_err-tail.field-0.0) c.in_err-tail.ensures.cause)
+
+pub returns-in_err-journals-2-clause-cause : goal.returns-in_err-journals-2-clause-cause
+returns-in_err-journals-2-clause-cause g c honest =
+    let p = err_from_is_err_and c.from_residual-in_err-journals-2.result c.from_residual-in_err-journals-2.ensures.1 in
+    let image = standing (state_in (g.D.Disk.meaning c.args.disk.now)) in
+    let same = ap standing (c.in_ok-journals.ensures.same honest).state in
+    let error = c.in_err-journals-2.field-0.0 in
+    rw (p.1, p.2)
+    (active_tail image _ c.args.ids.now c.in-len1-up.len_at_least same c.in_ok-journals.journals.least _ _ _ error (c.in_ok-contents.ensures.found honest)
+    (c.in_ok-journals.ensures.behind honest _ error) c.in_ok-tail.ensures.sound (subst (λ t. TailRefuses true t error) c.in_ok-tail.ensures.tail c.in_err-journals-2.ensures.cause))
+
+pub returns-clause-found : goal.returns-clause-found
+returns-clause-found g c honest =
+    let image = standing (state_in (g.D.Disk.meaning c.args.disk.now)) in
+    let same = ap standing (c.in_ok-journals.ensures.same honest).state in
+    let taken = c.in_ok-tail.ensures in
+    last_found image _ c.args.ids.now c.in-len1-up.len_at_least same _ _ _ _ _ _ _ _ _ taken.end (c.in_ok-journals.ensures.found honest) (c.in_ok-contents.ensures.found honest) (sym taken.tail ∙ c.in_ok-journals-2.ensures.ok) taken.batches taken.sound
+    taken.least

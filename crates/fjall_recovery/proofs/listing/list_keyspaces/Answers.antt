@@ -1,0 +1,19 @@
+use Rattle.std.proofs.Common.{sym, subst}
+use Rattle.fjall_base.specs.Disk.{Lists, state_in}
+use Rattle.fjall_recovery.proofs.Listed.{folder_ids_ok, keyspaces_named_ok, keyspaces_refused}
+use Rattle.fjall_recovery.proofs.listing.list_keyspaces.Goals as goal
+
+pub returns-clause-ids : goal.returns-clause-ids
+returns-clause-ids g c honest =
+    let state = state_in (g.D.Disk.meaning c.args.disk.now) in
+    folder_ids_ok state c.keyspaces.result _ (subst (Lists state _) (sym c.deref.ensures.value) (c.in_ok-listed.ensures.found honest)) c.keyspaces.ensures.ids
+
+pub returns-clause-named : goal.returns-clause-named
+returns-clause-named g c honest =
+    let state = state_in (g.D.Disk.meaning c.args.disk.now) in
+    keyspaces_named_ok state c.keyspaces.result _ _ (subst (Lists state _) (sym c.deref.ensures.value) (c.in_ok-listed.ensures.found honest)) c.keyspaces.ensures.refused.1
+
+pub returns-clause-cause : goal.returns-clause-cause
+returns-clause-cause g c honest =
+    let state = state_in (g.D.Disk.meaning c.args.disk.now) in
+    keyspaces_refused state c.keyspaces.result _ _ (subst (Lists state _) (sym c.deref.ensures.value) (c.in_ok-listed.ensures.found honest)) c.keyspaces.ensures.refused.0 c.keyspaces.ensures.only

@@ -1,0 +1,9 @@
+pub mod Naming
+pub mod Journals
+pub mod Homes
+pub mod Folders
+pub mod Refusals
+pub mod Halves
+pub mod Places
+pub mod Held
+pub mod Amid

@@ -1,0 +1,103 @@
+-- Where everything of a database lies on a disk, exactly.
+use Rattle.std.specs.Prelude.{◌≡◌, ℕ, ◌<◌, ◌^◌, ◌==◌, if◌then◌else◌, List, [], ◌∷◌, ◌++◌, map, take, codes, All, Contains, Some, None, Ok}
+use Rattle.std.specs.List.{flat_map, AllByRecursion}
+use Rattle.std.specs.List.Sorted.{IsStrictlyIncreasing}
+use Rattle.fjall_base.specs.Disk.{Name, Place, State, File, Folder, IsNoFile, IsNoFolder, folder_of}
+use Rattle.fjall_files.specs.Regions.{IsSafe}
+use Rattle.fjall_journal.specs.Batches.{Written, IsWritten, batch_text, shown}
+use Rattle.fjall_tree.specs.Records.{Fields}
+use Rattle.fjall_files.specs.declared.marker.Marker.TheVariants.{Whole}
+use Rattle.fjall_files.specs.Marker.{marker_tells}
+use Rattle.fjall_files.specs.Names.{IsMisnamed, IsNameOf, journal_name, keyspace_folder, current_name}
+use Rattle.fjall_meta.specs.declared.living.LivingKeyspace.{LivingKeyspace}
+use Rattle.fjall_catalog.specs.Catalog.{Rests, IsFree, only}
+use Rattle.fjall_versions.specs.Replays.{first_fault}
+use Rattle.fjall_recovery.specs.Folders.{AreMade, Contents}
+use Rattle.fjall_recovery.specs.Homes.{HasLast}
+use Rattle.fjall_recovery.specs.Journals.{Journal, batches_in}
+use Rattle.fjall_recovery.specs.Halves.{Tree}
+
+-- ---- the root
+
+-- no file stands there, and no crash brings one back
+abbrev pub IsNeverFile : Place → Type 0
+IsNeverFile place = AllByRecursion IsNoFile (place.now ∷ place.older)
+
+-- the same of folders
+abbrev pub IsNeverFolder : Place → Type 0
+IsNeverFolder place = AllByRecursion IsNoFolder (place.now ∷ place.older)
+
+-- the texts of batches, one after another
+abbrev pub texts_of : List Written → List ℕ
+texts_of batches = flat_map batch_text batches
+
+-- The journals of a database: the sealed ones; the active one's id, its synced batches, and the batches behind them, of
+-- whose texts the first so many bytes stand in its file.
+pub record Journaling : Type 0 where
+  pub sealed : List Journal
+  pub active : ℕ
+  pub whole : List Written
+  pub later : List Written
+  pub cut : ℕ
+
+-- the journals, the active one with these batches behind its synced ones
+abbrev pub journals_with : Journaling → List Written → List Journal
+journals_with j behind = j.sealed ++ record { id = j.active; batches = j.whole ++ behind } ∷ []
+
+abbrev pub journal_ids : Journaling → List ℕ
+journal_ids j = map (λ journal. journal.id) (journals_with j [])
+
+-- The root's files lie so: the marker and the sealed journals are safe, the active journal's name is, and its file has
+-- the synced batches' texts and behind them, unsynced, a beginning of the later ones'. None of the batches has a fault.
+-- No other journal is there, and no file is named nearly like one.
+pub record LiesInRoot (state : State) (j : Journaling) : Type 0 where
+  pub marker_text : List ℕ
+  pub marker : IsSafe state (codes "version") marker_text
+  pub marker_is : marker_tells (Some marker_text) ≡ Ok Whole
+  pub named : (name : Name) → folder_of name ≡ [] → IsMisnamed name → IsNeverFile (state name)
+  pub ascending : IsStrictlyIncreasing (journal_ids j)
+  pub fit : All (λ id. id < 2 ^ 64) (journal_ids j)
+  pub others : (id : ℕ) → id < 2 ^ 64 → (Contains (journal_ids j) id → ⊥) → IsNeverFile (state (journal_name id))
+  pub sealed : AllByRecursion (λ journal. IsSafe state (journal_name journal.id) (texts_of journal.batches)) j.sealed
+  pub active : state (journal_name j.active) ≡ record { now = File (texts_of j.whole) (take j.cut (texts_of j.later)); older = [] }
+  pub written : AllByRecursion IsWritten (batches_in (journals_with j j.later))
+  pub sound : first_fault 0 (map shown (batches_in (journals_with j j.later))) ≡ None
+
+-- ---- the keyspaces
+
+-- the folder of a keyspace and its records are safe, and this is the last record
+pub record HasSafeHome (state : State) (id : ℕ) (last : Fields) : Type 0 where
+  pub folder : state (keyspace_folder id) ≡ only Folder
+  pub text : List ℕ
+  pub current : IsSafe state (current_name id) text
+  pub last_is : HasLast text last
+
+-- one after another
+abbrev pub HaveSafeHomes : State → List LivingKeyspace → List Fields → Type 0
+HaveSafeHomes state [] [] = Unit {0}
+HaveSafeHomes state (k ∷ living) (last ∷ homes) = HasSafeHome state k.id last × HaveSafeHomes state living homes
+HaveSafeHomes state living homes = ⊥
+
+-- The keyspaces' files rest so: tree 0's catalog and each living keyspace's folder and records are safe, and no folder in
+-- `keyspaces` is named but by an id.
+pub record RestsInTree (state : State) (records : List Fields) (t : Tree) : Type 0 where
+  pub named : (name : Name) → folder_of name ≡ codes "keyspaces" → ((id : ℕ) → IsNameOf keyspace_folder name id → ⊥) → IsNeverFolder (state name)
+  pub catalog : Rests state records t.last t.keyspaces
+  pub made : AreMade t.last t.keyspaces
+  pub homes : HaveSafeHomes state t.keyspaces.living t.homes
+
+-- The same, and tree 0 is ready for a change: no table stands under an id that is still to be given out.
+pub record LiesInTree (state : State) (records : List Fields) (t : Tree) : Type 0 where
+  pub rests : RestsInTree state records t
+  pub free : IsFree state t.last.next_table_id
+
+-- ---- both
+
+-- what the folder holds where the active journal has these batches behind its synced ones
+abbrev pub contents_with : Journaling → Tree → List Written → Contents
+contents_with j t behind = record { journals = journals_with j behind; keyspaces = t.keyspaces; last = t.last; homes = t.homes }
+
+-- the homes of the keyspaces but that of this id
+abbrev pub homes_without : ℕ → List LivingKeyspace → List Fields → List Fields
+homes_without id (k ∷ living) (last ∷ homes) = if k.id == id then homes_without id living homes else last ∷ homes_without id living homes
+homes_without id living homes = []

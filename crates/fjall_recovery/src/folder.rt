@@ -1,0 +1,178 @@
+//! A folder, read whole.
+
+ghost use Rattle.std.specs.Prelude.{◌≡◌, ◌<◌, ◌≤◌, ◌↔◌, [], ◌^◌, map, All, IsTrue, IfErr, IfOk, OnOk, List, Ok, Err};
+ghost use Rattle.fjall_base.specs.Disk.{Folder, Image, Took, standing, state_in};
+ghost use Rattle.fjall_base.specs.Store.{Store};
+ghost use Rattle.fjall_files.specs.Marker.{marker_tells};
+ghost use Rattle.fjall_files.specs.Names.{keyspace_folder};
+ghost use Rattle.fjall_tree.specs.Records.{Fields, view};
+ghost use Rattle.fjall_meta.specs.Keyspaces.{Keyspaces};
+ghost use Rattle.fjall_catalog.specs.declared.catalog.Catalog.{Catalog};
+ghost use Rattle.fjall_catalog.specs.Catalog.{Says, fields};
+ghost use Rattle.fjall_recovery.specs.Folders.{AreMade, Contents, IsFinished, IsSound, ReadsFolder, Shows, StandsFor, marker_bytes, number_of, past, past_record, past_records};
+ghost use Rattle.fjall_recovery.specs.Journals.{AreJournalIds};
+ghost use Rattle.fjall_recovery.specs.Naming.{AreFolderIds};
+ghost use Rattle.fjall_recovery.specs.Refusals.{FinishedRefuses, FolderRefuses, HasRisen, IsDue, IsOpeningRefusal, TreeRefuses};
+
+use crate::homes::{Home, read_homes};
+use crate::journals::{Journals, read_journals};
+use crate::listing::{list_journals, list_keyspaces};
+use crate::unfinished::check_unfinished;
+use fjall_base::{Disk, Error, Result, StorageError};
+use fjall_catalog::{Catalog, Found, read_catalog};
+use fjall_meta::LivingKeyspace;
+use fjall_files::{Marker, read_marker};
+use std::alloc::Global;
+
+/// What a folder holds that was made to its end.
+#[derive(Debug, Drop)]
+pub struct Finished {
+    /// The ids of the journals, ascending.
+    pub journal_ids: Vec<u64>,
+    pub journals: Journals,
+    /// The ids of the keyspaces that have a folder, ascending; 0 is that of tree 0.
+    pub folder_ids: Vec<u64>,
+    /// What tree 0 says.
+    pub catalog: Found,
+    /// The records of the keyspaces that live, by id ascending.
+    pub homes: Vec<Home>,
+}
+
+/// One past the number, and 0 where there is none.
+fn past(number: Option<u64>) -> u64
+    ensures { past number < 2 ^ 64 → result ≡ past number }
+{
+    match number {
+        Some(number) => number.saturating_add(1),
+        None => 0,
+    }
+}
+
+/// The greatest number that these records tell.
+fn greatest(homes: &[Home]) -> Option<u64>
+    ensures { past result ≡ past_records (map (λ home. view home.record) homes.now) }
+{
+    let mut greatest = None;
+    for home in homes {
+        greatest = greatest.max(home.record.persisted).max(home.record.highest);
+    }
+    greatest
+}
+
+impl Finished {
+    /// The least number that a next change may have: one past the greatest one that stands in the folder, and 0 where
+    /// none does. In a sound folder it is 2^63 at most.
+    pub fn number(&self) -> u64
+        ensures number { (c : Contents) → Shows self.now c → number_of c < 2 ^ 64 → result ≡ number_of c }
+        ensures sound { (image : Image) (c : Contents) → IsSound image c → Shows self.now c → (result ≡ number_of c) × (result ≤ 2 ^ 63) }
+    {
+        let last = self.catalog.catalog;
+        let known = greatest(&self.homes).max(last.persisted).max(last.highest);
+        self.journals.least.max(past(known))
+    }
+}
+
+/// Whether these keyspaces were made under numbers that the record knows.
+fn are_made(last: &Catalog, living: &[LivingKeyspace]) -> bool
+    ensures { IsTrue result ↔ All (λ k. k.number < past_record (fields last.now)) living.now }
+{
+    let greatest = last.persisted.max(last.highest);
+    living
+        .iter()
+        .all(|keyspace| Some(keyspace.number) <= greatest)
+}
+
+/// Reads tree 0, where it has its folder. Each keyspace must be made under a number that its last record knows.
+fn read_tree<D: Disk>(alloc: Global, disk: &mut D, folder_ids: &[u64]) -> Result<Found>
+    ensures says { IsTrue D.honest → IfOk result (λ found. (records : List Fields) × Says (standing (state_in (D.meaning disk.old))) records found.catalog found.keyspaces) }
+    ensures made { IfOk result (λ found. AreMade found.catalog found.keyspaces) }
+    ensures folder { IsTrue D.honest → AreFolderIds (standing (state_in (D.meaning disk.old))) folder_ids.now → OnOk result (standing (state_in (D.meaning disk.old)) (keyspace_folder 0) ≡ Folder) }
+    ensures same { IsTrue D.honest → Took (D.meaning disk.old) (D.meaning disk.new) [] }
+    ensures served { IsTrue D.honest → (D.meaning disk.new).misuses ≡ (D.meaning disk.old).misuses }
+    ensures later { (D.meaning disk.old).faults ≤ (D.meaning disk.new).faults }
+    ensures risen { IfErr result (HasRisen (D.meaning disk.old).faults (D.meaning disk.new).faults) }
+    ensures cause { IsTrue D.honest → AreFolderIds (standing (state_in (D.meaning disk.old))) folder_ids.now → IfErr result (IsDue (TreeRefuses (standing (state_in (D.meaning disk.old))))) }
+    // Where the folder is there, and what it says is made, it is read.
+    ensures sound { IsTrue D.honest → AreFolderIds (standing (state_in (D.meaning disk.old))) folder_ids.now → (records : List Fields) (last : Catalog) (s : Keyspaces) → Says (standing (state_in (D.meaning disk.old))) records last s
+        → AreMade last s → standing (state_in (D.meaning disk.old)) (keyspace_folder 0) ≡ Folder → IfErr result (IsDue (λ error. ⊥)) }
+    ensures listed { IfErr result IsOpeningRefusal }
+{
+    if !folder_ids.contains(&0) {
+        return Err(Error::Unrecoverable);
+    }
+    let found = read_catalog(alloc, disk)?;
+    if !are_made(&found.catalog, found.keyspaces.living()) {
+        return Err(Error::Storage(StorageError::TableDamaged));
+    }
+    Ok(found)
+}
+
+/// Reads a folder that was made to its end: the journals of these ids, and then tree 0 and the keyspaces that it names.
+fn read_finished<D: Disk>(alloc: Global, disk: &mut D, journal_ids: Vec<u64>) -> Result<Finished>
+    ensures found { IsTrue D.honest → AreJournalIds (standing (state_in (D.meaning disk.old))) journal_ids.items → IfOk result (IsFinished (standing (state_in (D.meaning disk.old)))) }
+    ensures same { IsTrue D.honest → Took (D.meaning disk.old) (D.meaning disk.new) [] }
+    ensures served { IsTrue D.honest → (D.meaning disk.new).misuses ≡ (D.meaning disk.old).misuses }
+    ensures later { (D.meaning disk.old).faults ≤ (D.meaning disk.new).faults }
+    ensures risen { IfErr result (HasRisen (D.meaning disk.old).faults (D.meaning disk.new).faults) }
+    ensures cause { IsTrue D.honest → AreJournalIds (standing (state_in (D.meaning disk.old))) journal_ids.items → IfErr result (IsDue (FinishedRefuses (standing (state_in (D.meaning disk.old))))) }
+    // A sound folder is read.
+    ensures sound { IsTrue D.honest → AreJournalIds (standing (state_in (D.meaning disk.old))) journal_ids.items → (c : Contents) → IsSound (standing (state_in (D.meaning disk.old))) c → IfErr result (IsDue (λ error. ⊥)) }
+    ensures listed { IfErr result IsOpeningRefusal }
+{
+    let journals = read_journals(alloc, disk, &journal_ids)?;
+    let folder_ids = list_keyspaces(alloc, disk)?;
+    let catalog = read_tree(alloc, disk, &folder_ids)?;
+    let homes = read_homes(alloc, disk, &folder_ids, catalog.keyspaces.living())?;
+    Ok(Finished {
+        journal_ids,
+        journals,
+        folder_ids,
+        catalog,
+        homes,
+    })
+}
+
+/// What the marker of the folder tells.
+fn read_version<D: Disk>(alloc: Global, disk: &mut D) -> Result<Marker>
+    ensures tells { IsTrue D.honest → IfOk result (λ marker. marker_tells (marker_bytes (standing (state_in (D.meaning disk.old)))) ≡ Ok marker) }
+    ensures same { IsTrue D.honest → Took (D.meaning disk.old) (D.meaning disk.new) [] }
+    ensures served { IsTrue D.honest → (D.meaning disk.new).misuses ≡ (D.meaning disk.old).misuses }
+    ensures later { (D.meaning disk.old).faults ≤ (D.meaning disk.new).faults }
+    ensures risen { IfErr result (HasRisen (D.meaning disk.old).faults (D.meaning disk.new).faults) }
+    ensures cause { IsTrue D.honest → IfErr result (IsDue (λ error. marker_tells (marker_bytes (standing (state_in (D.meaning disk.old)))) ≡ Err error)) }
+    ensures listed { IfErr result IsOpeningRefusal }
+{
+    match disk.read(alloc, "version")? {
+        Some(bytes) => read_marker(Some(bytes.as_slice())),
+        None => read_marker(None),
+    }
+}
+
+/// Reads a folder whole, and answers what it holds, or `None` where its making was cut short, so that it stands for no
+/// keyspaces. Nothing of the disk changes.
+///
+/// The first fault in the order of reading refuses, as the formats page says: the marker (`InvalidVersion`), the names of
+/// journals (`InvalidFileName`), the journals one after another, the names in `keyspaces` (`Unrecoverable`), tree 0 with
+/// the names and options that it stores, and each keyspace by its id. A folder without its marker into which something was
+/// written is `Unrecoverable`. `OutOfMemory` and `Io` come as ever.
+pub fn read_folder<D: Disk>(alloc: Global, disk: &mut D) -> Result<Option<Finished>>
+    ensures found { IsTrue D.honest → IfOk result (λ folder. ReadsFolder (standing (state_in (D.meaning disk.old))) folder) }
+    ensures same { IsTrue D.honest → Took (D.meaning disk.old) (D.meaning disk.new) [] }
+    ensures served { IsTrue D.honest → (D.meaning disk.new).misuses ≡ (D.meaning disk.old).misuses }
+    ensures later { (D.meaning disk.old).faults ≤ (D.meaning disk.new).faults }
+    ensures risen { IfErr result (HasRisen (D.meaning disk.old).faults (D.meaning disk.new).faults) }
+    ensures cause { IsTrue D.honest → IfErr result (IsDue (FolderRefuses (standing (state_in (D.meaning disk.old))))) }
+    // A folder that stands for a store is read, unless memory runs out or the disk fails.
+    ensures sound { IsTrue D.honest → (store : Store) → StandsFor (standing (state_in (D.meaning disk.old))) store → IfErr result (IsDue (λ error. ⊥)) }
+    ensures listed { IfErr result IsOpeningRefusal }
+{
+    let marker = read_version(alloc, disk)?;
+    let journal_ids = list_journals(alloc, disk)?;
+    match marker {
+        Marker::Whole => Ok(Some(read_finished(alloc, disk, journal_ids)?)),
+        Marker::Unfinished => {
+            check_unfinished(alloc, disk, &journal_ids)?;
+            Ok(None)
+        }
+    }
+}

@@ -1,0 +1,106 @@
+//! The records of each keyspace.
+
+ghost use Rattle.std.specs.Prelude.{◌≡◌, ◌≤◌, ◌↔◌, [], IsTrue, IfErr, IfOk};
+ghost use Rattle.fjall_base.specs.Disk.{Took, standing, state_in};
+ghost use Rattle.fjall_tree.specs.Records.{view};
+ghost use Rattle.fjall_recovery.specs.Homes.{AreHomesRead, HasNoRecord, IsPlain, IsRead, IsReadFrom, records_text};
+ghost use Rattle.fjall_recovery.specs.Naming.{AreFolderIds};
+ghost use Rattle.fjall_recovery.specs.Refusals.{HasRisen, HomeRefuses, HomesRefuse, IsDue, IsOpeningRefusal};
+
+use crate::file::read_text;
+use fjall_base::{Disk, Error, Result, StorageError};
+use fjall_meta::LivingKeyspace;
+use fjall_files::current_name;
+use fjall_tree::{Current, Record, read_current};
+use std::alloc::Global;
+
+/// What the `current` of a keyspace holds.
+#[derive(Debug, Drop)]
+pub struct Home {
+    /// The keyspace's id.
+    pub id: u64,
+    /// The last whole record, which counts.
+    pub record: Record,
+    /// Where the whole records end.
+    pub end: usize,
+    /// How many bytes the file has.
+    pub len: usize,
+}
+
+const DAMAGED: Error = Error::Storage(StorageError::RecordDamaged);
+
+/// Whether a record tells of no table and no clear, and nothing that is persisted.
+fn is_plain(last: &Record) -> bool
+    ensures { IsTrue result ↔ IsPlain (view last.now) }
+{
+    last.persisted.is_none() && last.tables.is_empty() && last.clears.is_empty()
+}
+
+/// Reads the records of the keyspace of this id.
+fn read_records<D: Disk>(alloc: Global, disk: &mut D, id: u64) -> Result<Home>
+    ensures read { IsTrue D.honest → IfOk result (λ home. IsReadFrom (records_text (standing (state_in (D.meaning disk.old))) id) home) }
+    ensures named { IfOk result (λ home. home.id ≡ id) }
+    ensures same { IsTrue D.honest → Took (D.meaning disk.old) (D.meaning disk.new) [] }
+    ensures served { IsTrue D.honest → (D.meaning disk.new).misuses ≡ (D.meaning disk.old).misuses }
+    ensures later { (D.meaning disk.old).faults ≤ (D.meaning disk.new).faults }
+    ensures risen { IfErr result (HasRisen (D.meaning disk.old).faults (D.meaning disk.new).faults) }
+    ensures cause { IsTrue D.honest → IfErr result (IsDue (λ error. (error ≡ Error.Storage StorageError.RecordDamaged) × HasNoRecord (records_text (standing (state_in (D.meaning disk.old))) id))) }
+    ensures listed { IfErr result IsOpeningRefusal }
+{
+    let name = current_name(alloc, id)?;
+    let text = read_text(alloc, disk, &name)?;
+    let Current { record, end } = read_current(alloc, &text)?;
+    let Some(record) = record else {
+        return Err(DAMAGED);
+    };
+    if !is_plain(&record) {
+        return Err(DAMAGED);
+    }
+    Ok(Home {
+        id,
+        record,
+        end,
+        len: text.len(),
+    })
+}
+
+/// Reads the records of the keyspace of this id, whose folder is among those of these ids.
+fn read_home<D: Disk>(alloc: Global, disk: &mut D, folders: &[u64], id: u64) -> Result<Home>
+    ensures read { IsTrue D.honest → AreFolderIds (standing (state_in (D.meaning disk.old))) folders.now → IfOk result (IsRead (standing (state_in (D.meaning disk.old))) id) }
+    ensures same { IsTrue D.honest → Took (D.meaning disk.old) (D.meaning disk.new) [] }
+    ensures served { IsTrue D.honest → (D.meaning disk.new).misuses ≡ (D.meaning disk.old).misuses }
+    ensures later { (D.meaning disk.old).faults ≤ (D.meaning disk.new).faults }
+    ensures risen { IfErr result (HasRisen (D.meaning disk.old).faults (D.meaning disk.new).faults) }
+    ensures cause { IsTrue D.honest → AreFolderIds (standing (state_in (D.meaning disk.old))) folders.now → IfErr result (IsDue (HomeRefuses (standing (state_in (D.meaning disk.old))) id)) }
+    ensures listed { IfErr result IsOpeningRefusal }
+{
+    if !folders.contains(&id) {
+        return Err(Error::Unrecoverable);
+    }
+    read_records(alloc, disk, id)
+}
+
+/// Reads the records of these keyspaces, one after another. The folders that there are have these ids.
+///
+/// A keyspace without a folder is `Unrecoverable`; one whose records aren't such is `Storage(RecordDamaged)`.
+pub(crate) fn read_homes<D: Disk>(
+    alloc: Global,
+    disk: &mut D,
+    folders: &[u64],
+    living: &[LivingKeyspace],
+) -> Result<Vec<Home>>
+    ensures read { IsTrue D.honest → AreFolderIds (standing (state_in (D.meaning disk.old))) folders.now → IfOk result (λ homes. AreHomesRead (standing (state_in (D.meaning disk.old))) living.now homes.items) }
+    ensures same { IsTrue D.honest → Took (D.meaning disk.old) (D.meaning disk.new) [] }
+    ensures served { IsTrue D.honest → (D.meaning disk.new).misuses ≡ (D.meaning disk.old).misuses }
+    ensures later { (D.meaning disk.old).faults ≤ (D.meaning disk.new).faults }
+    ensures risen { IfErr result (HasRisen (D.meaning disk.old).faults (D.meaning disk.new).faults) }
+    ensures cause { IsTrue D.honest → AreFolderIds (standing (state_in (D.meaning disk.old))) folders.now → IfErr result (IsDue (HomesRefuse (standing (state_in (D.meaning disk.old))) living.now)) }
+    ensures listed { IfErr result IsOpeningRefusal }
+{
+    let mut homes = Vec::new(alloc);
+    for keyspace in living {
+        let home = read_home(alloc, disk, folders, keyspace.id)?;
+        homes.push(home)?;
+    }
+    Ok(homes)
+}

@@ -1,0 +1,89 @@
+//! What holds of folders, and of how they lie on a disk.
+
+ghost use Rattle.std.specs.Prelude.{◌≡◌, List, ◌++◌, ◌<◌, ◌^◌, ℕ, [], Option, Some, true};
+ghost use Rattle.fjall_base.specs.Disk.{Image, Leaves, Name, State, Step, Survives, disk_of};
+ghost use Rattle.fjall_base.specs.declared.error.Error.{Error};
+ghost use Rattle.fjall_base.specs.Store.{Store};
+ghost use Rattle.fjall_recovery.specs.Folders.{Contents, IsSound, StandsFor};
+ghost use Rattle.fjall_recovery.specs.Journals.{Journal, HoldsJournals};
+ghost use Rattle.fjall_recovery.specs.Refusals.{AreOne, FolderRefuses};
+ghost use Rattle.fjall_files.specs.Regions.{IsImageIn};
+ghost use Rattle.fjall_journal.specs.Batches.{Written};
+ghost use Rattle.fjall_tree.specs.Records.{Fields};
+ghost use Rattle.fjall_files.specs.Names.{journal_name};
+ghost use Rattle.fjall_recovery.specs.Halves.{HasRoot, HasTree, Tree, is_of_keyspaces, is_of_root};
+ghost use Rattle.fjall_recovery.specs.Held.{Holds, IsFolder, store_held};
+ghost use Rattle.fjall_recovery.specs.Places.{Journaling, LiesInRoot, RestsInTree, contents_with, journals_with};
+
+/// An image holds one list of journals.
+pub fn one_list_of_journals()
+    ensures { (image : Image) (journals others : List Journal) → HoldsJournals image journals → HoldsJournals image others → journals ≡ others }
+{}
+
+/// A sound folder holds one thing.
+pub fn one_contents()
+    ensures { (image : Image) (c d : Contents) → IsSound image c → IsSound image d → c ≡ d }
+{}
+
+/// A folder is refused for one error alone.
+pub fn one_refusal()
+    ensures { (image : Image) (first second : Error) → FolderRefuses image first → FolderRefuses image second → AreOne first second }
+{}
+
+/// An image of a folder stands for one store at most.
+pub fn one_store()
+    ensures { (image : Image) (s t : Store) → StandsFor image s → StandsFor image t → s ≡ t }
+{}
+
+/// No folder that stands for a store is refused: only want of memory or a fault of the disk can keep it from being read.
+pub fn sound_folders_are_read()
+    ensures { (image : Image) (store : Store) (error : Error) → StandsFor image store → FolderRefuses image error → ⊥ }
+{}
+
+/// A folder is sound where its root and its keyspaces are.
+pub fn a_sound_folder_has_both_halves()
+    ensures made { (image : Image) (c : Contents) → HasRoot image c.journals → HasTree image (record { last = c.last; keyspaces = c.keyspaces; homes = c.homes }) → IsSound image c }
+    ensures parted { (image : Image) (c : Contents) → IsSound image c → HasRoot image c.journals × HasTree image (record { last = c.last; keyspaces = c.keyspaces; homes = c.homes }) }
+{}
+
+/// The root of an image is sound by what stands outside `keyspaces`.
+pub fn roots_alike()
+    ensures { (image other : Image) (journals : List Journal) → ((q : Name) → is_of_root q ≡ true → other q ≡ image q) → HasRoot image journals → HasRoot other journals }
+{}
+
+/// The keyspaces of an image are sound by what stands in `keyspaces`.
+pub fn trees_alike()
+    ensures { (image other : Image) (t : Tree) → ((q : Name) → is_of_keyspaces q ≡ true → other q ≡ image q) → HasTree image t → HasTree other t }
+{}
+
+/// No journal's name is in `keyspaces`.
+pub fn journals_are_of_the_root()
+    ensures { (id : ℕ) → id < 2 ^ 64 → is_of_root (journal_name id) ≡ true }
+{}
+
+/// Whatever a crash leaves of a root that lies so is sound, with the synced batches and some of the later ones, of which
+/// it is a beginning.
+pub fn crashes_leave_the_root()
+    ensures { (state : State) (image : Image) (j : Journaling) → LiesInRoot state j → IsImageIn Survives is_of_root state image
+        → (behind rest : List Written) × (behind ++ rest ≡ j.later) × HasRoot image (journals_with j behind) }
+{}
+
+/// Whatever a crash leaves of keyspaces that rest so is sound, and says what they say.
+pub fn crashes_leave_the_tree()
+    ensures { (state : State) (image : Image) (records : List Fields) (t : Tree) → RestsInTree state records t → IsImageIn Survives is_of_keyspaces state image → HasTree image t }
+{}
+
+/// A disk that a crash left holds what its image is.
+pub fn a_crash_holds()
+    ensures { (state : State) (steps : List Step) (image : Image) (folder : Option Contents) → Leaves state steps image → IsFolder image folder → Holds (disk_of image) folder }
+{}
+
+/// A disk on which nothing waits for a sync holds what lies on it.
+pub fn a_rest_holds()
+    ensures { (state : State) (j : Journaling) (records : List Fields) (t : Tree) → j.later ≡ [] → LiesInRoot state j → RestsInTree state records t → Holds state (Some (contents_with j t [])) }
+{}
+
+/// A folder stands for its store.
+pub fn a_folder_stands()
+    ensures { (image : Image) (folder : Option Contents) → IsFolder image folder → StandsFor image (store_held folder) }
+{}

@@ -1,0 +1,20 @@
+//! What a database folder holds: it is read whole before anything is changed, and the first fault is the answer; and how
+//! everything of it lies on a disk, with what a crash leaves of that.
+#![tactic(auto)]
+
+mod file;
+mod folder;
+mod homes;
+mod journals;
+mod laws;
+mod listing;
+mod unfinished;
+
+pub use folder::{Finished, read_folder};
+pub use homes::Home;
+pub use journals::{Journals, read_journals};
+pub use laws::{
+    a_crash_holds, a_folder_stands, a_rest_holds, a_sound_folder_has_both_halves,
+    crashes_leave_the_root, crashes_leave_the_tree, journals_are_of_the_root, one_contents,
+    one_list_of_journals, one_refusal, one_store, roots_alike, sound_folders_are_read, trees_alike,
+};
