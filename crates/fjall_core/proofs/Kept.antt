@@ -10,7 +10,7 @@ use Rattle.fjall_versions.specs.Replays.{bare}
 use Rattle.fjall_recovery.specs.Folders.{Contents, IsUnfinished, StandsFor}
 use Rattle.fjall_recovery.specs.Held.{IsFolder, store_held}
 use Rattle.fjall_recovery.proofs.Holding.{a_crash_holds, folder_stands}
-use Rattle.fjall_beginning.proofs.Standing.{missing_stands, unfinished_of}
+use Rattle.fjall_repair.proofs.Standing.{missing_stands, unfinished_of}
 use Rattle.fjall_repair.proofs.Openings.{settled_comes_back}
 use Rattle.fjall_core.specs.Durables.{IsBeginning, StandsAmid}
 use Rattle.fjall_core.specs.Standing.{HoldsStore}

@@ -1,7 +1,7 @@
 //! Folders begun on a disk in memory, at once and in two parts.
 
 use fjall_base::{Disk, Error, JournalRecoveryError, MemoryDisk, Result};
-use fjall_beginning::{begin, plan_beginning};
+use fjall_repair::{begin, plan_beginning};
 use fjall_catalog::first_record;
 use fjall_recovery::read_folder;
 use std::alloc::Global;

@@ -2,7 +2,7 @@
 
 use crate::folder::{folder_of_items, insert, len_of};
 use fjall_base::{Disk, MemoryDisk};
-use fjall_mending::{mend, plan_mending};
+use fjall_repair::{mend, plan_mending};
 use fjall_recovery::read_folder;
 use std::alloc::Global;
 use std::test::Fail;

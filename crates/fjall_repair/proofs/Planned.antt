@@ -25,7 +25,7 @@ use Rattle.fjall_recovery.specs.Halves.{Tree}
 use Rattle.fjall_recovery.specs.Places.{LiesInTree, RestsInTree}
 use Rattle.fjall_recovery.proofs.Named.{under_within}
 use Rattle.fjall_recovery.proofs.Trees.{folder_of-home}
-use Rattle.fjall_repair.specs.declared.plan.Sweep.{Sweep}
+use Rattle.fjall_repair.specs.declared.plan.SweepPlan.{SweepPlan}
 use Rattle.fjall_repair.specs.declared.plan.UnnamedHome.{UnnamedHome}
 use Rattle.fjall_recovery.specs.Naming.{AreFolderIds}
 use Rattle.fjall_repair.specs.Sweeps.{AreGone, BringsNoTable, FindsAll, FindsTables, IsHomeFound, IsSwept, IsPlan, IsUnnamedHome, IsUnnamedTable, Lives, Removes, home_names, named_in, planned}
@@ -128,7 +128,7 @@ flat_all : (P : Name → Type 0) (homes : List UnnamedHome) → AllByRecursion (
 flat_all P [] all = tt
 flat_all P (home ∷ homes) all = subst (AllByRecursion P) (sym (flat_map-cons home_names home homes)) (Removals.all_both P (home_names home) (flat_map home_names homes) all.0 (flat_all P homes all.1))
 
-pub planned_all : (P : Name → Type 0) (plan : Sweep) → All (λ table. P (string_bytes table)) plan.tables.items → All (λ home. P (string_bytes home.folder) × All (λ file. P (string_bytes file)) home.files.items) plan.homes.items → All P (planned plan)
+pub planned_all : (P : Name → Type 0) (plan : SweepPlan) → All (λ table. P (string_bytes table)) plan.tables.items → All (λ home. P (string_bytes home.folder) × All (λ file. P (string_bytes file)) home.files.items) plan.homes.items → All P (planned plan)
 planned_all P plan tables homes =
     All-append P (map string_bytes plan.tables.items) (flat_map home_names plan.homes.items) (All-map P string_bytes plan.tables.items tables)
     (All-from_recursion P (flat_map home_names plan.homes.items) (flat_all P plan.homes.items (recursion_from_All (λ (home : UnnamedHome). AllByRecursion P (home_names home)) plan.homes.items (λ i d lt.
@@ -139,7 +139,7 @@ inner_within : (id : ℕ) (file : Name) → folder_of file ≡ keyspace_folder i
 inner_within id file inside = under_within id file (in_folder (keyspace_folder id) file (λ none. cc) inside)
 
 -- its names are in `keyspaces`
-pub planned_within : (named : Option ℕ) (living : List LivingKeyspace) (plan : Sweep) → IsPlan named living plan → All (λ name. is_under (codes "keyspaces") name ≡ true) (planned plan)
+pub planned_within : (named : Option ℕ) (living : List LivingKeyspace) (plan : SweepPlan) → IsPlan named living plan → All (λ name. is_under (codes "keyspaces") name ≡ true) (planned plan)
 planned_within named living plan is = planned_all (λ name. is_under (codes "keyspaces") name ≡ true) plan
     (λ i d lt. let un = is.tables i d lt in subst (λ (n : Name). is_under (codes "keyspaces") n ≡ true) (sym un.name_is) (Apart.table_within un.id un.table))
     (λ i d lt. let un = is.homes i d lt in (
@@ -152,7 +152,7 @@ module _ (state : State) (records : List Fields) (t : Tree) (rests : RestsInTree
   small_table = table_id t.last (last_record state records t.last t.keyspaces rests.catalog)
 
   -- keyspaces that rest don't rest on any of them
-  pub planned_spare : (plan : Sweep) → IsPlan (named_in t) t.keyspaces.living plan → All (IsSpare t) (planned plan)
+  pub planned_spare : (plan : SweepPlan) → IsPlan (named_in t) t.keyspaces.living plan → All (IsSpare t) (planned plan)
   planned_spare plan is = planned_all (IsSpare t) plan
       (λ i d lt. table_spare t rests.catalog.are small_table _ (is.tables i d lt))
       (λ i d lt. let un = is.homes i d lt in (
@@ -160,10 +160,10 @@ module _ (state : State) (records : List Fields) (t : Tree) (rests : RestsInTree
         λ j e less. inner_spare t rests.catalog.are small_table _ un _ (un.inside j e less),
       ))
 
-  pub spare_run : (plan : Sweep) (old new : Meaning) → IsPlan (named_in t) t.keyspaces.living plan → Removes (Contains (planned plan)) old new → Removes (IsSpare t) old new
+  pub spare_run : (plan : SweepPlan) (old new : Meaning) → IsPlan (named_in t) t.keyspaces.living plan → Removes (Contains (planned plan)) old new → Removes (IsSpare t) old new
   spare_run plan old new is run = Removals.weaker (Contains (planned plan)) (IsSpare t) old new (λ name has. All-contains (IsSpare t) (planned plan) name (planned_spare plan is) has) run
 
-pub within_run : (named : Option ℕ) (living : List LivingKeyspace) (plan : Sweep) (old new : Meaning) → IsPlan named living plan → Removes (Contains (planned plan)) old new → Within (codes "keyspaces") old new
+pub within_run : (named : Option ℕ) (living : List LivingKeyspace) (plan : SweepPlan) (old new : Meaning) → IsPlan named living plan → Removes (Contains (planned plan)) old new → Within (codes "keyspaces") old new
 within_run named living plan old new is run =
     Removals.within (Contains (planned plan)) (codes "keyspaces") old new (λ name has. All-contains (λ n. is_under (codes "keyspaces") n ≡ true) (planned plan) name (planned_within named living plan is) has) run
 
@@ -182,7 +182,7 @@ named_below t id below named = of t.last.table below named
     of None below named = let no : None ≡ Some id = named in cc
     of (Some i) below named = let same : i.id ≡ id = cc in subst (λ (n : ℕ). n < t.last.next_table_id) same below
 
-pub tables_free : (old new : Meaning) (records : List Fields) (t : Tree) (plan : Sweep) → RestsInTree (state_in old) records t → FindsTables (state_in old) (named_in t) (map string_bytes plan.tables.items)
+pub tables_free : (old new : Meaning) (records : List Fields) (t : Tree) (plan : SweepPlan) → RestsInTree (state_in old) records t → FindsTables (state_in old) (named_in t) (map string_bytes plan.tables.items)
     → Removes (Contains (planned plan)) old new → AreGone (state_in new) (planned plan) → IsFree (state_in new) t.last.next_table_id
 tables_free old new records t plan rests finds run gone id least small = elim (missing_or_not (state_in old (table_name 0 id)).now) [
   | inl none ↦ Removals.stays_missing (Contains (planned plan)) old new (table_name 0 id) run none
@@ -193,7 +193,7 @@ tables_free old new records t plan rests finds run gone id least small = elim (m
       (finds id small some)
 ]
 
-pub swept : (old new : Meaning) (records : List Fields) (t : Tree) (plan : Sweep) (r : Result Unit Error) → RestsInTree (state_in old) records t → FindsTables (state_in old) (named_in t) (map string_bytes plan.tables.items)
+pub swept : (old new : Meaning) (records : List Fields) (t : Tree) (plan : SweepPlan) (r : Result Unit Error) → RestsInTree (state_in old) records t → FindsTables (state_in old) (named_in t) (map string_bytes plan.tables.items)
     → IsPlan (named_in t) t.keyspaces.living plan → Removes (Contains (planned plan)) old new → OnOk r (AreGone (state_in new) (planned plan)) → OnOk r (LiesInTree (state_in new) records t)
 swept old new records t plan (Ok done) rests finds is run gone = record {
   rests = spared records t old new (spare_run (state_in old) records t rests plan old new is run) rests;
@@ -210,7 +210,7 @@ lives_small s are id has =
     let fits = are.fits in
     omega (arith, below, fits)
 
-module _ (old new : State) (last : Catalog) (living : List LivingKeyspace) (ids : List ℕ) (plan : Sweep) (finds : FindsAll old (option_map (λ table. table.id) last.table) living ids plan) (are : AreFolderIds (standing old) ids) (gone : AreGone new (planned plan))
+module _ (old new : State) (last : Catalog) (living : List LivingKeyspace) (ids : List ℕ) (plan : SweepPlan) (finds : FindsAll old (option_map (λ table. table.id) last.table) living ids plan) (are : AreFolderIds (standing old) ids) (gone : AreGone new (planned plan))
     (small : (id : ℕ) → Lives living id → id < 2 ^ 64) (brings : BringsNoTable old new) where
   at_planned : (name : Name) → Contains (planned plan) name → (new name).now ≡ Missing
   at_planned name has = All-contains (λ (n : Name). (new n).now ≡ Missing) (planned plan) name (All-from_recursion (λ (n : Name). (new n).now ≡ Missing) (planned plan) gone) has

@@ -20,7 +20,7 @@ use Rattle.fjall_recovery.specs.Journals.{batches_in}
 use Rattle.fjall_recovery.specs.Places.{Journaling, LiesInRoot, LiesInTree, RestsInTree, journals_with, texts_of}
 use Rattle.fjall_recovery.proofs.Holding.{tree_of}
 use Rattle.fjall_recovery.proofs.Roots.{batches_are}
-use Rattle.fjall_repair.specs.declared.plan.Sweep.{Sweep}
+use Rattle.fjall_repair.specs.declared.plan.SweepPlan.{SweepPlan}
 use Rattle.fjall_repair.specs.Opened.{IsRepaired}
 use Rattle.fjall_repair.specs.Sweeps.{FindsTables, IsPlan, Removes, named_in, planned}
 use Rattle.fjall_repair.proofs.Planned.{planned_spare, planned_within}
@@ -37,7 +37,7 @@ on_ok_then (Err e) P Q to is = tt
 pub finds_still : (old new : State) (named : Option ℕ) (names : List Name) → ((n : ℕ) → n < 2 ^ 64 → (new (table_name 0 n)).now ≡ (old (table_name 0 n)).now) → FindsTables old named names → FindsTables new named names
 finds_still old new named names same finds n small some = finds n small (λ none. some (same n small ∙ none))
 
-module _ (contents : Contents) (mid new : Meaning) (plan : Sweep) (records : List Fields) (j : Journaling) (root : LiesInRoot (state_in mid) j) (later : j.later ≡ []) (same : batches_in (journals_with j []) ≡ batches_in contents.journals)
+module _ (contents : Contents) (mid new : Meaning) (plan : SweepPlan) (records : List Fields) (j : Journaling) (root : LiesInRoot (state_in mid) j) (later : j.later ≡ []) (same : batches_in (journals_with j []) ≡ batches_in contents.journals)
     (rests : RestsInTree (state_in mid) records (tree_of contents)) (is : IsPlan (named_in (tree_of contents)) contents.keyspaces.living plan) (run : Removes (Contains (planned plan)) mid new) where
   spare : Removes (IsSpareWithin (tree_of contents)) mid new
   spare = Removals.weaker (Contains (planned plan)) (IsSpareWithin (tree_of contents)) mid new (λ name has. (
@@ -68,7 +68,7 @@ module _ (contents : Contents) (mid new : Meaning) (plan : Sweep) (records : Lis
   }
 
 -- a plan by what was read is one by what the folder holds
-pub plan_of : (found : Finished) (contents : Contents) (plan : Sweep) → Shows found contents → IsPlan (option_map (λ table. table.id) found.catalog.catalog.table) found.catalog.keyspaces.living plan → IsPlan (named_in (tree_of contents)) contents.keyspaces.living plan
+pub plan_of : (found : Finished) (contents : Contents) (plan : SweepPlan) → Shows found contents → IsPlan (option_map (λ table. table.id) found.catalog.catalog.table) found.catalog.keyspaces.living plan → IsPlan (named_in (tree_of contents)) contents.keyspaces.living plan
 plan_of found contents plan shows is =
     subst (λ (s : Keyspaces). IsPlan (named_in (tree_of contents)) s.living plan) shows.keyspaces
     (subst (λ (last : Catalog). IsPlan (option_map (λ table. table.id) last.table) found.catalog.keyspaces.living plan) shows.last is)

@@ -19,7 +19,7 @@ use Rattle.fjall_recovery.specs.Refusals.{FolderRefuses, IsDue}
 use Rattle.fjall_recovery.specs.Halves.{Tree}
 use Rattle.fjall_recovery.specs.Held.{IsFolder, number_held, store_held}
 use Rattle.fjall_recovery.specs.Places.{Journaling, LiesInRoot, LiesInTree, contents_with, journals_with, texts_of}
-use Rattle.fjall_beginning.specs.Making.{ComesBackUnfinished}
+use Rattle.fjall_repair.specs.Making.{ComesBackUnfinished}
 use Rattle.fjall_repair.specs.declared.opened.Opened.{Opened}
 
 -- ---- what was opened

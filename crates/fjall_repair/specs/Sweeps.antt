@@ -7,7 +7,7 @@ use Rattle.fjall_files.specs.Names.{keyspace_folder, table_name}
 use Rattle.fjall_meta.specs.declared.living.LivingKeyspace.{LivingKeyspace}
 use Rattle.fjall_catalog.specs.declared.catalog.Catalog.{Catalog}
 use Rattle.fjall_recovery.specs.Halves.{Tree}
-use Rattle.fjall_repair.specs.declared.plan.Sweep.{Sweep}
+use Rattle.fjall_repair.specs.declared.plan.SweepPlan.{SweepPlan}
 use Rattle.fjall_repair.specs.declared.plan.UnnamedHome.{UnnamedHome}
 
 -- ---- what is named
@@ -42,7 +42,7 @@ pub record IsUnnamedHome (living : List LivingKeyspace) (home : UnnamedHome) : T
   pub inside : All (λ file. folder_of (string_bytes file) ≡ keyspace_folder id) home.files.items
 
 -- a plan of what no record names, where tree 0's names this table and these keyspaces live
-pub record IsPlan (named : Option ℕ) (living : List LivingKeyspace) (plan : Sweep) : Type 0 where
+pub record IsPlan (named : Option ℕ) (living : List LivingKeyspace) (plan : SweepPlan) : Type 0 where
   pub tables : All (λ table. IsUnnamedTable named living (string_bytes table)) plan.tables.items
   pub homes : All (IsUnnamedHome living) plan.homes.items
 
@@ -71,7 +71,7 @@ FindsHomes state living ids homes = (id : ℕ) → Contains ids id → id ≢ 0 
 
 -- The plan has all that no record names, of what stands in the folders of the keyspaces that live and in those of these ids,
 -- and of each of its homes all that stands in it.
-pub record FindsAll (state : State) (named : Option ℕ) (living : List LivingKeyspace) (ids : List ℕ) (plan : Sweep) : Type 0 where
+pub record FindsAll (state : State) (named : Option ℕ) (living : List LivingKeyspace) (ids : List ℕ) (plan : SweepPlan) : Type 0 where
   pub tables : FindsTables state named (map string_bytes plan.tables.items)
   pub tables_of : FindsTablesOf state living (map string_bytes plan.tables.items)
   pub homes : FindsHomes state living ids plan.homes.items
@@ -84,7 +84,7 @@ abbrev pub home_names : UnnamedHome → List Name
 home_names home = map string_bytes home.files.items ++ string_bytes home.folder ∷ []
 
 -- all names that are to be removed, in order
-abbrev pub planned : Sweep → List Name
+abbrev pub planned : SweepPlan → List Name
 planned plan = map string_bytes plan.tables.items ++ flat_map home_names plan.homes.items
 
 -- the steps that remove these names

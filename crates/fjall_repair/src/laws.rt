@@ -1,10 +1,16 @@
-//! What holds of a folder that is to be opened.
+//! What holds of folders that a crash left.
 
 ghost use Rattle.std.specs.Prelude.{◌≡◌, [], Option};
 ghost use Rattle.fjall_base.specs.Disk.{Name, State, standing};
-ghost use Rattle.fjall_recovery.specs.Folders.{Contents};
+ghost use Rattle.fjall_recovery.specs.Folders.{IsUnfinished, Contents};
+ghost use Rattle.fjall_repair.specs.Making.{ComesBackUnfinished};
 ghost use Rattle.fjall_recovery.specs.Held.{IsFolder};
 ghost use Rattle.fjall_repair.specs.Opened.{ComesBack};
+
+/// Where a crash brings nothing back, as on a disk that a crash left, nothing but what is unfinished comes back.
+pub fn settled_folders_come_back_unfinished()
+    ensures { (state : State) → ((name : Name) → (state name).older ≡ []) → IsUnfinished (standing state) → ComesBackUnfinished state }
+{}
 
 /// Where a crash brings nothing back, as on a disk that a crash left, nothing comes back but what stands.
 pub fn settled_folders_come_back()

@@ -1,7 +1,10 @@
-//! A database opened: its folder read whole, begun or mended, and swept of what nothing names.
+//! A database opened: its folder is read whole, begun or mended, and swept of what nothing names. Each part plans first, with all
+//! its memory, and then changes the disk; no crash meanwhile leaves another store.
 #![tactic(auto)]
 
+mod begin;
 mod laws;
+mod mend;
 mod numbers;
 mod opened;
 mod opening;
@@ -10,8 +13,10 @@ mod ready;
 mod repair;
 mod sweeping;
 
-pub use laws::settled_folders_come_back;
+pub use begin::{BeginPlan, Found, begin, plan_beginning};
+pub use laws::{settled_folders_come_back, settled_folders_come_back_unfinished};
+pub use mend::{FileEnd, MendPlan, mend, plan_mending};
 pub use opened::Opened;
 pub use opening::open_folder;
-pub use plan::{Sweep, UnnamedHome, plan_sweep};
+pub use plan::{SweepPlan, UnnamedHome, plan_sweep};
 pub use sweeping::sweep;

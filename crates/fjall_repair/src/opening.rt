@@ -12,7 +12,7 @@ ghost use Rattle.fjall_recovery.specs.Folders.{Contents, IsFinished, IsUnfinishe
 ghost use Rattle.fjall_recovery.specs.Refusals.{AreOne, FolderRefuses, HasRisen, IsDue, IsOpeningRefusal};
 ghost use Rattle.fjall_recovery.specs.Held.{Holds, store_held, IsFolder};
 ghost use Rattle.fjall_recovery.specs.Amid.{HoldsAmid, StandsAmid};
-ghost use Rattle.fjall_beginning.specs.Making.{ComesBackUnfinished};
+ghost use Rattle.fjall_repair.specs.Making.{ComesBackUnfinished};
 ghost use Rattle.fjall_repair.specs.Opened.{ComesBack, IsHeldUp, IsLawful, IsOpenedFrom, IsUnopened, Opens};
 ghost use Rattle.fjall_repair.specs.Sweeps.{IsSwept};
 

@@ -24,7 +24,7 @@ pub struct UnnamedHome {
 
 /// What no record names, and is to be removed.
 #[derive(Debug, Drop)]
-pub struct Sweep {
+pub struct SweepPlan {
     /// The names of tables, as `keyspaces/0/3.table`.
     pub tables: Vec<String>,
     /// The folders of keyspaces that don't live.
@@ -180,7 +180,7 @@ pub fn plan_sweep<D: Disk>(
     named_table: Option<u64>,
     living: &[LivingKeyspace],
     folder_ids: &[u64],
-) -> Result<Sweep>
+) -> Result<SweepPlan>
     ensures right { IsTrue D.honest → IfOk result (IsPlan named_table living.now) }
     ensures whole { IsTrue D.honest → IfOk result (FindsAll (state_in (D.meaning disk.old)) named_table living.now folder_ids.now) }
     ensures same { IsTrue D.honest → Took (D.meaning disk.old) (D.meaning disk.new) [] }
@@ -191,5 +191,5 @@ pub fn plan_sweep<D: Disk>(
 {
     let tables = list_all_tables(alloc, disk, named_table, living)?;
     let homes = list_homes(alloc, disk, living, folder_ids)?;
-    Ok(Sweep { tables, homes })
+    Ok(SweepPlan { tables, homes })
 }

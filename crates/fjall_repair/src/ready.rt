@@ -11,20 +11,19 @@ ghost use Rattle.fjall_versions.specs.Versions.{versions_behind};
 ghost use Rattle.fjall_recovery.specs.Folders.{IsFinished, IsUnfinished, past_records};
 ghost use Rattle.fjall_recovery.specs.Naming.{AreFolderIds, KeyspacesAreNamed};
 ghost use Rattle.fjall_recovery.specs.Refusals.{HasRisen, IsDue, IsOpeningRefusal};
-ghost use Rattle.fjall_beginning.specs.Plans.{IsPlan as IsMakingOf};
-ghost use Rattle.fjall_mending.specs.Mended.{IsMendingOf};
+ghost use Rattle.fjall_repair.specs.Plans.{IsPlan as IsMakingOf};
+ghost use Rattle.fjall_repair.specs.Mended.{IsMendingOf};
 ghost use Rattle.fjall_repair.specs.Opened.{HasNumbers, IsLawful, Takes, records_of};
 ghost use Rattle.fjall_repair.specs.Sweeps.{FindsAll, IsPlan};
 
 use crate::numbers::{check_made, number_of};
 use crate::opened::Opened;
-use crate::plan::{Sweep, plan_sweep};
+use crate::plan::{SweepPlan, plan_sweep};
 use fjall_base::{Disk, Error, Result};
-use fjall_beginning::{Plan as Making, plan_beginning};
+use crate::{BeginPlan, MendPlan, plan_beginning, plan_mending};
 use fjall_catalog::Catalog;
 use fjall_journal::{Batch, Writer};
 use fjall_meta::MetaKeyspace;
-use fjall_mending::{Plan as Mending, plan_mending};
 use fjall_recovery::Finished;
 use fjall_files::{journal_name, keyspaces};
 use fjall_versions::{Version, replay};
@@ -36,9 +35,9 @@ pub(crate) struct ToBegin {
     /// What is opened then.
     pub opened: Opened,
     /// How the database is begun.
-    pub making: Making,
+    pub making: BeginPlan,
     /// What is removed.
-    pub sweep: Sweep,
+    pub sweep: SweepPlan,
 }
 
 /// What is opened once a folder is mended.
@@ -47,9 +46,9 @@ pub(crate) struct ToMend {
     /// What is opened then.
     pub opened: Opened,
     /// How the folder is mended.
-    pub mending: Mending,
+    pub mending: MendPlan,
     /// What is removed.
-    pub sweep: Sweep,
+    pub sweep: SweepPlan,
 }
 
 /// The ids of the folders of keyspaces, where each folder in `keyspaces` is named by an id.

@@ -12,20 +12,19 @@ ghost use Rattle.fjall_recovery.specs.declared.folder.Finished.{Finished};
 ghost use Rattle.fjall_recovery.specs.Folders.{Contents, IsFinished, IsSound, IsUnfinished, Shows, StandsFor, store_of};
 ghost use Rattle.fjall_recovery.specs.Amid.{HoldsAmid, StandsAmid};
 ghost use Rattle.fjall_recovery.specs.Held.{Holds};
-ghost use Rattle.fjall_beginning.specs.Making.{ComesBackUnfinished};
-ghost use Rattle.fjall_beginning.specs.Plans.{IsPlan as IsMakingOf};
-ghost use Rattle.fjall_mending.specs.Mended.{IsMendingOf};
+ghost use Rattle.fjall_repair.specs.Making.{ComesBackUnfinished};
+ghost use Rattle.fjall_repair.specs.Plans.{IsPlan as IsMakingOf};
+ghost use Rattle.fjall_repair.specs.Mended.{IsMendingOf};
 ghost use Rattle.fjall_repair.specs.Opened.{IsRepaired, nothing};
 ghost use Rattle.fjall_repair.specs.Sweeps.{AreGone, BringsNoTable, FindsTables, IsPlan, planned, HasAll};
 
-use crate::plan::Sweep;
+use crate::plan::SweepPlan;
 use crate::sweeping::sweep;
 use fjall_base::{Disk, Result};
-use fjall_beginning::{Plan as Making, begin};
-use fjall_mending::{Plan as Mending, mend};
+use crate::{BeginPlan, MendPlan, begin, mend};
 
 /// Mends a folder and then sweeps it, by plans that were made of it.
-pub(crate) fn mend_and_sweep<D: Disk>(disk: &mut D, mending: &Mending, plan: &Sweep) -> Result<()>
+pub(crate) fn mend_and_sweep<D: Disk>(disk: &mut D, mending: &MendPlan, plan: &SweepPlan) -> Result<()>
     ensures any_moment { IsTrue D.honest → (found : Finished) (contents : Contents) → IsFinished (standing (state_in (D.meaning disk.old))) found → Shows found contents → Holds (state_in (D.meaning disk.old)) (Some contents)
         → IsMendingOf (standing (state_in (D.meaning disk.old))) found mending.now → IsPlan (option_map (λ table. table.id) found.catalog.catalog.table) found.catalog.keyspaces.living plan.now
         → LeavesOnly (D.meaning disk.old) (D.meaning disk.new) (λ image. StandsFor image (store_of contents)) }
@@ -56,7 +55,7 @@ pub(crate) fn mend_and_sweep<D: Disk>(disk: &mut D, mending: &Mending, plan: &Sw
 }
 
 /// Begins a database, or goes on with one whose making was cut short, and sweeps its folder, by plans that were made of it.
-pub(crate) fn begin_and_sweep<D: Disk>(disk: &mut D, making: &Making, plan: &Sweep) -> Result<()>
+pub(crate) fn begin_and_sweep<D: Disk>(disk: &mut D, making: &BeginPlan, plan: &SweepPlan) -> Result<()>
     ensures any_moment { IsTrue D.honest → Holds (state_in (D.meaning disk.old)) None → ComesBackUnfinished (state_in (D.meaning disk.old)) → IsMakingOf (standing (state_in (D.meaning disk.old))) making.now → IsPlan None [] plan.now
         → LeavesOnly (D.meaning disk.old) (D.meaning disk.new) (λ image. StandsFor image (bare no_keyspaces)) }
     ensures ok { IsTrue D.honest → Holds (state_in (D.meaning disk.old)) None → IsMakingOf (standing (state_in (D.meaning disk.old))) making.now → IsPlan None [] plan.now

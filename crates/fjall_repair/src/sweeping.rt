@@ -11,7 +11,7 @@ ghost use Rattle.fjall_files.specs.Regions.{Within};
 ghost use Rattle.fjall_repair.specs.Sweeps.{AreGone, FindsTables, HasAll, IsPlan, IsUnnamedHome, Removes, home_names, named_in, planned};
 ghost use Rattle.fjall_tree.specs.Records.{Fields};
 
-use crate::plan::{Sweep, UnnamedHome};
+use crate::plan::{SweepPlan, UnnamedHome};
 use fjall_base::{Disk, Result};
 
 /// Removes files, one after another, where they are there.
@@ -59,7 +59,7 @@ fn remove_homes<D: Disk>(disk: &mut D, homes: &[UnnamedHome]) -> Result<()>
 ///
 /// A folder that has a table's name, or stands within a home, is a fault of the disk. What a call that fails has removed
 /// was named by nothing either.
-pub fn sweep<D: Disk>(disk: &mut D, plan: &Sweep) -> Result<()>
+pub fn sweep<D: Disk>(disk: &mut D, plan: &SweepPlan) -> Result<()>
     // Names of the plan are removed and nothing else is done, and after a success none of them is left.
     ensures removes { IsTrue D.honest → Removes (Contains (planned plan.now)) (D.meaning disk.old) (D.meaning disk.new) }
     ensures gone { IsTrue D.honest → OnOk result (AreGone (state_in (D.meaning disk.new)) (planned plan.now)) }

@@ -7,7 +7,7 @@ use Rattle.fjall_base.proofs.Moments.{stays}
 use Rattle.fjall_meta.specs.Keyspaces.{AreKeyspaces, Keyspaces}
 use Rattle.fjall_catalog.specs.declared.catalog.Catalog.{Catalog}
 use Rattle.fjall_recovery.specs.Folders.{IsFinished, IsSound}
-use Rattle.fjall_mending.specs.Mended.{IsMendingOf}
+use Rattle.fjall_repair.specs.Mended.{IsMendingOf}
 use Rattle.fjall_repair.specs.Sweeps.{BringsNoTable, FindsTables, IsSwept, HasAll}
 use Rattle.fjall_repair.proofs.Planned.{is_swept, lives_small}
 use Rattle.fjall_repair.proofs.Openings.{held_early, holds_on, makes_store, number_is, numbers, opens_of, run_on, stands_now, takes_contents}

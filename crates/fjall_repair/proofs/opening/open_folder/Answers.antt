@@ -8,7 +8,7 @@ use Rattle.fjall_recovery.proofs.Causes.{due_once}
 use Rattle.fjall_recovery.proofs.Kept.{folder_is_kept}
 use Rattle.fjall_recovery.specs.Held.{Holds, store_held}
 use Rattle.fjall_recovery.proofs.Holding.{folder_stands}
-use Rattle.fjall_beginning.specs.Making.{ComesBackUnfinished}
+use Rattle.fjall_repair.specs.Making.{ComesBackUnfinished}
 use Rattle.fjall_repair.specs.Opened.{ComesBack, Opens}
 use Rattle.fjall_repair.proofs.Openings.{finished_is, held_up, holds_on, opened_from, run_on, stands_now, swept_on, unfinished_is, unopened}
 use Rattle.fjall_files.specs.Tidy.{IsTidy}

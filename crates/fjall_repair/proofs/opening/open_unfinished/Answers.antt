@@ -7,8 +7,8 @@ use Rattle.fjall_files.specs.Names.{journal_name}
 use Rattle.fjall_meta.specs.Keyspaces.{AreKeyspaces, Keyspaces, no_keyspaces}
 use Rattle.fjall_catalog.specs.declared.catalog.Catalog.{Catalog}
 use Rattle.fjall_catalog.specs.Catalog.{first_catalog}
-use Rattle.fjall_beginning.specs.Making.{ComesBackUnfinished}
-use Rattle.fjall_beginning.specs.Plans.{IsPlan as IsMakingOf}
+use Rattle.fjall_repair.specs.Making.{ComesBackUnfinished}
+use Rattle.fjall_repair.specs.Plans.{IsPlan as IsMakingOf}
 use Rattle.fjall_repair.specs.Opened.{nothing}
 use Rattle.fjall_repair.specs.Sweeps.{BringsNoTable, FindsTables, IsSwept, HasAll}
 use Rattle.fjall_repair.proofs.Planned.{is_swept, lives_small}

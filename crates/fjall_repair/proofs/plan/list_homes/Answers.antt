@@ -5,7 +5,7 @@ use Rattle.fjall_base.specs.Disk.{Meaning, State, Took, state_in}
 use Rattle.fjall_journal.proofs.Writing.{took_none}
 use Rattle.fjall_repair.specs.Sweeps.{FindsHomes, HasAll, IsUnnamedHome}
 use Rattle.fjall_repair.proofs.Listings.{home_found, home_unnamed, homes_all, homes_none, named_passed, stays}
-use Rattle.fjall_repair.proofs.Served.{has_all_of, have_all_more}
+use Rattle.fjall_repair.proofs.SweepServed.{has_all_of, have_all_more}
 use Rattle.fjall_repair.proofs.plan.list_homes.Goals as goal
 use Rattle.fjall_repair.proofs.plan.list_homes.Goals.{then-not-is_named+in_ok-list_home+in_ok-push, else-not-is_named}
 

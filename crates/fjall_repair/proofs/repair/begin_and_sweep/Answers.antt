@@ -13,7 +13,7 @@ use Rattle.fjall_repair.specs.Sweeps.{planned}
 use Rattle.fjall_repair.proofs.Removals.{stays_missing}
 use Rattle.fjall_repair.proofs.Repairing.{finds_still, no_end, on_ok_then, repaired, stands, root_kept}
 use Rattle.fjall_files.proofs.Tidying.{stays_both, tidy_on}
-use Rattle.fjall_repair.proofs.Served.{have_all_on}
+use Rattle.fjall_repair.proofs.SweepServed.{have_all_on}
 use Rattle.fjall_repair.proofs.Amid.{held_begun, held_swept, run_amid}
 use Rattle.fjall_repair.proofs.repair.begin_and_sweep.Goals as goal
 

@@ -12,7 +12,7 @@ use Rattle.fjall_repair.specs.Sweeps.{planned}
 use Rattle.fjall_repair.proofs.Removals.{stays_missing}
 use Rattle.fjall_repair.proofs.Repairing.{finds_of, finds_still, on_ok_then, plan_of, repaired, stands, root_kept}
 use Rattle.fjall_files.proofs.Tidying.{stays_both, tidy_on}
-use Rattle.fjall_repair.proofs.Served.{have_all_on}
+use Rattle.fjall_repair.proofs.SweepServed.{have_all_on}
 use Rattle.fjall_repair.proofs.Amid.{held_swept, run_amid}
 use Rattle.fjall_repair.proofs.repair.mend_and_sweep.Goals as goal
 

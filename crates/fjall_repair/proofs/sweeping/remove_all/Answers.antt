@@ -5,8 +5,8 @@ use Rattle.fjall_base.specs.Disk.{IsNoFolder, Meaning, Name, state_in}
 use Rattle.fjall_repair.specs.Sweeps.{AreGone}
 use Rattle.fjall_repair.proofs.Removals as Removals
 use Rattle.fjall_files.proofs.Tidying.{stays_both, stays_none, stays_removing, stays_start}
-use Rattle.fjall_mending.proofs.Items.{item_has}
-use Rattle.fjall_repair.proofs.Served.{no_folder_still}
+use Rattle.fjall_repair.proofs.Items.{item_has}
+use Rattle.fjall_repair.proofs.SweepServed.{no_folder_still}
 use Rattle.fjall_repair.proofs.sweeping.remove_all.Goals as goal
 
 pub loop-name-init : goal.loop-name-init

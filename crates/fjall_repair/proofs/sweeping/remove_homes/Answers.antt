@@ -3,8 +3,8 @@ use Rattle.fjall_base.specs.Disk.{Meaning, state_in}
 use Rattle.fjall_repair.specs.Sweeps.{HasAll, IsUnnamedHome, home_names}
 use Rattle.fjall_repair.proofs.Removals as Removals
 use Rattle.fjall_files.proofs.Tidying.{stays_both, stays_start, tidy_on}
-use Rattle.fjall_mending.proofs.Items.{item_has}
-use Rattle.fjall_repair.proofs.Served.{has_all_still}
+use Rattle.fjall_repair.proofs.Items.{item_has}
+use Rattle.fjall_repair.proofs.SweepServed.{has_all_still}
 use Rattle.fjall_repair.proofs.sweeping.remove_homes.Goals as goal
 
 pub loop-home-init : goal.loop-home-init

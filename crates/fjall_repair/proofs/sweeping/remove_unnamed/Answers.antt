@@ -5,7 +5,7 @@ use Rattle.fjall_base.specs.Disk.{IsNoFolder, Meaning, state_in}
 use Rattle.fjall_repair.specs.Sweeps.{AreGone, Removes}
 use Rattle.fjall_repair.proofs.Removals as Removals
 use Rattle.fjall_files.proofs.Tidying.{stays_both, stays_removing, tidy_on}
-use Rattle.fjall_repair.proofs.Served.{files_no_folders, home_removable}
+use Rattle.fjall_repair.proofs.SweepServed.{files_no_folders, home_removable}
 use Rattle.fjall_repair.proofs.sweeping.remove_unnamed.Goals as goal
 
 pub returns-in_err-remove_all-clause-removes : goal.returns-in_err-remove_all-clause-removes

@@ -7,7 +7,7 @@ use Rattle.fjall_repair.proofs.Planned.{spare_run, swept, within_run}
 use Rattle.fjall_repair.proofs.Removals as Removals
 use Rattle.fjall_repair.proofs.Spared.{spared, spared_run}
 use Rattle.fjall_files.proofs.Tidying.{stays_both, tidy_on}
-use Rattle.fjall_repair.proofs.Served.{have_all_still, table_no_folder}
+use Rattle.fjall_repair.proofs.SweepServed.{have_all_still, table_no_folder}
 use Rattle.fjall_repair.proofs.sweeping.sweep.Goals as goal
 
 pub returns-in_err-remove_all-clause-removes : goal.returns-in_err-remove_all-clause-removes

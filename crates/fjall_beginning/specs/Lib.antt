@@ -1,3 +1,0 @@
-pub mod Making
-pub mod Plans
-pub mod Begun

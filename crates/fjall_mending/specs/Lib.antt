@@ -1,3 +1,0 @@
-pub mod Mended
-pub mod Steps
-pub mod Amids

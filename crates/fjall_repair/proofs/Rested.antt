@@ -1,0 +1,327 @@
+-- Where nothing waits for a sync, all that whatever a crash leaves says lies on the disk.
+use Rattle.std.proofs.Common.{◌≡◌, ◌⊎◌, inl, inr, ⊎_elim, ℕ, suc, ◌-◌, ◌<◌, ◌≤◌, ◌^◌, List, [], ◌∷◌, ◌++◌, length, get_or, map, All, codes, Option, None, Some, refl, sym, ◌∙◌, ap, subst, arith}
+use Rattle.std.specs.Prelude.{Contains, IfSome}
+use Rattle.std.specs.List.{flat_map, AllByRecursion}
+use Rattle.std.specs.List.Sorted.{IsStrictlyIncreasing}
+use Rattle.std.proofs.lemmas.List.{append-nil, get_or_default, length-append, length-drop, map-append, nil_from_length, take_all, take_at}
+use Rattle.std.proofs.Math.Seq.{get_or-append_right}
+use Rattle.fjall_base.specs.Crash.{keeping}
+use Rattle.fjall_base.specs.Disk.{Name, Entry, Missing, File, Folder, State, Image, IsFile, IsNoFile, IsNoFolder, IsThere, folder_of}
+use Rattle.fjall_files.specs.Regions.{IsSafe}
+use Rattle.fjall_journal.specs.declared.batch.Tail.TheVariants.{Clean, Torn}
+use Rattle.fjall_journal.specs.Batches.{Written, IsWritten, shown}
+use Rattle.fjall_tree.specs.declared.record.TableInfo.{TableInfo}
+use Rattle.fjall_tree.specs.Records.{Fields, IsRecord, IsRecords, last_of, record_text}
+use Rattle.fjall_tree.proofs.Currents.{last_behind}
+use Rattle.fjall_files.specs.Marker.{marker_tells}
+use Rattle.fjall_files.specs.Names.{journal_name, keyspace_folder, current_name, table_name}
+use Rattle.fjall_meta.specs.declared.entry.MetaEntry.{MetaEntry}
+use Rattle.fjall_meta.specs.declared.living.LivingKeyspace.{LivingKeyspace}
+use Rattle.fjall_meta.specs.Entries.{entries_of}
+use Rattle.fjall_versions.specs.Replays.{first_fault}
+use Rattle.fjall_catalog.specs.Catalog.{AreSafe, HoldsEntries, IsTableOf, Rests, fields, only}
+use Rattle.fjall_catalog.specs.Catalog as catalog
+use Rattle.fjall_catalog.proofs.Resting.{last_has, table_id}
+use Rattle.fjall_recovery.specs.Folders.{Contents, IsSound, file_bytes}
+use Rattle.fjall_recovery.specs.Homes.{HasLast, HaveHomes}
+use Rattle.fjall_recovery.specs.Journals.{Journal, ReadsAs, AreRead, batches_in, journal_text, text_in}
+use Rattle.fjall_recovery.specs.Places.{HaveSafeHomes, IsNeverFile, Journaling, LiesInRoot, RestsInTree, journal_ids, journals_with, texts_of}
+use Rattle.fjall_repair.specs.Steps.{IsRested, IsSynced, active_of, sealed_of}
+use Rattle.fjall_repair.proofs.Naming.{folder_of-journal, folder_of-folder, folder_of-current, folder_of-table}
+use Rattle.fjall_repair.proofs.Halving.{same_text, tree_of}
+use Rattle.fjall_repair.proofs.Cutting.{whole_length}
+use Rattle.fjall_repair.proofs.Trimming.{fits_all}
+use Rattle.fjall_repair.proofs.Crashing.{left, left_is, left_there}
+use Rattle.fjall_repair.proofs.Opened.{ids_of}
+
+-- ---- the last of a list
+
+active_last : (xs : List ℕ) (x : ℕ) → active_of (xs ++ x ∷ []) ≡ x
+active_last xs x =
+    let all = length-append xs (x ∷ []) in
+    let place : length (xs ++ x ∷ []) - 1 - length xs ≡ 0 = omega arith in
+    get_or-append_right xs (x ∷ []) (length (xs ++ x ∷ []) - 1) 1 (omega arith) ∙ ap (λ i. get_or (x ∷ []) i 1) place
+
+sealed_first : (xs : List ℕ) (x : ℕ) → sealed_of (xs ++ x ∷ []) ≡ xs
+sealed_first xs x = let all = length-append xs (x ∷ []) in take_at xs (x ∷ []) (length (xs ++ x ∷ []) - 1) (omega arith)
+
+-- the sealed journals, and the active one
+pub record Parted (journals : List Journal) : Type 0 where
+  pub sealed : List Journal
+  pub active : Journal
+  pub is : journals ≡ sealed ++ active ∷ []
+
+pub parted : (j : Journal) (journals : List Journal) → Parted (j ∷ journals)
+parted j [] = record { sealed = []; active = j; is = refl }
+parted j (k ∷ journals) = let rest = parted k journals in record { sealed = j ∷ rest.sealed; active = rest.active; is = ap (λ (l : List Journal). j ∷ l) rest.is }
+
+ids_parted : (sealed : List Journal) (a : Journal) → ids_of (sealed ++ a ∷ []) ≡ ids_of sealed ++ a.id ∷ []
+ids_parted sealed a = map-append (λ (j : Journal). j.id) sealed (a ∷ [])
+
+pub active_parted : (journals : List Journal) (p : Parted journals) → active_of (ids_of journals) ≡ p.active.id
+active_parted journals p = ap (λ js. active_of (ids_of js)) p.is ∙ ap active_of (ids_parted p.sealed p.active) ∙ active_last (ids_of p.sealed) p.active.id
+
+pub sealed_parted : (journals : List Journal) (p : Parted journals) → sealed_of (ids_of journals) ≡ ids_of p.sealed
+sealed_parted journals p = ap (λ js. sealed_of (ids_of js)) p.is ∙ ap sealed_of (ids_parted p.sealed p.active) ∙ sealed_first (ids_of p.sealed) p.active.id
+
+pub last_parted : (journals : List Journal) (p : Parted journals) → last_of journals ≡ Some p.active
+last_parted journals p = ap last_of p.is ∙ last_behind p.sealed p.active
+
+-- ---- entries of which a crash leaves so many bytes
+
+kept_folder : (k : ℕ) (e : Entry) → keeping k e ≡ Folder → e ≡ Folder
+kept_folder k Missing is = let bad : ⊥ = cc in absurd bad
+kept_folder k (File synced unsynced) is = let bad : ⊥ = cc in absurd bad
+kept_folder k Folder is = refl
+
+kept_file : (k : ℕ) (e : Entry) → IsFile e → IsFile (keeping k e)
+kept_file k Missing file = absurd file
+kept_file k Folder file = absurd file
+kept_file k (File synced unsynced) file = tt
+
+no_file : (e : Entry) → (IsFile e → ⊥) → IsNoFile e
+no_file Missing none = tt
+no_file Folder none = tt
+no_file (File synced unsynced) none = none tt
+
+no_folder : (e : Entry) → (e ≡ Folder → ⊥) → IsNoFolder e
+no_folder Missing none = tt
+no_folder Folder none = none refl
+no_folder (File synced unsynced) none = tt
+
+kept_synced : (e : Entry) (bytes : List ℕ) → e ≡ File bytes [] → keeping 0 e ≡ File bytes []
+kept_synced e bytes is = ap (keeping 0) is ∙ ap (λ l. File l []) (append-nil bytes)
+
+-- a file of which a crash leaves the same count of bytes whatever it keeps is synced
+same_whole : (e : Entry) (count : ℕ) → IsFile e → ((k : ℕ) → length (text_in (keeping k e)) ≡ count) → (bytes : List ℕ) × (e ≡ File bytes []) × (text_in (keeping 0 e) ≡ bytes)
+same_whole Missing count file same = absurd file
+same_whole Folder count file same = absurd file
+same_whole (File synced unsynced) count file same =
+    let few : length synced ≡ count = ap length (sym (append-nil synced) ∙ sym (append-nil (synced ++ []))) ∙ same 0 in
+    let all = same (length unsynced) in
+    let whole = ap (λ l. length ((synced ++ l) ++ [])) (take_all (length unsynced) unsynced (omega arith)) in
+    let long = length-append (synced ++ unsynced) [] in
+    let sum = length-append synced unsynced in
+    let none : unsynced ≡ [] = nil_from_length unsynced (omega (arith, few, all, whole, long, sum)) in
+    (synced, ap (File synced) none, append-nil (synced ++ []) ∙ append-nil synced)
+
+-- ---- lists of journals
+
+read_parts : (image : Image) (js : List Journal) (a : Journal) → AreRead image (js ++ a ∷ [])
+    → AllByRecursion (λ (j : Journal). ReadsAs (journal_text image j.id) j.batches Clean) js × (ReadsAs (journal_text image a.id) a.batches Clean ⊎ ReadsAs (journal_text image a.id) a.batches Torn)
+read_parts image [] a read = (tt, read)
+read_parts image (j ∷ []) a read = ((read.0, tt), read.1)
+read_parts image (j ∷ k ∷ js) a read = let rest = read_parts image (k ∷ js) a read.1 in ((read.0, rest.0), rest.1)
+
+pub each_both : {A : Type 0} (P : A → Type 0) (xs ys : List A) → AllByRecursion P xs → AllByRecursion P ys → AllByRecursion P (xs ++ ys)
+each_both P [] ys all others = others
+each_both P (x ∷ xs) ys all others = (all.0, each_both P xs ys all.1 others)
+
+pub each_front : {A : Type 0} (P : A → Type 0) (xs ys : List A) → AllByRecursion P (xs ++ ys) → AllByRecursion P xs
+each_front P [] ys all = tt
+each_front P (x ∷ xs) ys all = (all.0, each_front P xs ys all.1)
+
+written_all : (image : Image) (js : List Journal) → AreRead image js → AllByRecursion IsWritten (batches_in js)
+written_all image [] read = tt
+written_all image (j ∷ []) read = each_both IsWritten j.batches [] (⊎_elim (λ clean. clean.whole.each) (λ torn. torn.whole.each) read) tt
+written_all image (j ∷ k ∷ js) read = each_both IsWritten j.batches (batches_in (k ∷ js)) read.0.whole.each (written_all image (k ∷ js) read.1)
+
+clean_text : (text : List ℕ) (bs : List Written) → ReadsAs text bs Clean → text ≡ texts_of bs
+clean_text text bs clean =
+    let none = ap length clean.behind in
+    let l = length-drop clean.end text in
+    sym (take_all clean.end text (omega (arith, none, l))) ∙ clean.whole.texts
+
+short_text : (text : List ℕ) (bs : List Written) → length text ≤ length (texts_of bs) → ReadsAs text bs Clean ⊎ ReadsAs text bs Torn → text ≡ texts_of bs
+short_text text bs short (inl clean) = clean_text text bs clean
+short_text text bs short (inr torn) = let n = whole_length text bs torn.end torn.whole in sym (take_all torn.end text (omega (arith, n, short))) ∙ torn.whole.texts
+
+-- ---- a disk at rest
+
+module _ (s : State) (c : Contents) (rest : IsRested s c) where
+  abbrev pub image : Image
+  image = left 0 s
+
+  pub sound : IsSound image c
+  sound = rest.images (left 0 s) (left_is 0 s)
+
+  seen : (q : Name) → IsThere image (folder_of q) → image q ≡ keeping 0 (s q).now
+  seen q there = left_there 0 s q there
+
+  in_root : (q : Name) → folder_of q ≡ [] → image q ≡ keeping 0 (s q).now
+  in_root q root = seen q (inl root)
+
+  safe : (q : Name) (bytes : List ℕ) → (s q).now ≡ File bytes [] → (s q).older ≡ [] → IsSafe s q bytes
+  safe q bytes now older = λ j. record { now = now j; older = older j }
+
+  whole_text : (q : Name) (bytes : List ℕ) → IsThere image (folder_of q) → (s q).now ≡ File bytes [] → text_in (image q) ≡ bytes
+  whole_text q bytes there is = ap text_in (seen q there ∙ kept_synced (s q).now bytes is) ∙ append-nil bytes
+
+  small_ids : AllByRecursion (λ (j : Journal). j.id < 2 ^ 64) c.journals
+  small_ids = fits_all c.journals (λ id has. ((sound.journals.ids.each id).0 has).0)
+
+  never : (q : Name) → folder_of q ≡ [] → (IsFile (image q) → ⊥) → IsNeverFile (s q)
+  never q root none =
+      subst (λ (es : List Entry). AllByRecursion IsNoFile ((s q).now ∷ es)) (sym (rest.root q root)) (no_file (s q).now (λ file. none (subst IsFile (sym (in_root q root)) (kept_file 0 (s q).now file))), tt)
+
+  sealed_safe : (js : List Journal) → AllByRecursion (λ (j : Journal). j.id < 2 ^ 64) js → AllByRecursion (λ f. IsSynced (s f).now) (map journal_name (ids_of js)) → AllByRecursion (λ (j : Journal). ReadsAs (journal_text image j.id) j.batches Clean) js
+      → AllByRecursion (λ (j : Journal). IsSafe s (journal_name j.id) (texts_of j.batches)) js
+  sealed_safe [] small synced read = tt
+  sealed_safe (j ∷ js) small synced read =
+      let root = folder_of-journal j.id small.0 in
+      let bytes = synced.0.0 in
+      let text : bytes ≡ texts_of j.batches = sym (whole_text (journal_name j.id) bytes (inl root) synced.0.1) ∙ clean_text (journal_text image j.id) j.batches read.0 in
+      (safe (journal_name j.id) (texts_of j.batches) (synced.0.1 ∙ ap (λ l. File l []) text) (rest.root (journal_name j.id) root), sealed_safe js small.1 synced.1 read.1)
+
+  module _ (p : Parted c.journals) where
+    abbrev pub journaling : Journaling
+    journaling = record { sealed = p.sealed; active = p.active.id; whole = p.active.batches; later = []; cut = 0 }
+
+    pub with_is : journals_with journaling [] ≡ c.journals
+    with_is = ap (λ (bs : List Written). p.sealed ++ (let r : Journal = record { id = p.active.id; batches = bs } in r) ∷ []) (append-nil p.active.batches) ∙ sym p.is
+
+    active_small : p.active.id < 2 ^ 64
+    active_small = last_has (λ (j : Journal). j.id < 2 ^ 64) c.journals p.active small_ids (last_parted c.journals p)
+
+    ids_same : journal_ids journaling ≡ ids_of c.journals
+    ids_same = ap ids_of with_is
+
+    pub lies_in_root : LiesInRoot s journaling
+    lies_in_root =
+        let marker = rest.whole.0 in
+        let marker_text : text_in (image (codes "version")) ≡ marker.0 = whole_text (codes "version") marker.0 (inl refl) marker.1 in
+        let parts = read_parts image p.sealed p.active (subst (AreRead image) p.is sound.journals.read) in
+        let active_root = folder_of-journal p.active.id active_small in
+        let active_synced : IsSynced (s (journal_name p.active.id)).now = subst (λ (n : ℕ). IsSynced (s (journal_name n)).now) (active_parted c.journals p) rest.ended.0 in
+        let active_text : text_in (image (journal_name p.active.id)) ≡ active_synced.0 = whole_text (journal_name p.active.id) active_synced.0 (inl active_root) active_synced.1 in
+        let now_text : text_in (s (journal_name p.active.id)).now ≡ active_synced.0 = ap text_in active_synced.1 ∙ append-nil active_synced.0 in
+        let short = rest.active p.active (last_parted c.journals p) in
+        let count = ap length (now_text ∙ sym active_text) in
+        let active_is : active_synced.0 ≡ texts_of p.active.batches = sym active_text ∙ short_text (journal_text image p.active.id) p.active.batches (omega (arith, short, count)) parts.1 in
+        record {
+          marker_text = marker.0;
+          marker = safe (codes "version") marker.0 marker.1 (rest.root (codes "version") refl);
+          marker_is = ap marker_tells (ap (λ l. Some l) (sym (append-nil marker.0)) ∙ ap file_bytes (sym (seen (codes "version") (inl refl) ∙ kept_synced (s (codes "version")).now marker.0 marker.1))) ∙ sound.marker;
+          named = λ name root misnamed. never name root (λ file. sound.journals_named name root file misnamed);
+          ascending = subst IsStrictlyIncreasing (sym ids_same) sound.journals.ids.ascending;
+          fit = subst (All (λ id. id < 2 ^ 64)) (sym ids_same) (λ k d lt. ((sound.journals.ids.each (get_or (ids_of c.journals) k d)).0 (k, lt, get_or_default (ids_of c.journals) k _ d lt)).0);
+          others = λ id small none. never (journal_name id) (folder_of-journal id small) (λ file. none (subst (λ (ids : List ℕ). Contains ids id) (sym ids_same) ((sound.journals.ids.each id).1 (small, file))));
+          sealed = sealed_safe p.sealed (each_front (λ (j : Journal). j.id < 2 ^ 64) p.sealed (p.active ∷ []) (subst (AllByRecursion (λ (j : Journal). j.id < 2 ^ 64)) p.is small_ids))
+              (subst (λ (ids : List ℕ). AllByRecursion (λ f. IsSynced (s f).now) (map journal_name ids)) (sealed_parted c.journals p) rest.whole.1) parts.0;
+          active = safe (journal_name p.active.id) (texts_of p.active.batches) (active_synced.1 ∙ ap (λ l. File l []) active_is) (rest.root (journal_name p.active.id) active_root);
+          written = subst (λ js. AllByRecursion IsWritten (batches_in js)) (sym with_is) (written_all image c.journals sound.journals.read);
+          sound = subst (λ js. first_fault 0 (map shown (batches_in js)) ≡ None) (sym with_is) sound.journals.sound;
+        }
+
+  -- ---- the keyspaces
+
+  names_left : (folder : Name) → IsThere image folder → (q : Name) → folder_of q ≡ folder → image q ≡ keeping 0 (s q).now
+  names_left folder there q is = seen q (subst (IsThere image) (sym is) there)
+
+  -- a name in a folder that isn't there is missing
+  above_there : (q : Name) → image q ≡ Folder → IsThere image (folder_of q)
+  above_there q is = by (folder_of q) refl
+    where
+      lost : (IsThere image (folder_of q) → ⊥) → IsThere image (folder_of q)
+      lost none = let no : Missing ≡ Folder = sym ((left_is 0 s).lost q none) ∙ is in let bad : ⊥ = cc in absurd bad
+
+      stands : (folder : Name) (entry : Entry) → folder_of q ≡ folder → image folder ≡ entry → (folder ≡ [] → ⊥) → IsThere image (folder_of q)
+      stands folder Folder at here some = inr (ap image at ∙ here)
+      stands folder Missing at here some = lost (λ there. ⊎_elim (λ root. some (sym at ∙ root)) (λ folder_is. let no : Missing ≡ Folder = sym here ∙ ap image (sym at) ∙ folder_is in let bad : ⊥ = cc in bad) there)
+      stands folder (File a u) at here some = lost (λ there. ⊎_elim (λ root. some (sym at ∙ root)) (λ folder_is. let no : File a u ≡ Folder = sym here ∙ ap image (sym at) ∙ folder_is in let bad : ⊥ = cc in bad) there)
+
+      by : (folder : Name) → folder_of q ≡ folder → IsThere image (folder_of q)
+      by [] is = inl is
+      by (d ∷ ds) is = stands (d ∷ ds) (image (d ∷ ds)) is refl (λ e. let bad : ⊥ = cc in bad)
+
+  keyspaces_there : image (codes "keyspaces") ≡ Folder
+  keyspaces_there = ⊎_elim
+      (λ root. let no : codes "keyspaces" ≡ [] = sym (folder_of-folder 0 (omega arith)) ∙ root in let bad : ⊥ = cc in absurd bad)
+      (λ stands. ap image (sym (folder_of-folder 0 (omega arith))) ∙ stands) (above_there (keyspace_folder 0) sound.folder)
+
+  folder_place : (q : Name) → image q ≡ keeping 0 (s q).now → image q ≡ Folder → (s q).older ≡ [] → s q ≡ only Folder
+  folder_place q seen_as is older = λ j. record { now = kept_folder 0 (s q).now (sym seen_as ∙ is) j; older = older j }
+
+  keyspaces_place : s (codes "keyspaces") ≡ only Folder
+  keyspaces_place = folder_place (codes "keyspaces") (in_root (codes "keyspaces") refl) keyspaces_there (rest.root (codes "keyspaces") refl)
+
+  home_place : (id : ℕ) → id < 2 ^ 64 → image (keyspace_folder id) ≡ Folder → s (keyspace_folder id) ≡ only Folder
+  home_place id small is =
+      let at = folder_of-folder id small in
+      folder_place (keyspace_folder id) (names_left (codes "keyspaces") (inr keyspaces_there) (keyspace_folder id) at) is (rest.folders.0 (keyspace_folder id) at)
+
+  current_seen : (id : ℕ) (bytes : List ℕ) → image (keyspace_folder id) ≡ Folder → (s (current_name id)).now ≡ File bytes [] → text_in (image (current_name id)) ≡ bytes
+  current_seen id bytes folder is = whole_text (current_name id) bytes (subst (IsThere image) (sym (folder_of-current id)) (inr folder)) is
+
+  -- the table is synced: a crash that keeps all its bytes leaves as many as one that keeps none of the unsynced ones
+  table_count : (k : ℕ) (t : TableInfo) (entries : List MetaEntry) → t.id < 2 ^ 64 → HoldsEntries (left k s) (Some t) entries → IsThere (left k s) (keyspace_folder 0) → length (text_in (keeping k (s (table_name 0 t.id)).now)) ≡ t.file_len
+  table_count k t entries small holds there =
+      let at = left_there k s (table_name 0 t.id) (subst (IsThere (left k s)) (sym (folder_of-table 0 t.id small)) there) in
+      ap (λ (e : Entry). length (text_in e)) (sym at) ∙ ap length (sym (same_text (left k s (table_name 0 t.id)))) ∙ holds.is.len
+
+  table_safe : (table : Option TableInfo) (entries : List MetaEntry) → c.last.table ≡ table → entries_of c.keyspaces.living ≡ entries → AreSafe s table entries
+  table_safe None entries table_is entries_is = let here = sound.catalog.entries in subst (λ (t : Option TableInfo). HoldsEntries image t entries) table_is (subst (HoldsEntries image c.last.table) entries_is here)
+  table_safe (Some t) entries table_is entries_is =
+      let record_is = last_has IsRecord sound.records (fields c.last) sound.catalog.whole.each sound.catalog.last_is in
+      let small : t.id < 2 ^ 64 = subst (λ (o : Option TableInfo). IfSome o (λ u. u.id < 2 ^ 64)) table_is (table_id c.last record_is) in
+      let holds : (k : ℕ) → HoldsEntries (left k s) (Some t) entries = λ k. (let one = rest.images (left k s) (left_is k s) in subst (λ (o : Option TableInfo). HoldsEntries (left k s) o entries) table_is (subst (HoldsEntries (left k s) c.last.table) entries_is one.catalog.entries)) in
+      let at = names_left (keyspace_folder 0) (inr sound.folder) (table_name 0 t.id) (folder_of-table 0 t.id small) in
+      let file : IsFile (s (table_name 0 t.id)).now = was_file (s (table_name 0 t.id)).now (subst IsFile at (holds 0).file) in
+      let whole = same_whole (s (table_name 0 t.id)).now t.file_len file (λ k. table_count k t entries small (holds k) (inr (rest.images (left k s) (left_is k s)).folder)) in
+      let text : catalog.text_in (image (table_name 0 t.id)) ≡ whole.0 = same_text (image (table_name 0 t.id)) ∙ ap text_in at ∙ whole.2 in
+      record {
+        bytes = whole.0;
+        safe = safe (table_name 0 t.id) whole.0 whole.1 (rest.folders.1.0 (table_name 0 t.id) (folder_of-table 0 t.id small));
+        is = subst (λ (bytes : List ℕ). IsTableOf t bytes entries) text (holds 0).is;
+      }
+    where
+      was_file : (e : Entry) → IsFile (keeping 0 e) → IsFile e
+      was_file Missing file = file
+      was_file Folder file = file
+      was_file (File synced unsynced) file = tt
+
+  homes_safe : (living : List LivingKeyspace) (homes : List Fields) → AllByRecursion (λ (k : LivingKeyspace). k.id < 2 ^ 64) living
+      → AllByRecursion (λ f. (q : Name) → folder_of q ≡ f → (s q).older ≡ []) (map keyspace_folder (map (λ (k : LivingKeyspace). k.id) living))
+      → AllByRecursion (λ f. IsSynced (s f).now) (map current_name (map (λ (k : LivingKeyspace). k.id) living)) → HaveHomes image living homes → HaveSafeHomes s living homes
+  homes_safe [] [] small folders synced have = tt
+  homes_safe [] (h ∷ homes) small folders synced have = absurd have
+  homes_safe (k ∷ living) [] small folders synced have = absurd have
+  homes_safe (k ∷ living) (h ∷ homes) small folders synced have = (
+    record {
+      folder = home_place k.id small.0 have.0.folder;
+      text = synced.0.0;
+      current = safe (current_name k.id) synced.0.0 synced.0.1 (folders.0 (current_name k.id) (folder_of-current k.id));
+      last_is = subst (λ text. HasLast text h) (current_seen k.id synced.0.0 have.0.folder synced.0.1) have.0.last_is;
+    },
+    homes_safe living homes small.1 folders.1 synced.1 have.1,
+  )
+
+  small_all : (next : ℕ) (living : List LivingKeyspace) → next < 2 ^ 64 → All (λ k. k.id < next) living → AllByRecursion (λ (k : LivingKeyspace). k.id < 2 ^ 64) living
+  small_all next [] fits given = tt
+  small_all next (k ∷ living) fits given = ((let less : k.id < next = given 0 k (omega arith) in omega (arith, less, fits)), small_all next living fits (λ n d lt. given (suc n) d (omega (arith, lt))))
+
+  pub rests_in_tree : RestsInTree s sound.records (tree_of c)
+  rests_in_tree =
+      let synced = rest.ended.1.0 in
+      let text : text_in (image (current_name 0)) ≡ synced.0 = current_seen 0 synced.0 sound.folder synced.1 in
+      let whole : IsRecords synced.0 sound.records sound.catalog.end = subst (λ t. IsRecords t sound.records sound.catalog.end) (same_text (image (current_name 0)) ∙ text) sound.catalog.whole in
+      let now_text : text_in (s (current_name 0)).now ≡ synced.0 = ap text_in synced.1 ∙ append-nil synced.0 in
+      let short = rest.tree sound.records sound.catalog.end (subst (λ t. IsRecords t sound.records sound.catalog.end) (sym now_text) whole) in
+      let count = ap length now_text in
+      let all : synced.0 ≡ flat_map record_text sound.records = sym (take_all sound.catalog.end synced.0 (omega (arith, short, count))) ∙ whole.texts in
+      record {
+        named = λ name inside none. subst (λ (es : List Entry). AllByRecursion IsNoFolder ((s name).now ∷ es)) (sym (rest.folders.0 name inside))
+            (no_folder (s name).now (λ folder. sound.keyspaces_named name inside (names_left (codes "keyspaces") (inr keyspaces_there) name inside ∙ ap (keeping 0) folder) none), tt);
+        catalog = record {
+          keyspaces_folder = keyspaces_place;
+          folder = home_place 0 (omega arith) sound.folder;
+          current = safe (current_name 0) (flat_map record_text sound.records) (synced.1 ∙ ap (λ l. File l []) all) (rest.folders.1.0 (current_name 0) (folder_of-current 0));
+          each = whole.each;
+          last_is = sound.catalog.last_is;
+          entries = table_safe c.last.table (entries_of c.keyspaces.living) refl refl;
+          next = sound.catalog.next;
+          are = sound.catalog.are;
+        };
+        made = sound.made;
+        homes = homes_safe c.keyspaces.living c.homes (small_all c.keyspaces.next c.keyspaces.living sound.catalog.are.fits sound.catalog.are.given) rest.folders.1.1 rest.ended.1.1 sound.homes;
+      }

@@ -1,0 +1,196 @@
+-- The plan for a folder that was read suits it.
+use Rattle.std.proofs.Common.{◌≡◌, inl, inr, ⊎_elim, ℕ, ◌≤◌, Bool, true, false, List, [], ◌∷◌, ◌++◌, length, drop, map, Some, nat_lt, string_bytes, refl, sym, ◌∙◌, ap, subst, arith}
+use Rattle.std.specs.List.{flat_map, AllByRecursion}
+use Rattle.std.proofs.lemmas.List.{length-append, length-drop, length-take}
+use Rattle.std.proofs.lemmas.List.Concat.{flat_map-cons}
+use Rattle.std.proofs.lemmas.Bool.Decides.{nat_tests}
+use Rattle.fjall_base.specs.Disk.{Name, Entry, Missing, File, Folder, Image, IsFile}
+use Rattle.fjall_journal.specs.Batches.{IsWhole, IsTail}
+use Rattle.fjall_tree.specs.Records.{Fields, IsRecords, last_of, record_text}
+use Rattle.fjall_tree.proofs.Currents.{records_apart}
+use Rattle.fjall_files.specs.Names.{journal_name, current_name}
+use Rattle.fjall_meta.specs.Keyspaces.{Keyspaces}
+use Rattle.fjall_meta.specs.declared.living.LivingKeyspace.{LivingKeyspace}
+use Rattle.fjall_recovery.specs.declared.folder.Finished.{Finished}
+use Rattle.fjall_recovery.specs.declared.homes.Home.{Home}
+use Rattle.fjall_recovery.specs.Folders.{Contents, IsFinished, IsSound, Shows}
+use Rattle.fjall_recovery.specs.Homes.{AreHomesRead}
+use Rattle.fjall_recovery.specs.Journals.{Journal, AreJournalIds, EndsAt, HoldsJournals, journal_text, tail_of, text_in}
+use Rattle.fjall_recovery.proofs.Alone.{one_list_of_journals}
+use Rattle.fjall_recovery.specs.Places.{texts_of}
+use Rattle.fjall_repair.specs.declared.mend.plan.FileEnd.{FileEnd}
+use Rattle.fjall_repair.specs.declared.mend.plan.MendPlan.{MendPlan}
+use Rattle.fjall_repair.specs.Steps.{End, IsOpened, IsPlanOf, IsRightEnd, IsTreeEnd, Suits, active_of, end_of, ended_names, folder_names, home_end, opened, whole_names, with_active}
+use Rattle.fjall_repair.proofs.Naming.{journal_current}
+use Rattle.fjall_repair.proofs.Halving.{same_text}
+use Rattle.fjall_repair.proofs.Cutting.{whole_length}
+use Rattle.fjall_repair.proofs.Opened.{active_there, ids_of}
+use Rattle.fjall_repair.proofs.Rested.{active_parted, last_parted, parted}
+use Rattle.fjall_repair.proofs.Carrying.{name_of_end}
+
+-- ---- journals
+
+-- the journals that were read are those of the folder, and they end there
+pub ends_found : (image : Image) (f : Finished) (c : Contents) → IsSound image c → IsFinished image f → EndsAt image c.journals f.journals.end f.journals.torn
+ends_found image f c sound finished =
+    let found = finished.journals in
+    let holds : HoldsJournals image found.journals = record { ids = subst (AreJournalIds image) (sym found.named) finished.journal_ids; read = found.read; sound = found.gathers.sound } in
+    subst (λ (js : List Journal). EndsAt image js f.journals.end f.journals.torn) (one_list_of_journals image found.journals c.journals holds sound.journals) found.ends
+
+ends_last : (image : Image) (front : List Journal) (a : Journal) (end : ℕ) (torn : Bool) → EndsAt image (front ++ a ∷ []) end torn → IsWhole (journal_text image a.id) a.batches end × IsTail (drop end (journal_text image a.id)) (tail_of torn)
+ends_last image [] a end torn ends = ends
+ends_last image (j ∷ []) a end torn ends = ends
+ends_last image (j ∷ k ∷ front) a end torn ends = ends_last image (k ∷ front) a end torn ends
+
+-- where the last journal's whole batches end, their texts do
+pub ends_length : (image : Image) (js : List Journal) (end : ℕ) (torn : Bool) → EndsAt image js end torn → (journal : Journal) → last_of (opened js) ≡ Some journal → length (texts_of journal.batches) ≡ end
+ends_length image [] end torn ends journal last =
+    let first : Journal = record { id = 1; batches = [] } in
+    let one : Some journal ≡ Some first = sym last in
+    let same : journal ≡ first = cc in
+    ap (λ (j : Journal). length (texts_of j.batches)) same ∙ sym ends.0
+ends_length image (j ∷ js) end torn ends journal last =
+    let p = parted j js in
+    let one : Some journal ≡ Some p.active = sym last ∙ last_parted (j ∷ js) p in
+    let same : journal ≡ p.active = cc in
+    let whole = (ends_last image p.sealed p.active end torn (subst (λ (l : List Journal). EndsAt image l end torn) p.is ends)).0 in
+    ap (λ (k : Journal). length (texts_of k.batches)) same ∙ sym (whole_length (journal_text image p.active.id) p.active.batches end whole)
+
+untorn : (text : List ℕ) (end : ℕ) (torn : Bool) → IsTail (drop end text) (tail_of torn) → torn ≡ false → length text ≤ end
+untorn text end true tail is = let bad : ⊥ = cc in absurd bad
+untorn text end false tail is = let none = ap length tail in let l = length-drop end text in omega (arith, none, l)
+
+module _ (image made : Image) (active : Name) (is : IsOpened image made active) where
+  journal_right : (c : Contents) (js : List Journal) (end : ℕ) (torn : Bool) → c.journals ≡ opened js → active ≡ journal_name (active_of (ids_of js)) → AreJournalIds image (ids_of js) → EndsAt image js end torn
+      → IsRightEnd made c (record { name = active; cut = torn; len = end })
+  journal_right c [] end torn journals named ids ends = ⊎_elim
+      (λ was. let none = (ids.each 1).1 (omega arith, subst (λ (n : Name). IsFile (image n)) named was.0) in let lt = none.1 in absurd (omega (arith, lt)))
+      (λ new.
+      let first : Journal = record { id = 1; batches = [] } in
+      let count = ap (λ (e : Entry). length (text_in e)) new.1 in
+      record {
+        file = subst IsFile (sym new.1) tt;
+        kind = inl (record { journal = first; last = ap last_of journals; named = named; is = ends.0 });
+        uncut = λ not. omega (arith, count);
+        long = (let none = ends.0 in omega (arith, none));
+      }) is.here
+  journal_right c (j ∷ js) end torn journals named ids ends = ⊎_elim
+      (λ was.
+      let p = parted j js in
+      let at : active ≡ journal_name p.active.id = named ∙ ap journal_name (active_parted (j ∷ js) p) in
+      let here = ends_last image p.sealed p.active end torn (subst (λ (l : List Journal). EndsAt image l end torn) p.is ends) in
+      let text : text_in (made active) ≡ journal_text image p.active.id = ap text_in (was.1 ∙ ap image at) in
+      let count = ap length text in
+      record {
+        file = subst IsFile (sym was.1) was.0;
+        kind = inl (record { journal = p.active; last = ap last_of journals ∙ last_parted (j ∷ js) p; named = at; is = whole_length (journal_text image p.active.id) p.active.batches end here.0 });
+        uncut = λ not. (let le = untorn (journal_text image p.active.id) end torn here.1 not in omega (arith, le, count));
+        long = (let le = here.0.within in omega (arith, le, count));
+      })
+      (λ new. absurd (subst IsFile new.0 (subst (λ (n : Name). IsFile (image n)) (sym named) (active_there image j.id (ids_of js) ids)))) is.here
+
+  -- ---- records
+
+  module _ (active_id : ℕ) (named : active ≡ journal_name active_id) where
+    current_same : (id : ℕ) → made (current_name id) ≡ image (current_name id)
+    current_same id = is.elsewhere (current_name id) (λ same. journal_current active_id id (sym named ∙ sym same))
+
+    -- an end of the records of this keyspace
+    records_right : (c : Contents) (id : ℕ) (e : End) (records : List Fields) → e.name ≡ current_name id → IsFile (image (current_name id)) → IsRecords (text_in (image (current_name id))) records e.len
+        → (e.cut ≡ false → length (text_in (image (current_name id))) ≤ e.len) → IsRightEnd made c e
+    records_right c id e records at file whole uncut =
+        let same : image (current_name id) ≡ made e.name = sym (current_same id) ∙ ap made (sym at) in
+        let count = ap (λ (d : Entry). length (text_in d)) same in
+        record {
+          file = subst IsFile same file;
+          kind = inr (record { id = id; named = at; records = records; whole = subst (λ (d : Entry). IsRecords (text_in d) records e.len) same whole });
+          uncut = λ not. (let le = uncut not in omega (arith, le, count));
+          long = (let le = whole.within in omega (arith, le, count));
+        }
+
+    tree_right : (c d : Contents) (e : End) → IsSound image d → IsTreeEnd image e → IsRightEnd made c e
+    tree_right c d e sound tree =
+        let whole = subst (λ t. IsRecords t sound.records sound.catalog.end) (same_text (image (current_name 0))) sound.catalog.whole in
+        records_right c 0 e sound.records tree.named sound.catalog.file (subst (λ n. IsRecords (text_in (image (current_name 0))) sound.records n) (tree.is sound.records sound.catalog.end whole) whole) tree.uncut
+
+    not_less : (n m : ℕ) → nat_lt n m ≡ false → m ≤ n
+    not_less n m is = grind (arith, nat_tests)
+
+    -- records stand in a file
+    no_text : (r : Fields) (rs : List Fields) (end : ℕ) → IsRecords [] (r ∷ rs) end → ⊥
+    no_text r rs end whole =
+        let l = ap length whole.texts in
+        let m = length-take {A = ℕ} end [] in
+        let n = ap length (flat_map-cons record_text r rs) in
+        let k = length-append (record_text r) (flat_map record_text rs) in
+        let some = records_apart.some r in
+        omega (arith, l, m, n, k, some)
+
+    some_file : (e : Entry) (r : Fields) (rs : List Fields) (end : ℕ) → IsRecords (text_in e) (r ∷ rs) end → IsFile e
+    some_file Missing r rs end whole = absurd (no_text r rs end whole)
+    some_file Folder r rs end whole = absurd (no_text r rs end whole)
+    some_file (File synced unsynced) r rs end whole = tt
+
+    last_file : (e : Entry) (last : Fields) (rs : List Fields) (end : ℕ) → IsRecords (text_in e) rs end → last_of rs ≡ Some last → IsFile e
+    last_file e last [] end whole is = let bad : ⊥ = cc in absurd bad
+    last_file e last (r ∷ rs) end whole is = some_file e r rs end whole
+
+    homes_right : (c : Contents) (living : List LivingKeyspace) (homes : List Home) → AreHomesRead image living homes → AllByRecursion (IsRightEnd made c) (map home_end homes)
+    homes_right c [] [] all = tt
+    homes_right c [] (h ∷ homes) all = absurd all
+    homes_right c (k ∷ living) [] all = absurd all
+    homes_right c (k ∷ living) (h ∷ homes) all =
+        let read = all.0.read in
+        let at : home_end h ≡ record { name = current_name k.id; cut = nat_lt h.end h.len; len = h.end } = ap (λ id. let e : End = record { name = current_name id; cut = nat_lt h.end h.len; len = h.end } in e) all.0.named in
+        let len = read.len in (
+          records_right c k.id (home_end h) read.has.records (ap current_name all.0.named) (last_file (image (current_name k.id)) _ read.has.records read.has.end read.has.whole read.has.is)
+              (subst (λ n. IsRecords (text_in (image (current_name k.id))) read.has.records n) (read.ends read.has.records read.has.end read.has.whole) read.has.whole)
+              (λ not. (let le = not_less h.end h.len not in omega (arith, le, len))),
+          homes_right c living homes all.1,
+        )
+
+-- ---- names
+
+pub same_ids : (image : Image) (living : List LivingKeyspace) (homes : List Home) → AreHomesRead image living homes → map (λ (h : Home). h.id) homes ≡ map (λ (k : LivingKeyspace). k.id) living
+same_ids image [] [] all = refl
+same_ids image [] (h ∷ homes) all = absurd all
+same_ids image (k ∷ living) [] all = absurd all
+same_ids image (k ∷ living) (h ∷ homes) all = ap (λ id. id ∷ map (λ (g : Home). g.id) homes) all.0.named ∙ ap (λ ids. k.id ∷ ids) (same_ids image living homes all.1)
+
+names_of : (ends : List FileEnd) → map name_of_end ends ≡ map (λ (e : End). e.name) (map end_of ends)
+names_of [] = refl
+names_of (e ∷ ends) = ap (λ ns. string_bytes e.name ∷ ns) (names_of ends)
+
+home_names : (homes : List Home) → map (λ (e : End). e.name) (map home_end homes) ≡ map current_name (map (λ (h : Home). h.id) homes)
+home_names [] = refl
+home_names (h ∷ homes) = ap (λ ns. current_name h.id ∷ ns) (home_names homes)
+
+-- the names of all files that are ended
+pub planned_names : (f : Finished) (tree : End) (p : MendPlan) → tree.name ≡ current_name 0 → IsPlanOf f tree p → map name_of_end p.ends.items ≡ ended_names (active_of f.journal_ids.items) (map (λ (h : Home). h.id) f.homes.items)
+planned_names f tree p named plan =
+    names_of p.ends.items ∙ ap (map (λ (e : End). e.name)) plan.ends
+    ∙ ap (λ (n : Name). journal_name (active_of f.journal_ids.items) ∷ n ∷ map (λ (e : End). e.name) (map home_end f.homes.items)) named
+    ∙ ap (λ ns. journal_name (active_of f.journal_ids.items) ∷ current_name 0 ∷ ns) (home_names f.homes.items)
+
+-- ---- the plan
+
+pub suits : (image : Image) (f : Finished) (c : Contents) (tree : End) (p : MendPlan) → IsSound image c → IsFinished image f → Shows f c → IsTreeEnd image tree → IsPlanOf f tree p → Suits image c p
+suits image f c tree p sound finished shows tree_end plan =
+    let ids : f.journal_ids.items ≡ ids_of c.journals = shows.ids in
+    let living : map (λ (h : Home). h.id) f.homes.items ≡ map (λ (k : LivingKeyspace). k.id) c.keyspaces.living =
+    same_ids image f.catalog.keyspaces.living f.homes.items finished.homes ∙ ap (λ (s : Keyspaces). map (λ (k : LivingKeyspace). k.id) s.living) shows.keyspaces in
+    let active : string_bytes p.active ≡ journal_name (active_of (ids_of c.journals)) = plan.active ∙ ap (λ l. journal_name (active_of l)) ids in
+    record {
+      active = active;
+      folders = plan.folders ∙ ap folder_names living;
+      whole = plan.whole ∙ ap whole_names ids;
+      ended = planned_names f tree p tree_end.named plan ∙ ap (λ l. ended_names (active_of l) (map (λ (h : Home). h.id) f.homes.items)) ids ∙ ap (λ l. ended_names (active_of (ids_of c.journals)) l) living;
+      right = λ made is. subst (AllByRecursion (IsRightEnd made (with_active c))) (sym plan.ends) (
+        subst (λ (n : Name). IsRightEnd made (with_active c) (let e : End = record { name = n; cut = f.journals.torn; len = f.journals.end } in e)) plan.active
+            (journal_right image made (string_bytes p.active) is (with_active c) c.journals f.journals.end f.journals.torn refl active sound.journals.ids (ends_found image f c sound finished)),
+        (
+          tree_right image made (string_bytes p.active) is (active_of (ids_of c.journals)) active (with_active c) c tree sound tree_end,
+          homes_right image made (string_bytes p.active) is (active_of (ids_of c.journals)) active (with_active c) f.catalog.keyspaces.living f.homes.items finished.homes,
+        ),
+      );
+    }

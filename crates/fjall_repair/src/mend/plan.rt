@@ -1,0 +1,158 @@
+//! What is to be done to a folder, by name, all of it in memory before the disk is changed.
+
+ghost use Rattle.std.specs.Prelude.{◌≡◌, ◌∷◌, ℕ, List, IfOk, IsOkUnless, IsTrue, [], map, string_bytes};
+ghost use Rattle.fjall_base.specs.Disk.{HasCause, Took, standing, state_in};
+ghost use Rattle.fjall_tree.specs.Records.{Fields, IsRecords};
+ghost use Rattle.fjall_files.specs.Names.{current_name};
+ghost use Rattle.fjall_repair.specs.Steps.{IsPlanOf, IsTreeEnd, active_of, end_of, folder_names, home_end, whole_names};
+
+use fjall_base::{Disk, Error, Result};
+use fjall_recovery::{Finished, Home};
+use fjall_files::{current_name, journal_name, keyspace_folder};
+use fjall_tree::read_current;
+use std::alloc::Global;
+
+/// A file, and where it is to end.
+#[derive(Debug, Drop)]
+pub struct FileEnd {
+    /// Its name.
+    pub name: String,
+    /// Whether bytes stand behind the end, which are to be cut.
+    pub cut: bool,
+    /// Where all that counts ends.
+    pub len: usize,
+}
+
+/// What is to be done to a folder. The root isn't named.
+#[derive(Debug, Drop)]
+pub struct MendPlan {
+    /// The file of the active journal.
+    pub active: String,
+    /// The folders whose names are to be synced.
+    pub folders: Vec<String>,
+    /// The files that are whole, and are to be synced.
+    pub whole: Vec<String>,
+    /// The files at whose end something may be unfinished.
+    pub ends: Vec<FileEnd>,
+}
+
+/// The id of the active journal: the last one, and 1 where there is no journal.
+fn active_id(ids: &[u64]) -> u64
+    ensures { result ≡ active_of ids.now }
+{
+    match ids {
+        [.., active] => *active,
+        [] => 1,
+    }
+}
+
+/// The folders of all keyspaces, of tree 0 and of these keyspaces.
+fn folders_of(alloc: Global, homes: &[Home]) -> Result<Vec<String>>
+    ensures names { IfOk result (λ folders. map string_bytes folders.items ≡ folder_names (map (λ h. h.id) homes.now)) }
+    ensures only { IsOkUnless result Error.OutOfMemory }
+{
+    let mut folders = Vec::new(alloc);
+    folders.push(String::from_str(alloc, "keyspaces")?)?;
+    folders.push(keyspace_folder(alloc, 0)?)?;
+    for home in homes {
+        folders.push(keyspace_folder(alloc, home.id)?)?;
+    }
+    Ok(folders)
+}
+
+/// The marker, and the sealed ones of these journals.
+fn whole_files(alloc: Global, ids: &[u64]) -> Result<Vec<String>>
+    ensures names { IfOk result (λ files. map string_bytes files.items ≡ whole_names ids.now) }
+    ensures only { IsOkUnless result Error.OutOfMemory }
+{
+    let mut files = Vec::new(alloc);
+    files.push(String::from_str(alloc, "version")?)?;
+    if let [sealed @ .., _] = ids {
+        for id in sealed {
+            files.push(journal_name(alloc, *id)?)?;
+        }
+    }
+    Ok(files)
+}
+
+/// The end of the records of this keyspace.
+fn end_of_home(alloc: Global, home: &Home) -> Result<FileEnd>
+    ensures end { IfOk result (λ end. end_of end ≡ home_end home.now) }
+    ensures only { IsOkUnless result Error.OutOfMemory }
+{
+    Ok(FileEnd {
+        name: current_name(alloc, home.id)?,
+        cut: home.end < home.len,
+        len: home.end,
+    })
+}
+
+/// These two ends, and those of the records of these keyspaces.
+fn ends_of(alloc: Global, journal: FileEnd, tree: FileEnd, homes: &[Home]) -> Result<Vec<FileEnd>>
+    ensures ends { IfOk result (λ ends. map end_of ends.items ≡ end_of journal ∷ end_of tree ∷ map home_end homes.now) }
+    ensures only { IsOkUnless result Error.OutOfMemory }
+{
+    let mut ends = Vec::new(alloc);
+    ends.push(journal)?;
+    ends.push(tree)?;
+    for home in homes {
+        ends.push(end_of_home(alloc, home)?)?;
+    }
+    Ok(ends)
+}
+
+/// What is to be done to the folder that was read, whose tree 0 has this end.
+pub(crate) fn plan_of(alloc: Global, found: &Finished, tree: FileEnd) -> Result<MendPlan>
+    ensures plan { IfOk result (IsPlanOf found.now (end_of tree)) }
+    ensures only { IsOkUnless result Error.OutOfMemory }
+{
+    let active = active_id(&found.journal_ids);
+    let journal = FileEnd {
+        name: journal_name(alloc, active)?,
+        cut: found.journals.torn,
+        len: found.journals.end,
+    };
+    Ok(MendPlan {
+        active: journal_name(alloc, active)?,
+        folders: folders_of(alloc, &found.homes)?,
+        whole: whole_files(alloc, &found.journal_ids)?,
+        ends: ends_of(alloc, journal, tree, &found.homes)?,
+    })
+}
+
+/// How many bytes whole records take at the front of these bytes; all of them where a record contradicts itself.
+fn whole_len(alloc: Global, bytes: &[u8]) -> Result<usize>
+    ensures len { IfOk result (λ len. (records : List Fields) (end : ℕ) → IsRecords bytes.now records end → end ≡ len) }
+    ensures only { IsOkUnless result Error.OutOfMemory }
+{
+    match read_current(alloc, bytes) {
+        Ok(current) => Ok(current.end),
+        Err(Error::Storage(_)) => Ok(bytes.len()),
+        Err(_) => Err(Error::OutOfMemory),
+    }
+}
+
+/// The end of tree 0's records. They are read again, since what was read of the folder promises what the last of them says,
+/// and not where they end.
+pub(crate) fn read_tree_end<D: Disk>(alloc: Global, disk: &mut D) -> Result<FileEnd>
+    ensures end { IsTrue D.honest → IfOk result (λ end. IsTreeEnd (standing (state_in (D.meaning disk.old))) (end_of end)) }
+    ensures named { IfOk result (λ end. string_bytes end.name ≡ current_name 0) }
+    ensures same { IsTrue D.honest → Took (D.meaning disk.old) (D.meaning disk.new) [] }
+    ensures served { IsTrue D.honest → (D.meaning disk.new).misuses ≡ (D.meaning disk.old).misuses }
+    ensures cause { HasCause (D.meaning disk.old) (D.meaning disk.new) result }
+{
+    let name = current_name(alloc, 0)?;
+    let Some(bytes) = disk.read(alloc, name.as_str())? else {
+        return Ok(FileEnd {
+            name,
+            cut: false,
+            len: 0,
+        });
+    };
+    let len = whole_len(alloc, &bytes)?;
+    Ok(FileEnd {
+        name,
+        cut: len < bytes.len(),
+        len,
+    })
+}
