@@ -11,7 +11,7 @@ use Rattle.fjall_meta.specs.Entries.{entries_of}
 use Rattle.fjall_catalog.specs.Catalog.{AreSafe}
 use Rattle.fjall_recovery.specs.Halves.{Tree, is_of_keyspaces}
 use Rattle.fjall_recovery.specs.Places.{HasSafeHome, IsNeverFolder, LiesInTree}
-use Rattle.fjall_changes.proofs.Homes.{homes_along}
+use Rattle.fjall_commit.proofs.Homes.{homes_along}
 
 -- what stands in `keyspaces` is the same
 abbrev pub SameKeyspaces : State → State → Type 0

@@ -22,8 +22,8 @@ use Rattle.fjall_recovery.specs.Halves.{HasRoot, HasTree, Tree}
 use Rattle.fjall_recovery.specs.Places.{Journaling, LiesInRoot, LiesInTree, contents_with, journals_with}
 use Rattle.fjall_recovery.proofs.Roots.{crashes_leave_the_root}
 use Rattle.fjall_recovery.proofs.Holding.{made}
-use Rattle.fjall_journaling.specs.Journaling.{IsWriting}
-use Rattle.fjall_changes.specs.Changes.{HasEither}
+use Rattle.fjall_commit.specs.Journaling.{IsWriting}
+use Rattle.fjall_commit.specs.Changes.{HasEither}
 use Rattle.fjall_machine.specs.Remembered.{Remembered}
 use Rattle.fjall_core.specs.Holding.{Held}
 use Rattle.fjall_core.specs.Durables.{Durable, Lies, Rests, StandsAmid, StaysFinished}

@@ -11,8 +11,8 @@ use Rattle.fjall_recovery.specs.Amid.{HoldsAmid}
 use Rattle.fjall_recovery.specs.Places.{contents_with}
 use Rattle.fjall_recovery.proofs.Holding.{a_rest_holds}
 use Rattle.fjall_files.specs.Tidy.{StaysTidy}
-use Rattle.fjall_journaling.proofs.Tidied.{persist_stays}
-use Rattle.fjall_journaling.proofs.Leaving.{persist_apart, persist_leaves, persist_out}
+use Rattle.fjall_commit.proofs.Tidied.{persist_stays}
+use Rattle.fjall_commit.proofs.Leaving.{persist_apart, persist_leaves, persist_out}
 use Rattle.fjall_machine.specs.declared.call.Call.TheVariants.{Persist}
 use Rattle.fjall_machine.specs.declared.call.Reply.TheVariants.{Refused}
 use Rattle.fjall_machine.specs.Machine as machine

@@ -7,13 +7,13 @@ use Rattle.fjall_files.specs.Tidy.{IsTidy}
 use Rattle.fjall_files.proofs.Fitting.{current_kind, folder_kind}
 use Rattle.fjall_recovery.specs.Halves.{is_of_keyspaces}
 use Rattle.fjall_recovery.proofs.Named.{current_within, folder_within}
-use Rattle.fjall_changes.specs.Changes.{HasRoom}
+use Rattle.fjall_commit.specs.Changes.{HasRoom}
 use Rattle.fjall_base.specs.Errors.{IsFault, Rose}
 use Rattle.fjall_base.specs.declared.error.Error.{Error}
 use Rattle.fjall_base.specs.declared.error.Error.TheVariants.{Io}
 use Rattle.fjall_recovery.specs.Refusals.{HasRisen}
 use Rattle.fjall_recovery.specs.Places.{Journaling}
-use Rattle.fjall_journaling.specs.Journaling.{IsWriting}
+use Rattle.fjall_commit.specs.Journaling.{IsWriting}
 use Rattle.fjall_machine.specs.declared.call.Reply.TheVariants.{Refused}
 use Rattle.fjall_core.specs.Holding.{Held}
 use Rattle.fjall_core.specs.Durables.{Durable}

@@ -8,7 +8,7 @@ use Rattle.fjall_journal.specs.declared.entry.ValueType.{ValueType}
 use Rattle.fjall_journal.specs.Batches.{Written, of_item}
 use Rattle.fjall_journal.specs.Writer.{goes_out}
 use Rattle.fjall_files.proofs.Tidying.{stays_part}
-use Rattle.fjall_journaling.proofs.Writing.{command_part}
+use Rattle.fjall_commit.proofs.Writing.{command_part}
 use Rattle.fjall_versions.specs.declared.version.Version.{Version}
 use Rattle.fjall_machine.specs.declared.call.Reply.{Reply}
 use Rattle.fjall_machine.specs.declared.call.Reply.TheVariants.{Done, Refused}

@@ -11,8 +11,8 @@ use Rattle.fjall_catalog.specs.Updates.{IsPreparingRefusal}
 use Rattle.fjall_versions.specs.Replays.{option_pairs}
 use Rattle.fjall_versions.specs.Versions.{store_of}
 use Rattle.fjall_versions.proofs.Creating as Creating
-use Rattle.fjall_changes.specs.declared.creation.Creation.{Creation}
-use Rattle.fjall_changes.specs.Changes.{IsCreation}
+use Rattle.fjall_commit.specs.declared.creation.Creation.{Creation}
+use Rattle.fjall_commit.specs.Changes.{IsCreation}
 use Rattle.fjall_machine.specs.declared.call.Call.TheVariants.{Keyspace}
 use Rattle.fjall_machine.specs.declared.call.Reply.TheVariants.{Number, Refused}
 use Rattle.fjall_machine.specs.Allowed.{HasRoom}

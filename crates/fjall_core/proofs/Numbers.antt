@@ -10,7 +10,7 @@ use Rattle.fjall_recovery.specs.Folders.{number_of, past, past_record, past_reco
 use Rattle.fjall_recovery.specs.Journals.{batches_in}
 use Rattle.fjall_recovery.specs.Halves.{Tree}
 use Rattle.fjall_recovery.specs.Places.{Journaling, contents_with, homes_without, journals_with}
-use Rattle.fjall_changes.specs.Changes.{with_home, without_home}
+use Rattle.fjall_commit.specs.Changes.{with_home, without_home}
 use Rattle.fjall_core.proofs.Dues.{bool_cases}
 
 past-append : (homes : List Fields) (last : Fields) → past_records (homes ++ last ∷ []) ≡ max (past_records homes) (past_record last)

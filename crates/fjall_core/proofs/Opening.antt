@@ -15,7 +15,7 @@ use Rattle.fjall_recovery.specs.Journals.{batches_in}
 use Rattle.fjall_recovery.specs.Held.{Holds, number_held, store_held}
 use Rattle.fjall_files.specs.Names.{journal_name}
 use Rattle.fjall_recovery.specs.Places.{contents_with, texts_of}
-use Rattle.fjall_journaling.proofs.Lying.{begins}
+use Rattle.fjall_commit.proofs.Lying.{begins}
 use Rattle.fjall_repair.specs.declared.opened.Opened.{Opened}
 use Rattle.fjall_repair.specs.Opened.{ComesBack, IsOpenedFrom, IsUnopened}
 use Rattle.fjall_repair.specs.Opened as repair

@@ -12,8 +12,8 @@ use Rattle.fjall_meta.specs.Keyspaces.{Keyspaces, without_keyspace}
 use Rattle.fjall_catalog.specs.declared.update.Update.{Update}
 use Rattle.fjall_catalog.specs.Updates.{IsUpdate}
 use Rattle.fjall_versions.specs.declared.version.Version.{Version}
-use Rattle.fjall_changes.specs.declared.creation.Creation.{Creation}
-use Rattle.fjall_changes.specs.Changes.{IsCreation}
+use Rattle.fjall_commit.specs.declared.creation.Creation.{Creation}
+use Rattle.fjall_commit.specs.Changes.{IsCreation}
 use Rattle.fjall_machine.specs.Remembered.{poisoned, with_version}
 use Rattle.fjall_core.specs.Holding.{Held, by_hand}
 use Rattle.fjall_core.specs.Standing.{is_io}

@@ -16,7 +16,7 @@ use Rattle.fjall_core.specs.Standing.{HandsOver, Owes, OwesRefusal, Serves, held
 use Rattle.fjall_core.proofs.Dues.{no_sync}
 use Rattle.fjall_core.proofs.Serving.{led_by, serves_by}
 use Rattle.fjall_core.proofs.Syncs.{HandedOut, persist_leads, unpersist_leads}
-use Rattle.fjall_journaling.proofs.Changes.{whole_part}
+use Rattle.fjall_commit.proofs.Changes.{whole_part}
 
 -- ---- a persist
 

@@ -17,7 +17,7 @@ use Rattle.fjall_meta.specs.declared.living.LivingKeyspace.{LivingKeyspace}
 use Rattle.fjall_meta.specs.Keyspaces.{AreKeyspaces, Keyspaces, keyspace_at}
 use Rattle.fjall_versions.specs.Versions.{store_of}
 use Rattle.fjall_versions.proofs.Naming.{living_names, rest_is_bare}
-use Rattle.fjall_changes.specs.Removals.{IsRemoved, IsUnused}
+use Rattle.fjall_commit.specs.Removals.{IsRemoved, IsUnused}
 use Rattle.fjall_machine.specs.declared.call.Call.TheVariants.{Release}
 use Rattle.fjall_machine.specs.declared.call.Reply.TheVariants.{Done, Refused}
 use Rattle.fjall_machine.specs.Machine.{State, handles_of, is_living, is_unknown}

@@ -14,8 +14,8 @@ use Rattle.fjall_recovery.specs.Journals.{Journal}
 use Rattle.fjall_recovery.specs.Halves.{is_of_root}
 use Rattle.fjall_recovery.specs.Places.{IsNeverFile, Journaling, LiesInRoot, texts_of}
 use Rattle.fjall_recovery.proofs.Named.{journal_within, keyspaces_not_misnamed, root_cases}
-use Rattle.fjall_journaling.specs.Journaling.{IsWriting}
-use Rattle.fjall_journaling.proofs.Lying.{active_fits}
+use Rattle.fjall_commit.specs.Journaling.{IsWriting}
+use Rattle.fjall_commit.proofs.Lying.{active_fits}
 use Rattle.fjall_core.specs.Durables.{StaysFinished}
 use Rattle.fjall_core.proofs.Dues.{bool_cases}
 use Rattle.fjall_core.proofs.Leading.{root_finished}

@@ -13,7 +13,7 @@ use Rattle.fjall_versions.specs.Versions.{store_of}
 use Rattle.fjall_recovery.specs.Folders.{past_records}
 use Rattle.fjall_recovery.specs.Journals.{Journal, batches_in}
 use Rattle.fjall_recovery.specs.Places.{Journaling, journals_with}
-use Rattle.fjall_journaling.specs.Journaling.{LeavesRoot, after_persist, synced}
+use Rattle.fjall_commit.specs.Journaling.{LeavesRoot, after_persist, synced}
 use Rattle.fjall_machine.specs.declared.call.Call.TheVariants.{Persist}
 use Rattle.fjall_machine.specs.declared.call.Reply.TheVariants.{Done}
 use Rattle.fjall_machine.specs.Machine as Machine

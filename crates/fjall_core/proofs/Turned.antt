@@ -16,8 +16,8 @@ use Rattle.fjall_catalog.specs.Updates.{IsTableGone, IsUpdate}
 use Rattle.fjall_recovery.specs.Folders.{past_record}
 use Rattle.fjall_recovery.specs.Halves.{Tree}
 use Rattle.fjall_recovery.specs.Places.{LiesInTree}
-use Rattle.fjall_changes.specs.declared.creation.Creation.{Creation}
-use Rattle.fjall_changes.specs.Changes.{HasEither, HasRoom, IsCreation, with_home, without_home}
+use Rattle.fjall_commit.specs.declared.creation.Creation.{Creation}
+use Rattle.fjall_commit.specs.Changes.{HasEither, HasRoom, IsCreation, with_home, without_home}
 use Rattle.fjall_core.specs.Turns.{HandedOut, Made, Turns, Unmade}
 
 -- what came of the change, behind a sync that was done

@@ -10,7 +10,7 @@ use Rattle.fjall_versions.specs.Versions.{store_of}
 use Rattle.fjall_versions.proofs.Kept.{kept_along}
 use Rattle.fjall_recovery.specs.Halves.{HasTree}
 use Rattle.fjall_recovery.specs.Places.{LiesInTree}
-use Rattle.fjall_journaling.specs.Journaling.{IsWriting}
+use Rattle.fjall_commit.specs.Journaling.{IsWriting}
 use Rattle.fjall_machine.specs.Remembered.{Remembered}
 use Rattle.fjall_core.specs.Holding.{Held}
 use Rattle.fjall_core.specs.Durables.{Durable, Lies, MakesPresent, Rests, StandsAmid}

@@ -20,8 +20,8 @@ use Rattle.fjall_versions.proofs.Slots.{fold-append}
 use Rattle.fjall_catalog.specs.Catalog.{fields}
 use Rattle.fjall_recovery.specs.Folders.{past_records}
 use Rattle.fjall_recovery.specs.Places.{Journaling}
-use Rattle.fjall_journaling.specs.Journaling.{CanFollow, IsWriting, LeavesRoot, next_number, with_batch}
-use Rattle.fjall_journaling.proofs.Batches.{next-batch}
+use Rattle.fjall_commit.specs.Journaling.{CanFollow, IsWriting, LeavesRoot, next_number, with_batch}
+use Rattle.fjall_commit.proofs.Batches.{next-batch}
 use Rattle.fjall_machine.specs.Ops.{Op, Put, Remove, RemoveWeak, bytes_in, kind_of, op_text, value_in}
 use Rattle.fjall_machine.specs.Machine.{is_living, write_of}
 use Rattle.fjall_machine.specs.Remembered.{IsLawful, Remembered, version_of, with_version}

@@ -12,7 +12,7 @@ use Rattle.fjall_recovery.specs.Folders.{marker_bytes, number_of, store_of}
 pub use Rattle.fjall_recovery.specs.Amid.{IsBeginning, StandsAmid}
 use Rattle.fjall_recovery.specs.Halves.{Tree}
 use Rattle.fjall_recovery.specs.Places.{Journaling, LiesInTree, contents_with}
-use Rattle.fjall_journaling.specs.Journaling.{IsWriting}
+use Rattle.fjall_commit.specs.Journaling.{IsWriting}
 use Rattle.fjall_core.specs.Holding.{Held}
 
 -- What a reopening would know: the store that the synced bytes make, and the commands behind it.

@@ -23,7 +23,7 @@ use Rattle.fjall_versions.specs.Versions.{newest, pairs_in, store_of}
 use Rattle.fjall_recovery.specs.Folders.{Contents}
 use Rattle.fjall_recovery.specs.Held.{Holds, store_held}
 use Rattle.fjall_repair.specs.Opened.{ComesBack}
-use Rattle.fjall_changes.specs.Removals.{IsRemoved}
+use Rattle.fjall_commit.specs.Removals.{IsRemoved}
 use Rattle.fjall_machine.specs.declared.call.Call.{Call}
 use Rattle.fjall_machine.specs.declared.call.Call.TheVariants.{Keyspace, DeleteKeyspace, Retain, Release, Insert, Remove, RemoveWeak, GetAt, PageAt, Persist, KeyspaceCount, ListKeyspaceNames, KeyspaceExists, Seqno, VisibleSeqno, JournalDiskSpace}
 use Rattle.fjall_machine.specs.declared.call.Reply.{Reply}

@@ -22,10 +22,10 @@ use Rattle.fjall_versions.specs.declared.version.Version.{Version}
 use Rattle.fjall_recovery.specs.Folders.{past_record}
 use Rattle.fjall_recovery.specs.Halves.{HasTree, Tree, is_of_keyspaces}
 use Rattle.fjall_recovery.specs.Places.{Journaling, LiesInTree}
-use Rattle.fjall_journaling.specs.Journaling.{CanFollow, IsWriting, LeavesRoot, after_persist, with_batch}
-use Rattle.fjall_changes.specs.declared.creation.Creation.{Creation}
-use Rattle.fjall_changes.specs.Changes.{HasEither, HasRoom, IsCreation, with_home, without_home}
-use Rattle.fjall_changes.specs.Removals.{IsRemoved, IsUnused}
+use Rattle.fjall_commit.specs.Journaling.{CanFollow, IsWriting, LeavesRoot, after_persist, with_batch}
+use Rattle.fjall_commit.specs.declared.creation.Creation.{Creation}
+use Rattle.fjall_commit.specs.Changes.{HasEither, HasRoom, IsCreation, with_home, without_home}
+use Rattle.fjall_commit.specs.Removals.{IsRemoved, IsUnused}
 use Rattle.fjall_machine.specs.Remembered.{poisoned, with_version}
 use Rattle.fjall_core.specs.Holding.{Held, by_hand}
 

@@ -7,15 +7,14 @@ ghost use Rattle.fjall_journal.specs.Writer.{written_out};
 ghost use Rattle.fjall_meta.specs.Keyspaces.{Keyspaces};
 ghost use Rattle.fjall_catalog.specs.declared.catalog.Catalog.{Catalog};
 ghost use Rattle.fjall_catalog.specs.Updates.{IsUpdate};
-ghost use Rattle.fjall_changes.specs.Changes.{IsCreation};
+ghost use Rattle.fjall_commit.specs.Changes.{IsCreation};
 ghost use Rattle.fjall_core.specs.Standing.{is_io};
 ghost use Rattle.fjall_core.specs.Turns.{Made, Turns, Unmade};
 
 use fjall_base::{Disk, Error, Result};
 use fjall_catalog::Update;
-use fjall_changes::{Creation, create_home, delete_home};
+use fjall_commit::{Creation, create_home, delete_home, hand_over};
 use fjall_journal::{PersistMode, Writer};
-use fjall_journaling::hand_over;
 
 /// Whether it tells of a fault of the disk.
 pub(crate) fn is_fault(error: &Error) -> bool

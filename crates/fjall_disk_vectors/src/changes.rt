@@ -2,7 +2,7 @@
 
 use fjall_base::{Disk, Error, MemoryDisk, Result, Slice};
 use fjall_catalog::{Catalog, Found, Update, first_record, prepare, read_catalog};
-use fjall_changes::{
+use fjall_commit::{
     Creation, create_home, delete_home, prepare_creation, prepare_removal, remove_keyspace,
 };
 use fjall_meta::MetaKeyspace;

@@ -2,7 +2,7 @@
 
 use fjall_base::{Disk, MemoryDisk};
 use fjall_journal::{PersistMode, ValueType, Writer};
-use fjall_journaling::{hand_over, write_through};
+use fjall_commit::{hand_over, write_through};
 use std::test::Fail;
 
 const NAME: &str = "0.jnl";

@@ -1,0 +1,15 @@
+pub mod Apart
+pub mod Homes
+pub mod Beside
+pub mod Changed
+pub mod Nexts
+pub mod Building
+pub mod Served
+pub mod Batches
+pub mod Changes
+pub mod Lying
+pub mod Leaving
+pub mod Writing
+pub mod Results
+pub mod Filed
+pub mod Tidied

@@ -1,0 +1,5 @@
+use Rattle.fjall_commit.proofs.Lying.{begins}
+use Rattle.fjall_commit.proofs.laws.a_writer_begins.Goals as goal
+
+pub returns : goal.returns
+returns c = begins

@@ -1,0 +1,18 @@
+//! How an accepted command reaches the disk: batches go out into the active journal and are synced, and keyspaces are made,
+//! deleted and removed; a crash at any moment leaves what stood before the change or after it.
+#![tactic(auto)]
+
+mod change;
+mod creation;
+mod deletion;
+mod journaling;
+mod laws;
+mod removal;
+
+pub use creation::{Creation, create_home, prepare_creation};
+pub use deletion::delete_home;
+pub use journaling::{hand_over, write_through};
+pub use laws::{
+    a_persist_keeps_all, a_writer_begins, crashes_leave_some, numbers_go_on, synced_batches_stay,
+};
+pub use removal::{Removal, prepare_removal, remove_keyspace};

@@ -1,5 +1,0 @@
-use Rattle.fjall_journaling.proofs.Leaving.{root_left}
-use Rattle.fjall_journaling.proofs.laws.crashes_leave_some.Goals as goal
-
-pub returns : goal.returns
-returns c = λ state writer j image writing is. root_left state j image writing.root is

@@ -1,5 +1,0 @@
-use Rattle.fjall_journaling.proofs.Batches.{next-batch}
-use Rattle.fjall_journaling.proofs.laws.numbers_go_on.Goals as goal
-
-pub returns : goal.returns
-returns c = next-batch
