@@ -24,7 +24,7 @@ use Rattle.fjall_recovery.proofs.Roots.{crashes_leave_the_root}
 use Rattle.fjall_recovery.proofs.Holding.{made}
 use Rattle.fjall_commit.specs.Journaling.{IsWriting}
 use Rattle.fjall_commit.specs.Changes.{HasEither}
-use Rattle.fjall_machine.specs.Remembered.{Remembered}
+use Rattle.fjall_state.specs.Remembered.{Remembered}
 use Rattle.fjall_core.specs.Holding.{Held}
 use Rattle.fjall_core.specs.Durables.{Durable, Lies, Rests, StandsAmid, StaysFinished}
 use Rattle.fjall_core.specs.Standing.{Poisons, StandsOn}

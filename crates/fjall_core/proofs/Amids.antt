@@ -7,9 +7,9 @@ use Rattle.fjall_base.specs.Disk as disk
 use Rattle.fjall_base.proofs.Moments.{after-append, started, runs_on, weaken}
 use Rattle.fjall_files.specs.Tidy.{IsTidy, StaysTidy}
 use Rattle.fjall_files.proofs.Tidying.{stays_both, stays_start, tidy_on}
-use Rattle.fjall_machine.specs.declared.call.Call.{Call}
-use Rattle.fjall_machine.specs.declared.call.Reply.{Reply}
-use Rattle.fjall_machine.specs.Machine.{State, Step}
+use Rattle.fjall_state.specs.declared.call.Call.{Call}
+use Rattle.fjall_state.specs.declared.call.Reply.{Reply}
+use Rattle.fjall_state.specs.Machine.{State, Step}
 use Rattle.fjall_recovery.specs.Folders.{StandsFor}
 use Rattle.fjall_core.specs.Durables.{Durable, IsBeginning, StandsAmid, Rests, Passes}
 use Rattle.fjall_core.specs.Crashes.{attempt, BlamesEach, CallPasses, RunOn, IsSyncAt, SafeSince, SafeAt, Settled}

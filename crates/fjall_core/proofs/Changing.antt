@@ -24,7 +24,7 @@ use Rattle.fjall_recovery.specs.Places.{Journaling, LiesInRoot, LiesInTree, cont
 use Rattle.fjall_recovery.proofs.Roots.{crashes_leave_the_root, fewer_sound}
 use Rattle.fjall_commit.specs.declared.creation.Creation.{Creation}
 use Rattle.fjall_commit.specs.Changes.{HasRoom, IsCreation, with_home, without_home}
-use Rattle.fjall_machine.specs.Remembered.{Remembered, with_creation, with_deletion}
+use Rattle.fjall_state.specs.Remembered.{Remembered, with_creation, with_deletion}
 use Rattle.fjall_core.specs.Holding.{Held}
 use Rattle.fjall_core.specs.Turns as turns
 use Rattle.fjall_core.specs.Durables.{Durable, Lies, StandsAmid}

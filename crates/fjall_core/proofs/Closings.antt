@@ -13,9 +13,9 @@ use Rattle.fjall_recovery.proofs.Holding.{a_rest_holds}
 use Rattle.fjall_files.specs.Tidy.{StaysTidy}
 use Rattle.fjall_commit.proofs.Tidied.{persist_stays}
 use Rattle.fjall_commit.proofs.Leaving.{persist_apart, persist_leaves, persist_out}
-use Rattle.fjall_machine.specs.declared.call.Call.TheVariants.{Persist}
-use Rattle.fjall_machine.specs.declared.call.Reply.TheVariants.{Refused}
-use Rattle.fjall_machine.specs.Machine as machine
+use Rattle.fjall_state.specs.declared.call.Call.TheVariants.{Persist}
+use Rattle.fjall_state.specs.declared.call.Reply.TheVariants.{Refused}
+use Rattle.fjall_state.specs.Machine as machine
 use Rattle.fjall_core.specs.Holding.{Held}
 use Rattle.fjall_core.specs.Durables.{Durable, Passes}
 use Rattle.fjall_core.specs.Crashes.{BlamesDevice, attempt}

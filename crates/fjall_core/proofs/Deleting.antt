@@ -10,13 +10,13 @@ use Rattle.fjall_meta.specs.Keyspaces.{without_keyspace}
 use Rattle.fjall_catalog.specs.declared.update.Update.{Update}
 use Rattle.fjall_catalog.specs.Updates.{IsPreparingRefusal, IsUpdate}
 use Rattle.fjall_versions.proofs.Keeping as Keeping
-use Rattle.fjall_machine.specs.declared.call.Call.TheVariants.{DeleteKeyspace}
-use Rattle.fjall_machine.specs.declared.call.Reply.TheVariants.{Done, Refused}
-use Rattle.fjall_machine.specs.Allowed.{HasNumber}
-use Rattle.fjall_machine.specs.Machine.{HasLongOption, State, is_living, present}
-use Rattle.fjall_machine.specs.Remembered.{IsLawful, facts_of, poisoned, with_deletion}
-use Rattle.fjall_machine.proofs.Dues.{may_delete}
-use Rattle.fjall_machine.proofs.Lawful.{deletion_is_lawful}
+use Rattle.fjall_state.specs.declared.call.Call.TheVariants.{DeleteKeyspace}
+use Rattle.fjall_state.specs.declared.call.Reply.TheVariants.{Done, Refused}
+use Rattle.fjall_state.specs.Allowed.{HasNumber}
+use Rattle.fjall_state.specs.Machine.{HasLongOption, State, is_living, present}
+use Rattle.fjall_state.specs.Remembered.{IsLawful, facts_of, poisoned, with_deletion}
+use Rattle.fjall_state.proofs.Dues.{may_delete}
+use Rattle.fjall_state.proofs.Lawful.{deletion_is_lawful}
 use Rattle.fjall_files.specs.Tidy.{StaysTidy}
 use Rattle.fjall_files.proofs.Tidying.{stays_both, stays_start}
 use Rattle.fjall_core.specs.Holding.{Held}

@@ -14,7 +14,7 @@ use Rattle.fjall_base.specs.declared.error.Error.TheVariants.{Io}
 use Rattle.fjall_recovery.specs.Refusals.{HasRisen}
 use Rattle.fjall_recovery.specs.Places.{Journaling}
 use Rattle.fjall_commit.specs.Journaling.{IsWriting}
-use Rattle.fjall_machine.specs.declared.call.Reply.TheVariants.{Refused}
+use Rattle.fjall_state.specs.declared.call.Reply.TheVariants.{Refused}
 use Rattle.fjall_core.specs.Holding.{Held}
 use Rattle.fjall_core.specs.Durables.{Durable}
 use Rattle.fjall_core.specs.Crashes.{BlamesDevice}

@@ -10,14 +10,14 @@ use Rattle.fjall_journal.specs.Writer.{goes_out}
 use Rattle.fjall_files.proofs.Tidying.{stays_part}
 use Rattle.fjall_commit.proofs.Writing.{command_part}
 use Rattle.fjall_versions.specs.declared.version.Version.{Version}
-use Rattle.fjall_machine.specs.declared.call.Reply.{Reply}
-use Rattle.fjall_machine.specs.declared.call.Reply.TheVariants.{Done, Refused}
-use Rattle.fjall_machine.specs.Allowed.{MayWrite}
-use Rattle.fjall_machine.specs.Changes.{call_of}
-use Rattle.fjall_machine.specs.Ops.{Op, Put, Remove, RemoveWeak, bytes_in, kind_of, op_text, value_in}
-use Rattle.fjall_machine.specs.Machine.{ChangesDisk, State, TakesMemory, first_due, leaves_buffer, write_of, write_refusals}
-use Rattle.fjall_machine.specs.Remembered.{facts_of, version_of}
-use Rattle.fjall_machine.proofs.Dues.{may_write}
+use Rattle.fjall_state.specs.declared.call.Reply.{Reply}
+use Rattle.fjall_state.specs.declared.call.Reply.TheVariants.{Done, Refused}
+use Rattle.fjall_state.specs.Allowed.{MayWrite}
+use Rattle.fjall_state.specs.Changes.{call_of}
+use Rattle.fjall_state.specs.Ops.{Op, Put, Remove, RemoveWeak, bytes_in, kind_of, op_text, value_in}
+use Rattle.fjall_state.specs.Machine.{ChangesDisk, State, TakesMemory, first_due, leaves_buffer, write_of, write_refusals}
+use Rattle.fjall_state.specs.Remembered.{facts_of, version_of}
+use Rattle.fjall_state.proofs.Dues.{may_write}
 use Rattle.fjall_core.specs.Holding.{Held, by_hand}
 use Rattle.fjall_core.specs.Crashes.{IsSync, attempt}
 use Rattle.fjall_core.specs.Standing.{Grows, OnDisk, Owes, OwesRefusal, Serves, StandsFor, WroteOut, held_due, reply_of}

@@ -9,10 +9,10 @@ use Rattle.fjall_base.specs.declared.error.Error.{Error}
 use Rattle.fjall_base.specs.declared.error.Error.TheVariants.{Io, KeyspaceDeleted, NumbersUsedUp, Poisoned, UnknownKeyspace}
 use Rattle.fjall_journal.specs.declared.persist_mode.PersistMode.TheVariants.{Buffer, SyncData, SyncAll}
 use Rattle.fjall_versions.specs.Replays.{option_pairs}
-use Rattle.fjall_machine.specs.declared.call.Call.{Call}
-use Rattle.fjall_machine.specs.declared.call.Call.TheVariants.{Keyspace, DeleteKeyspace, Retain, Release, Insert, Remove, RemoveWeak, GetAt, PageAt, Persist, KeyspaceCount, ListKeyspaceNames, KeyspaceExists, Seqno, VisibleSeqno, JournalDiskSpace}
-use Rattle.fjall_machine.specs.declared.call.Reply.TheVariants.{Refused}
-use Rattle.fjall_machine.specs.Machine.{Facts, State, handles_of, is_read, is_unknown, due, due_in, facts, first_due, creation_refusals, deletion_refusals, read_refusals, write_refusals, has_name, is_living, present, write_of}
+use Rattle.fjall_state.specs.declared.call.Call.{Call}
+use Rattle.fjall_state.specs.declared.call.Call.TheVariants.{Keyspace, DeleteKeyspace, Retain, Release, Insert, Remove, RemoveWeak, GetAt, PageAt, Persist, KeyspaceCount, ListKeyspaceNames, KeyspaceExists, Seqno, VisibleSeqno, JournalDiskSpace}
+use Rattle.fjall_state.specs.declared.call.Reply.TheVariants.{Refused}
+use Rattle.fjall_state.specs.Machine.{Facts, State, handles_of, is_read, is_unknown, due, due_in, facts, first_due, creation_refusals, deletion_refusals, read_refusals, write_refusals, has_name, is_living, present, write_of}
 use Rattle.fjall_core.specs.Crashes.{asked, attempt, IsSync}
 use Rattle.fjall_core.specs.Standing.{is_io}
 

@@ -13,17 +13,17 @@ use Rattle.fjall_versions.specs.Versions.{store_of}
 use Rattle.fjall_versions.proofs.Creating as Creating
 use Rattle.fjall_commit.specs.declared.creation.Creation.{Creation}
 use Rattle.fjall_commit.specs.Changes.{IsCreation}
-use Rattle.fjall_machine.specs.declared.call.Call.TheVariants.{Keyspace}
-use Rattle.fjall_machine.specs.declared.call.Reply.TheVariants.{Number, Refused}
-use Rattle.fjall_machine.specs.Allowed.{HasRoom}
-use Rattle.fjall_machine.specs.Machine.{HasLongOption, State, has_name, present}
-use Rattle.fjall_machine.specs.Remembered.{IsLawful, Remembered, facts_of, poisoned, with_creation}
+use Rattle.fjall_state.specs.declared.call.Call.TheVariants.{Keyspace}
+use Rattle.fjall_state.specs.declared.call.Reply.TheVariants.{Number, Refused}
+use Rattle.fjall_state.specs.Allowed.{HasRoom}
+use Rattle.fjall_state.specs.Machine.{HasLongOption, State, has_name, present}
+use Rattle.fjall_state.specs.Remembered.{IsLawful, Remembered, facts_of, poisoned, with_creation}
 use Rattle.std.specs.Option.{is_some}
 use Rattle.fjall_options.specs.Options.{AreOptions}
 use Rattle.fjall_versions.proofs.Naming.{rest_is_bare}
-use Rattle.fjall_machine.proofs.Dues.{may_create}
-use Rattle.fjall_machine.proofs.Facts.{named_is}
-use Rattle.fjall_machine.proofs.Lawful.{creation_is_lawful}
+use Rattle.fjall_state.proofs.Dues.{may_create}
+use Rattle.fjall_state.proofs.Facts.{named_is}
+use Rattle.fjall_state.proofs.Lawful.{creation_is_lawful}
 use Rattle.fjall_base.specs.Errors.{Rose}
 use Rattle.fjall_journal.specs.declared.persist_mode.PersistMode.TheVariants.{SyncAll}
 use Rattle.fjall_files.specs.Tidy.{IsTidy, StaysTidy}
@@ -37,7 +37,7 @@ use Rattle.fjall_core.specs.Turns as turns
 use Rattle.fjall_core.proofs.Changing.{Becomes, creation_changed, creation_served}
 use Rattle.fjall_core.proofs.Devices.{served_on, room_on}
 use Rattle.fjall_core.proofs.Writes.{held_on}
-use Rattle.fjall_machine.proofs.Standing.{a_name_there}
+use Rattle.fjall_state.proofs.Standing.{a_name_there}
 use Rattle.fjall_core.proofs.Serving.{Led, still_led, led_by, long_owes, long_serves, memory_owes, memory_serves, replaces_table, serves_by}
 use Rattle.fjall_core.proofs.Syncs.{HandedOut, StaysSame, sync_empty, sync_lies}
 use Rattle.fjall_core.proofs.Tables.{created_table, long_option}

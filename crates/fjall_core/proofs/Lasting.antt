@@ -3,11 +3,11 @@ use Rattle.std.proofs.Common.{◌≡◌, ◌⊎◌, inl, inr, ℕ, zero, suc, �
 use Rattle.std.proofs.lemmas.Bool.{true≢false}
 use Rattle.fjall_base.specs.Store.{Command, Store}
 use Rattle.fjall_journal.specs.declared.persist_mode.PersistMode.TheVariants.{Buffer, SyncAll, SyncData}
-use Rattle.fjall_machine.specs.declared.call.Call.{Call}
-use Rattle.fjall_machine.specs.declared.call.Call.TheVariants.{DeleteKeyspace, Keyspace, Persist}
-use Rattle.fjall_machine.specs.declared.call.Reply.{Reply}
-use Rattle.fjall_machine.specs.declared.call.Reply.TheVariants.{Done, Number}
-use Rattle.fjall_machine.specs.Machine.{State, has_name, is_living, present}
+use Rattle.fjall_state.specs.declared.call.Call.{Call}
+use Rattle.fjall_state.specs.declared.call.Call.TheVariants.{DeleteKeyspace, Keyspace, Persist}
+use Rattle.fjall_state.specs.declared.call.Reply.{Reply}
+use Rattle.fjall_state.specs.declared.call.Reply.TheVariants.{Done, Number}
+use Rattle.fjall_state.specs.Machine.{State, has_name, is_living, present}
 use Rattle.fjall_core.specs.Holding.{Held}
 use Rattle.fjall_core.specs.Durables.{Durable}
 use Rattle.fjall_core.specs.Crashes.{IsSync, IsSyncAt, RunOn}

@@ -15,11 +15,11 @@ use Rattle.fjall_files.proofs.Tidying.{each_tidy, image_tidy, left_tidy, stays_b
 use Rattle.fjall_recovery.specs.Folders.{StandsFor}
 use Rattle.fjall_recovery.proofs.Alone.{one_store}
 use Rattle.fjall_recovery.specs.Amid.{HoldsAmid}
-use Rattle.fjall_machine.specs.declared.call.Call.{Call}
-use Rattle.fjall_machine.specs.declared.call.Reply.{Reply}
-use Rattle.fjall_machine.specs.Machine as machine
-use Rattle.fjall_machine.specs.Machine.{present}
-use Rattle.fjall_machine.specs.Histories.{latest}
+use Rattle.fjall_state.specs.declared.call.Call.{Call}
+use Rattle.fjall_state.specs.declared.call.Reply.{Reply}
+use Rattle.fjall_state.specs.Machine as machine
+use Rattle.fjall_state.specs.Machine.{present}
+use Rattle.fjall_state.specs.Histories.{latest}
 use Rattle.fjall_core.specs.Holding.{Held}
 use Rattle.fjall_core.specs.Durables.{Durable, IsBeginning, Passes, StandsAmid}
 use Rattle.fjall_core.specs.Crashes.{BlamesEach, Settled, Tried, at_most_one}

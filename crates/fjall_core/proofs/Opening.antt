@@ -19,10 +19,10 @@ use Rattle.fjall_commit.proofs.Lying.{begins}
 use Rattle.fjall_repair.specs.declared.opened.Opened.{Opened}
 use Rattle.fjall_repair.specs.Opened.{ComesBack, IsOpenedFrom, IsUnopened}
 use Rattle.fjall_repair.specs.Opened as repair
-use Rattle.fjall_machine.specs.Remembered.{Remembered, remembered}
-use Rattle.fjall_machine.specs.Remembered as memory
-use Rattle.fjall_machine.specs.Machine.{opened_state}
-use Rattle.fjall_machine.proofs.Standing.{an_opening_stands}
+use Rattle.fjall_state.specs.Remembered.{Remembered, remembered}
+use Rattle.fjall_state.specs.Remembered as memory
+use Rattle.fjall_state.specs.Machine.{opened_state}
+use Rattle.fjall_state.proofs.Standing.{an_opening_stands}
 use Rattle.fjall_core.specs.Holding.{Held}
 use Rattle.fjall_core.specs.Durables.{Durable, Lies}
 use Rattle.fjall_core.specs.Openings.{IsAtEnd, IsDueTo, KeepsStore, Opens, OpensAs, OpensOn, parts_of}

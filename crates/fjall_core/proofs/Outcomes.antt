@@ -14,7 +14,7 @@ use Rattle.fjall_catalog.specs.Updates.{IsUpdate}
 use Rattle.fjall_versions.specs.declared.version.Version.{Version}
 use Rattle.fjall_commit.specs.declared.creation.Creation.{Creation}
 use Rattle.fjall_commit.specs.Changes.{IsCreation}
-use Rattle.fjall_machine.specs.Remembered.{poisoned, with_version}
+use Rattle.fjall_state.specs.Remembered.{poisoned, with_version}
 use Rattle.fjall_core.specs.Holding.{Held, by_hand}
 use Rattle.fjall_core.specs.Standing.{is_io}
 use Rattle.fjall_core.specs.Turns.{FilesGone, Made, Makes, Removes, Turns, Unmade, Unmakes, WentOut, Writes, is_out}

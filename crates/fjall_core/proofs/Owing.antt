@@ -19,22 +19,22 @@ use Rattle.fjall_versions.specs.Replays.{option_pairs}
 use Rattle.fjall_versions.specs.Versions.{newest, pairs_in}
 use Rattle.fjall_versions.proofs.Kept.{kept_along}
 use Rattle.fjall_versions.proofs.Naming.{rest_is_bare}
-use Rattle.fjall_machine.specs.declared.call.View.{View}
-use Rattle.fjall_machine.specs.declared.call.View.TheVariants.{Present}
-use Rattle.fjall_machine.specs.declared.call.Call.{Call}
-use Rattle.fjall_machine.specs.declared.call.Call.TheVariants.{Keyspace, DeleteKeyspace, Retain, Release, Insert, Remove, RemoveWeak, GetAt, PageAt, Persist, KeyspaceCount, ListKeyspaceNames, KeyspaceExists, Seqno, VisibleSeqno, JournalDiskSpace}
-use Rattle.fjall_machine.specs.declared.call.Reply.{Reply}
-use Rattle.fjall_machine.specs.declared.call.Reply.TheVariants.{Done, Value, Pairs, Number, Names, Flag, Refused}
-use Rattle.fjall_machine.specs.Histories as history
-use Rattle.fjall_machine.specs.Ops.{Op, op_text, value_in}
-use Rattle.fjall_machine.specs.Ops as op
-use Rattle.fjall_machine.specs.Machine.{creation_refusals, first_due, has_name, write_refusals, State, Parts, Step, Run, Refuses, ChangesDisk, MayFail, TooLong, accepted, created, deleted, due, facts, is_living, leaves_buffer, present, read_refusals, written, written_out}
-use Rattle.fjall_machine.specs.Machine as machine
-use Rattle.fjall_machine.specs.Remembered.{IsLawful, Remembered, facts_of, poisoned, version_of}
-use Rattle.fjall_machine.specs.Remembered as memory
-use Rattle.fjall_machine.proofs.ByHand.{options_agree}
-use Rattle.fjall_machine.proofs.Dues.{may_create, may_write}
-use Rattle.fjall_machine.proofs.Standing as law
+use Rattle.fjall_state.specs.declared.call.View.{View}
+use Rattle.fjall_state.specs.declared.call.View.TheVariants.{Present}
+use Rattle.fjall_state.specs.declared.call.Call.{Call}
+use Rattle.fjall_state.specs.declared.call.Call.TheVariants.{Keyspace, DeleteKeyspace, Retain, Release, Insert, Remove, RemoveWeak, GetAt, PageAt, Persist, KeyspaceCount, ListKeyspaceNames, KeyspaceExists, Seqno, VisibleSeqno, JournalDiskSpace}
+use Rattle.fjall_state.specs.declared.call.Reply.{Reply}
+use Rattle.fjall_state.specs.declared.call.Reply.TheVariants.{Done, Value, Pairs, Number, Names, Flag, Refused}
+use Rattle.fjall_state.specs.Histories as history
+use Rattle.fjall_state.specs.Ops.{Op, op_text, value_in}
+use Rattle.fjall_state.specs.Ops as op
+use Rattle.fjall_state.specs.Machine.{creation_refusals, first_due, has_name, write_refusals, State, Parts, Step, Run, Refuses, ChangesDisk, MayFail, TooLong, accepted, created, deleted, due, facts, is_living, leaves_buffer, present, read_refusals, written, written_out}
+use Rattle.fjall_state.specs.Machine as machine
+use Rattle.fjall_state.specs.Remembered.{IsLawful, Remembered, facts_of, poisoned, version_of}
+use Rattle.fjall_state.specs.Remembered as memory
+use Rattle.fjall_state.proofs.ByHand.{options_agree}
+use Rattle.fjall_state.proofs.Dues.{may_create, may_write}
+use Rattle.fjall_state.proofs.Standing as law
 use Rattle.fjall_core.specs.Holding.{Held, by_hand}
 use Rattle.fjall_core.specs.Standing.{StandsFor, Owes, OwesAll, OwesRefusal, OwesFailure, OwesWrite, Poisons, Grows, HandsOver, Alters, Counts, Creates, Deletes, held_due, store_in}
 

@@ -18,12 +18,12 @@ use Rattle.fjall_meta.specs.Keyspaces.{AreKeyspaces, Keyspaces, keyspace_at}
 use Rattle.fjall_versions.specs.Versions.{store_of}
 use Rattle.fjall_versions.proofs.Naming.{living_names, rest_is_bare}
 use Rattle.fjall_commit.specs.Removals.{IsRemoved, IsUnused}
-use Rattle.fjall_machine.specs.declared.call.Call.TheVariants.{Release}
-use Rattle.fjall_machine.specs.declared.call.Reply.TheVariants.{Done, Refused}
-use Rattle.fjall_machine.specs.Machine.{State, handles_of, is_living, is_unknown}
-use Rattle.fjall_machine.specs.Remembered.{Remembered, is_last, released}
-use Rattle.fjall_machine.proofs.Dues.{none_due}
-use Rattle.fjall_machine.proofs.Standing as law
+use Rattle.fjall_state.specs.declared.call.Call.TheVariants.{Release}
+use Rattle.fjall_state.specs.declared.call.Reply.TheVariants.{Done, Refused}
+use Rattle.fjall_state.specs.Machine.{State, handles_of, is_living, is_unknown}
+use Rattle.fjall_state.specs.Remembered.{Remembered, is_last, released}
+use Rattle.fjall_state.proofs.Dues.{none_due}
+use Rattle.fjall_state.proofs.Standing as law
 use Rattle.fjall_core.specs.Holding.{Held}
 use Rattle.fjall_core.specs.Durables.{Durable}
 use Rattle.fjall_core.specs.Standing.{Counts, Owes, OwesRefusal, Serves, StandsFor, StandsOn, held_due, store_in}

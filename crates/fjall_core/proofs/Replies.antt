@@ -7,12 +7,12 @@ use Rattle.fjall_base.specs.Store.{kept}
 use Rattle.fjall_base.specs.declared.error.Error.{Error}
 use Rattle.fjall_base.specs.declared.error.Error.TheVariants.{OutOfMemory}
 use Rattle.fjall_versions.specs.Versions.{newest, pairs_in}
-use Rattle.fjall_machine.specs.declared.call.View.{View}
-use Rattle.fjall_machine.specs.declared.call.Call.{Call}
-use Rattle.fjall_machine.specs.declared.call.Call.TheVariants.{GetAt, PageAt, Retain, KeyspaceCount, KeyspaceExists, ListKeyspaceNames, Seqno, VisibleSeqno, JournalDiskSpace}
-use Rattle.fjall_machine.specs.declared.call.Reply.TheVariants.{Done, Flag, Names, Number, Pairs, Value, Refused}
-use Rattle.fjall_machine.specs.Machine.{due_in, first_due, has_name, read_refusals}
-use Rattle.fjall_machine.specs.Remembered.{IsDueOrMemory, Remembered, facts_of, retained}
+use Rattle.fjall_state.specs.declared.call.View.{View}
+use Rattle.fjall_state.specs.declared.call.Call.{Call}
+use Rattle.fjall_state.specs.declared.call.Call.TheVariants.{GetAt, PageAt, Retain, KeyspaceCount, KeyspaceExists, ListKeyspaceNames, Seqno, VisibleSeqno, JournalDiskSpace}
+use Rattle.fjall_state.specs.declared.call.Reply.TheVariants.{Done, Flag, Names, Number, Pairs, Value, Refused}
+use Rattle.fjall_state.specs.Machine.{due_in, first_due, has_name, read_refusals}
+use Rattle.fjall_state.specs.Remembered.{IsDueOrMemory, Remembered, facts_of, retained}
 use Rattle.fjall_files.proofs.Tidying.{stays_start}
 use Rattle.fjall_core.specs.Holding.{Held}
 use Rattle.fjall_core.specs.Standing.{Owes, Serves, names_reply, pairs_reply, reply_of, store_in, value_reply}

@@ -4,9 +4,9 @@ use Rattle.std.proofs.lemmas.List.{take_more}
 use Rattle.fjall_base.specs.Store.{Command}
 use Rattle.fjall_base.specs.Disk.{LeavesOnly}
 use Rattle.fjall_files.specs.Tidy.{StaysTidy}
-use Rattle.fjall_machine.specs.declared.call.Call.{Call}
-use Rattle.fjall_machine.specs.declared.call.Reply.{Reply}
-use Rattle.fjall_machine.specs.Machine.{State}
+use Rattle.fjall_state.specs.declared.call.Call.{Call}
+use Rattle.fjall_state.specs.declared.call.Reply.{Reply}
+use Rattle.fjall_state.specs.Machine.{State}
 use Rattle.fjall_core.specs.Holding.{Held}
 use Rattle.fjall_core.specs.Durables.{Durable, StandsAmid}
 use Rattle.fjall_core.specs.Crashes.{attempt, RunOn, SafeAt}

@@ -15,11 +15,11 @@ use Rattle.fjall_catalog.specs.Catalog.{AreSafe}
 use Rattle.fjall_catalog.specs.Updates.{IsTableGone}
 use Rattle.fjall_files.specs.Tidy.{IsTidy, StaysTidy}
 use Rattle.fjall_files.proofs.Tidying.{stays_start}
-use Rattle.fjall_machine.specs.declared.call.Call.{Call}
-use Rattle.fjall_machine.specs.declared.call.Reply.{Reply}
-use Rattle.fjall_machine.specs.declared.call.Reply.TheVariants.{Refused}
-use Rattle.fjall_machine.specs.Machine.{State, TakesMemory, TooLong}
-use Rattle.fjall_machine.specs.Remembered.{IsDueOrMemory, facts_of}
+use Rattle.fjall_state.specs.declared.call.Call.{Call}
+use Rattle.fjall_state.specs.declared.call.Reply.{Reply}
+use Rattle.fjall_state.specs.declared.call.Reply.TheVariants.{Refused}
+use Rattle.fjall_state.specs.Machine.{State, TakesMemory, TooLong}
+use Rattle.fjall_state.specs.Remembered.{IsDueOrMemory, facts_of}
 use Rattle.fjall_core.specs.Holding.{Held}
 use Rattle.fjall_core.specs.Durables.{Durable, Passes}
 use Rattle.fjall_core.specs.Crashes.{BlamesDevice, CallLeaves, IsSync, attempt}

@@ -14,10 +14,10 @@ use Rattle.fjall_recovery.specs.Folders.{past_records}
 use Rattle.fjall_recovery.specs.Journals.{Journal, batches_in}
 use Rattle.fjall_recovery.specs.Places.{Journaling, journals_with}
 use Rattle.fjall_commit.specs.Journaling.{LeavesRoot, after_persist, synced}
-use Rattle.fjall_machine.specs.declared.call.Call.TheVariants.{Persist}
-use Rattle.fjall_machine.specs.declared.call.Reply.TheVariants.{Done}
-use Rattle.fjall_machine.specs.Machine as Machine
-use Rattle.fjall_machine.specs.Remembered.{Remembered}
+use Rattle.fjall_state.specs.declared.call.Call.TheVariants.{Persist}
+use Rattle.fjall_state.specs.declared.call.Reply.TheVariants.{Done}
+use Rattle.fjall_state.specs.Machine as Machine
+use Rattle.fjall_state.specs.Remembered.{Remembered}
 use Rattle.fjall_core.specs.Holding.{Held}
 use Rattle.fjall_core.specs.Durables.{Durable, Lies, Passes, Rests, StandsAmid}
 use Rattle.fjall_core.specs.Turns as turns

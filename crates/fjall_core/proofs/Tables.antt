@@ -28,8 +28,8 @@ use Rattle.fjall_versions.specs.Versions.{store_of}
 use Rattle.fjall_versions.proofs.Found.{found_has}
 use Rattle.fjall_versions.proofs.Naming.{living_names, settings}
 use Rattle.fjall_versions.proofs.Slots.{same_id}
-use Rattle.fjall_machine.specs.Machine.{HasLongOption, is_living}
-use Rattle.fjall_machine.proofs.Facts.{counted_is}
+use Rattle.fjall_state.specs.Machine.{HasLongOption, is_living}
+use Rattle.fjall_state.proofs.Facts.{counted_is}
 use Rattle.fjall_core.proofs.Dues.{bool_cases}
 
 -- ---- whether a table is written

@@ -7,14 +7,14 @@ use Rattle.fjall_base.specs.Store.{Command, Create, Delete}
 use Rattle.fjall_base.specs.declared.error.Error.{Error}
 use Rattle.fjall_base.specs.declared.error.Error.TheVariants.{Io, OutOfMemory, ValueTooLong}
 use Rattle.fjall_versions.specs.Replays.{option_pairs}
-use Rattle.fjall_machine.specs.declared.call.Call.{Call}
-use Rattle.fjall_machine.specs.declared.call.Call.TheVariants.{Keyspace, DeleteKeyspace, Retain, Release, Insert, Remove, RemoveWeak, GetAt, PageAt, Persist, KeyspaceCount, ListKeyspaceNames, KeyspaceExists, Seqno, VisibleSeqno, JournalDiskSpace}
-use Rattle.fjall_machine.specs.declared.call.Reply.{Reply}
-use Rattle.fjall_machine.specs.declared.call.Reply.TheVariants.{Done, Value, Pairs, Number, Names, Flag, Refused}
-use Rattle.fjall_machine.specs.Histories.{grown, extended}
-use Rattle.fjall_machine.specs.Ops.{Op, value_in}
-use Rattle.fjall_machine.specs.Ops as op
-use Rattle.fjall_machine.specs.Machine.{State, Step, Refuses, MayFail, IsPoisoned, accepted, deleted, due, facts, is_living, present, write_of}
+use Rattle.fjall_state.specs.declared.call.Call.{Call}
+use Rattle.fjall_state.specs.declared.call.Call.TheVariants.{Keyspace, DeleteKeyspace, Retain, Release, Insert, Remove, RemoveWeak, GetAt, PageAt, Persist, KeyspaceCount, ListKeyspaceNames, KeyspaceExists, Seqno, VisibleSeqno, JournalDiskSpace}
+use Rattle.fjall_state.specs.declared.call.Reply.{Reply}
+use Rattle.fjall_state.specs.declared.call.Reply.TheVariants.{Done, Value, Pairs, Number, Names, Flag, Refused}
+use Rattle.fjall_state.specs.Histories.{grown, extended}
+use Rattle.fjall_state.specs.Ops.{Op, value_in}
+use Rattle.fjall_state.specs.Ops as op
+use Rattle.fjall_state.specs.Machine.{State, Step, Refuses, MayFail, IsPoisoned, accepted, deleted, due, facts, is_living, present, write_of}
 use Rattle.fjall_core.specs.Durables.{Durable}
 use Rattle.fjall_core.specs.Crashes.{asked, attempt, RunOn, Tried}
 use Rattle.fjall_core.specs.Standing.{is_io}

@@ -11,7 +11,7 @@ use Rattle.fjall_versions.proofs.Kept.{kept_along}
 use Rattle.fjall_recovery.specs.Halves.{HasTree}
 use Rattle.fjall_recovery.specs.Places.{LiesInTree}
 use Rattle.fjall_commit.specs.Journaling.{IsWriting}
-use Rattle.fjall_machine.specs.Remembered.{Remembered}
+use Rattle.fjall_state.specs.Remembered.{Remembered}
 use Rattle.fjall_core.specs.Holding.{Held}
 use Rattle.fjall_core.specs.Durables.{Durable, Lies, MakesPresent, Rests, StandsAmid}
 use Rattle.fjall_core.specs.Standing.{Poisons, StandsOn, store_in}

@@ -22,9 +22,9 @@ use Rattle.fjall_recovery.specs.Folders.{past_records}
 use Rattle.fjall_recovery.specs.Places.{Journaling}
 use Rattle.fjall_commit.specs.Journaling.{CanFollow, IsWriting, LeavesRoot, next_number, with_batch}
 use Rattle.fjall_commit.proofs.Batches.{next-batch}
-use Rattle.fjall_machine.specs.Ops.{Op, Put, Remove, RemoveWeak, bytes_in, kind_of, op_text, value_in}
-use Rattle.fjall_machine.specs.Machine.{is_living, write_of}
-use Rattle.fjall_machine.specs.Remembered.{IsLawful, Remembered, version_of, with_version}
+use Rattle.fjall_state.specs.Ops.{Op, Put, Remove, RemoveWeak, bytes_in, kind_of, op_text, value_in}
+use Rattle.fjall_state.specs.Machine.{is_living, write_of}
+use Rattle.fjall_state.specs.Remembered.{IsLawful, Remembered, version_of, with_version}
 use Rattle.fjall_core.specs.Holding.{Held}
 use Rattle.fjall_core.specs.Durables.{Durable, Lies, MakesPresent, Passes, Rests, StandsAmid, StaysFinished}
 use Rattle.fjall_core.specs.Standing.{Grows, Poisons, StandsOn, store_in}

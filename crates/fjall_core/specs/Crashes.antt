@@ -6,15 +6,15 @@ use Rattle.fjall_base.specs.Disk as disk
 use Rattle.fjall_base.specs.declared.error.Error.TheVariants.{Io}
 use Rattle.fjall_journal.specs.declared.persist_mode.PersistMode.{PersistMode}
 use Rattle.fjall_journal.specs.declared.persist_mode.PersistMode.TheVariants.{Buffer, SyncData, SyncAll}
-use Rattle.fjall_machine.specs.declared.call.Call.{Call}
-use Rattle.fjall_machine.specs.declared.call.Call.TheVariants.{DeleteKeyspace, GetAt, Insert, JournalDiskSpace, Keyspace, KeyspaceCount, KeyspaceExists, ListKeyspaceNames, PageAt, Persist, Release, Remove, RemoveWeak, Retain, Seqno, VisibleSeqno}
-use Rattle.fjall_machine.specs.declared.call.Reply.{Reply}
-use Rattle.fjall_machine.specs.declared.call.Reply.TheVariants.{Done, Flag, Names, Number, Pairs, Refused, Value}
+use Rattle.fjall_state.specs.declared.call.Call.{Call}
+use Rattle.fjall_state.specs.declared.call.Call.TheVariants.{DeleteKeyspace, GetAt, Insert, JournalDiskSpace, Keyspace, KeyspaceCount, KeyspaceExists, ListKeyspaceNames, PageAt, Persist, Release, Remove, RemoveWeak, Retain, Seqno, VisibleSeqno}
+use Rattle.fjall_state.specs.declared.call.Reply.{Reply}
+use Rattle.fjall_state.specs.declared.call.Reply.TheVariants.{Done, Flag, Names, Number, Pairs, Refused, Value}
 use Rattle.fjall_files.specs.Tidy.{IsTidy, StaysTidy}
 use Rattle.fjall_versions.specs.Replays.{option_pairs}
 use Rattle.fjall_recovery.specs.Folders.{StandsFor}
-use Rattle.fjall_machine.specs.Histories.{extended}
-use Rattle.fjall_machine.specs.Machine.{State, Step, has_name, is_living, present, write_of}
+use Rattle.fjall_state.specs.Histories.{extended}
+use Rattle.fjall_state.specs.Machine.{State, Step, has_name, is_living, present, write_of}
 use Rattle.fjall_core.specs.Durables.{Durable, IsBeginning, StandsAmid, Passes}
 
 -- the command that a call asks for in that state

@@ -8,10 +8,10 @@ use Rattle.fjall_base.specs.declared.error.Error.{Error}
 use Rattle.fjall_recovery.specs.Folders.{StandsFor}
 use Rattle.fjall_recovery.specs.Amid.{HoldsAmid}
 use Rattle.fjall_files.specs.Tidy.{StaysTidy}
-use Rattle.fjall_machine.specs.Machine as machine
-use Rattle.fjall_machine.specs.Machine.{opened_state, present}
-use Rattle.fjall_machine.specs.declared.call.Call.{Call}
-use Rattle.fjall_machine.specs.declared.call.Reply.{Reply}
+use Rattle.fjall_state.specs.Machine as machine
+use Rattle.fjall_state.specs.Machine.{opened_state, present}
+use Rattle.fjall_state.specs.declared.call.Call.{Call}
+use Rattle.fjall_state.specs.declared.call.Reply.{Reply}
 use Rattle.fjall_core.specs.Holding.{Held}
 use Rattle.fjall_core.specs.Durables.{Durable, IsBeginning, StandsAmid}
 use Rattle.fjall_core.specs.Crashes.{IsSyncAt}

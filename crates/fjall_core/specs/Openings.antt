@@ -13,7 +13,7 @@ use Rattle.fjall_recovery.specs.Refusals.{FolderRefuses, IsDue}
 use Rattle.fjall_recovery.specs.Amid.{HoldsAmid, IsBeginning, StandsAmid}
 use Rattle.fjall_recovery.specs.Held.{IsFolder, number_held, store_held}
 use Rattle.fjall_repair.specs.Opened.{StandsForSome}
-use Rattle.fjall_machine.specs.Machine.{Parts, opened_state}
+use Rattle.fjall_state.specs.Machine.{Parts, opened_state}
 use Rattle.fjall_core.specs.Holding.{Held}
 use Rattle.fjall_core.specs.Standing.{HoldsStore, StandsFor, StandsOn}
 

@@ -24,15 +24,15 @@ use Rattle.fjall_recovery.specs.Folders.{Contents}
 use Rattle.fjall_recovery.specs.Held.{Holds, store_held}
 use Rattle.fjall_repair.specs.Opened.{ComesBack}
 use Rattle.fjall_commit.specs.Removals.{IsRemoved}
-use Rattle.fjall_machine.specs.declared.call.Call.{Call}
-use Rattle.fjall_machine.specs.declared.call.Call.TheVariants.{Keyspace, DeleteKeyspace, Retain, Release, Insert, Remove, RemoveWeak, GetAt, PageAt, Persist, KeyspaceCount, ListKeyspaceNames, KeyspaceExists, Seqno, VisibleSeqno, JournalDiskSpace}
-use Rattle.fjall_machine.specs.declared.call.Reply.{Reply}
-use Rattle.fjall_machine.specs.declared.call.Reply.TheVariants.{Done, Value, Pairs, Number, Names, Flag, Refused}
-use Rattle.fjall_machine.specs.Ops.{Op, op_text}
-use Rattle.fjall_machine.specs.Ops as op
-use Rattle.fjall_machine.specs.Machine.{State, Step, Run, TakesMemory, ChangesDisk, TooLong, present, due_in, has_name, is_living}
-use Rattle.fjall_machine.specs.Remembered.{IsLawful, Remembered, facts_of, is_last, version_of, with_version, with_creation, with_deletion, retained, released, poisoned}
-use Rattle.fjall_machine.specs.Remembered as memory
+use Rattle.fjall_state.specs.declared.call.Call.{Call}
+use Rattle.fjall_state.specs.declared.call.Call.TheVariants.{Keyspace, DeleteKeyspace, Retain, Release, Insert, Remove, RemoveWeak, GetAt, PageAt, Persist, KeyspaceCount, ListKeyspaceNames, KeyspaceExists, Seqno, VisibleSeqno, JournalDiskSpace}
+use Rattle.fjall_state.specs.declared.call.Reply.{Reply}
+use Rattle.fjall_state.specs.declared.call.Reply.TheVariants.{Done, Value, Pairs, Number, Names, Flag, Refused}
+use Rattle.fjall_state.specs.Ops.{Op, op_text}
+use Rattle.fjall_state.specs.Ops as op
+use Rattle.fjall_state.specs.Machine.{State, Step, Run, TakesMemory, ChangesDisk, TooLong, present, due_in, has_name, is_living}
+use Rattle.fjall_state.specs.Remembered.{IsLawful, Remembered, facts_of, is_last, version_of, with_version, with_creation, with_deletion, retained, released, poisoned}
+use Rattle.fjall_state.specs.Remembered as memory
 use Rattle.fjall_core.specs.Durables.{Durable, StandsAmid, Passes, Rests, Lies, MakesPresent, StaysFinished}
 use Rattle.fjall_core.specs.Crashes.{BlamesDevice, CallPasses, RunOn, Tried, IsSyncAt, SafeAt}
 use Rattle.fjall_core.specs.Holding.{Held, by_hand}

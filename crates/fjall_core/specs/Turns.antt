@@ -26,7 +26,7 @@ use Rattle.fjall_commit.specs.Journaling.{CanFollow, IsWriting, LeavesRoot, afte
 use Rattle.fjall_commit.specs.declared.creation.Creation.{Creation}
 use Rattle.fjall_commit.specs.Changes.{HasEither, HasRoom, IsCreation, with_home, without_home}
 use Rattle.fjall_commit.specs.Removals.{IsRemoved, IsUnused}
-use Rattle.fjall_machine.specs.Remembered.{poisoned, with_version}
+use Rattle.fjall_state.specs.Remembered.{poisoned, with_version}
 use Rattle.fjall_core.specs.Holding.{Held, by_hand}
 
 -- All that waited went out in that mode, and where it was done the writer goes on behind it; what stands in `keyspaces`

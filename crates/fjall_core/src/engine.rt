@@ -8,13 +8,13 @@ ghost use Rattle.fjall_base.specs.declared.error.Error.{Error};
 ghost use Rattle.fjall_base.specs.Store.{Store, Command};
 ghost use Rattle.fjall_journal.specs.Spelling.{item_refusal};
 ghost use Rattle.fjall_journal.specs.Batches.{batch_text, of_item};
-ghost use Rattle.fjall_machine.specs.Changes.{op_of, call_of};
-ghost use Rattle.fjall_machine.specs.Histories.{number};
-ghost use Rattle.fjall_machine.specs.Machine.{State, Run, has_name, is_living, present};
-ghost use Rattle.fjall_machine.specs.declared.call.Call.TheVariants.{Keyspace, DeleteKeyspace, Retain, Release, Insert, Remove, RemoveWeak, GetAt, PageAt, Persist, KeyspaceCount, KeyspaceExists, ListKeyspaceNames, Seqno, VisibleSeqno, JournalDiskSpace};
-ghost use Rattle.fjall_machine.specs.declared.call.Reply.TheVariants.{Flag, Number};
+ghost use Rattle.fjall_state.specs.Changes.{op_of, call_of};
+ghost use Rattle.fjall_state.specs.Histories.{number};
+ghost use Rattle.fjall_state.specs.Machine.{State, Run, has_name, is_living, present};
+ghost use Rattle.fjall_state.specs.declared.call.Call.TheVariants.{Keyspace, DeleteKeyspace, Retain, Release, Insert, Remove, RemoveWeak, GetAt, PageAt, Persist, KeyspaceCount, KeyspaceExists, ListKeyspaceNames, Seqno, VisibleSeqno, JournalDiskSpace};
+ghost use Rattle.fjall_state.specs.declared.call.Reply.TheVariants.{Flag, Number};
 ghost use Rattle.fjall_meta.specs.Keyspaces.{id_of};
-ghost use Rattle.fjall_machine.specs.Remembered.{IsLawful, poisoned};
+ghost use Rattle.fjall_state.specs.Remembered.{IsLawful, poisoned};
 ghost use Rattle.fjall_recovery.specs.Refusals.{AreOne, FolderRefuses, HasRisen, IsDue, IsOpeningRefusal};
 ghost use Rattle.fjall_repair.specs.Sweeps.{IsSwept};
 ghost use Rattle.fjall_files.specs.Tidy.{IsTidy, StaysTidy};
@@ -31,7 +31,7 @@ use fjall_base::{Disk, Error, KvPair, Refused, Result, Slice, UserValue};
 use fjall_catalog::{Catalog, prepare_deletion};
 use fjall_commit::{hand_over, prepare_creation, prepare_removal, remove_keyspace, write_through};
 use fjall_journal::{PersistMode, ValueType, Writer};
-use fjall_machine::{Call, Change, Memory, Reply, View};
+use fjall_state::{Call, Change, Memory, Reply, View};
 use fjall_options::KeyspaceCreateOptions;
 use fjall_repair::open_folder;
 use fjall_versions::{KeyRange, Version};
@@ -51,7 +51,7 @@ pub struct Core<D: Disk> {
 impl<D: Disk> Model for Core<D> {
     ghost use Rattle.std.specs.Coded.{codes};
     ghost use Rattle.fjall_core.specs.Holding.{Held};
-    ghost use Rattle.fjall_machine.specs.Remembered.{handles_code};
+    ghost use Rattle.fjall_state.specs.Remembered.{handles_code};
 
     ghost Value = { Held };
 

@@ -13,12 +13,12 @@ ghost use Rattle.fjall_core.specs.Durables.{IsBeginning, StandsAmid, Durable};
 ghost use Rattle.fjall_core.specs.Holding.{Held};
 ghost use Rattle.fjall_core.specs.Lives.{AreLeftOf, GoesOn, HoldsFold, LastSync, Life, Lived, Lives, Served, all_left, begun, start_of};
 ghost use Rattle.fjall_core.specs.Standing.{HoldsStore, Owes, OwesAll, Runs, RunsOn, RunsSafely, StandsOn, Steps};
-ghost use Rattle.fjall_machine.specs.declared.call.Call.{Call};
-ghost use Rattle.fjall_machine.specs.declared.call.Reply.{Reply};
+ghost use Rattle.fjall_state.specs.declared.call.Call.{Call};
+ghost use Rattle.fjall_state.specs.declared.call.Reply.{Reply};
 ghost use Rattle.fjall_base.specs.Crash.{IsHoused};
 ghost use Rattle.fjall_core.specs.Crashes.{BlamesEach, RunOn};
 ghost use Rattle.fjall_core.specs.Openings.{OpensAmid, OpensAs};
-ghost use Rattle.fjall_machine.specs.Machine as machine;
+ghost use Rattle.fjall_state.specs.Machine as machine;
 ghost use Rattle.fjall_core.specs.Standing as memory;
 
 /// A disk that a crash left, at whichever moment of these steps, holds the store that its image stands for.

@@ -9,7 +9,7 @@ mod turning;
 pub use config::Config;
 pub use engine::Core;
 pub use fjall_journal::PersistMode;
-pub use fjall_machine::{Call, Reply, View};
+pub use fjall_state::{Call, Reply, View};
 pub use fjall_versions::{KeyRange, Version};
 pub use laws::{
     a_core_holds_amid, a_crash_amid_holds, a_last_sync, a_life_holds, a_run_blames_the_device,

@@ -8,8 +8,8 @@ use Rattle.std.proofs.lemmas.Fmt.{first_decimal, decimal_nonempty}
 use Rattle.fjall_base.specs.declared.error.Error.{Error}
 use Rattle.fjall_base.specs.declared.error.Error.TheVariants.{Io}
 use Rattle.fjall_base.specs.Errors.{number_of, name_of}
-use Rattle.fjall_machine.specs.declared.call.Reply.{Reply}
-use Rattle.fjall_machine.specs.declared.call.Reply.TheVariants.{Done, Value, Pairs, Number, Names, Flag, Refused}
+use Rattle.fjall_state.specs.declared.call.Reply.{Reply}
+use Rattle.fjall_state.specs.declared.call.Reply.TheVariants.{Done, Value, Pairs, Number, Names, Flag, Refused}
 use Rattle.fjall_run.specs.declared.command.Command.{Command}
 use Rattle.fjall_run.specs.declared.command.Command.TheVariants.{Keyspace, Delete, Insert, Remove, RemoveWeak, Get, Len, Scan, Persist, Crash, Reopen}
 use Rattle.fjall_run.specs.Answers.{bad_line, reply_text}

@@ -14,9 +14,9 @@ use Rattle.fjall_base.specs.declared.error.Error.{Error}
 use Rattle.fjall_meta.specs.Keyspaces.{no_keyspaces}
 use Rattle.fjall_versions.specs.Replays.{bare}
 use Rattle.fjall_recovery.specs.Amid.{HoldsAmid}
-use Rattle.fjall_machine.specs.declared.call.Call.{Call}
-use Rattle.fjall_machine.specs.declared.call.Reply.{Reply}
-use Rattle.fjall_machine.specs.Machine.{present}
+use Rattle.fjall_state.specs.declared.call.Call.{Call}
+use Rattle.fjall_state.specs.declared.call.Reply.{Reply}
+use Rattle.fjall_state.specs.Machine.{present}
 use Rattle.fjall_core.specs.Holding.{Held}
 use Rattle.fjall_core.specs.Lives.{Closed, CutBehind, Ended, Life, Lives, NoLife, OneMore, Opened, Served, Unclosed, begun, start_of}
 use Rattle.fjall_core.specs.Openings.{OpensAmid}

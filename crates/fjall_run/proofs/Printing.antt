@@ -1,7 +1,7 @@
 -- One more answer is printed.
 use Rattle.std.proofs.Common.{◌≡◌, ℕ, ◌+◌, ◌<◌, List, [], ◌∷◌, ◌++◌, length, drop, get_or, Option, Some, None, sym, ap, ◌∙◌, append_assoc}
 use Rattle.std.proofs.lemmas.List.{drop_more}
-use Rattle.fjall_machine.specs.declared.call.Reply.{Reply}
+use Rattle.fjall_state.specs.declared.call.Reply.{Reply}
 use Rattle.fjall_run.specs.declared.command.Command.{Command}
 use Rattle.fjall_run.specs.Answers.{reply_text, bad_line, text_of}
 use Rattle.fjall_run.specs.Sessions.{answers_to}

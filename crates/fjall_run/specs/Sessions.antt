@@ -7,12 +7,12 @@ use Rattle.fjall_base.specs.Disk.{Meaning, IsImage, disk_of, state_in}
 use Rattle.fjall_base.specs.declared.error.Error.{Error}
 use Rattle.fjall_base.specs.declared.error.Error.TheVariants.{OutOfMemory}
 use Rattle.fjall_core.specs.Holding.{Held}
-use Rattle.fjall_machine.specs.declared.call.Call.{Call}
-use Rattle.fjall_machine.specs.declared.call.Call.TheVariants as calls
-use Rattle.fjall_machine.specs.declared.call.View.TheVariants.{Present}
+use Rattle.fjall_state.specs.declared.call.Call.{Call}
+use Rattle.fjall_state.specs.declared.call.Call.TheVariants as calls
+use Rattle.fjall_state.specs.declared.call.View.TheVariants.{Present}
 use Rattle.fjall_journal.specs.declared.persist_mode.PersistMode.TheVariants.{SyncAll}
-use Rattle.fjall_machine.specs.declared.call.Reply.{Reply}
-use Rattle.fjall_machine.specs.declared.call.Reply.TheVariants.{Done, Value, Pairs, Number, Refused}
+use Rattle.fjall_state.specs.declared.call.Reply.{Reply}
+use Rattle.fjall_state.specs.declared.call.Reply.TheVariants.{Done, Value, Pairs, Number, Refused}
 use Rattle.fjall_options.specs.Options.{default_options}
 use Rattle.fjall_run.specs.declared.command.Command.{Command}
 use Rattle.fjall_run.specs.declared.command.Command.TheVariants.{Keyspace, Delete, Insert, Remove, RemoveWeak, Get, Len, Scan, Persist, Crash, Reopen}

@@ -3,7 +3,7 @@
 use fjall_base::{Error, Result, Slice};
 use fjall_journal::{PersistMode, ValueType};
 use fjall_meta::MetaKeyspace;
-use fjall_machine::{Call, Change, Memory, Reply, View};
+use fjall_state::{Call, Change, Memory, Reply, View};
 use fjall_options::KeyspaceCreateOptions;
 use std::alloc::Global;
 use std::ops::Bound;

@@ -3,10 +3,10 @@ use Rattle.std.proofs.lemmas.Result.{err_from_is_err_and}
 use Rattle.fjall_options.specs.Options.{AreOptions}
 use Rattle.fjall_base.specs.declared.error.Error.TheVariants.{OutOfMemory}
 use Rattle.fjall_meta.specs.Keyspaces.{id_of}
-use Rattle.fjall_machine.specs.Machine.{has_name}
-use Rattle.fjall_machine.specs.declared.call.Call.TheVariants.{Keyspace}
-use Rattle.fjall_machine.specs.declared.call.Reply.TheVariants.{Number, Refused}
-use Rattle.fjall_machine.specs.Remembered.{poisoned, with_creation}
+use Rattle.fjall_state.specs.Machine.{has_name}
+use Rattle.fjall_state.specs.declared.call.Call.TheVariants.{Keyspace}
+use Rattle.fjall_state.specs.declared.call.Reply.TheVariants.{Number, Refused}
+use Rattle.fjall_state.specs.Remembered.{poisoned, with_creation}
 use Rattle.fjall_core.specs.Holding.{Held}
 use Rattle.fjall_core.specs.Standing.{Owes, Serves, held_due, is_io, store_in}
 use Rattle.fjall_core.proofs.Serving.{memory_serves}

@@ -1,6 +1,6 @@
 use Rattle.std.proofs.Common.{sym, ◌∙◌, ap}
 use Rattle.fjall_meta.specs.Keyspaces.{id_of}
-use Rattle.fjall_machine.specs.declared.call.Call.TheVariants.{Keyspace}
+use Rattle.fjall_state.specs.declared.call.Call.TheVariants.{Keyspace}
 use Rattle.fjall_core.specs.Holding.{Held}
 use Rattle.fjall_core.specs.Standing.{held_due}
 use Rattle.fjall_core.proofs.Serving.{due_serves}

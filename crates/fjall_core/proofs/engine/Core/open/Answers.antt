@@ -1,7 +1,7 @@
 use Rattle.std.proofs.Common.{sym, subst}
 use Rattle.fjall_base.specs.Disk.{Image, Meaning, standing, state_in}
 use Rattle.fjall_repair.specs.Sweeps.{IsSwept}
-use Rattle.fjall_machine.specs.Remembered.{Remembered}
+use Rattle.fjall_state.specs.Remembered.{Remembered}
 use Rattle.fjall_core.specs.Openings.{Opens, OpensAs, OpensOn, OpensAmid}
 use Rattle.fjall_core.proofs.Devices.{risen_blames}
 use Rattle.fjall_core.proofs.Opening.{held_of, keeps, opens_as, opens_new, opens_on}

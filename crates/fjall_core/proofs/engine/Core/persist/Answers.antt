@@ -1,6 +1,6 @@
 use Rattle.std.proofs.Common.{refl, sym, ◌∙◌, ap, subst}
-use Rattle.fjall_machine.specs.declared.call.Call.TheVariants.{Persist}
-use Rattle.fjall_machine.specs.declared.call.Reply.TheVariants.{Done, Refused}
+use Rattle.fjall_state.specs.declared.call.Call.TheVariants.{Persist}
+use Rattle.fjall_state.specs.declared.call.Reply.TheVariants.{Done, Refused}
 use Rattle.fjall_base.specs.declared.error.Error.TheVariants.{Poisoned}
 use Rattle.fjall_core.specs.Holding.{Held}
 use Rattle.fjall_core.specs.Crashes.{BlamesDevice}

@@ -1,5 +1,5 @@
 use Rattle.std.proofs.Common.{◌≡◌, ◌≤◌, IsTrue, length, take, vec_len, vec_capacity}
-use Rattle.fjall_machine.specs.Machine.{State}
+use Rattle.fjall_state.specs.Machine.{State}
 use Rattle.fjall_core.specs.Durables.{Durable}
 use Rattle.fjall_core.specs.Standing.{StandsFor, StandsOn, OwesAll}
 use Rattle.fjall_core.proofs.Running.{SoFar}

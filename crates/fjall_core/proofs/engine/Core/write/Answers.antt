@@ -1,6 +1,6 @@
 use Rattle.std.proofs.Common.{IsTrue, Ok, Err, ◌∙◌, ap, subst, sym}
 use Rattle.fjall_journal.specs.Batches.{of_item}
-use Rattle.fjall_machine.specs.Machine.{persists_by_hand}
+use Rattle.fjall_state.specs.Machine.{persists_by_hand}
 use Rattle.fjall_versions.specs.Versions.{store_of}
 use Rattle.fjall_core.specs.Holding.{Held}
 use Rattle.fjall_core.specs.Turns.{Writes}

@@ -1,0 +1,14 @@
+use Rattle.fjall_state.proofs.Dues as Dues
+use Rattle.fjall_state.proofs.laws.nothing_refused.Goals as goal
+
+pub returns-clause-write : goal.returns-clause-write
+returns-clause-write c = Dues.may_write
+
+pub returns-clause-creation : goal.returns-clause-creation
+returns-clause-creation c = Dues.may_create
+
+pub returns-clause-deletion : goal.returns-clause-deletion
+returns-clause-deletion c = Dues.may_delete
+
+pub returns-clause-release : goal.returns-clause-release
+returns-clause-release c = Dues.is_counted

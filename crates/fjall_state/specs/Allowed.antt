@@ -1,0 +1,38 @@
+-- What holds where nothing refuses a call.
+use Rattle.std.specs.Prelude.{◌≡◌, ◌≢◌, ℕ, ◌<◌, ◌-◌, ◌^◌, true, false, nat_le, length}
+use Rattle.std.specs.FinMap.{len}
+use Rattle.fjall_base.specs.Pairs.{Bytes}
+use Rattle.fjall_meta.specs.Keyspaces.{is_name}
+use Rattle.fjall_state.specs.Machine.{Facts, has_name, is_living, is_unknown}
+
+-- The keyspace lives, no fault has poisoned the engine, a number is left, and key and value have lengths that are written.
+pub record MayWrite (f : Facts) (id : ℕ) (key value : Bytes) : Type 0 where
+  pub living : is_living f.store id ≡ true
+  pub well : f.poisoned ≡ false
+  pub numbered : f.next < 2 ^ 63
+  pub filled : 0 < length key
+  pub key_fits : length key < 2 ^ 16
+  pub value_fits : length value < 2 ^ 32
+
+-- No fault has poisoned the engine, and a number, an id for a table and an id for a keyspace are left.
+pub record HasRoom (f : Facts) : Type 0 where
+  pub well : f.poisoned ≡ false
+  pub numbered : f.next < 2 ^ 63
+  pub table : f.table ≢ 2 ^ 64 - 1
+  pub free : f.store.next ≢ 2 ^ 64 - 1
+
+-- The name is a name; where none has it, a keyspace can be made.
+pub record MayCreate (f : Facts) (name : Bytes) : Type 0 where
+  pub named : is_name name ≡ true
+  pub room : has_name f.store name ≡ false → HasRoom f
+
+-- No fault has poisoned the engine, and a number is left and, where a keyspace is left, an id for a table.
+pub record HasNumber (f : Facts) : Type 0 where
+  pub well : f.poisoned ≡ false
+  pub numbered : f.next < 2 ^ 63
+  pub table : nat_le 2 (len f.store.names) ≡ true → f.table ≢ 2 ^ 64 - 1
+
+-- The id is known; where its keyspace lives, it can be deleted.
+pub record MayDelete (f : Facts) (id : ℕ) : Type 0 where
+  pub known : is_unknown f.store id ≡ false
+  pub number : is_living f.store id ≡ true → HasNumber f
