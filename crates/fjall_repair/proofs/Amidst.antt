@@ -20,7 +20,7 @@ use Rattle.fjall_recovery.specs.Journals.{Journal, AreJournalIds, text_in}
 use Rattle.fjall_recovery.specs.Amid.{HoldsAmid, StandsAmid}
 use Rattle.fjall_repair.specs.Steps.{IsOpened, active_of, with_active}
 use Rattle.fjall_repair.proofs.Naming.{same_or_not, folder_of-journal, journal_current, marker_journal}
-use Rattle.fjall_repair.proofs.Opened.{active_small, active_there, ids_of, opened_sound, same_store, some_swap}
+use Rattle.fjall_repair.proofs.MendOpened.{active_small, active_there, ids_of, opened_sound, same_store, some_swap}
 use Rattle.fjall_repair.proofs.Narrowing.{settled_image}
 
 -- ---- an unfinished folder in which a journal was made

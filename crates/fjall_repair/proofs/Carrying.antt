@@ -14,13 +14,13 @@ use Rattle.fjall_recovery.specs.Folders.{Contents, IsSound, StandsFor, store_of}
 use Rattle.fjall_recovery.specs.Journals.{Journal, text_in}
 use Rattle.fjall_recovery.specs.Held.{Holds}
 use Rattle.fjall_recovery.specs.Places.{texts_of}
-use Rattle.fjall_repair.specs.declared.mend.plan.FileEnd.{FileEnd}
-use Rattle.fjall_repair.specs.declared.mend.plan.MendPlan.{MendPlan}
+use Rattle.fjall_repair.specs.declared.mending.plan.FileEnd.{FileEnd}
+use Rattle.fjall_repair.specs.declared.mending.plan.MendPlan.{MendPlan}
 use Rattle.fjall_repair.specs.Steps.{End, IsEnded, IsOpened, IsRested, IsRightEnd, IsSame, IsSynced, Stays, Suits, active_of, end_of, ended_names, folder_names, opened, whole_names, with_active}
 use Rattle.fjall_repair.proofs.Naming.{folder_of-current, folder_of-journal, journal_current}
 use Rattle.fjall_repair.proofs.Cutting.{begin_records}
 use Rattle.fjall_repair.proofs.Items.{along_map, back_map}
-use Rattle.fjall_repair.proofs.Opened.{active_small, ids_of, same_store}
+use Rattle.fjall_repair.proofs.MendOpened.{active_small, ids_of, same_store}
 use Rattle.fjall_repair.proofs.Mended.{last_named, same_active}
 use Rattle.fjall_repair.proofs.Turns.{AreRight, AreSettled}
 

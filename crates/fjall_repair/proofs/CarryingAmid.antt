@@ -15,11 +15,11 @@ use Rattle.fjall_recovery.specs.Journals.{text_in}
 use Rattle.fjall_recovery.specs.Amid.{StandsAmid}
 use Rattle.fjall_recovery.proofs.Alike.{Alike, alike_sound, alike_synced}
 use Rattle.fjall_recovery.proofs.Holding.{there_or_not}
-use Rattle.fjall_repair.specs.declared.mend.plan.FileEnd.{FileEnd}
-use Rattle.fjall_repair.specs.declared.mend.plan.MendPlan.{MendPlan}
+use Rattle.fjall_repair.specs.declared.mending.plan.FileEnd.{FileEnd}
+use Rattle.fjall_repair.specs.declared.mending.plan.MendPlan.{MendPlan}
 use Rattle.fjall_repair.specs.Amids.{StaysAmid}
 use Rattle.fjall_repair.specs.Steps.{IsEnded, IsOpened, IsRested, IsSame, IsSynced, Suits, end_of, folder_names, opened, whole_names, with_active}
-use Rattle.fjall_repair.proofs.Opened.{active_small, ids_of, opened_sound}
+use Rattle.fjall_repair.proofs.MendOpened.{active_small, ids_of, opened_sound}
 use Rattle.fjall_repair.proofs.Mended.{last_named}
 use Rattle.fjall_repair.proofs.Carrying.{IsPreparedBy, each_to, name_of_end, prepared, rested, survived_text}
 use Rattle.fjall_repair.proofs.Items.{along_map}

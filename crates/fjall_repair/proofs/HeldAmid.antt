@@ -14,11 +14,11 @@ use Rattle.fjall_recovery.specs.Folders.{Contents, IsSound, IsUnfinished}
 use Rattle.fjall_recovery.specs.Journals.{Journal}
 use Rattle.fjall_recovery.specs.Amid.{ComesBackUnfinished, HoldsAmid, StandsAmid}
 use Rattle.fjall_recovery.proofs.Alike.{Alike, alike_sound, kept_alike, standing_amid}
-use Rattle.fjall_repair.specs.declared.mend.plan.MendPlan.{MendPlan}
+use Rattle.fjall_repair.specs.declared.mending.plan.MendPlan.{MendPlan}
 use Rattle.fjall_repair.specs.Amids.{StaysAmid}
 use Rattle.fjall_repair.specs.Steps.{IsOpened, IsSame, active_of, with_active}
 use Rattle.fjall_repair.proofs.Naming.{folder_of-journal}
-use Rattle.fjall_repair.proofs.Opened.{ids_of, made_opened, opened_sound}
+use Rattle.fjall_repair.proofs.MendOpened.{ids_of, made_opened, opened_sound}
 use Rattle.fjall_repair.proofs.CarryingAmid.{marker_known, place_alike}
 
 -- some contents

@@ -9,7 +9,7 @@ pub mod Emptying
 pub mod Plannings
 pub mod Awaiting
 pub mod Marking
-pub mod Beginning
+pub mod Begun
 pub mod BeginServed
 pub mod Backs
 pub mod Naming
@@ -21,7 +21,7 @@ pub mod Ending
 pub mod Beginnings
 pub mod Turns
 pub mod Narrowing
-pub mod Opened
+pub mod MendOpened
 pub mod Amidst
 pub mod TurnsAmid
 pub mod Crashing

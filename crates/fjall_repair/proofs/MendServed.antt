@@ -19,14 +19,14 @@ use Rattle.fjall_recovery.specs.declared.homes.Home.{Home}
 use Rattle.fjall_recovery.specs.Folders.{Contents, IsFinished, IsSound, file_bytes}
 use Rattle.fjall_recovery.specs.Homes.{HaveHomes}
 use Rattle.fjall_recovery.specs.Journals.{Journal, text_in}
-use Rattle.fjall_repair.specs.declared.mend.plan.FileEnd.{FileEnd}
-use Rattle.fjall_repair.specs.declared.mend.plan.MendPlan.{MendPlan}
+use Rattle.fjall_repair.specs.declared.mending.plan.FileEnd.{FileEnd}
+use Rattle.fjall_repair.specs.declared.mending.plan.MendPlan.{MendPlan}
 use Rattle.fjall_repair.specs.Mended.{IsMendingOf}
 use Rattle.fjall_repair.specs.Steps.{End, IsOpened, IsPlanOf, IsRightEnd, IsSame, Suits, active_of, end_of, folder_names, sealed_of, whole_names, with_active}
 use Rattle.fjall_repair.proofs.Naming.{journal_current, marker_current}
 use Rattle.fjall_repair.proofs.Items.{back_map}
 use Rattle.fjall_repair.proofs.Ending.{MayBeEnded, one_end}
-use Rattle.fjall_repair.proofs.Opened.{active_small, ids_of, opened_sound}
+use Rattle.fjall_repair.proofs.MendOpened.{active_small, ids_of, opened_sound}
 use Rattle.fjall_repair.proofs.Turns.{AreRight}
 use Rattle.fjall_repair.proofs.Carrying.{alike_same, each_to, name_of_end, right_along, same_whole_names}
 use Rattle.fjall_repair.proofs.Suiting.{planned_names, same_ids}

@@ -9,7 +9,7 @@ use Rattle.fjall_recovery.specs.Journals.{Journal, batches_in}
 use Rattle.fjall_recovery.specs.Places.{texts_of}
 use Rattle.fjall_repair.specs.Mended.{IsMended}
 use Rattle.fjall_repair.specs.Steps.{IsRested, active_of, opened, with_active}
-use Rattle.fjall_repair.proofs.Opened.{ids_of, same_batches}
+use Rattle.fjall_repair.proofs.MendOpened.{ids_of, same_batches}
 use Rattle.fjall_repair.proofs.Rested.{Parted, active_parted, journaling, last_parted, lies_in_root, parted, rests_in_tree, sound, with_is}
 
 opened_parted : (js : List Journal) → Parted (opened js)

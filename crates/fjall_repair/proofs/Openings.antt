@@ -33,7 +33,7 @@ use Rattle.fjall_files.specs.declared.marker.Marker.TheVariants.{Whole, Unfinish
 use Rattle.fjall_recovery.specs.Journals.{batches_in}
 use Rattle.fjall_recovery.specs.Held.{Holds, IsFolder, number_held, store_held}
 use Rattle.fjall_recovery.proofs.Holding.{folder_stands, tree_of}
-use Rattle.fjall_repair.proofs.Beginning as Beginning
+use Rattle.fjall_repair.proofs.Begun as Beginning
 use Rattle.fjall_repair.specs.declared.opened.Opened.{Opened}
 use Rattle.fjall_repair.specs.Sweeps.{IsSwept}
 use Rattle.fjall_repair.specs.Opened.{ComesBack, HasNumbers, IsHeldUp, IsOpenedFrom, IsRepaired, IsUnopened, StandsForSome, Opens, Takes, records_of}

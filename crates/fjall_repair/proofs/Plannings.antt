@@ -12,8 +12,8 @@ use Rattle.fjall_files.specs.Marker.{header}
 use Rattle.fjall_files.specs.Names.{journal_name}
 use Rattle.fjall_catalog.proofs.Naming.{current_zero}
 use Rattle.fjall_recovery.specs.Journals.{AreJournalIds, text_in}
-use Rattle.fjall_repair.specs.declared.begin.plan.Found.{Found}
-use Rattle.fjall_repair.specs.declared.begin.plan.BeginPlan.{BeginPlan}
+use Rattle.fjall_repair.specs.declared.beginning.plan.Found.{Found}
+use Rattle.fjall_repair.specs.declared.beginning.plan.BeginPlan.{BeginPlan}
 use Rattle.fjall_repair.specs.Begun.{IsActive}
 use Rattle.fjall_repair.specs.Plans.{AreToBe, IsFound, IsPlan, first_text}
 

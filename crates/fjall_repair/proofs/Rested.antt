@@ -32,7 +32,7 @@ use Rattle.fjall_repair.proofs.Halving.{same_text, tree_of}
 use Rattle.fjall_repair.proofs.Cutting.{whole_length}
 use Rattle.fjall_repair.proofs.Trimming.{fits_all}
 use Rattle.fjall_repair.proofs.Crashing.{left, left_is, left_there}
-use Rattle.fjall_repair.proofs.Opened.{ids_of}
+use Rattle.fjall_repair.proofs.MendOpened.{ids_of}
 
 -- ---- the last of a list
 

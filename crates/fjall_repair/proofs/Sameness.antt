@@ -25,7 +25,7 @@ use Rattle.fjall_repair.specs.Steps.{IsSynced, active_of, ended_names, folder_na
 use Rattle.fjall_repair.proofs.Naming.{folder_of-journal, folder_of-folder, folder_of-current, folder_of-table}
 use Rattle.fjall_repair.proofs.Halving.{same_text}
 use Rattle.fjall_repair.proofs.Trimming.{fits_all}
-use Rattle.fjall_repair.proofs.Opened.{ids_of}
+use Rattle.fjall_repair.proofs.MendOpened.{ids_of}
 use Rattle.fjall_repair.proofs.Rested.{Parted, active_parted, each_both, each_front, last_parted, parted, sealed_parted}
 use Rattle.fjall_repair.proofs.Carrying.{survived_text}
 

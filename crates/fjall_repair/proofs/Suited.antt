@@ -9,8 +9,8 @@ use Rattle.fjall_recovery.specs.declared.folder.Finished.{Finished}
 use Rattle.fjall_recovery.specs.declared.homes.Home.{Home}
 use Rattle.fjall_recovery.specs.Folders.{Contents, IsFinished, Shows}
 use Rattle.fjall_recovery.specs.Held.{Holds}
-use Rattle.fjall_repair.specs.declared.mend.plan.FileEnd.{FileEnd}
-use Rattle.fjall_repair.specs.declared.mend.plan.MendPlan.{MendPlan}
+use Rattle.fjall_repair.specs.declared.mending.plan.FileEnd.{FileEnd}
+use Rattle.fjall_repair.specs.declared.mending.plan.MendPlan.{MendPlan}
 use Rattle.fjall_repair.specs.Mended.{IsMended, IsMendingOf}
 use Rattle.fjall_repair.specs.Steps.{End, IsPlanOf, IsRested, Suits, active_of, sealed_of, with_active}
 use Rattle.fjall_repair.proofs.Naming.{current_table, journal_table, marker_table}

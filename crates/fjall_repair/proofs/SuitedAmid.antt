@@ -4,7 +4,7 @@ use Rattle.fjall_base.specs.Disk.{Image, Meaning, State, standing, state_in}
 use Rattle.fjall_files.specs.Names.{journal_name}
 use Rattle.fjall_recovery.specs.declared.folder.Finished.{Finished}
 use Rattle.fjall_recovery.specs.Folders.{Contents, IsFinished, IsSound, Shows}
-use Rattle.fjall_repair.specs.declared.mend.plan.MendPlan.{MendPlan}
+use Rattle.fjall_repair.specs.declared.mending.plan.MendPlan.{MendPlan}
 use Rattle.fjall_repair.specs.Mended.{IsMended, IsMendingOf}
 use Rattle.fjall_repair.specs.Steps.{IsRested, Suits, active_of, with_active}
 use Rattle.fjall_repair.proofs.Mended.{mended}

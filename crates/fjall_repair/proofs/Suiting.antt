@@ -18,13 +18,13 @@ use Rattle.fjall_recovery.specs.Homes.{AreHomesRead}
 use Rattle.fjall_recovery.specs.Journals.{Journal, AreJournalIds, EndsAt, HoldsJournals, journal_text, tail_of, text_in}
 use Rattle.fjall_recovery.proofs.Alone.{one_list_of_journals}
 use Rattle.fjall_recovery.specs.Places.{texts_of}
-use Rattle.fjall_repair.specs.declared.mend.plan.FileEnd.{FileEnd}
-use Rattle.fjall_repair.specs.declared.mend.plan.MendPlan.{MendPlan}
+use Rattle.fjall_repair.specs.declared.mending.plan.FileEnd.{FileEnd}
+use Rattle.fjall_repair.specs.declared.mending.plan.MendPlan.{MendPlan}
 use Rattle.fjall_repair.specs.Steps.{End, IsOpened, IsPlanOf, IsRightEnd, IsTreeEnd, Suits, active_of, end_of, ended_names, folder_names, home_end, opened, whole_names, with_active}
 use Rattle.fjall_repair.proofs.Naming.{journal_current}
 use Rattle.fjall_repair.proofs.Halving.{same_text}
 use Rattle.fjall_repair.proofs.Cutting.{whole_length}
-use Rattle.fjall_repair.proofs.Opened.{active_there, ids_of}
+use Rattle.fjall_repair.proofs.MendOpened.{active_there, ids_of}
 use Rattle.fjall_repair.proofs.Rested.{active_parted, last_parted, parted}
 use Rattle.fjall_repair.proofs.Carrying.{name_of_end}
 

@@ -14,7 +14,7 @@ use Rattle.fjall_catalog.specs.Catalog.{fields, first_catalog, only, records_in}
 use Rattle.fjall_catalog.proofs.Naming.{current_zero, folder_zero, folder_of-current, folder_of-folder}
 use Rattle.fjall_catalog.proofs.Shapes.{first_fits}
 use Rattle.fjall_recovery.specs.Journals.{text_in}
-use Rattle.fjall_repair.specs.declared.begin.plan.Found.{Found}
+use Rattle.fjall_repair.specs.declared.beginning.plan.Found.{Found}
 use Rattle.fjall_repair.specs.Making.{CanHold, GoesOn, MayStand, StaysAt}
 use Rattle.fjall_repair.specs.Plans.{HasFirstTree, IsFound, first_text}
 use Rattle.fjall_repair.proofs.Holding.{current_holds}

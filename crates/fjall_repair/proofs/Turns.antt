@@ -5,7 +5,7 @@ use Rattle.fjall_base.specs.Disk.{Name, LeavesOnly, Meaning, Place, State, stand
 use Rattle.fjall_base.proofs.Moments.{at_end, runs_on, weaken}
 use Rattle.fjall_files.specs.Trims.{IsTrimmed, ended_place}
 use Rattle.fjall_recovery.specs.Folders.{Contents}
-use Rattle.fjall_repair.specs.declared.mend.plan.FileEnd.{FileEnd}
+use Rattle.fjall_repair.specs.declared.mending.plan.FileEnd.{FileEnd}
 use Rattle.fjall_repair.specs.Steps.{IsEnded, IsRightEnd, IsSynced, Stays, end_of}
 use Rattle.fjall_repair.proofs.Ending.{MayBeEnded, ended_here, ended_still, may_be_ended, moment_stays, synced_left}
 use Rattle.fjall_repair.proofs.Naming.{same_or_not}

@@ -9,7 +9,7 @@ use Rattle.fjall_base.proofs.Moments.{at_end, runs_on, weaken}
 use Rattle.fjall_files.specs.Trims.{IsTrimmed, ended, ended_place}
 use Rattle.fjall_recovery.specs.Folders.{Contents, IsSound}
 use Rattle.fjall_recovery.specs.Journals.{text_in}
-use Rattle.fjall_repair.specs.declared.mend.plan.FileEnd.{FileEnd}
+use Rattle.fjall_repair.specs.declared.mending.plan.FileEnd.{FileEnd}
 use Rattle.fjall_repair.specs.Amids.{StaysAmid}
 use Rattle.fjall_repair.specs.Steps.{IsRightEnd, Stays, end_of}
 use Rattle.fjall_repair.proofs.Beginnings.{moment_amid}

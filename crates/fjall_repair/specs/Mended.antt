@@ -7,7 +7,7 @@ use Rattle.fjall_recovery.specs.Folders.{Contents}
 use Rattle.fjall_recovery.specs.Journals.{batches_in}
 use Rattle.fjall_recovery.specs.Places.{Journaling, LiesInRoot, RestsInTree, journals_with, texts_of}
 use Rattle.fjall_files.specs.Names.{journal_name}
-use Rattle.fjall_repair.specs.declared.mend.plan.MendPlan.{MendPlan}
+use Rattle.fjall_repair.specs.declared.mending.plan.MendPlan.{MendPlan}
 use Rattle.fjall_repair.specs.Steps.{End, IsPlanOf, IsTreeEnd, opened}
 
 -- the plan for the folder that was read, which is this image: that of its journals and its keyspaces, and of tree 0's records

@@ -13,9 +13,9 @@ use Rattle.fjall_catalog.specs.Catalog.{fields, first_catalog, only, records_in}
 use Rattle.fjall_recovery.specs.Journals.{Journal, text_in}
 use Rattle.fjall_recovery.specs.Halves.{Tree}
 use Rattle.fjall_recovery.specs.Places.{Journaling, LiesInRoot, RestsInTree}
-use Rattle.fjall_repair.specs.declared.begin.plan.Found.{Found}
-use Rattle.fjall_repair.specs.declared.begin.plan.Found.TheVariants.{Nothing, Other, Whole}
-use Rattle.fjall_repair.specs.declared.begin.plan.BeginPlan.{BeginPlan}
+use Rattle.fjall_repair.specs.declared.beginning.plan.Found.{Found}
+use Rattle.fjall_repair.specs.declared.beginning.plan.Found.TheVariants.{Nothing, Other, Whole}
+use Rattle.fjall_repair.specs.declared.beginning.plan.BeginPlan.{BeginPlan}
 
 -- the text of tree 0's first record
 abbrev pub first_text : List ℕ

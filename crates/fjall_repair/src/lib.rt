@@ -2,9 +2,9 @@
 //! its memory, and then changes the disk; no crash meanwhile leaves another store.
 #![tactic(auto)]
 
-mod begin;
+mod beginning;
 mod laws;
-mod mend;
+mod mending;
 mod numbers;
 mod opened;
 mod opening;
@@ -13,9 +13,9 @@ mod ready;
 mod repair;
 mod sweeping;
 
-pub use begin::{BeginPlan, Found, begin, plan_beginning};
+pub use beginning::{BeginPlan, Found, begin, plan_beginning};
 pub use laws::{settled_folders_come_back, settled_folders_come_back_unfinished};
-pub use mend::{FileEnd, MendPlan, mend, plan_mending};
+pub use mending::{FileEnd, MendPlan, mend, plan_mending};
 pub use opened::Opened;
 pub use opening::open_folder;
 pub use plan::{SweepPlan, UnnamedHome, plan_sweep};

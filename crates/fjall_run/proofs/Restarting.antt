@@ -9,7 +9,7 @@ use Rattle.fjall_versions.specs.Replays.{bare}
 use Rattle.fjall_recovery.specs.Folders.{IsUnfinished}
 use Rattle.fjall_repair.specs.Making.{IsKept}
 use Rattle.fjall_repair.proofs.Standing.{kept_image, missing_stands, unfinished_of}
-use Rattle.fjall_repair.proofs.Beginning.{settled_comes_back}
+use Rattle.fjall_repair.proofs.Begun.{settled_comes_back}
 use Rattle.fjall_core.specs.Holding.{Held}
 use Rattle.fjall_core.specs.Standing.{HoldsStore}
 use Rattle.fjall_run.specs.Machine.{Begins, IsNew, IsNoDisk, NotBegun, OpenedOn, RefusedOn}

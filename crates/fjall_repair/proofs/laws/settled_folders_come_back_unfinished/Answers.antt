@@ -1,4 +1,4 @@
-use Rattle.fjall_repair.proofs.Beginning.{settled_comes_back}
+use Rattle.fjall_repair.proofs.Begun.{settled_comes_back}
 use Rattle.fjall_repair.proofs.laws.settled_folders_come_back_unfinished.Goals as goal
 
 pub returns : goal.returns

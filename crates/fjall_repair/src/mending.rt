@@ -1,0 +1,9 @@
+//! A folder mended after a crash: first all that is to be done is found out, and then it is done, and no crash meanwhile
+//! leaves another store.
+
+mod plan;
+mod steps;
+mod whole;
+
+pub use plan::{FileEnd, MendPlan};
+pub use whole::{mend, plan_mending};
