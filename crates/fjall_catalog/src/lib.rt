@@ -12,6 +12,6 @@ pub use catalog::{Catalog, first_record, first_record_of};
 pub use laws::{
     crashes_say_the_catalog, last_is_a_record, one_catalog, regions_say_the_catalog, says_alike,
 };
-pub use reading::{Found, read_catalog};
+pub use reading::{LoadedCatalog, read_catalog};
 pub use update::{TableFile, Update, prepare, prepare_deletion};
 pub use writing::{commit, remove_old, write_table};

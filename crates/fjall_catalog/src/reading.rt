@@ -21,7 +21,7 @@ use std::alloc::Global;
 
 /// What tree 0 says.
 #[derive(Debug, Drop)]
-pub struct Found {
+pub struct LoadedCatalog {
     pub catalog: Catalog,
     /// The keyspaces that live.
     pub keyspaces: MetaKeyspace,
@@ -90,7 +90,7 @@ fn read_entries<D: Disk>(
 /// tables, one at level 0 or any clear; with `Storage(TableDamaged)` where the table is missing, has another length or
 /// count than the record says, is no table or holds a tombstone; with `Storage(OptionMissing)` and
 /// `Storage(OptionInvalid)` as `MetaKeyspace::from_entries`; with `OutOfMemory`; and with `Io` for a fault of the disk.
-pub fn read_catalog<D: Disk>(alloc: Global, disk: &mut D) -> Result<Found>
+pub fn read_catalog<D: Disk>(alloc: Global, disk: &mut D) -> Result<LoadedCatalog>
     // What it answers is what the disk says.
     ensures says { IsTrue D.honest → IfOk result (λ found. (records : List Fields) × Says (standing (state_in (D.meaning disk.old))) records found.catalog found.keyspaces) }
     // What the disk says is answered, unless the disk fails or memory runs out.
@@ -115,7 +115,7 @@ pub fn read_catalog<D: Disk>(alloc: Global, disk: &mut D) -> Result<Found>
     } = last_record(alloc, &bytes)?;
     let entries = read_entries(alloc, disk, catalog.table)?;
     let keyspaces = MetaKeyspace::from_entries(alloc, &entries, catalog.next_keyspace_id)?;
-    Ok(Found {
+    Ok(LoadedCatalog {
         catalog,
         keyspaces,
         end,

@@ -107,7 +107,7 @@ fn build_home<D: Disk>(disk: &mut D, creation: &Creation) -> Result<()>
 /// memory.
 ///
 /// A call that fails may have done all of it.
-pub fn create_home<D: Disk>(disk: &mut D, creation: &Creation) -> Result<()>
+pub fn create_keyspace<D: Disk>(disk: &mut D, creation: &Creation) -> Result<()>
     ensures within { IsTrue D.honest → (old : Catalog) (s : Keyspaces) (id number : ℕ) → IsCreation old s id number creation.now → Within (codes "keyspaces") (D.meaning disk.old) (D.meaning disk.new) }
     // A crash at any moment of the call leaves the keyspaces before or those with the new one.
     ensures any_moment { IsTrue D.honest → (records : List Fields) (t : Tree) (name : List ℕ) (options : List (List ℕ)) (number : ℕ) → let next = with_home name options number creation.now.update.catalog t in

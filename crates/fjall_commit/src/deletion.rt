@@ -21,7 +21,7 @@ use fjall_catalog::Update;
 /// Deletes a keyspace by a change of the catalog to one of the others. It takes no memory.
 ///
 /// A call that fails may have done all of it.
-pub fn delete_home<D: Disk>(disk: &mut D, update: &Update) -> Result<()>
+pub fn delete_keyspace<D: Disk>(disk: &mut D, update: &Update) -> Result<()>
     ensures within { IsTrue D.honest → (old : Catalog) (s : Keyspaces) (number : ℕ) → IsUpdate old s number update.now → Within (codes "keyspaces") (D.meaning disk.old) (D.meaning disk.new) }
     // A crash at any moment of the call leaves the keyspaces before or the others.
     ensures any_moment { IsTrue D.honest → (records : List Fields) (t : Tree) (id number : ℕ) → let next = without_home id update.now.catalog t in

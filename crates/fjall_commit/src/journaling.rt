@@ -18,7 +18,7 @@ use fjall_journal::{PersistMode, ValueType, Writer};
 ///
 /// The item is one that a batch may have: neither its key nor its value is refused. Want of memory changes nothing. Where
 /// the disk fails, some beginning of the bytes may be in the file, and the writer must not be used again.
-pub fn write_through<D: Disk>(
+pub fn append_batch<D: Disk>(
     journal: &mut Writer,
     disk: &mut D,
     by_hand: bool,
@@ -57,7 +57,7 @@ pub fn write_through<D: Disk>(
 ///
 /// A refusal is a fault of the disk. Then some beginning of what waited, or all of it, may be in the file, and the writer
 /// must not be used again.
-pub fn hand_over<D: Disk>(journal: &mut Writer, disk: &mut D, mode: PersistMode) -> Result<()>
+pub fn sync_journal<D: Disk>(journal: &mut Writer, disk: &mut D, mode: PersistMode) -> Result<()>
     ensures ok { OnOk result (journal.new ≡ written_out journal.old) }
     ensures part { OnErr result ((journal.new ≡ journal.old) ⊎ (journal.new ≡ written_out journal.old)) }
     ensures took { IsTrue D.honest → OnOk result (Took (D.meaning disk.old) (D.meaning disk.new) (persist_steps journal.old mode)) }

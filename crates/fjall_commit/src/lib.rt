@@ -9,9 +9,9 @@ mod journaling;
 mod laws;
 mod removal;
 
-pub use creation::{Creation, create_home, prepare_creation};
-pub use deletion::delete_home;
-pub use journaling::{hand_over, write_through};
+pub use creation::{Creation, create_keyspace, prepare_creation};
+pub use deletion::delete_keyspace;
+pub use journaling::{sync_journal, append_batch};
 pub use laws::{
     a_persist_keeps_all, a_writer_begins, crashes_leave_some, numbers_go_on, synced_batches_stay,
 };

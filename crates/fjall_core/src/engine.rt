@@ -29,9 +29,9 @@ use crate::config::Config;
 use crate::turning::{is_fault, make_keyspace, unmake_keyspace};
 use fjall_base::{Disk, Error, KvPair, Refused, Result, Slice, UserValue};
 use fjall_catalog::{Catalog, prepare_deletion};
-use fjall_commit::{hand_over, prepare_creation, prepare_removal, remove_keyspace, write_through};
+use fjall_commit::{sync_journal, prepare_creation, prepare_removal, remove_keyspace, append_batch};
 use fjall_journal::{PersistMode, ValueType, Writer};
-use fjall_state::{Call, Change, Memory, Reply, View};
+use fjall_state::{Call, Change, EngineState, Reply, View};
 use fjall_options::KeyspaceCreateOptions;
 use fjall_repair::open_folder;
 use fjall_versions::{KeyRange, Version};
@@ -45,7 +45,7 @@ pub struct Core<D: Disk> {
     disk: D,
     journal: Writer,
     catalog: Catalog,
-    memory: Memory,
+    memory: EngineState,
 }
 
 impl<D: Disk> Model for Core<D> {
@@ -101,7 +101,7 @@ impl<D: Disk> Core<D> {
                 disk,
                 journal: opened.journal,
                 catalog: opened.catalog,
-                memory: Memory::new(alloc, opened.keyspaces, opened.versions, opened.number),
+                memory: EngineState::new(alloc, opened.keyspaces, opened.versions, opened.number),
             }),
             Err(error) => Err(Refused { error, value: disk }),
         }
@@ -289,8 +289,8 @@ impl<D: Disk> Core<D> {
     {
         let seqno = self.memory.seqno();
         let by_hand = self.memory.persists_by_hand(id);
-        self.memory.remember(version)?;
-        let written = write_through(
+        self.memory.push_version(version)?;
+        let written = append_batch(
             &mut self.journal,
             &mut self.disk,
             by_hand,
@@ -301,7 +301,7 @@ impl<D: Disk> Core<D> {
             seqno,
         );
         if let Err(error) = written {
-            self.memory.forget();
+            self.memory.pop_version();
             self.poison_by(&error);
             return Err(error);
         }
@@ -366,7 +366,7 @@ impl<D: Disk> Core<D> {
         if self.memory.is_poisoned() {
             return Err(Error::Poisoned);
         }
-        match hand_over(&mut self.journal, &mut self.disk, mode) {
+        match sync_journal(&mut self.journal, &mut self.disk, mode) {
             Ok(()) => Ok(()),
             Err(error) => {
                 self.memory.poison();

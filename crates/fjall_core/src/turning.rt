@@ -13,7 +13,7 @@ ghost use Rattle.fjall_core.specs.Turns.{Made, Turns, Unmade};
 
 use fjall_base::{Disk, Error, Result};
 use fjall_catalog::Update;
-use fjall_commit::{Creation, create_home, delete_home, hand_over};
+use fjall_commit::{Creation, create_keyspace, delete_keyspace, sync_journal};
 use fjall_journal::{PersistMode, Writer};
 
 /// Whether it tells of a fault of the disk.
@@ -34,8 +34,8 @@ pub(crate) fn make_keyspace<D: Disk>(
         → Turns (λ mid new done. Made mid new creation.now done) (D.meaning disk.old) (D.meaning disk.new) journal.old journal.new result }
     ensures cause { OnlyFaults (D.meaning disk.old) (D.meaning disk.new) result }
 {
-    hand_over(journal, disk, PersistMode::SyncAll)?;
-    create_home(disk, creation)
+    sync_journal(journal, disk, PersistMode::SyncAll)?;
+    create_keyspace(disk, creation)
 }
 
 /// Syncs the journal, and then takes a keyspace out of the catalog.
@@ -49,6 +49,6 @@ pub(crate) fn unmake_keyspace<D: Disk>(
         → Turns (λ mid new done. Unmade mid new update.now done) (D.meaning disk.old) (D.meaning disk.new) journal.old journal.new result }
     ensures cause { OnlyFaults (D.meaning disk.old) (D.meaning disk.new) result }
 {
-    hand_over(journal, disk, PersistMode::SyncAll)?;
-    delete_home(disk, update)
+    sync_journal(journal, disk, PersistMode::SyncAll)?;
+    delete_keyspace(disk, update)
 }

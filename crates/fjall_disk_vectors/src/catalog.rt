@@ -2,7 +2,7 @@
 
 use fjall_base::{Disk, Error, MemoryDisk, Result, Slice, StorageError};
 use fjall_catalog::{
-    Catalog, Found, Update, commit, first_record, first_record_of, prepare, read_catalog,
+    Catalog, LoadedCatalog, Update, commit, first_record, first_record_of, prepare, read_catalog,
     remove_old, write_table,
 };
 use fjall_meta::MetaKeyspace;
@@ -38,7 +38,7 @@ fn change(disk: &mut MemoryDisk, update: &Update) -> Result<()> {
 
 // Creates a keyspace of this name.
 fn create(alloc: Global, disk: &mut MemoryDisk, name: &[u8], number: u64) -> Result<Update> {
-    let Found {
+    let LoadedCatalog {
         catalog,
         mut keyspaces,
         ..
@@ -50,7 +50,7 @@ fn create(alloc: Global, disk: &mut MemoryDisk, name: &[u8], number: u64) -> Res
 
 // Removes the keyspace of this id.
 fn remove(alloc: Global, disk: &mut MemoryDisk, id: u64, number: u64) -> Result<Update> {
-    let Found {
+    let LoadedCatalog {
         catalog,
         mut keyspaces,
         ..

@@ -1,9 +1,9 @@
 //! Keyspaces made, deleted and removed on a disk in memory.
 
 use fjall_base::{Disk, Error, MemoryDisk, Result, Slice};
-use fjall_catalog::{Catalog, Found, Update, first_record, prepare, read_catalog};
+use fjall_catalog::{Catalog, LoadedCatalog, Update, first_record, prepare, read_catalog};
 use fjall_commit::{
-    Creation, create_home, delete_home, prepare_creation, prepare_removal, remove_keyspace,
+    Creation, create_keyspace, delete_keyspace, prepare_creation, prepare_removal, remove_keyspace,
 };
 use fjall_meta::MetaKeyspace;
 use fjall_options::KeyspaceCreateOptions;
@@ -29,7 +29,7 @@ fn new_disk(alloc: Global) -> Result<MemoryDisk> {
 
 // Prepares the creation of a keyspace of this name.
 fn creation(alloc: Global, disk: &mut MemoryDisk, name: &[u8], number: u64) -> Result<Creation> {
-    let Found {
+    let LoadedCatalog {
         catalog,
         mut keyspaces,
         ..
@@ -41,7 +41,7 @@ fn creation(alloc: Global, disk: &mut MemoryDisk, name: &[u8], number: u64) -> R
 
 // Prepares the deletion of the keyspace of this id.
 fn deletion(alloc: Global, disk: &mut MemoryDisk, id: u64, number: u64) -> Result<Update> {
-    let Found {
+    let LoadedCatalog {
         catalog,
         mut keyspaces,
         ..
@@ -63,16 +63,16 @@ fn made_deleted_and_removed(rt: HostRuntime) -> std::result::Result<(), Fail> {
     let alloc = rt.alloc();
     let mut disk = new_disk(alloc)?;
     let first = creation(alloc, &mut disk, b"a", 4)?;
-    create_home(&mut disk, &first)?;
+    create_keyspace(&mut disk, &first)?;
     assert_eq!(rt; len_of(alloc, &mut disk, FIRST)?, Some(55));
     assert_eq!(rt; len_of(alloc, &mut disk, CURRENT)?, Some(135));
     let second = creation(alloc, &mut disk, b"b", 9)?;
-    create_home(&mut disk, &second)?;
+    create_keyspace(&mut disk, &second)?;
     let mut left = disk.crash(0)?;
     assert_eq!(rt; keyspace_count(alloc, &mut left)?, 2);
     assert_eq!(rt; len_of(alloc, &mut left, "keyspaces/2/current")?, Some(55));
     let update = deletion(alloc, &mut left, 1, 10)?;
-    delete_home(&mut left, &update)?;
+    delete_keyspace(&mut left, &update)?;
     assert_eq!(rt; keyspace_count(alloc, &mut left)?, 1);
     assert_eq!(rt; len_of(alloc, &mut left, FIRST)?, Some(55));
     let removal = prepare_removal(alloc, 1)?;
@@ -91,7 +91,7 @@ fn an_older_file_is_taken_away(rt: HostRuntime) -> std::result::Result<(), Fail>
     disk.make_folder("keyspaces/1")?;
     make_file(&mut disk, FIRST, b"older")?;
     let first = creation(alloc, &mut disk, b"a", 4)?;
-    create_home(&mut disk, &first)?;
+    create_keyspace(&mut disk, &first)?;
     let mut left = disk.crash(0)?;
     let text = left.read(alloc, FIRST)?.ok_or("missing")?;
     assert_eq!(rt; text.as_slice(), first.record_text.as_slice());
@@ -106,7 +106,7 @@ fn each_call_fails_in_turn(rt: HostRuntime) -> std::result::Result<(), Fail> {
         let mut disk = new_disk(alloc)?;
         let first = creation(alloc, &mut disk, b"a", 4)?;
         disk.fail_at(at, 40);
-        let made = create_home(&mut disk, &first);
+        let made = create_keyspace(&mut disk, &first);
         assert_eq!(rt; made.is_ok(), at == 14, "{at}");
         disk.fail_at(0, 0);
         let mut left = disk.crash(80)?;

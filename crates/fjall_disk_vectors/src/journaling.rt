@@ -2,7 +2,7 @@
 
 use fjall_base::{Disk, MemoryDisk};
 use fjall_journal::{PersistMode, ValueType, Writer};
-use fjall_commit::{hand_over, write_through};
+use fjall_commit::{sync_journal, append_batch};
 use std::test::Fail;
 
 const NAME: &str = "0.jnl";
@@ -25,7 +25,7 @@ fn a_batch_follows_what_waits(rt: HostRuntime) -> Result<(), Fail> {
     let mut disk = MemoryDisk::new(alloc);
     let mut journal = Writer::create_new(alloc, &mut disk, NAME)?;
     journal.write_raw(&mut disk, 3, b"k", b"v1", ValueType::Value, 5)?;
-    write_through(
+    append_batch(
         &mut journal,
         &mut disk,
         false,
@@ -50,7 +50,7 @@ fn a_batch_by_hand_waits(rt: HostRuntime) -> Result<(), Fail> {
     let mut journal = Writer::create_new(alloc, &mut disk, NAME)?;
     let mut sizes = Vec::new(alloc);
     for by_hand in [true, true, false] {
-        write_through(
+        append_batch(
             &mut journal,
             &mut disk,
             by_hand,
@@ -80,7 +80,7 @@ fn a_sync_keeps_all(rt: HostRuntime) -> Result<(), Fail> {
         let mut disk = MemoryDisk::new(alloc);
         let mut journal = Writer::create_new(alloc, &mut disk, NAME)?;
         journal.write_raw(&mut disk, 3, b"k", b"v1", ValueType::Value, 5)?;
-        hand_over(&mut journal, &mut disk, mode)?;
+        sync_journal(&mut journal, &mut disk, mode)?;
         let text = disk.read(alloc, NAME)?.ok_or("no journal")?;
         assert_eq!(rt; text.as_slice(), INSERT.as_slice());
         let mut left = disk.crash(0)?;

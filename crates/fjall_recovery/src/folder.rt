@@ -19,7 +19,7 @@ use crate::journals::{Journals, read_journals};
 use crate::listing::{list_journals, list_keyspaces};
 use crate::unfinished::check_unfinished;
 use fjall_base::{Disk, Error, Result, StorageError};
-use fjall_catalog::{Catalog, Found, read_catalog};
+use fjall_catalog::{Catalog, LoadedCatalog, read_catalog};
 use fjall_meta::LivingKeyspace;
 use fjall_files::{Marker, read_marker};
 use std::alloc::Global;
@@ -33,7 +33,7 @@ pub struct Finished {
     /// The ids of the keyspaces that have a folder, ascending; 0 is that of tree 0.
     pub folder_ids: Vec<u64>,
     /// What tree 0 says.
-    pub catalog: Found,
+    pub catalog: LoadedCatalog,
     /// The records of the keyspaces that live, by id ascending.
     pub homes: Vec<Home>,
 }
@@ -83,7 +83,7 @@ fn are_made(last: &Catalog, living: &[LivingKeyspace]) -> bool
 }
 
 /// Reads tree 0, where it has its folder. Each keyspace must be made under a number that its last record knows.
-fn read_tree<D: Disk>(alloc: Global, disk: &mut D, folder_ids: &[u64]) -> Result<Found>
+fn read_tree<D: Disk>(alloc: Global, disk: &mut D, folder_ids: &[u64]) -> Result<LoadedCatalog>
     ensures says { IsTrue D.honest → IfOk result (λ found. (records : List Fields) × Says (standing (state_in (D.meaning disk.old))) records found.catalog found.keyspaces) }
     ensures made { IfOk result (λ found. AreMade found.catalog found.keyspaces) }
     ensures folder { IsTrue D.honest → AreFolderIds (standing (state_in (D.meaning disk.old))) folder_ids.now → OnOk result (standing (state_in (D.meaning disk.old)) (keyspace_folder 0) ≡ Folder) }

@@ -12,7 +12,7 @@ use Rattle.fjall_files.specs.Marker.{header}
 use Rattle.fjall_files.specs.Names.{journal_name}
 use Rattle.fjall_catalog.proofs.Naming.{current_zero}
 use Rattle.fjall_recovery.specs.Journals.{AreJournalIds, text_in}
-use Rattle.fjall_repair.specs.declared.beginning.plan.Found.{Found}
+use Rattle.fjall_repair.specs.declared.beginning.plan.FileState.{FileState}
 use Rattle.fjall_repair.specs.declared.beginning.plan.BeginPlan.{BeginPlan}
 use Rattle.fjall_repair.specs.Begun.{IsActive}
 use Rattle.fjall_repair.specs.Plans.{AreToBe, IsFound, IsPlan, first_text}
@@ -70,7 +70,7 @@ module _ (image : Image) (sealed : List ℕ) (active : ℕ) (to_be : AreToBe ima
 pub some_ids : (ids : List ℕ) (n : ℕ) → n ≡ length ids → (n ≡ 0 → ⊥) → ids ≢ []
 some_ids ids n is some none = some (is ∙ ap length none)
 
-found_along : (found : Found) (bytes other : List ℕ) (image one : Image) (name same : Name) → bytes ≡ other → one ≡ image → name ≡ same → IsFound found bytes (text_in (one name)) → IsFound found other (text_in (image same))
+found_along : (found : FileState) (bytes other : List ℕ) (image one : Image) (name same : Name) → bytes ≡ other → one ≡ image → name ≡ same → IsFound found bytes (text_in (one name)) → IsFound found other (text_in (image same))
 found_along found bytes other image one name same at_bytes at_image at_name is =
     subst (λ (n : Name). IsFound found other (text_in (image n))) at_name (subst (λ (i : Image). IsFound found other (text_in (i name))) at_image (subst (λ (l : List ℕ). IsFound found l (text_in (one name))) at_bytes is))
 

@@ -14,7 +14,7 @@ use Rattle.fjall_catalog.specs.Catalog.{fields, first_catalog, only, records_in}
 use Rattle.fjall_catalog.proofs.Naming.{current_zero, folder_zero, folder_of-current, folder_of-folder}
 use Rattle.fjall_catalog.proofs.Shapes.{first_fits}
 use Rattle.fjall_recovery.specs.Journals.{text_in}
-use Rattle.fjall_repair.specs.declared.beginning.plan.Found.{Found}
+use Rattle.fjall_repair.specs.declared.beginning.plan.FileState.{FileState}
 use Rattle.fjall_repair.specs.Making.{CanHold, GoesOn, MayStand, StaysAt}
 use Rattle.fjall_repair.specs.Plans.{HasFirstTree, IsFound, first_text}
 use Rattle.fjall_repair.proofs.Holding.{current_holds}
@@ -121,7 +121,7 @@ pub records_hold : (text : List ℕ) → text ≡ first_text → CanHold false (
 records_hold text is = subst (λ (l : List ℕ). CanHold false (codes "keyspaces/0/current") l) (sym is) (subst (λ (n : Name). CanHold false n first_text) current_zero (current_holds first_record_is))
 
 -- what was found of them is there yet
-pub records_found : (found : Found) (text : List ℕ) (old new : State) → text ≡ first_text → records_in (standing new) ≡ records_in (standing old) → IsFound found first_text (records_in (standing old)) → IsFound found text (text_in (standing new (codes "keyspaces/0/current")))
+pub records_found : (found : FileState) (text : List ℕ) (old new : State) → text ≡ first_text → records_in (standing new) ≡ records_in (standing old) → IsFound found first_text (records_in (standing old)) → IsFound found text (text_in (standing new (codes "keyspaces/0/current")))
 records_found found text old new is same found_is =
     subst (λ (l : List ℕ). IsFound found l (text_in (standing new (codes "keyspaces/0/current")))) (sym is)
     (subst (λ (n : Name). IsFound found first_text (text_in (standing new n))) current_zero (subst (λ (l : List ℕ). IsFound found first_text l) (sym same) found_is))

@@ -13,8 +13,8 @@ use Rattle.fjall_catalog.specs.Catalog.{fields, first_catalog, only, records_in}
 use Rattle.fjall_recovery.specs.Journals.{Journal, text_in}
 use Rattle.fjall_recovery.specs.Halves.{Tree}
 use Rattle.fjall_recovery.specs.Places.{Journaling, LiesInRoot, RestsInTree}
-use Rattle.fjall_repair.specs.declared.beginning.plan.Found.{Found}
-use Rattle.fjall_repair.specs.declared.beginning.plan.Found.TheVariants.{Nothing, Other, Whole}
+use Rattle.fjall_repair.specs.declared.beginning.plan.FileState.{FileState}
+use Rattle.fjall_repair.specs.declared.beginning.plan.FileState.TheVariants.{Nothing, Other, Whole}
 use Rattle.fjall_repair.specs.declared.beginning.plan.BeginPlan.{BeginPlan}
 
 -- the text of tree 0's first record
@@ -22,7 +22,7 @@ abbrev pub first_text : List ℕ
 first_text = record_text (fields first_catalog)
 
 -- what a file has of the bytes that it is to hold
-abbrev pub IsFound : Found → List ℕ → List ℕ → Type 0
+abbrev pub IsFound : FileState → List ℕ → List ℕ → Type 0
 IsFound Nothing bytes text = text ≡ []
 IsFound Other bytes text = text ≢ []
 IsFound Whole bytes text = text ≡ bytes

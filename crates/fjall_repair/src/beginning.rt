@@ -9,4 +9,4 @@ mod plan;
 mod tree;
 
 pub use making::begin;
-pub use plan::{BeginPlan, Found, plan_beginning};
+pub use plan::{BeginPlan, FileState, plan_beginning};

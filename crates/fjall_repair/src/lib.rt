@@ -13,7 +13,7 @@ mod ready;
 mod repair;
 mod sweeping;
 
-pub use beginning::{BeginPlan, Found, begin, plan_beginning};
+pub use beginning::{BeginPlan, FileState, begin, plan_beginning};
 pub use laws::{settled_folders_come_back, settled_folders_come_back_unfinished};
 pub use mending::{FileEnd, MendPlan, mend, plan_mending};
 pub use opened::Opened;

@@ -4,7 +4,7 @@
 mod call;
 mod change;
 mod laws;
-mod memory;
+mod engine_state;
 mod refusals;
 
 pub use call::{Call, Reply, View};
@@ -14,4 +14,4 @@ pub use laws::{
     a_retained_stands, a_write_stands, an_opening_stands, facts_agree, names_agree,
     nothing_refused, options_agree, other_parts_stand, reads_agree,
 };
-pub use memory::Memory;
+pub use engine_state::EngineState;

@@ -5,13 +5,13 @@ ghost use Rattle.fjall_state.specs.declared.call.Call.TheVariants.{Release};
 ghost use Rattle.fjall_state.specs.Machine.{are_used_up, creation_refusals, deletion_refusals, due_in, first_due, write_refusals};
 ghost use Rattle.fjall_state.specs.Remembered.{facts_of};
 
-use crate::memory::Memory;
+use crate::engine_state::EngineState;
 use fjall_base::Error;
 
 /// Sequence numbers lie below this one.
 const SEQNO_LIMIT: u64 = 1 << 63;
 
-impl Memory {
+impl EngineState {
     /// What refuses a write of this item.
     pub fn write_refusal(&self, id: u64, key: &[u8], value: &[u8]) -> Option<Error>
         ensures { result ≡ first_due (write_refusals (facts_of self.now 0) id key.now value.now) }

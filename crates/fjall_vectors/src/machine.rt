@@ -3,14 +3,14 @@
 use fjall_base::{Error, Result, Slice};
 use fjall_journal::{PersistMode, ValueType};
 use fjall_meta::MetaKeyspace;
-use fjall_state::{Call, Change, Memory, Reply, View};
+use fjall_state::{Call, Change, EngineState, Reply, View};
 use fjall_options::KeyspaceCreateOptions;
 use std::alloc::Global;
 use std::ops::Bound;
 use std::test::Fail;
 
 /// Makes a keyspace of this name with default options, where nothing refuses it.
-fn create(alloc: Global, memory: &mut Memory, name: &[u8]) -> Result<u64> {
+fn create(alloc: Global, memory: &mut EngineState, name: &[u8]) -> Result<u64> {
     if let Some(error) = memory.creation_refusal(name, 0) {
         return Err(error);
     }
@@ -24,7 +24,7 @@ fn create(alloc: Global, memory: &mut Memory, name: &[u8]) -> Result<u64> {
 /// Changes a key of a keyspace, where nothing refuses it.
 fn change(
     alloc: Global,
-    memory: &mut Memory,
+    memory: &mut EngineState,
     id: u64,
     key: &[u8],
     change: Change<'_>,
@@ -33,11 +33,11 @@ fn change(
         return Err(error);
     }
     let version = change.version(alloc, id, memory.seqno(), key)?;
-    memory.remember(version)
+    memory.push_version(version)
 }
 
 /// Deletes a keyspace, where nothing refuses it.
-fn delete(alloc: Global, memory: &mut Memory, id: u64) -> Result<()> {
+fn delete(alloc: Global, memory: &mut EngineState, id: u64) -> Result<()> {
     if let Some(error) = memory.deletion_refusal(id, 0) {
         return Err(error);
     }
@@ -50,7 +50,7 @@ fn delete(alloc: Global, memory: &mut Memory, id: u64) -> Result<()> {
 }
 
 /// Counts one handle less, where nothing refuses it.
-fn release(memory: &mut Memory, id: u64) -> Result<()> {
+fn release(memory: &mut EngineState, id: u64) -> Result<()> {
     if let Some(error) = memory.release_refusal(id) {
         return Err(error);
     }
@@ -59,7 +59,7 @@ fn release(memory: &mut Memory, id: u64) -> Result<()> {
 }
 
 /// Whether a key of a keyspace has this value, or none.
-fn has(memory: &Memory, id: u64, key: &[u8], value: Option<&[u8]>) -> Result<bool> {
+fn has(memory: &EngineState, id: u64, key: &[u8], value: Option<&[u8]>) -> Result<bool> {
     let found = memory.get(id, key)?;
     Ok(match (&found, value) {
         (Some(found), Some(value)) => found.as_slice() == value,
@@ -69,8 +69,8 @@ fn has(memory: &Memory, id: u64, key: &[u8], value: Option<&[u8]>) -> Result<boo
 }
 
 /// The keyspaces 1, "b", in which k=v, and 2, "a".
-fn two(alloc: Global) -> Result<Memory> {
-    let mut memory = Memory::new(alloc, MetaKeyspace::new(alloc), Vec::new(alloc), 1);
+fn two(alloc: Global) -> Result<EngineState> {
+    let mut memory = EngineState::new(alloc, MetaKeyspace::new(alloc), Vec::new(alloc), 1);
     create(alloc, &mut memory, b"b")?;
     create(alloc, &mut memory, b"a")?;
     change(alloc, &mut memory, 1, b"k", Change::Put(b"v"))?;
@@ -78,7 +78,7 @@ fn two(alloc: Global) -> Result<Memory> {
 }
 
 /// The same, where the first one is deleted, and read by one handle.
-fn one_deleted(alloc: Global) -> Result<Memory> {
+fn one_deleted(alloc: Global) -> Result<EngineState> {
     let mut memory = two(alloc)?;
     memory.retain(1)?;
     delete(alloc, &mut memory, 1)?;
@@ -180,7 +180,7 @@ fn refusals_of_changes_of_keyspaces_come_in_order(
 fn numbers_end(rt: HostRuntime) -> std::result::Result<(), Fail> {
     let alloc = rt.alloc();
     let used_up = Some(Error::NumbersUsedUp);
-    let memory = Memory::new(alloc, MetaKeyspace::new(alloc), Vec::new(alloc), 1 << 63);
+    let memory = EngineState::new(alloc, MetaKeyspace::new(alloc), Vec::new(alloc), 1 << 63);
     assert_eq!(rt; memory.creation_refusal(b"a", 0), used_up);
     assert_eq!(rt; two(alloc)?.deletion_refusal(1, u64::MAX), used_up);
     Ok(())

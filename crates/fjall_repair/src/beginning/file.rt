@@ -7,7 +7,7 @@ ghost use Rattle.fjall_recovery.specs.Journals.{text_in};
 ghost use Rattle.fjall_repair.specs.Making.{CanHold, GoesOn, StaysAt};
 ghost use Rattle.fjall_repair.specs.Plans.{IsFound};
 
-use crate::beginning::plan::Found;
+use crate::beginning::plan::FileState;
 use fjall_base::{Disk, Result};
 
 /// Adds bytes to an empty file, and syncs it.
@@ -30,7 +30,7 @@ fn fill<D: Disk>(disk: &mut D, name: &str, bytes: &[u8]) -> Result<()>
 pub(crate) fn complete_file<D: Disk>(
     disk: &mut D,
     name: &str,
-    found: Found,
+    found: FileState,
     bytes: &[u8],
 ) -> Result<()>
     ensures goes { IsTrue D.honest → (marking : Bool) → CanHold marking name.now bytes.now → IsFound found bytes.now (text_in (standing (state_in (D.meaning disk.old)) name.now))
@@ -46,12 +46,12 @@ pub(crate) fn complete_file<D: Disk>(
         ⊎ ((state_in (D.meaning disk.new) name.now).older ≡ (state_in (D.meaning disk.old) name.now).older ++ (state_in (D.meaning disk.old) name.now).now ∷ []) }
 {
     match found {
-        Found::Whole => disk.sync(name),
-        Found::Nothing => {
+        FileState::Whole => disk.sync(name),
+        FileState::Nothing => {
             disk.create(name)?;
             fill(disk, name, bytes)
         }
-        Found::Other => {
+        FileState::Other => {
             disk.cut_sync(name, 0)?;
             fill(disk, name, bytes)
         }

@@ -15,11 +15,11 @@ ghost use Rattle.fjall_repair.specs.Making.{IsKept, KeepsHomes, KeepsTables, Com
 ghost use Rattle.fjall_repair.specs.Plans.{AwaitsMarker, IsFound};
 
 use crate::beginning::file::complete_file;
-use crate::beginning::plan::{Found, MARKER};
+use crate::beginning::plan::{FileState, MARKER};
 use fjall_base::{Disk, Result};
 
 /// Writes the marker, of which this was found, where nothing else is to be done.
-pub(crate) fn mark<D: Disk>(disk: &mut D, found: Found, header: &[u8]) -> Result<()>
+pub(crate) fn mark<D: Disk>(disk: &mut D, found: FileState, header: &[u8]) -> Result<()>
     ensures any_moment { IsTrue D.honest → header.now ≡ header_of V3 → IsFound found (header_of V3) (text_in (standing (state_in (D.meaning disk.old)) (codes "version"))) → IsKept true (state_in (D.meaning disk.old))
         → (sealed : List ℕ) (active : ℕ) → AwaitsMarker (state_in (D.meaning disk.old)) sealed active
         → LeavesOnly (D.meaning disk.old) (D.meaning disk.new) (λ image. StandsFor image (bare no_keyspaces)) }

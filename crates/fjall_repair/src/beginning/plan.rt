@@ -22,7 +22,7 @@ pub(crate) const MARKER: &str = "version";
 
 /// What a file has of the bytes that it is to hold.
 #[derive(Clone, Copy, Debug, PartialEq, Eq)]
-pub enum Found {
+pub enum FileState {
     /// Not a byte, or there is no file.
     Nothing,
     /// Some other bytes.
@@ -41,28 +41,28 @@ pub struct BeginPlan {
     /// The text of tree 0's first record.
     pub first: Vec<u8>,
     /// What tree 0's file has of it.
-    pub records: Found,
+    pub records: FileState,
     /// The bytes of the marker.
     pub header: Vec<u8>,
     /// What the marker's file has of them.
-    pub marker: Found,
+    pub marker: FileState,
 }
 
 /// What these bytes are, where those are wanted.
-fn compare(bytes: &[u8], wanted: &[u8]) -> Found
+fn compare(bytes: &[u8], wanted: &[u8]) -> FileState
     ensures { IsFound result wanted.now bytes.now }
 {
     if bytes == wanted {
-        Found::Whole
+        FileState::Whole
     } else if bytes.len() == 0 {
-        Found::Nothing
+        FileState::Nothing
     } else {
-        Found::Other
+        FileState::Other
     }
 }
 
 /// What the file of this name has of these bytes.
-fn find<D: Disk>(alloc: Global, disk: &mut D, name: &str, wanted: &[u8]) -> Result<Found>
+fn find<D: Disk>(alloc: Global, disk: &mut D, name: &str, wanted: &[u8]) -> Result<FileState>
     ensures found { IsTrue D.honest → IfOk result (λ found. IsFound found wanted.now (text_in (standing (state_in (D.meaning disk.old)) name.now))) }
     ensures same { IsTrue D.honest → Took (D.meaning disk.old) (D.meaning disk.new) [] }
     ensures served { IsTrue D.honest → (D.meaning disk.new).misuses ≡ (D.meaning disk.old).misuses }
@@ -70,7 +70,7 @@ fn find<D: Disk>(alloc: Global, disk: &mut D, name: &str, wanted: &[u8]) -> Resu
 {
     match disk.read(alloc, name)? {
         Some(bytes) => Ok(compare(&bytes, wanted)),
-        None => Ok(Found::Nothing),
+        None => Ok(FileState::Nothing),
     }
 }
 

@@ -10,7 +10,7 @@ ghost use Rattle.fjall_repair.specs.Making.{GoesOn, KeepsHomes};
 ghost use Rattle.fjall_repair.specs.Plans.{HasFirstTree, IsFound, first_text};
 
 use crate::beginning::file::complete_file;
-use crate::beginning::plan::Found;
+use crate::beginning::plan::FileState;
 use fjall_base::{Disk, Result};
 
 /// The folder of all keyspaces.
@@ -54,7 +54,7 @@ fn sync_folders<D: Disk>(disk: &mut D) -> Result<()>
 }
 
 /// Makes tree 0 with its first record, of which this was found: all of it is safe then, but the name of `keyspaces`.
-pub(crate) fn make_tree<D: Disk>(disk: &mut D, found: Found, text: &[u8]) -> Result<()>
+pub(crate) fn make_tree<D: Disk>(disk: &mut D, found: FileState, text: &[u8]) -> Result<()>
     ensures goes { IsTrue D.honest → text.now ≡ first_text → IsFound found first_text (records_in (standing (state_in (D.meaning disk.old)))) → GoesOn false (D.meaning disk.old) (D.meaning disk.new) }
     ensures within { IsTrue D.honest → Within (codes "keyspaces") (D.meaning disk.old) (D.meaning disk.new) }
     ensures made { IsTrue D.honest → text.now ≡ first_text → IsFound found first_text (records_in (standing (state_in (D.meaning disk.old)))) → OnOk result (HasFirstTree (state_in (D.meaning disk.new))) }

@@ -18,7 +18,7 @@ pub returns-in-Ok-clause-serves : goal.returns-in-Ok-clause-serves
 returns-in-Ok-clause-serves g c = λ h.
     let m = g.D.Disk.meaning in
     let old : Held = record { disk = m c.self.inside.disk; journal = c.self.inside.journal; catalog = c.self.inside.catalog; memory = c.self.inside.memory } in
-    let new : Held = record { disk = m c.hand_over.new.disk; journal = c.hand_over.new.journal; catalog = c.self.inside.catalog; memory = c.self.inside.memory } in
+    let new : Held = record { disk = m c.sync_journal.new.disk; journal = c.sync_journal.new.journal; catalog = c.self.inside.catalog; memory = c.self.inside.memory } in
     subst (λ (core : Held). Serves core (Persist c.args.mode) Done new) c.self.view_is
     (persisted_serves old new c.args.mode (sym c.is_poisoned.ensures ∙ c.if-is_poisoned.false) (record { memory_is = refl; catalog = refl; journal = c.in-Ok.ensures.ok; faults = c.in-Ok.ensures.cause.later }) (c.in-Ok.ensures.took h)
     (record { leaves = c.in-Ok.ensures.any_moment h; lies = λ _. c.in-Ok.ensures.lies h; elsewhere = c.in-Ok.ensures.elsewhere h; served = c.in-Ok.ensures.served h; kinds = c.in-Ok.ensures.kinds h }))
@@ -27,7 +27,7 @@ pub returns-in-Err-clause-serves : goal.returns-in-Err-clause-serves
 returns-in-Err-clause-serves g c = λ h.
     let m = g.D.Disk.meaning in
     let old : Held = record { disk = m c.self.inside.disk; journal = c.self.inside.journal; catalog = c.self.inside.catalog; memory = c.self.inside.memory } in
-    let new : Held = record { disk = m c.hand_over.new.disk; journal = c.hand_over.new.journal; catalog = c.self.inside.catalog; memory = c.poison.new.self } in
+    let new : Held = record { disk = m c.sync_journal.new.disk; journal = c.sync_journal.new.journal; catalog = c.self.inside.catalog; memory = c.poison.new.self } in
     subst (λ (core : Held). Serves core (Persist c.args.mode) (Refused c.in-Err.error) new) c.self.view_is
     (unpersisted_serves old new c.args.mode c.in-Err.error (sym c.is_poisoned.ensures ∙ c.if-is_poisoned.false) c.poison.ensures c.in-Err.ensures.cause.cause (c.in-Err.ensures.left h)
     (record { leaves = c.in-Err.ensures.any_moment h; lies = λ e. let bad : ⊥ = cc in absurd bad; elsewhere = c.in-Err.ensures.elsewhere h; served = c.in-Err.ensures.served h; kinds = c.in-Err.ensures.kinds h }))
@@ -41,7 +41,7 @@ pub returns-in-Ok-clause-device : goal.returns-in-Ok-clause-device
 returns-in-Ok-clause-device g c = λ h s d stands on.
     let m = g.D.Disk.meaning in
     let old : Held = record { disk = m c.self.inside.disk; journal = c.self.inside.journal; catalog = c.self.inside.catalog; memory = c.self.inside.memory } in
-    let new = m c.hand_over.new.disk in
+    let new = m c.sync_journal.new.disk in
     subst (λ (core : Held). StandsOn core d → BlamesDevice Done core.disk new) c.self.view_is
     (λ here. served_on old new d (sym c.is_poisoned.ensures ∙ c.if-is_poisoned.false) (c.in-Ok.ensures.served h) here) on
 
@@ -49,6 +49,6 @@ pub returns-in-Err-clause-device : goal.returns-in-Err-clause-device
 returns-in-Err-clause-device g c = λ h s d stands on.
     let m = g.D.Disk.meaning in
     let old : Held = record { disk = m c.self.inside.disk; journal = c.self.inside.journal; catalog = c.self.inside.catalog; memory = c.self.inside.memory } in
-    let new = m c.hand_over.new.disk in
+    let new = m c.sync_journal.new.disk in
     subst (λ (core : Held). StandsOn core d → BlamesDevice (Refused c.in-Err.error) core.disk new) c.self.view_is
     (λ here. fault_blames old new d c.in-Err.error (sym c.is_poisoned.ensures ∙ c.if-is_poisoned.false) c.in-Err.ensures.cause.cause (c.in-Err.ensures.served h) here) on

@@ -7,15 +7,15 @@ use Rattle.fjall_core.specs.Turns.{Writes}
 use Rattle.fjall_core.proofs.Outcomes.{write_done, write_failed}
 use Rattle.fjall_core.proofs.engine.Core.write.Goals as goal
 
-pub forget-requires : goal.forget-requires
-forget-requires g c = (c.args.version, c.self.inside.memory, c.in_ok-remember.ensures.lawful, c.in_ok-remember.ensures.ok)
+pub pop_version-requires : goal.pop_version-requires
+pop_version-requires g c = (c.args.version, c.self.inside.memory, c.in_ok-push_version.ensures.lawful, c.in_ok-push_version.ensures.ok)
 
 pub returns-in-Err : goal.returns-in-Err
 returns-in-Err g c =
     let m = g.D.Disk.meaning in
     let old : Held = record { disk = m c.self.inside.disk; journal = c.self.inside.journal; catalog = c.self.inside.catalog; memory = c.self.inside.memory } in
-    let mid : Held = record { disk = m c.write_through-written.new.disk; journal = c.write_through-written.new.journal; catalog = c.self.inside.catalog; memory = c.forget.new.self } in
-    let back = c.forget.ensures c.args.version c.self.inside.memory c.in_ok-remember.ensures.ok in
+    let mid : Held = record { disk = m c.append_batch-written.new.disk; journal = c.append_batch-written.new.journal; catalog = c.self.inside.catalog; memory = c.pop_version.new.self } in
+    let back = c.pop_version.ensures c.args.version c.self.inside.memory c.in_ok-push_version.ensures.ok in
     let hand = c.persists_by_hand-by_hand.ensures ∙ ap (λ i. persists_by_hand (store_of c.self.inside.memory.keyspaces c.self.inside.memory.versions) i) (sym c.requires.version) in
     record {
       writes = subst (λ (h : Held). Writes (IsTrue g.D.Disk.honest) h c.args.version (of_item c.args.id c.args.key.now c.args.value.now c.args.value_type h.memory.next) c.args.value_type (Err c.in-Err.error) c.poison_by.new.self) c.self.view_is
@@ -28,11 +28,11 @@ pub returns : goal.returns
 returns g c =
     let m = g.D.Disk.meaning in
     let old : Held = record { disk = m c.self.inside.disk; journal = c.self.inside.journal; catalog = c.self.inside.catalog; memory = c.self.inside.memory } in
-    let new : Held = record { disk = m c.write_through-written.new.disk; journal = c.write_through-written.new.journal; catalog = c.self.inside.catalog; memory = c.remember.new.self } in
+    let new : Held = record { disk = m c.append_batch-written.new.disk; journal = c.append_batch-written.new.journal; catalog = c.self.inside.catalog; memory = c.push_version.new.self } in
     let hand = c.persists_by_hand-by_hand.ensures ∙ ap (λ i. persists_by_hand (store_of c.self.inside.memory.keyspaces c.self.inside.memory.versions) i) (sym c.requires.version) in
     record {
       writes = subst (λ (h : Held). Writes (IsTrue g.D.Disk.honest) h c.args.version (of_item c.args.id c.args.key.now c.args.value.now c.args.value_type h.memory.next) c.args.value_type (Ok tt) new) c.self.view_is
           (write_done (IsTrue g.D.Disk.honest) old c.args.version c.args.id c.args.key.now c.args.value.now c.args.value_type c.seqno-seqno.result c.seqno-seqno.ensures c.persists_by_hand-by_hand.result hand new
-          (λ i. record { disk = new.disk; journal = c.in_default.ensures.ok i; catalog = old.catalog; memory = c.in_ok-remember.ensures.ok i }) c.in_default.ensures.cause.later c.in_default.ensures.took
+          (λ i. record { disk = new.disk; journal = c.in_default.ensures.ok i; catalog = old.catalog; memory = c.in_ok-push_version.ensures.ok i }) c.in_default.ensures.cause.later c.in_default.ensures.took
           (λ h. record { leaves = c.in_default.ensures.any_moment h; lies = λ e. c.in_default.ensures.lies h; elsewhere = c.in_default.ensures.elsewhere h; served = c.in_default.ensures.served h }) c.in_default.ensures.waits);
     }

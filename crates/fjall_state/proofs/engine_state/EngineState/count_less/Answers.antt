@@ -1,0 +1,17 @@
+use Rattle.std.proofs.Common.{◌∙◌, ap}
+use Rattle.fjall_state.specs.Machine.{one_less}
+use Rattle.fjall_state.specs.Remembered.{Remembered}
+use Rattle.fjall_state.proofs.engine_state.EngineState.count_less.Goals as goal
+
+pub returns : goal.returns
+returns c =
+    (λ i.
+    record {
+      keyspaces = c.self.inside.keyspaces;
+      versions = c.self.inside.versions.items;
+      next = c.self.inside.next;
+      poisoned = c.self.inside.poisoned;
+      handles = c.count_less.ensures i;
+      lasting = c.self.inside.lasting.items;
+    })
+    ∙ ap (λ (m : Remembered). record m { handles = one_less m.handles c.args.id }) c.self.view_is

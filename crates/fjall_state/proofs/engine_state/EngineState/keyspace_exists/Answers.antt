@@ -1,0 +1,11 @@
+use Rattle.std.proofs.Common.{◌∙◌, ap, sym, subst}
+use Rattle.std.specs.Option.{is_some}
+use Rattle.fjall_meta.specs.Keyspaces.{id_of}
+use Rattle.fjall_state.specs.Remembered.{IsLawful, Remembered}
+use Rattle.fjall_state.proofs.Facts.{named_is}
+use Rattle.fjall_state.proofs.engine_state.EngineState.keyspace_exists.Goals as goal
+
+pub returns : goal.returns
+returns c =
+    let is = subst IsLawful c.self.view_is c.self.invariant in
+    c.keyspace_exists.ensures ∙ ap (λ (m : Remembered). is_some (id_of c.args.name.now m.keyspaces.living)) c.self.view_is ∙ sym (named_is c.args.self.now.keyspaces is.keyspaces c.args.self.now.versions c.args.name.now)

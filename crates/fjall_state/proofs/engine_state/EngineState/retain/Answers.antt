@@ -1,0 +1,25 @@
+use Rattle.std.proofs.Common.{◌≡◌, ◌+◌, ◌∙◌, ap, sym}
+use Rattle.std.specs.FinMap.{insert}
+use Rattle.fjall_state.specs.Machine.{handles_of, one_more}
+use Rattle.fjall_state.specs.Remembered.{Remembered, retained}
+use Rattle.fjall_state.proofs.Counting.{inserted, map_of}
+use Rattle.fjall_state.proofs.engine_state.EngineState.retain.Goals as goal
+
+pub returns-clause-ok : goal.returns-clause-ok
+returns-clause-ok c =
+    let id = c.args.id in
+    let handles = map_of c.self.inside.handles in
+    let counts : c.in-Some-checked_add.count ≡ handles_of handles id + 1 =
+    c.in-Some-checked_add.ensures.1 ∙ ap (λ n. n + 1) (c.handle_count.ensures ∙ ap (λ (m : Remembered). handles_of m.handles id) (sym c.self.view_is)) in
+    let more : map_of c.insert.new.self ≡ one_more handles id =
+    inserted c.self.inside.handles c.insert.new.self id c.in-Some-checked_add.count c.in_ok-insert.ensures.updates.0 ∙ ap (insert handles id) counts in
+    (λ i.
+    record {
+      keyspaces = c.self.inside.keyspaces;
+      versions = c.self.inside.versions.items;
+      next = c.self.inside.next;
+      poisoned = c.self.inside.poisoned;
+      handles = more i;
+      lasting = c.self.inside.lasting.items;
+    })
+    ∙ ap (retained id) c.self.view_is

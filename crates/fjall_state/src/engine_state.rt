@@ -1,0 +1,411 @@
+//! What an engine holds in memory: keyspaces that were made under lesser numbers than the next one, and versions
+//! of ids that were given out.
+
+ghost use Rattle.std.specs.Prelude.{◌≡◌, ◌≢◌, ◌<◌, ◌+◌, ◌-◌, ◌^◌, ◌++◌, ◌∷◌, [], ℕ, List, All, None, is_some, true, false, length, map, IfOk, IfErr, OnOk, OnErr, IsOkUnless, IsPermutation, IsSorted};
+ghost use Rattle.std.specs.FinMap.{empty, from_entries, len, values};
+ghost use Rattle.std.specs.Option.{option_copied};
+ghost use Rattle.fjall_base.specs.Pairs.{Bytes, byte_order, page, pairs_between};
+ghost use Rattle.fjall_meta.specs.Keyspaces.{id_of, is_name};
+ghost use Rattle.fjall_versions.specs.declared.version.Version.{Version};
+ghost use Rattle.fjall_versions.specs.Versions.{newest, pairs_in, store_of};
+ghost use Rattle.fjall_state.specs.declared.call.Call.TheVariants.{Retain};
+ghost use Rattle.fjall_state.specs.Machine.{due_in, first_due, handles_of, has_name, is_among, is_living, is_read, is_unknown, one_less, persists_by_hand, read_refusals};
+ghost use Rattle.fjall_state.specs.Remembered.{IsDueOrMemory, IsLawful, Remembered, facts_of, is_last, let_go, poisoned, released, remembered, retained, with_creation, with_deletion, with_version};
+
+use fjall_base::{Error, KvPair, Result, Slice, UserValue};
+use fjall_meta::{LivingKeyspace, MetaKeyspace};
+use fjall_options::KeyspaceCreateOptions;
+use fjall_versions::{KeyRange, Version, newest_value, page};
+use std::alloc::Global;
+use std::collections::BTreeMap;
+use std::marker::Model;
+
+/// What an engine holds in memory: the keyspaces that live, the versions of all keyspaces, oldest first, the next
+/// number, whether a fault has poisoned it, how many handles of each keyspace are counted, and the deleted
+/// keyspaces that are still read.
+#[derive(Debug, Drop)]
+pub struct EngineState {
+    keyspaces: MetaKeyspace,
+    versions: Vec<Version>,
+    next: u64,
+    poisoned: bool,
+    handles: BTreeMap<u64, u64>,
+    lasting: Vec<u64>,
+}
+
+impl Model for EngineState {
+    ghost use Rattle.std.specs.Coded.{codes};
+    ghost use Rattle.std.specs.FinMap.{from_entries};
+    ghost use Rattle.fjall_state.specs.Remembered.{IsLawful, Remembered, handles_code};
+
+    ghost Value = { Remembered };
+
+    ghost coded = { Prim.hlevel (codes, handles_code) };
+
+    ghost view = { λ m. record { keyspaces = m.keyspaces; versions = m.versions.items; next = m.next; poisoned = m.poisoned; handles = from_entries m.handles.entries; lasting = m.lasting.items } };
+
+    ghost invariant = { λ m. IsLawful (record { keyspaces = m.keyspaces; versions = m.versions.items; next = m.next; poisoned = m.poisoned; handles = from_entries m.handles.entries; lasting = m.lasting.items }) };
+}
+
+/// How many handles of a keyspace are counted.
+fn count_of(handles: &BTreeMap<u64, u64>, id: u64) -> u64
+    ensures { result ≡ handles_of (from_entries handles.now.entries) id }
+{
+    handles.get(&id).copied().unwrap_or(0)
+}
+
+/// One handle less is counted. It takes no memory.
+fn count_less(handles: &mut BTreeMap<u64, u64>, id: u64)
+    requires { 0 < handles_of (from_entries handles.old.entries) id }
+    ensures { from_entries handles.new.entries ≡ one_less (from_entries handles.old.entries) id }
+{
+    let count = count_of(handles, id);
+    if count == 1 {
+        handles.remove(&id);
+    } else if let Some(kept) = handles.get_mut(&id) {
+        *kept = count - 1;
+    }
+}
+
+/// Another owner of a value, where there is one.
+fn shared_value(value: Option<&UserValue>) -> Result<Option<UserValue>>
+    ensures ok { IfOk result (λ shared. shared ≡ option_copied value.entry) }
+    ensures only { IsOkUnless result Error.OutOfMemory }
+{
+    match value {
+        Some(value) => Ok(Some(value.clone()?)),
+        None => Ok(None),
+    }
+}
+
+impl EngineState {
+    /// These keyspaces, with these versions, whose next change takes this number.
+    pub fn new(alloc: Global, keyspaces: MetaKeyspace, versions: Vec<Version>, next: u64) -> EngineState
+        requires made { All (λ k. k.number < next) keyspaces.living }
+        requires given { All (λ v. v.keyspace_id < keyspaces.next) versions.items }
+        ensures { result ≡ remembered keyspaces versions.items next }
+    {
+        EngineState {
+            keyspaces,
+            versions,
+            next,
+            poisoned: false,
+            handles: BTreeMap::new(alloc),
+            lasting: Vec::new(alloc),
+        }
+    }
+
+    /// The keyspaces that live, and the id that the next one gets.
+    pub fn keyspaces(&self) -> &MetaKeyspace
+        ensures value { result.now ≡ self.now.keyspaces }
+        ensures lawful { IsLawful self.now }
+    {
+        &self.keyspaces
+    }
+
+    /// The keyspaces that live, by id ascending.
+    pub fn living(&self) -> &[LivingKeyspace]
+        ensures { result.now ≡ self.now.keyspaces.living }
+    {
+        self.keyspaces.living()
+    }
+
+    /// The versions of all keyspaces, oldest first.
+    pub fn versions(&self) -> &[Version]
+        ensures { result.now ≡ self.now.versions }
+    {
+        &self.versions
+    }
+
+    /// The number that the next change takes.
+    pub fn seqno(&self) -> u64
+        ensures { result ≡ self.now.next }
+    {
+        self.next
+    }
+
+    /// The id that the next keyspace gets.
+    pub fn next_id(&self) -> u64
+        ensures value { result ≡ self.now.keyspaces.next }
+        ensures stored { result ≡ (store_of self.now.keyspaces self.now.versions).next }
+    {
+        self.keyspaces.next_id()
+    }
+
+    /// Whether a fault has poisoned it.
+    pub fn is_poisoned(&self) -> bool
+        ensures { result ≡ self.now.poisoned }
+    {
+        self.poisoned
+    }
+
+    /// How many keyspaces live.
+    pub fn keyspace_count(&self) -> usize
+        ensures living { result ≡ length self.now.keyspaces.living }
+        ensures named { result ≡ len (store_of self.now.keyspaces self.now.versions).names }
+    {
+        self.keyspaces.keyspace_count()
+    }
+
+    /// The names of the keyspaces that live, in the order of their bytes. Refuses for want of memory alone.
+    pub fn list_keyspace_names(&self, alloc: Global) -> Result<Vec<Slice>>
+        ensures names { IfOk result (λ names. IsPermutation (map (λ k. k.name) self.now.keyspaces.living) names.items) }
+        ensures named { IfOk result (λ names. IsPermutation (values (store_of self.now.keyspaces self.now.versions).names) names.items) }
+        ensures sorted { IfOk result (λ names. IsSorted byte_order names.items) }
+        ensures only { IsOkUnless result Error.OutOfMemory }
+    {
+        self.keyspaces.list_keyspace_names(alloc)
+    }
+
+    /// Whether a keyspace has this name.
+    pub fn keyspace_exists(&self, name: &[u8]) -> bool
+        ensures { result ≡ has_name (store_of self.now.keyspaces self.now.versions) name.now }
+    {
+        self.keyspaces.keyspace_exists(name)
+    }
+
+    /// The id of the keyspace that has this name.
+    pub fn resolve(&self, name: &[u8]) -> Option<u64>
+        ensures id { result ≡ id_of name.now self.now.keyspaces.living }
+        ensures named { is_some result ≡ has_name (store_of self.now.keyspaces self.now.versions) name.now }
+    {
+        self.keyspaces.resolve_id(name)
+    }
+
+    /// Whether no keyspace ever had this id.
+    pub fn is_unknown(&self, id: u64) -> bool
+        ensures { result ≡ is_unknown (store_of self.now.keyspaces self.now.versions) id }
+    {
+        id == 0 || self.keyspaces.next_id() <= id
+    }
+
+    /// Whether the keyspace of this id lives.
+    pub fn is_living(&self, id: u64) -> bool
+        ensures { result ≡ is_living (store_of self.now.keyspaces self.now.versions) id }
+    {
+        self.keyspaces.get(id).is_some()
+    }
+
+    /// Whether the keyspace of this id lives and persists by hand: its writes wait in the journal's buffer.
+    pub fn persists_by_hand(&self, id: u64) -> bool
+        ensures { result ≡ persists_by_hand (store_of self.now.keyspaces self.now.versions) id }
+    {
+        match self.keyspaces.options_of(id) {
+            Some(options) => options.effective().manual_journal_persist,
+            None => false,
+        }
+    }
+
+    /// Whether the keyspace of this id is deleted and still read.
+    pub fn is_lasting(&self, id: u64) -> bool
+        ensures { result ≡ is_among self.now.lasting id }
+    {
+        self.lasting.iter().any(|other| *other == id)
+    }
+
+    /// Whether the keyspace of this id is read: it lives, or is deleted and still read.
+    pub fn is_read(&self, id: u64) -> bool
+        ensures { result ≡ is_read (facts_of self.now 0) id }
+    {
+        self.is_living(id) || self.is_lasting(id)
+    }
+
+    /// How many handles of a keyspace are counted.
+    pub fn handle_count(&self, id: u64) -> u64
+        ensures { result ≡ handles_of self.now.handles id }
+    {
+        count_of(&self.handles, id)
+    }
+
+    /// Whether the last handle of a deleted keyspace is counted.
+    pub fn is_last(&self, id: u64) -> bool
+        ensures { result ≡ is_last self.now id }
+    {
+        !self.is_living(id) && self.handle_count(id) == 1
+    }
+}
+
+/// What refuses a read of the keyspace of this id.
+fn read_refusal(memory: &EngineState, id: u64) -> Option<Error>
+    ensures { result ≡ first_due (read_refusals (facts_of memory.now 0) id) }
+{
+    if memory.is_unknown(id) {
+        return Some(Error::UnknownKeyspace);
+    }
+    if !memory.is_read(id) {
+        return Some(Error::KeyspaceDeleted);
+    }
+    None
+}
+
+impl EngineState {
+    /// The value that a key of a keyspace has, where it has one. A deleted keyspace is read as long as handles of
+    /// it are counted.
+    ///
+    /// Refusals: `UnknownKeyspace`, `KeyspaceDeleted`, `OutOfMemory`.
+    pub fn get(&self, id: u64, key: &[u8]) -> Result<Option<UserValue>>
+        ensures due { OnOk result (first_due (read_refusals (facts_of self.now 0) id) ≡ None) }
+        ensures ok { IfOk result (λ found. found ≡ newest self.now.versions id key.now) }
+        ensures cause { IfErr result (IsDueOrMemory (first_due (read_refusals (facts_of self.now 0) id))) }
+    {
+        if let Some(error) = read_refusal(self, id) {
+            return Err(error);
+        }
+        shared_value(newest_value(&self.versions, id, key))
+    }
+
+    /// The first or, from behind, the last pairs of a keyspace between the bounds, at most `max`, in the keys'
+    /// order.
+    ///
+    /// Refusals: `UnknownKeyspace`, `KeyspaceDeleted`, `OutOfMemory`.
+    pub fn page(
+        &self,
+        alloc: Global,
+        id: u64,
+        range: &KeyRange,
+        back: bool,
+        max: usize,
+    ) -> Result<Vec<KvPair>>
+        ensures due { OnOk result (first_due (read_refusals (facts_of self.now 0) id) ≡ None) }
+        ensures ok { IfOk result (λ found. found.items ≡ page back max (pairs_between range.now (pairs_in id self.now.versions))) }
+        ensures cause { IfErr result (IsDueOrMemory (first_due (read_refusals (facts_of self.now 0) id))) }
+    {
+        if let Some(error) = read_refusal(self, id) {
+            return Err(error);
+        }
+        page(alloc, &self.versions, id, range, back, max)
+    }
+}
+
+impl EngineState {
+    /// A fault has poisoned it.
+    pub fn poison(&mut self)
+        ensures { self.new ≡ poisoned self.old }
+    {
+        self.poisoned = true;
+    }
+
+    /// Keeps one version more, which takes the next number. After a refusal, for want of memory alone, nothing has
+    /// changed.
+    pub fn push_version(&mut self, version: Version) -> Result<()>
+        requires living { is_living (store_of self.old.keyspaces self.old.versions) version.keyspace_id ≡ true }
+        requires numbered { self.old.next < 2 ^ 63 }
+        ensures ok { OnOk result (self.new ≡ with_version version self.old) }
+        ensures lawful { IsLawful self.old }
+        ensures unchanged { OnErr result (self.new ≡ self.old) }
+        ensures only { IsOkUnless result Error.OutOfMemory }
+    {
+        self.versions.push(version)?;
+        self.next += 1;
+        Ok(())
+    }
+
+    /// Takes back the version that it was given last, and its number.
+    pub fn pop_version(&mut self)
+        requires { (version : Version) × (m : Remembered) × IsLawful m × (self.old ≡ with_version version m) }
+        ensures { (version : Version) (m : Remembered) → self.old ≡ with_version version m → self.new ≡ m }
+    {
+        self.versions.pop();
+        self.next -= 1;
+    }
+
+    /// Makes a keyspace of this name with these options, under the next number, and answers its id. After a
+    /// refusal, for want of memory alone, nothing has changed.
+    pub fn create(&mut self, name: Slice, options: KeyspaceCreateOptions) -> Result<u64>
+        requires named { is_name name ≡ true }
+        requires fresh { id_of name self.old.keyspaces.living ≡ None }
+        requires numbered { self.old.next < 2 ^ 63 }
+        requires free { self.old.keyspaces.next ≢ 2 ^ 64 - 1 }
+        ensures id { IfOk result (λ id. id ≡ self.old.keyspaces.next) }
+        ensures ok { OnOk result (self.new ≡ with_creation name options self.old) }
+        ensures lawful { IsLawful self.old }
+        ensures unchanged { OnErr result (self.new ≡ self.old) }
+        ensures only { IsOkUnless result Error.OutOfMemory }
+    {
+        let id = self.keyspaces.create_keyspace(name, options, self.next)?;
+        self.next += 1;
+        Ok(id)
+    }
+
+    /// Takes back the keyspace that was made last, where that was the last change: its id and its number are free
+    /// again.
+    pub fn take_back(&mut self)
+        requires { (name : Bytes) × (options : List Bytes) × (m : Remembered) × IsLawful m × (self.old ≡ with_creation name options m) }
+        ensures { (name : Bytes) (options : List Bytes) (m : Remembered) → IsLawful m → self.old ≡ with_creation name options m → self.new ≡ m }
+    {
+        self.keyspaces.take_back();
+        self.next -= 1;
+    }
+
+    /// The deleted keyspaces that are still read once this one is deleted too, for [`delete`](EngineState::delete).
+    /// Refuses for want of memory alone.
+    pub fn prepare_deletion(&self, alloc: Global, id: u64) -> Result<Vec<u64>>
+        ensures ok { IfOk result (λ lasting. lasting.items ≡ self.now.lasting ++ id ∷ []) }
+        ensures only { IsOkUnless result Error.OutOfMemory }
+    {
+        let mut lasting = Vec::from_slice(alloc, &self.lasting)?;
+        lasting.push(id)?;
+        Ok(lasting)
+    }
+
+    /// Deletes a keyspace, under the next number; it is still read. It takes no memory, since it is given what
+    /// [`prepare_deletion`](EngineState::prepare_deletion) made.
+    pub fn delete(&mut self, id: u64, lasting: Vec<u64>)
+        requires living { is_living (store_of self.old.keyspaces self.old.versions) id ≡ true }
+        requires numbered { self.old.next < 2 ^ 63 }
+        requires prepared { lasting.items ≡ self.old.lasting ++ id ∷ [] }
+        ensures { self.new ≡ with_deletion id self.old }
+    {
+        self.keyspaces.remove_keyspace(id);
+        self.next += 1;
+        self.lasting = lasting;
+    }
+
+    /// Counts one handle more of a keyspace.
+    ///
+    /// Refusals: `UnknownKeyspace`, `KeyspaceDeleted` where it isn't read any more, `NumbersUsedUp`, `OutOfMemory`.
+    /// After each of them nothing has changed.
+    pub fn retain(&mut self, id: u64) -> Result<()>
+        ensures due { OnOk result (due_in (facts_of self.old 0) (Retain id) ≡ None) }
+        ensures ok { OnOk result (self.new ≡ retained id self.old) }
+        ensures unchanged { OnErr result (self.new ≡ self.old) }
+        ensures cause { IfErr result (IsDueOrMemory (due_in (facts_of self.old 0) (Retain id))) }
+    {
+        if let Some(error) = read_refusal(self, id) {
+            return Err(error);
+        }
+        let Some(count) = self.handle_count(id).checked_add(1) else {
+            return Err(Error::NumbersUsedUp);
+        };
+        self.handles.insert(id, count)?;
+        Ok(())
+    }
+
+    // Drops what a deleted keyspace held.
+    fn let_go(&mut self, id: u64)
+        ensures { self.new ≡ let_go id self.old }
+    {
+        self.lasting.retain(|other| *other != id);
+        self.versions.retain(|version| version.keyspace_id != id);
+    }
+
+    // Counts one handle less.
+    fn count_less(&mut self, id: u64)
+        requires { 0 < handles_of self.old.handles id }
+        ensures { self.new ≡ record self.old { handles = one_less self.old.handles id } }
+    {
+        count_less(&mut self.handles, id);
+    }
+
+    /// Counts one handle less of a keyspace of which one is counted. With the last one of a deleted keyspace goes
+    /// what it held. It takes no memory.
+    pub fn release(&mut self, id: u64)
+        requires counted { 0 < handles_of self.old.handles id }
+        ensures { self.new ≡ released id self.old }
+    {
+        if self.is_last(id) {
+            self.let_go(id);
+        }
+        self.count_less(id);
+    }
+}
