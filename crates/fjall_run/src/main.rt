@@ -4,8 +4,6 @@
 
 mod answer;
 mod command;
-#[cfg(test)]
-mod folder_tests;
 mod parse;
 mod place;
 mod run;
