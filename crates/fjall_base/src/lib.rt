@@ -9,8 +9,6 @@ mod laws;
 mod memory;
 mod node;
 mod slice;
-#[cfg(test)]
-mod tests;
 
 pub use closed::ClosedDisk;
 pub use disk::{DirEntry, Disk};

@@ -2,13 +2,12 @@
 
 use fjall_base::{CompressionType, Disk, Error, JournalRecoveryError, MemoryDisk, Result, Slice};
 use fjall_journal::{
-    Entry, JOURNAL_BUFFER_BYTES, JournalBatchReader, PersistMode, RecoveryMode, Tail, ValueType,
-    Writer, read_journal, serialize_marker_item,
+    Batch, Entry, JOURNAL_BUFFER_BYTES, JournalBatchReader, PersistMode, RecoveryMode, Tail,
+    ValueType, Writer, read_journal, serialize_marker_item,
 };
 use std::alloc::Global;
 use std::io::ErrorKind;
-use std::process::Abort;
-use std::test::*;
+use std::test::Fail;
 
 // The journal of one insert of a=b into keyspace 1 under number 1. The check was computed apart from this repository.
 const ONE: [u8; 49] = [
@@ -16,241 +15,342 @@ const ONE: [u8; 49] = [
     0, 0, 97, 98, 3, 18, 215, 64, 145, 131, 194, 0, 0, 70, 74, 76, 3,
 ];
 
-#[test]
-fn clear_bytes(rt: HostRuntime) -> std::result::Result<(), Fail> {
-    let mut out = Vec::new(rt.alloc());
-    Entry::Clear { keyspace_id: 1 }.encode_into(&mut out)?;
-    assert_eq!(rt; out.as_slice(), [4, 1, 0, 0, 0, 0, 0, 0, 0].as_slice());
-    Ok(())
+/// An entry that a row names: a clear of a keyspace, or an item of keyspace 0 with this key and no value.
+#[derive(Clone, Copy)]
+enum Named {
+    Clear(u64),
+    Item(&'static [u8], ValueType),
 }
 
-#[test]
-fn item_and_back(rt: HostRuntime) -> std::result::Result<(), Fail> {
-    let item = Entry::Item {
-        keyspace_id: 0,
-        key: Slice::new(rt.alloc(), &[1, 2, 3])?,
-        value: Slice::empty(),
-        value_type: ValueType::Value,
-        compression: CompressionType::None,
-    };
-    let mut out = Vec::new(rt.alloc());
-    item.encode_into(&mut out)?;
-    assert_eq!(rt; out.len(), 24);
-    let (back, len) = Entry::decode_from(rt.alloc(), &out)?;
-    assert_eq!(rt; len, 24);
-    let mut again = Vec::new(rt.alloc());
-    back.encode_into(&mut again)?;
-    assert_eq!(rt; again.as_slice(), out.as_slice());
-    Ok(())
+fn entry_of(alloc: Global, named: Named) -> Result<Entry> {
+    Ok(match named {
+        Named::Clear(keyspace_id) => Entry::Clear { keyspace_id },
+        Named::Item(key, value_type) => Entry::Item {
+            keyspace_id: 0,
+            key: Slice::new(alloc, key)?,
+            value: Slice::empty(),
+            value_type,
+            compression: CompressionType::None,
+        },
+    })
 }
 
-#[test]
-fn faults(rt: HostRuntime) {
-    assert!(rt;
-        matches!(
-            Entry::decode_from(rt.alloc(), &[5]),
-            Err(Error::InvalidTag(("JournalMarkerTag", 5)))
-        )
-    );
-    assert!(rt;
-        matches!(
-            Entry::decode_from(rt.alloc(), &[1]),
-            Err(Error::Io(ErrorKind::UnexpectedEof))
-        )
-    );
-    assert!(rt;
-        matches!(
-            Entry::decode_from(rt.alloc(), &[]),
-            Err(Error::Io(ErrorKind::UnexpectedEof))
-        )
-    );
-    assert!(rt;
-        matches!(
-            Entry::decode_from(rt.alloc(), &[2, 3]),
-            Err(Error::InvalidTag(("ValueType", 3)))
-        )
-    );
-    assert_eq!(rt; ValueType::try_from(4).ok(), Some(ValueType::Indirection));
-}
-
-fn encoded(alloc: Global, key_len: usize) -> Result<usize> {
-    let key = vec![in alloc; 7u8; key_len]?;
+fn spelling(alloc: Global, entry: &Entry) -> Result<Vec<u8>> {
     let mut out = Vec::new(alloc);
-    serialize_marker_item(
-        &mut out,
-        1,
-        &key,
-        &[],
-        ValueType::Tombstone,
-        CompressionType::None,
-    )?;
+    entry.encode_into(&mut out)?;
+    Ok(out)
+}
+
+/// How many bytes the first entry there has, and whether they spell it, and the one that is named.
+fn first_entry(alloc: Global, bytes: &[u8], named: Named) -> Result<(usize, bool)> {
+    let (entry, len) = Entry::decode_from(alloc, bytes)?;
+    let again = spelling(alloc, &entry)?;
+    let spelled = spelling(alloc, &entry_of(alloc, named)?)?;
+    Ok((
+        len,
+        again.as_slice() == bytes && spelled.as_slice() == bytes,
+    ))
+}
+
+const CLEAR: Named = Named::Clear(1);
+
+const EOF: Result<(usize, bool)> = Err(Error::Io(ErrorKind::UnexpectedEof));
+
+// Bytes, the entry that they spell where they spell one, and what is read.
+const ENTRIES: [(&[u8], Named, Result<(usize, bool)>); 7] = [
+    (&[4, 1, 0, 0, 0, 0, 0, 0, 0], CLEAR, Ok((9, true))),
+    (
+        &[
+            2, 0, 0, 0, 0, 0, 0, 0, 0, 0, 0, 3, 0, 0, 0, 0, 0, 0, 0, 0, 0, 1, 2, 3,
+        ],
+        Named::Item(&[1, 2, 3], ValueType::Value),
+        Ok((24, true)),
+    ),
+    (
+        &[
+            2, 4, 0, 0, 0, 0, 0, 0, 0, 0, 0, 1, 0, 0, 0, 0, 0, 0, 0, 0, 0, 7,
+        ],
+        Named::Item(&[7], ValueType::Indirection),
+        Ok((22, true)),
+    ),
+    (&[5], CLEAR, Err(Error::InvalidTag(("JournalMarkerTag", 5)))),
+    (&[1], CLEAR, EOF),
+    (&[], CLEAR, EOF),
+    (&[2, 3], CLEAR, Err(Error::InvalidTag(("ValueType", 3)))),
+];
+
+#[test]
+fn entries_and_back(rt: HostRuntime) {
+    for (row, (bytes, named, answer)) in ENTRIES.iter().enumerate() {
+        assert_eq!(rt;
+            (
+                first_entry(rt.alloc(), bytes, *named),
+                ValueType::try_from(4).ok()
+            ),
+            (*answer, Some(ValueType::Indirection)),
+            "row {row}"
+        );
+    }
+}
+
+fn encoded(alloc: Global, key: &[u8], value: &[u8]) -> Result<usize> {
+    let mut out = Vec::new(alloc);
+    let compression = CompressionType::None;
+    serialize_marker_item(&mut out, 1, key, value, ValueType::Tombstone, compression)?;
     Ok(out.len())
 }
 
-fn written(alloc: Global, key_len: usize, value_len: usize) -> Result<u64> {
-    let key = vec![in alloc; 7u8; key_len]?;
-    let value = vec![in alloc; 9u8; value_len]?;
+fn written(alloc: Global, key: &[u8], value: &[u8]) -> Result<u64> {
     let mut disk = MemoryDisk::new(alloc);
     let mut writer = Writer::create_new(alloc, &mut disk, "0.jnl")?;
-    writer.write_raw(&mut disk, 1, &key, &value, ValueType::Value, 1)?;
+    writer.write_raw(&mut disk, 1, key, value, ValueType::Value, 1)?;
     Ok(writer.len())
 }
 
-#[test]
-fn key_lengths(rt: HostRuntime) -> std::result::Result<(), Fail> {
-    assert!(rt; matches!(encoded(rt.alloc(), 0), Err(Error::KeyEmpty)));
-    assert_eq!(rt; encoded(rt.alloc(), 1)?, 22);
-    assert_eq!(rt; encoded(rt.alloc(), 65_535)?, 65_556);
-    assert!(rt; matches!(encoded(rt.alloc(), 65_536), Err(Error::KeyTooLong)));
-    assert!(rt; matches!(written(rt.alloc(), 0, 0), Err(Error::KeyEmpty)));
-    assert_eq!(rt; written(rt.alloc(), 1, 0)?, 0);
-    assert_eq!(rt; written(rt.alloc(), 65_535, 0)?, 65_582);
-    assert!(rt; matches!(written(rt.alloc(), 65_536, 0), Err(Error::KeyTooLong)));
-    Ok(())
-}
-
-// A batch of one item has 47 bytes beside its key and value, so it has 8,192 with a key of 1 and a value of 8,144.
-#[test]
-fn a_full_buffer_goes_out(rt: HostRuntime) -> std::result::Result<(), Fail> {
-    assert_eq!(rt; JOURNAL_BUFFER_BYTES, 8_192);
-    assert_eq!(rt; written(rt.alloc(), 1, 8_143)?, 0);
-    assert_eq!(rt; written(rt.alloc(), 1, 8_144)?, 8_192);
-    Ok(())
-}
+// Lengths of a key and a value, that of an item, and that of the file behind one write: a batch of one item has
+// 47 bytes beside its key and value, and a buffer of 8,192 bytes goes out.
+const LENGTHS: [(usize, usize, Result<usize>, Result<u64>); 6] = [
+    (0, 0, Err(Error::KeyEmpty), Err(Error::KeyEmpty)),
+    (1, 0, Ok(22), Ok(0)),
+    (65_535, 0, Ok(65_556), Ok(65_582)),
+    (65_536, 0, Err(Error::KeyTooLong), Err(Error::KeyTooLong)),
+    (1, 8_143, Ok(8_165), Ok(0)),
+    (1, 8_144, Ok(8_166), Ok(8_192)),
+];
 
 #[test]
-fn one_insert(rt: HostRuntime) -> std::result::Result<(), Fail> {
-    let mut disk = MemoryDisk::new(rt.alloc());
-    let mut writer = Writer::create_new(rt.alloc(), &mut disk, "0.jnl")?;
-    let count = writer.write_raw(&mut disk, 1, b"a", b"b", ValueType::Value, 1)?;
-    assert_eq!(rt; count, 49);
-    let before = disk.read(rt.alloc(), "0.jnl")?.expect(&rt, "a file");
-    assert_eq!(rt; before.len(), 0);
-    assert_eq!(rt; (writer.len(), writer.pos()), (0, 49));
-    writer.persist(&mut disk, PersistMode::Buffer)?;
-    let after = disk.read(rt.alloc(), "0.jnl")?.expect(&rt, "a file");
-    assert_eq!(rt; after.as_slice(), ONE.as_slice());
-    assert_eq!(rt; (writer.len(), writer.pos()), (49, 49));
-    let further = Writer::from_file(rt.alloc(), "0.jnl", 49)?;
-    assert_eq!(rt; (further.len(), further.pos()), (49, 49));
-    Ok(())
-}
-
-// The calls of the disk, from 1: the append and the sync.
-fn failed(alloc: Global, rt: &impl Abort, call: u64) -> Result<(u64, usize)> {
-    let mut disk = MemoryDisk::new(alloc);
-    let mut writer = Writer::create_new(alloc, &mut disk, "0.jnl")?;
-    writer.write_raw(&mut disk, 1, b"a", b"b", ValueType::Value, 1)?;
-    disk.fail_at(call, 20);
-    let refused = writer.persist(&mut disk, PersistMode::SyncAll);
-    assert!(rt; matches!(refused, Err(Error::Io(_))));
-    let text = disk.read(alloc, "0.jnl")?.expect(rt, "a file");
-    Ok((writer.len(), text.len()))
-}
-
-#[test]
-fn a_failing_disk(rt: HostRuntime) -> std::result::Result<(), Fail> {
-    assert_eq!(rt; failed(rt.alloc(), &rt, 1)?, (0, 20));
-    assert_eq!(rt; failed(rt.alloc(), &rt, 2)?, (49, 49));
-    Ok(())
-}
-
-#[test]
-fn a_sync_is_safe(rt: HostRuntime) -> std::result::Result<(), Fail> {
-    for (mode, kept) in [
-        (PersistMode::Buffer, 0),
-        (PersistMode::SyncData, 49),
-        (PersistMode::SyncAll, 49),
-    ] {
-        let mut disk = MemoryDisk::new(rt.alloc());
-        let mut writer = Writer::create_new(rt.alloc(), &mut disk, "0.jnl")?;
-        writer.write_raw(&mut disk, 1, b"a", b"b", ValueType::Value, 1)?;
-        writer.persist(&mut disk, mode)?;
-        let mut left = disk.crash(0)?;
-        let text = left.read(rt.alloc(), "0.jnl")?.expect(&rt, "a file");
-        assert_eq!(rt; text.len(), kept);
+fn lengths(rt: HostRuntime) -> std::result::Result<(), Fail> {
+    for (key_len, value_len, item_len, file_len) in LENGTHS {
+        let key = vec![in rt.alloc(); 7u8; key_len]?;
+        let value = vec![in rt.alloc(); 9u8; value_len]?;
+        assert_eq!(rt;
+            (
+                encoded(rt.alloc(), &key, &value),
+                written(rt.alloc(), &key, &value),
+                JOURNAL_BUFFER_BYTES
+            ),
+            (item_len, file_len, 8_192),
+            "{key_len}, {value_len}"
+        );
     }
     Ok(())
+}
+
+/// The lengths that a writer says, and how many bytes of the one insert its file has, if it has no others.
+type Seen = (u64, u64, Option<usize>);
+
+fn state_of(alloc: Global, disk: &mut MemoryDisk, writer: &Writer) -> Result<Seen> {
+    let file_len = match disk.read(alloc, "0.jnl")? {
+        Some(text) if ONE.starts_with(&text) => Some(text.len()),
+        _ => None,
+    };
+    Ok((writer.len(), writer.pos(), file_len))
+}
+
+/// One insert: the length of its batch, and what is seen then.
+fn insert(alloc: Global, disk: &mut MemoryDisk) -> Result<(Writer, usize, Seen)> {
+    let mut writer = Writer::create_new(alloc, disk, "0.jnl")?;
+    let count = writer.write_raw(disk, 1, b"a", b"b", ValueType::Value, 1)?;
+    let before = state_of(alloc, disk, &writer)?;
+    Ok((writer, count, before))
+}
+
+/// One insert that is persisted in this mode, while the disk fails at this call: what is seen before, what is
+/// answered, and what is seen then and behind a crash by a further writer.
+fn persisted(
+    alloc: Global,
+    mode: PersistMode,
+    call: u64,
+) -> Result<(usize, Seen, Result<()>, Seen, Seen)> {
+    let mut disk = MemoryDisk::new(alloc);
+    let (mut writer, count, before) = insert(alloc, &mut disk)?;
+    disk.fail_at(call, 20);
+    let answer = writer.persist(&mut disk, mode);
+    let after = state_of(alloc, &mut disk, &writer)?;
+    let further = Writer::from_file(alloc, "0.jnl", writer.len())?;
+    let mut left = disk.crash(0)?;
+    let last = state_of(alloc, &mut left, &further)?;
+    Ok((count, before, answer, after, last))
+}
+
+const FAULT: Result<()> = Err(Error::Io(ErrorKind::Other));
+
+// The mode and the call that fails, of the append and the sync; the answer; what is seen then, and behind a crash.
+const PERSISTED: [(PersistMode, u64, Result<()>, Seen, Seen); 5] = [
+    (
+        PersistMode::Buffer,
+        0,
+        Ok(()),
+        (49, 49, Some(49)),
+        (49, 49, Some(0)),
+    ),
+    (
+        PersistMode::SyncData,
+        0,
+        Ok(()),
+        (49, 49, Some(49)),
+        (49, 49, Some(49)),
+    ),
+    (
+        PersistMode::SyncAll,
+        0,
+        Ok(()),
+        (49, 49, Some(49)),
+        (49, 49, Some(49)),
+    ),
+    (
+        PersistMode::SyncAll,
+        1,
+        FAULT,
+        (0, 49, Some(20)),
+        (0, 0, Some(0)),
+    ),
+    (
+        PersistMode::SyncAll,
+        2,
+        FAULT,
+        (49, 49, Some(49)),
+        (49, 49, Some(0)),
+    ),
+];
+
+#[test]
+fn a_writer_persists(rt: HostRuntime) -> std::result::Result<(), Fail> {
+    for (mode, call, answer, after, last) in PERSISTED {
+        assert_eq!(rt;
+            persisted(rt.alloc(), mode, call)?,
+            (49, (0, 49, Some(0)), answer, after, last),
+            "{mode:?}, call {call}"
+        );
+    }
+    Ok(())
+}
+
+/// The number, keyspace, key, value and kind of the only item of the only batch, which clears no keyspace.
+fn only_item(batches: &[Batch]) -> Option<(u64, u64, &[u8], &[u8], ValueType)> {
+    let [batch] = batches else {
+        return None;
+    };
+    let [item] = batch.items.as_slice() else {
+        return None;
+    };
+    if !batch.cleared_keyspaces.is_empty() {
+        return None;
+    }
+    Some((
+        batch.seqno,
+        item.keyspace_id,
+        item.key.as_slice(),
+        item.value.as_slice(),
+        item.value_type,
+    ))
 }
 
 #[test]
 fn cut_anywhere(rt: HostRuntime) -> std::result::Result<(), Fail> {
-    for len in 0..49usize {
+    for len in 0..=49usize {
         let contents = read_journal(rt.alloc(), &ONE[..len])?;
-        assert_eq!(rt; contents.batches.len(), 0);
-        assert_eq!(rt; contents.end, 0);
-        let tail = if len == 0 { Tail::Clean } else { Tail::Torn };
-        assert_eq!(rt; contents.tail, tail);
-    }
-    let contents = read_journal(rt.alloc(), &ONE)?;
-    assert_eq!(rt; contents.batches.len(), 1);
-    assert_eq!(rt; contents.end, 49);
-    assert_eq!(rt; contents.tail, Tail::Clean);
-    for batch in &contents.batches {
-        assert_eq!(rt; batch.seqno, 1);
-        assert_eq!(rt; batch.cleared_keyspaces.len(), 0);
-        assert_eq!(rt; batch.items.len(), 1);
-        for item in &batch.items {
-            assert_eq!(rt; item.keyspace_id, 1);
-            assert_eq!(rt; item.key.as_slice(), b"a".as_slice());
-            assert_eq!(rt; item.value.as_slice(), b"b".as_slice());
-            assert_eq!(rt; item.value_type, ValueType::Value);
-        }
+        let item = (1, 1, b"a".as_slice(), b"b".as_slice(), ValueType::Value);
+        let wanted = match len {
+            0 => (0, None, 0, Tail::Clean),
+            49 => (1, Some(item), 49, Tail::Clean),
+            _ => (0, None, 0, Tail::Torn),
+        };
+        assert_eq!(rt;
+            (
+                contents.batches.len(),
+                only_item(&contents.batches),
+                contents.end,
+                contents.tail
+            ),
+            wanted,
+            "{len} bytes"
+        );
     }
     Ok(())
 }
 
-fn tail_with(alloc: Global, at: usize, byte: u8) -> Result<Tail> {
+fn with_byte(at: usize, byte: u8) -> [u8; 49] {
     let mut text = ONE;
     if let Some(other) = text.get_mut(at) {
         *other = byte;
     }
-    Ok(read_journal(alloc, &text)?.tail)
+    text
 }
 
-#[test]
-fn damages(rt: HostRuntime) -> std::result::Result<(), Fail> {
-    for (at, byte, tail) in [
-        (
-            1,
-            2,
-            Tail::Damaged(JournalRecoveryError::InsufficientLength),
-        ),
-        (1, 0, Tail::Damaged(JournalRecoveryError::TooManyItems)),
-        (5, 2, Tail::Damaged(JournalRecoveryError::ChecksumMismatch)),
-        (
-            35,
-            99,
-            Tail::Damaged(JournalRecoveryError::ChecksumMismatch),
-        ),
-        (48, 4, Tail::Torn),
-    ] {
-        assert_eq!(rt; tail_with(rt.alloc(), at, byte)?, tail, "byte {at}");
+const MISMATCH: JournalRecoveryError = JournalRecoveryError::ChecksumMismatch;
+
+/// What a reader answers: the number of a batch, or a damage.
+type Told = Option<Result<u64>>;
+
+fn next_number(reader: &mut JournalBatchReader<'_>) -> Told {
+    match reader.next()? {
+        Ok(batch) => Some(Ok(batch.seqno)),
+        Err(error) => Some(Err(error)),
     }
-    Ok(())
 }
+
+/// What is told of this text behind the one insert: the first answer and where its batch ends, two more answers, and
+/// then the end and the tail.
+fn told(alloc: Global, behind: &[u8]) -> Result<(Told, usize, Told, Told, usize, Tail)> {
+    let mut text = Vec::from_slice(alloc, &ONE)?;
+    text.extend_from_slice(behind)?;
+    let mut reader = JournalBatchReader::new(alloc, &text);
+    let first = next_number(&mut reader);
+    let first_end = reader.end();
+    let second = next_number(&mut reader);
+    let third = next_number(&mut reader);
+    Ok((first, first_end, second, third, reader.end(), reader.tail()))
+}
+
+const SHORT: JournalRecoveryError = JournalRecoveryError::InsufficientLength;
+
+const MANY: JournalRecoveryError = JournalRecoveryError::TooManyItems;
+
+// A byte of the one insert that is another one, what is told of that, once, and the tail.
+const DAMAGES: [(usize, u8, Told, Tail); 5] = [
+    (
+        1,
+        2,
+        Some(Err(Error::JournalRecovery(SHORT))),
+        Tail::Damaged(SHORT),
+    ),
+    (
+        1,
+        0,
+        Some(Err(Error::JournalRecovery(MANY))),
+        Tail::Damaged(MANY),
+    ),
+    (
+        5,
+        2,
+        Some(Err(Error::JournalRecovery(MISMATCH))),
+        Tail::Damaged(MISMATCH),
+    ),
+    (
+        35,
+        b'c',
+        Some(Err(Error::JournalRecovery(MISMATCH))),
+        Tail::Damaged(MISMATCH),
+    ),
+    (48, 4, None, Tail::Torn),
+];
 
 #[test]
 fn a_damage_is_told_once(rt: HostRuntime) -> std::result::Result<(), Fail> {
-    let mut text = Vec::from_slice(rt.alloc(), &ONE)?;
-    text.extend_from_slice(&ONE[..35])?;
-    text.extend_from_slice(b"c")?;
-    text.extend_from_slice(&ONE[36..])?;
-    let mut reader = JournalBatchReader::new(rt.alloc(), &text);
-    assert!(rt; matches!(reader.next(), Some(Ok(_))));
-    assert_eq!(rt; reader.end(), 49);
-    assert!(rt;
-        matches!(
-            reader.next(),
-            Some(Err(Error::JournalRecovery(JournalRecoveryError::ChecksumMismatch)))
-        )
-    );
-    assert!(rt; reader.next().is_none());
-    assert_eq!(rt; reader.end(), 49);
-    assert_eq!(rt;
-        reader.tail(),
-        Tail::Damaged(JournalRecoveryError::ChecksumMismatch)
-    );
-    assert_eq!(rt; RecoveryMode::default(), RecoveryMode::TolerateCorruptTail);
+    for (at, byte, second, tail) in DAMAGES {
+        let text = with_byte(at, byte);
+        let alone = read_journal(rt.alloc(), &text)?.tail;
+        let found = told(rt.alloc(), &text)?;
+        assert_eq!(rt;
+            (alone, found, RecoveryMode::default()),
+            (
+                tail,
+                (Some(Ok(1)), 49, second, None, 49, tail),
+                RecoveryMode::TolerateCorruptTail
+            ),
+            "byte {at}"
+        );
+    }
     Ok(())
 }

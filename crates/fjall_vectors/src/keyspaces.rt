@@ -2,9 +2,83 @@
 
 use fjall_base::{Error, Result, Slice, StorageError};
 use fjall_meta::{MetaEntry, MetaKeyspace, is_valid_keyspace_name};
-use fjall_options::{KeyspaceCreateOptions, STORED_OPTIONS, StoredOption, encode_config_key};
+use fjall_options::{KeyspaceCreateOptions, StoredOption, encode_config_key, encode_name_key};
 use std::alloc::Global;
 use std::test::Fail;
+
+// All options by name ascending, which is the order of their keys.
+const BY_NAME: [StoredOption; 20] = [
+    StoredOption::CompactionStrategy,
+    StoredOption::DataBlockCompressionPolicy,
+    StoredOption::DataBlockHashRatioPolicy,
+    StoredOption::DataBlockRestartIntervalPolicy,
+    StoredOption::DataBlockSizePolicy,
+    StoredOption::ExpectPointReadHits,
+    StoredOption::FilterBlockPartitioningPolicy,
+    StoredOption::FilterBlockPinningPolicy,
+    StoredOption::FilterPolicy,
+    StoredOption::IndexBlockCompressionPolicy,
+    StoredOption::IndexBlockPartitioningPolicy,
+    StoredOption::IndexBlockPinningPolicy,
+    StoredOption::IndexBlockRestartIntervalPolicy,
+    StoredOption::LevelCount,
+    StoredOption::LeveledL0Threshold,
+    StoredOption::LeveledLevelRatioPolicy,
+    StoredOption::LeveledTargetSize,
+    StoredOption::ManualJournalPersist,
+    StoredOption::MaxMemtableSize,
+    StoredOption::Version,
+];
+
+/// A keyspace with default options: its id, the number of its creation, and its name.
+type Named = (u64, u64, &'static [u8]);
+
+/// The pairs of these keyspaces as they are wanted, and as each is asked for by its option.
+fn wanted_entries(
+    alloc: Global,
+    keyspaces: &MetaKeyspace,
+    living: &[Named],
+) -> Result<(Vec<MetaEntry>, bool)> {
+    let mut entries = Vec::new(alloc);
+    let mut same = true;
+    for (id, number, _) in living {
+        for option in &BY_NAME {
+            let key = encode_config_key(alloc, *id, option.name())?;
+            let value = Slice::new(alloc, option.default_value())?;
+            let single = keyspaces.get_kv_for_config(alloc, *id, *option)?;
+            same = same && single.as_ref() == Some(&value);
+            let number = *number;
+            entries.push(MetaEntry { key, value, number })?;
+        }
+    }
+    for (id, number, name) in living {
+        let key = encode_name_key(alloc, *id)?;
+        let value = Slice::new(alloc, name)?;
+        let number = *number;
+        entries.push(MetaEntry { key, value, number })?;
+    }
+    Ok((entries, same))
+}
+
+fn are_ordered(entries: &[MetaEntry]) -> bool {
+    for i in 1..entries.len() {
+        if entries[i - 1].key >= entries[i].key {
+            return false;
+        }
+    }
+    true
+}
+
+/// Whether just these keyspaces live, and have these pairs, in the order of their keys.
+fn has_living(alloc: Global, keyspaces: &MetaKeyspace, wanted: &[Named]) -> Result<bool> {
+    let mut living = Vec::new(alloc);
+    for keyspace in keyspaces.living() {
+        living.push((keyspace.id, keyspace.number, keyspace.name.as_slice()))?;
+    }
+    let entries = keyspaces.entries(alloc)?;
+    let (wanted_entries, same) = wanted_entries(alloc, keyspaces, wanted)?;
+    Ok(living.as_slice() == wanted && same && entries == wanted_entries && are_ordered(&entries))
+}
 
 /// Creates a keyspace of this name with default options.
 fn create(alloc: Global, keyspaces: &mut MetaKeyspace, name: &[u8], number: u64) -> Result<u64> {
@@ -20,242 +94,321 @@ fn two(alloc: Global) -> Result<MetaKeyspace> {
     Ok(keyspaces)
 }
 
+#[derive(Clone, Copy)]
+enum Step {
+    /// A new run begins without keyspaces.
+    New,
+    /// A new run begins with two.
+    Two,
+    Create(&'static [u8], u64),
+    Remove(u64),
+    TakeBack,
+    /// The pairs of the others are listed, and then the keyspace is removed: they are the same as those that are left.
+    ListOthersAndRemove(u64),
+}
+
+use Step::*;
+
+/// Takes a step, and answers the id that a creation answers, else whether what it says holds.
+fn take(alloc: Global, keyspaces: &mut MetaKeyspace, step: Step) -> Result<u64> {
+    match step {
+        New => *keyspaces = MetaKeyspace::new(alloc),
+        Two => *keyspaces = two(alloc)?,
+        Create(name, number) => return create(alloc, keyspaces, name, number),
+        Remove(id) => keyspaces.remove_keyspace(id),
+        TakeBack => keyspaces.take_back(),
+        ListOthersAndRemove(id) => {
+            let others = keyspaces.entries_without(alloc, id)?;
+            keyspaces.remove_keyspace(id);
+            return Ok(u64::from(others == keyspaces.entries(alloc)?));
+        }
+    }
+    Ok(0)
+}
+
+const LONGEST: [u8; 255] = [b'n'; 255];
+
+const TOO_LONG: [u8; 256] = [b'n'; 256];
+
+const A: Named = (2, 5, b"a");
+
+const B: Named = (1, 4, b"b");
+
+// Each step, its answer, the next id, and the living keyspaces.
+const ROWS: [(Step, Result<u64>, u64, &[Named]); 22] = [
+    // An id is never used again, and a name that lives is found.
+    (New, Ok(0), 1, &[]),
+    (Create(b"b", 4), Ok(1), 2, &[B]),
+    (Create(b"a", 5), Ok(2), 3, &[B, A]),
+    (Create(b"a", 6), Ok(2), 3, &[B, A]),
+    (Remove(1), Ok(0), 3, &[A]),
+    (Remove(2), Ok(0), 3, &[]),
+    (Remove(2), Ok(0), 3, &[]),
+    (Create(b"a", 8), Ok(3), 4, &[(3, 8, b"a")]),
+    // The last one is taken back, and its id is free.
+    (Two, Ok(0), 3, &[B, A]),
+    (TakeBack, Ok(0), 2, &[B]),
+    (Create(b"c", 5), Ok(2), 3, &[B, (2, 5, b"c")]),
+    // The pairs of the others.
+    (Two, Ok(0), 3, &[B, A]),
+    (Create(b"c", 6), Ok(3), 4, &[B, A, (3, 6, b"c")]),
+    (ListOthersAndRemove(4), Ok(1), 4, &[B, A, (3, 6, b"c")]),
+    (ListOthersAndRemove(2), Ok(1), 4, &[B, (3, 6, b"c")]),
+    // Lengths of names.
+    (New, Ok(0), 1, &[]),
+    (Create(b"", 0), Err(Error::InvalidName), 1, &[]),
+    (Create(&TOO_LONG, 0), Err(Error::InvalidName), 1, &[]),
+    (Create(&LONGEST, 0), Ok(1), 2, &[(1, 0, &LONGEST)]),
+    (New, Ok(0), 1, &[]),
+    (Create(b"items", 0), Ok(1), 2, &[(1, 0, b"items")]),
+    (Create(b"items", 7), Ok(1), 2, &[(1, 0, b"items")]),
+];
+
+#[test]
+fn keyspaces_go_by_their_steps(rt: HostRuntime) -> std::result::Result<(), Fail> {
+    let mut keyspaces = MetaKeyspace::new(rt.alloc());
+    for (row, (step, answer, next_id, living)) in ROWS.iter().enumerate() {
+        let answered = take(rt.alloc(), &mut keyspaces, *step);
+        assert_eq!(rt;
+            (
+                answered,
+                keyspaces.next_id(),
+                keyspaces.keyspace_count(),
+                keyspaces.len(),
+                has_living(rt.alloc(), &keyspaces, living)?
+            ),
+            (
+                *answer,
+                *next_id,
+                living.len(),
+                living.len().saturating_mul(21),
+                true
+            ),
+            "row {row}"
+        );
+    }
+    Ok(())
+}
+
+/// What the two keyspaces say of a name: the id, and whether it is there and may be one.
+type OfName = (Option<u64>, bool, bool);
+/// What they say of an id: the number, the name, and one of the options.
+type OfId = (Option<u64>, Option<&'static [u8]>, Option<u8>);
+
+fn of_id(keyspaces: &MetaKeyspace, id: u64) -> (Option<u64>, Option<&[u8]>, Option<u8>) {
+    let number = match keyspaces.get(id) {
+        Some(keyspace) => Some(keyspace.number),
+        None => None,
+    };
+    let name = match keyspaces.name_of(id) {
+        Some(name) => Some(name.as_slice()),
+        None => None,
+    };
+    let threshold = match keyspaces.options_of(id) {
+        Some(options) => Some(options.effective().l0_threshold),
+        None => None,
+    };
+    (number, name, threshold)
+}
+
+fn bytes_at(names: &[Slice], at: usize) -> &[u8] {
+    match names.get(at) {
+        Some(name) => name.as_slice(),
+        None => b"none",
+    }
+}
+
+// A name and what is said of it, an id and what is said of that, and the name that is listed at the row's place.
+const ASKED: [(&str, OfName, u64, OfId, &[u8]); 5] = [
+    (
+        "a",
+        (Some(2), true, true),
+        1,
+        (Some(4), Some(b"b"), Some(4)),
+        b"a",
+    ),
+    (
+        "b",
+        (Some(1), true, true),
+        2,
+        (Some(5), Some(b"a"), Some(4)),
+        b"b",
+    ),
+    ("c", (None, false, true), 3, (None, None, None), b"none"),
+    ("ab", (None, false, true), 0, (None, None, None), b"none"),
+    ("", (None, false, false), 4, (None, None, None), b"none"),
+];
+
 #[test]
 fn ids_and_names(rt: HostRuntime) -> std::result::Result<(), Fail> {
-    let alloc = rt.alloc();
-    let mut keyspaces = two(alloc)?;
-    assert_eq!(rt; keyspaces.resolve_id(b"b"), Some(1));
-    assert_eq!(rt; keyspaces.resolve_id(b"a"), Some(2));
-    assert_eq!(rt; keyspaces.resolve_id(b"c"), None);
-    assert!(rt; keyspaces.keyspace_exists(b"a") && !keyspaces.keyspace_exists(b"ab"));
-    let names = keyspaces.list_keyspace_names(alloc)?;
-    let listed: [&[u8]; 2] = [b"a", b"b"];
-    assert!(rt;
-        names
-            .iter()
-            .map(|name| name.as_slice())
-            .eq(listed.iter().copied())
-    );
-    assert_eq!(rt; create(alloc, &mut keyspaces, b"a", 6)?, 2);
-    assert_eq!(rt; keyspaces.keyspace_count(), 2);
-    assert_eq!(rt; keyspaces.next_id(), 3);
-    assert_eq!(rt; keyspaces.get(2).map(|keyspace| keyspace.number), Some(5));
-    assert!(rt;
-        keyspaces
-            .name_of(1)
-            .is_some_and(|name| name.as_slice() == b"b".as_slice())
-    );
-    assert!(rt; keyspaces.name_of(3).is_none() && keyspaces.options_of(3).is_none());
-    assert!(rt;
-        keyspaces
-            .options_of(1)
-            .is_some_and(|options| options.effective().l0_threshold == 4)
-    );
+    let keyspaces = two(rt.alloc())?;
+    let names = keyspaces.list_keyspace_names(rt.alloc())?;
+    for (row, (name, of_name, id, wanted, listed)) in ASKED.iter().enumerate() {
+        let bytes = name.as_bytes();
+        let found = (
+            keyspaces.resolve_id(bytes),
+            keyspaces.keyspace_exists(bytes),
+            is_valid_keyspace_name(name),
+        );
+        assert_eq!(rt;
+            (
+                found,
+                of_id(&keyspaces, *id),
+                bytes_at(&names, row),
+                keyspaces.get_kv_for_config(rt.alloc(), 3, StoredOption::Version)?
+            ),
+            (*of_name, *wanted, *listed, None),
+            "row {row}"
+        );
+    }
     Ok(())
 }
 
-#[test]
-fn ids_are_never_used_again(rt: HostRuntime) -> std::result::Result<(), Fail> {
-    let alloc = rt.alloc();
-    let mut keyspaces = two(alloc)?;
-    assert_eq!(rt; keyspaces.len(), 42);
-    keyspaces.remove_keyspace(1);
-    assert!(rt;
-        keyspaces
-            .living()
-            .iter()
-            .map(|keyspace| keyspace.id)
-            .eq([2])
-    );
-    keyspaces.remove_keyspace(2);
-    keyspaces.remove_keyspace(2);
-    assert_eq!(rt; keyspaces.len(), 0);
-    assert_eq!(rt; keyspaces.entries(alloc)?.len(), 0);
-    assert_eq!(rt; create(alloc, &mut keyspaces, b"a", 8)?, 3);
-    Ok(())
-}
-
-#[test]
-fn the_last_one_taken_back(rt: HostRuntime) -> std::result::Result<(), Fail> {
-    let alloc = rt.alloc();
-    let mut keyspaces = two(alloc)?;
-    keyspaces.take_back();
-    assert_eq!(rt; keyspaces.keyspace_count(), 1);
-    assert_eq!(rt; keyspaces.next_id(), 2);
-    assert_eq!(rt; create(alloc, &mut keyspaces, b"c", 5)?, 2);
-    Ok(())
-}
-
-#[test]
-fn pairs_of_the_others(rt: HostRuntime) -> std::result::Result<(), Fail> {
-    let alloc = rt.alloc();
-    let mut keyspaces = two(alloc)?;
-    create(alloc, &mut keyspaces, b"c", 6)?;
-    let others = keyspaces.entries_without(alloc, 2)?;
-    assert!(rt; keyspaces.entries_without(alloc, 4)? == keyspaces.entries(alloc)?);
-    keyspaces.remove_keyspace(2);
-    assert_eq!(rt; others.len(), 42);
-    assert!(rt; others == keyspaces.entries(alloc)?);
-    Ok(())
-}
-
-#[test]
-fn lengths_of_names(rt: HostRuntime) -> std::result::Result<(), Fail> {
-    let alloc = rt.alloc();
-    let mut keyspaces = MetaKeyspace::new(alloc);
-    let long = vec![in alloc; b'n'; 256]?;
-    let refused = Some(Error::InvalidName);
-    assert_eq!(rt; create(alloc, &mut keyspaces, b"", 0).err(), refused);
-    assert_eq!(rt; create(alloc, &mut keyspaces, &long, 0).err(), refused);
-    assert_eq!(rt; create(alloc, &mut keyspaces, &long[..255], 0)?, 1);
-    assert!(rt; is_valid_keyspace_name("items") && !is_valid_keyspace_name(""));
-    Ok(())
-}
+// Places of the pairs of one keyspace "items", and their keys and values.
+const PAIRS: [(usize, &[u8], &[u8]); 3] = [
+    (
+        0,
+        b"c\x00\x00\x00\x00\x00\x00\x00\x01compaction_strategy",
+        b"LeveledCompaction",
+    ),
+    (
+        14,
+        b"c\x00\x00\x00\x00\x00\x00\x00\x01leveled_l0_threshold",
+        &[4],
+    ),
+    (20, b"n\x00\x00\x00\x00\x00\x00\x00\x01", b"items"),
+];
 
 #[test]
 fn stored_pairs(rt: HostRuntime) -> std::result::Result<(), Fail> {
-    let alloc = rt.alloc();
-    let mut keyspaces = MetaKeyspace::new(alloc);
-    create(alloc, &mut keyspaces, b"items", 0)?;
-    let entries = keyspaces.entries(alloc)?;
+    let mut keyspaces = MetaKeyspace::new(rt.alloc());
+    create(rt.alloc(), &mut keyspaces, b"items", 0)?;
+    let entries = keyspaces.entries(rt.alloc())?;
     assert_eq!(rt; entries.len(), 21);
-    assert_eq!(rt;
-        entries[0].key.as_slice(),
-        b"c\x00\x00\x00\x00\x00\x00\x00\x01compaction_strategy".as_slice()
-    );
-    assert_eq!(rt;
-        entries[14].key.as_slice(),
-        b"c\x00\x00\x00\x00\x00\x00\x00\x01leveled_l0_threshold".as_slice()
-    );
-    assert_eq!(rt;
-        entries[20].key.as_slice(),
-        b"n\x00\x00\x00\x00\x00\x00\x00\x01".as_slice()
-    );
-    assert_eq!(rt; entries[20].value.as_slice(), b"items".as_slice());
-    Ok(())
-}
-
-#[test]
-fn entries_by_key(rt: HostRuntime) -> std::result::Result<(), Fail> {
-    let entries = two(rt.alloc())?.entries(rt.alloc())?;
-    assert_eq!(rt; entries.len(), 42);
-    for i in 1..entries.len() {
-        assert!(rt; entries[i - 1].key < entries[i].key);
+    for (place, key, value) in PAIRS {
+        let Some(entry) = entries.get(place) else {
+            continue
+        };
+        let copy = entry.clone()?;
+        assert_eq!(rt;
+            (
+                entry.key.as_slice(),
+                entry.value.as_slice(),
+                copy == *entry,
+                copy == entries[7]
+            ),
+            (key, value, true, false)
+        );
     }
-    assert!(rt; entries[..20].iter().all(|entry| entry.number == 4));
-    assert!(rt; entries[20..40].iter().all(|entry| entry.number == 5));
-    assert_eq!(rt; entries[40].number, 4);
-    assert_eq!(rt; entries[41].number, 5);
-    let copy = entries[7].clone()?;
-    assert!(rt; copy == entries[7] && copy != entries[8]);
     Ok(())
 }
 
-#[test]
-fn single_options(rt: HostRuntime) -> std::result::Result<(), Fail> {
-    let alloc = rt.alloc();
-    let keyspaces = two(alloc)?;
-    let entries = keyspaces.entries(alloc)?;
-    for option in &STORED_OPTIONS {
-        let key = encode_config_key(alloc, 2, option.name())?;
-        let stored = keyspaces.get_kv_for_config(alloc, 2, *option)?;
-        let found = entries.iter().find(|entry| entry.key == key);
-        assert_eq!(rt; stored.as_ref(), found.map(|entry| &entry.value));
+/// How the pairs of the two keyspaces are changed before they are read back.
+#[derive(Clone, Copy)]
+enum Edit {
+    Nothing,
+    /// All of them are left out.
+    All,
+    Reverse,
+    /// The one at this place has this value and number.
+    Value(usize, &'static [u8], u64),
+    /// They are of so many other keyspaces.
+    Many(u64),
+}
+
+use Edit::*;
+
+/// The pairs of the two keyspaces, but that the one at this place is left out, or has another value and number.
+fn with(alloc: Global, at: usize, other: Option<(&[u8], u64)>) -> Result<Vec<MetaEntry>> {
+    let mut entries = Vec::new(alloc);
+    for (place, entry) in two(alloc)?.entries(alloc)?.iter().enumerate() {
+        let mut copy = entry.clone()?;
+        if place == at {
+            let Some((value, number)) = other else {
+                continue
+            };
+            copy.value = Slice::new(alloc, value)?;
+            copy.number = number;
+        }
+        entries.push(copy)?;
     }
-    assert_eq!(rt;
-        keyspaces.get_kv_for_config(alloc, 3, StoredOption::Version)?,
-        None
-    );
-    Ok(())
+    Ok(entries)
 }
 
-/// Why these entries can't be read back, where 3 is the next id.
-fn refusal(alloc: Global, entries: &[MetaEntry]) -> Option<Error> {
-    MetaKeyspace::from_entries(alloc, entries, 3).err()
-}
-
-#[test]
-fn entries_read_back(rt: HostRuntime) -> std::result::Result<(), Fail> {
-    let alloc = rt.alloc();
-    let entries = two(alloc)?.entries(alloc)?;
-    let back = MetaKeyspace::from_entries(alloc, &entries, 7)?;
-    assert!(rt; back.entries(alloc)? == entries);
-    assert_eq!(rt; back.next_id(), 7);
-    assert_eq!(rt; back.resolve_id(b"a"), Some(2));
-    assert_eq!(rt;
-        MetaKeyspace::from_entries(alloc, &[], 1)?.keyspace_count(),
-        0
-    );
-    Ok(())
-}
-
-#[test]
-fn many_keyspaces_read_back(rt: HostRuntime) -> std::result::Result<(), Fail> {
-    let alloc = rt.alloc();
+fn many(alloc: Global, count: u64) -> Result<Vec<MetaEntry>> {
     let mut keyspaces = MetaKeyspace::new(alloc);
-    for number in 0u64..200 {
+    for number in 0..count {
         let name = format!(in alloc; "keyspace {number}")?;
         create(alloc, &mut keyspaces, name.as_bytes(), number)?;
     }
-    let entries = keyspaces.entries(alloc)?;
-    let back = MetaKeyspace::from_entries(alloc, &entries, keyspaces.next_id())?;
-    assert_eq!(rt; back.keyspace_count(), 200);
-    assert!(rt; back.entries(alloc)? == entries);
-    assert_eq!(rt; back.get(150).map(|keyspace| keyspace.number), Some(149));
-    Ok(())
+    keyspaces.entries(alloc)
 }
 
-/// The entries of the two keyspaces but for the one at this place.
-fn without(alloc: Global, at: usize) -> Result<Vec<MetaEntry>> {
-    let mut entries = Vec::new(alloc);
-    for (place, entry) in two(alloc)?.entries(alloc)?.iter().enumerate() {
-        if place != at {
-            entries.push(entry.clone()?)?;
+fn edited(alloc: Global, edit: Edit) -> Result<Vec<MetaEntry>> {
+    match edit {
+        Nothing => two(alloc)?.entries(alloc),
+        All => Ok(Vec::new(alloc)),
+        Reverse => {
+            let mut entries = two(alloc)?.entries(alloc)?;
+            entries.reverse();
+            Ok(entries)
         }
+        Value(at, value, number) => with(alloc, at, Some((value, number))),
+        Many(count) => many(alloc, count),
     }
-    Ok(entries)
+}
+
+/// What is read back: the count of keyspaces, the next id, the id of "a", the number of keyspace 150, and whether the
+/// pairs are the same.
+type Back = Result<(usize, u64, Option<u64>, Option<u64>, bool)>;
+
+fn read_back(alloc: Global, entries: &[MetaEntry], next_id: u64) -> Back {
+    let back = MetaKeyspace::from_entries(alloc, entries, next_id)?;
+    let number = of_id(&back, 150).0;
+    let same = back.entries(alloc)?.as_slice() == entries;
+    Ok((
+        back.keyspace_count(),
+        back.next_id(),
+        back.resolve_id(b"a"),
+        number,
+        same,
+    ))
+}
+
+const INVALID: Back = Err(Error::Storage(StorageError::OptionInvalid));
+
+const BACK: [(Edit, u64, Back); 10] = [
+    (Nothing, 7, Ok((2, 7, Some(2), None, true))),
+    (All, 1, Ok((0, 1, None, None, true))),
+    (Many(200), 201, Ok((200, 201, None, Some(149), true))),
+    (Value(41, b"a", 5), 3, Ok((2, 3, Some(2), None, true))),
+    (Value(41, b"a", 6), 3, INVALID),
+    (Value(41, b"b", 5), 3, INVALID),
+    (Value(41, b"", 5), 3, INVALID),
+    (Value(0, b"Fifo", 4), 3, INVALID),
+    (Nothing, 2, INVALID),
+    (Reverse, 3, INVALID),
+];
+
+#[test]
+fn pairs_read_back(rt: HostRuntime) -> std::result::Result<(), Fail> {
+    for (row, (edit, next_id, answer)) in BACK.iter().enumerate() {
+        let entries = edited(rt.alloc(), *edit)?;
+        assert_eq!(rt;
+            read_back(rt.alloc(), &entries, *next_id),
+            *answer,
+            "row {row}"
+        );
+    }
+    Ok(())
 }
 
 #[test]
 fn missing_pairs(rt: HostRuntime) -> std::result::Result<(), Fail> {
-    let missing = Some(Error::Storage(StorageError::OptionMissing));
     for at in 0..42 {
-        let entries = without(rt.alloc(), at)?;
-        assert_eq!(rt; refusal(rt.alloc(), &entries), missing, "at {at}");
+        let entries = with(rt.alloc(), at, None)?;
+        let missing = Err(Error::Storage(StorageError::OptionMissing));
+        assert_eq!(rt; read_back(rt.alloc(), &entries, 3), missing, "at {at}");
     }
-    Ok(())
-}
-
-/// The entries of the two keyspaces with another value and number at this place.
-fn changed(alloc: Global, at: usize, value: &[u8], number: u64) -> Result<Vec<MetaEntry>> {
-    let mut entries = Vec::new(alloc);
-    for (place, entry) in two(alloc)?.entries(alloc)?.iter().enumerate() {
-        if place == at {
-            let key = entry.key.clone()?;
-            let value = Slice::new(alloc, value)?;
-            entries.push(MetaEntry { key, value, number })?;
-        } else {
-            entries.push(entry.clone()?)?;
-        }
-    }
-    Ok(entries)
-}
-
-#[test]
-fn pairs_of_no_keyspaces(rt: HostRuntime) -> std::result::Result<(), Fail> {
-    let alloc = rt.alloc();
-    let invalid = Some(Error::Storage(StorageError::OptionInvalid));
-    assert_eq!(rt; refusal(alloc, &changed(alloc, 41, b"a", 5)?), None);
-    assert_eq!(rt; refusal(alloc, &changed(alloc, 41, b"a", 6)?), invalid);
-    assert_eq!(rt; refusal(alloc, &changed(alloc, 41, b"b", 5)?), invalid);
-    assert_eq!(rt; refusal(alloc, &changed(alloc, 41, b"", 5)?), invalid);
-    assert_eq!(rt; refusal(alloc, &changed(alloc, 0, b"Fifo", 4)?), invalid);
-    let mut entries = two(alloc)?.entries(alloc)?;
-    assert_eq!(rt;
-        MetaKeyspace::from_entries(alloc, &entries, 2).err(),
-        invalid
-    );
-    entries.reverse();
-    assert_eq!(rt; refusal(alloc, &entries), invalid);
     Ok(())
 }

@@ -1,6 +1,8 @@
-//! Worked rows of the formats and of what stands in memory, and calls of each public function there.
+//! Worked rows of errors and disks, of the formats and of what stands in memory, and calls of each public function.
 #![tactic(auto)]
 
+#[cfg(test)]
+mod base;
 #[cfg(test)]
 mod journal;
 #[cfg(test)]

@@ -3,8 +3,8 @@
 use fjall_base::{Error, Result, Slice};
 use fjall_journal::{PersistMode, ValueType};
 use fjall_meta::MetaKeyspace;
-use fjall_state::{Call, Change, EngineState, Reply, View};
 use fjall_options::KeyspaceCreateOptions;
+use fjall_state::{Call, Change, EngineState, Reply, View};
 use std::alloc::Global;
 use std::ops::Bound;
 use std::test::Fail;
@@ -58,16 +58,6 @@ fn release(memory: &mut EngineState, id: u64) -> Result<()> {
     Ok(())
 }
 
-/// Whether a key of a keyspace has this value, or none.
-fn has(memory: &EngineState, id: u64, key: &[u8], value: Option<&[u8]>) -> Result<bool> {
-    let found = memory.get(id, key)?;
-    Ok(match (&found, value) {
-        (Some(found), Some(value)) => found.as_slice() == value,
-        (None, None) => true,
-        _ => false,
-    })
-}
-
 /// The keyspaces 1, "b", in which k=v, and 2, "a".
 fn two(alloc: Global) -> Result<EngineState> {
     let mut memory = EngineState::new(alloc, MetaKeyspace::new(alloc), Vec::new(alloc), 1);
@@ -85,121 +75,400 @@ fn one_deleted(alloc: Global) -> Result<EngineState> {
     Ok(memory)
 }
 
-#[test]
-fn keyspaces_are_made(rt: HostRuntime) -> std::result::Result<(), Fail> {
-    let alloc = rt.alloc();
-    let memory = two(alloc)?;
-    assert_eq!(rt;
-        (memory.keyspace_count(), memory.next_id(), memory.seqno()),
-        (2, 3, 4)
-    );
-    assert_eq!(rt;
-        (memory.resolve(b"a"), memory.resolve(b"c")),
-        (Some(2), None)
-    );
+#[derive(Clone, Copy)]
+enum Step {
+    /// A new run begins without keyspaces.
+    New,
+    Create(&'static [u8]),
+    Change(u64, &'static [u8], Change<'static>),
+    Delete(u64),
+    Retain(u64),
+    Release(u64),
+    Ask,
+}
+
+/// Takes a step, and answers the id that a creation answers, else 0.
+fn take(alloc: Global, memory: &mut EngineState, step: Step) -> Result<u64> {
+    match step {
+        Step::New => *memory = EngineState::new(
+            alloc,
+            MetaKeyspace::new(alloc),
+            Vec::new(alloc),
+            1,
+        ),
+        Step::Create(name) => return create(alloc, memory, name),
+        Step::Change(id, key, what) => change(alloc, memory, id, key, what)?,
+        Step::Delete(id) => delete(alloc, memory, id)?,
+        Step::Retain(id) => memory.retain(id)?,
+        Step::Release(id) => release(memory, id)?,
+        Step::Ask => {}
+    }
+    Ok(0)
+}
+
+/// Whether just these names are there, in their order, with these ids, and no "c".
+fn are_named(alloc: Global, memory: &EngineState, wanted: &[(&[u8], u64)]) -> Result<bool> {
     let names = memory.list_keyspace_names(alloc)?;
-    assert_eq!(rt; names.len(), 2);
-    assert_eq!(rt; names[0].as_slice(), b"a".as_slice());
-    assert_eq!(rt; memory.keyspaces().len(), 42);
-    Ok(())
+    for (name, (named, id)) in names.iter().zip(wanted) {
+        if name.as_slice() != *named || memory.resolve(named) != Some(*id) {
+            return Ok(false);
+        }
+    }
+    Ok(names.len() == wanted.len() && memory.resolve(b"c").is_none())
 }
 
-#[test]
-fn the_newest_version_answers(rt: HostRuntime) -> std::result::Result<(), Fail> {
-    let alloc = rt.alloc();
-    let mut memory = two(alloc)?;
-    change(alloc, &mut memory, 1, b"k", Change::Put(b"w"))?;
-    assert!(rt; has(&memory, 1, b"k", Some(b"w"))? && has(&memory, 2, b"k", None)?);
-    change(alloc, &mut memory, 1, b"k", Change::RemoveWeak)?;
-    assert!(rt; has(&memory, 1, b"k", None)?);
+/// What is counted: keyspaces, the next id, the next number, versions, and pairs of the meta keyspace.
+type Counts = (usize, u64, u64, usize, usize);
+
+fn counts_of(memory: &EngineState) -> Counts {
+    (
+        memory.keyspace_count(),
+        memory.next_id(),
+        memory.seqno(),
+        memory.versions().len(),
+        memory.keyspaces().len(),
+    )
+}
+
+/// Whether a keyspace lives, whether it is read, whether its next release is the last one, and its handles.
+type State = (bool, bool, bool, u64);
+
+fn state_of(memory: &EngineState, id: u64) -> State {
+    (
+        memory.is_living(id),
+        memory.is_read(id),
+        memory.is_last(id),
+        memory.handle_count(id),
+    )
+}
+
+/// The value of a key, and how many keys its keyspace has.
+fn read(
+    alloc: Global,
+    memory: &EngineState,
+    id: u64,
+    key: &[u8],
+) -> Result<(Option<Slice>, usize)> {
     let everywhere = (Bound::Unbounded, Bound::Unbounded);
-    assert_eq!(rt; memory.page(alloc, 1, &everywhere, false, 9)?.len(), 0);
-    assert_eq!(rt; (memory.versions().len(), memory.seqno()), (3, 6));
-    Ok(())
+    let value = memory.get(id, key)?;
+    Ok((value, memory.page(alloc, id, &everywhere, false, 9)?.len()))
 }
 
-#[test]
-fn a_deleted_keyspace_goes_with_its_last_handle(rt: HostRuntime) -> std::result::Result<(), Fail> {
-    let mut memory = one_deleted(rt.alloc())?;
-    assert!(rt; memory.is_last(1) && memory.is_read(1) && !memory.is_living(1));
-    assert!(rt; has(&memory, 1, b"k", Some(b"v"))?);
-    release(&mut memory, 1)?;
-    assert_eq!(rt; memory.get(1, b"k").err(), Some(Error::KeyspaceDeleted));
-    assert_eq!(rt; release(&mut memory, 1).err(), Some(Error::UnknownKeyspace));
-    assert_eq!(rt; (memory.versions().len(), memory.handle_count(1)), (0, 0));
-    Ok(())
+type Bytes<'a> = Result<(Option<&'a [u8]>, usize)>;
+
+fn bytes_of(found: &Result<(Option<Slice>, usize)>) -> Bytes<'_> {
+    match found {
+        Ok((Some(value), count)) => Ok((Some(value.as_slice()), *count)),
+        Ok((None, count)) => Ok((None, *count)),
+        Err(error) => Err(*error),
+    }
 }
 
+const PUT_V: Step = Step::Change(1, b"k", Change::Put(b"v"));
+
+const PUT_W: Step = Step::Change(1, b"k", Change::Put(b"w"));
+
+const AWAY: Step = Step::Change(1, b"k", Change::RemoveWeak);
+
+const UNKNOWN: Bytes<'static> = Err(Error::UnknownKeyspace);
+
+const LIVES: State = (true, true, false, 0);
+
+const GONE: State = (false, false, false, 0);
+
+const BOTH: &[(&[u8], u64)] = &[(b"a", 2), (b"b", 1)];
+
+// Each step and its answer; the counts and names then; a keyspace, its state, and what is read there at "k".
+type Row = (
+    Step,
+    Result<u64>,
+    Counts,
+    &'static [(&'static [u8], u64)],
+    u64,
+    State,
+    Bytes<'static>,
+);
+
+const ROWS: [Row; 17] = [
+    // The newest version answers.
+    (Step::New, Ok(0), (0, 1, 1, 0, 0), &[], 1, GONE, UNKNOWN),
+    (
+        Step::Create(b"b"),
+        Ok(1),
+        (1, 2, 2, 0, 21),
+        &[(b"b", 1)],
+        1,
+        LIVES,
+        Ok((None, 0)),
+    ),
+    (
+        Step::Create(b"a"),
+        Ok(2),
+        (2, 3, 3, 0, 42),
+        BOTH,
+        1,
+        LIVES,
+        Ok((None, 0)),
+    ),
+    (
+        Step::Create(b"a"),
+        Ok(2),
+        (2, 3, 3, 0, 42),
+        BOTH,
+        2,
+        LIVES,
+        Ok((None, 0)),
+    ),
+    (
+        PUT_V,
+        Ok(0),
+        (2, 3, 4, 1, 42),
+        BOTH,
+        1,
+        LIVES,
+        Ok((Some(b"v"), 1)),
+    ),
+    (
+        PUT_W,
+        Ok(0),
+        (2, 3, 5, 2, 42),
+        BOTH,
+        1,
+        LIVES,
+        Ok((Some(b"w"), 1)),
+    ),
+    (
+        Step::Ask,
+        Ok(0),
+        (2, 3, 5, 2, 42),
+        BOTH,
+        2,
+        LIVES,
+        Ok((None, 0)),
+    ),
+    (AWAY, Ok(0), (2, 3, 6, 3, 42), BOTH, 1, LIVES, Ok((None, 0))),
+    // A deleted keyspace goes with its last handle.
+    (Step::New, Ok(0), (0, 1, 1, 0, 0), &[], 1, GONE, UNKNOWN),
+    (
+        Step::Create(b"b"),
+        Ok(1),
+        (1, 2, 2, 0, 21),
+        &[(b"b", 1)],
+        1,
+        LIVES,
+        Ok((None, 0)),
+    ),
+    (
+        Step::Create(b"a"),
+        Ok(2),
+        (2, 3, 3, 0, 42),
+        BOTH,
+        1,
+        LIVES,
+        Ok((None, 0)),
+    ),
+    (
+        PUT_V,
+        Ok(0),
+        (2, 3, 4, 1, 42),
+        BOTH,
+        1,
+        LIVES,
+        Ok((Some(b"v"), 1)),
+    ),
+    (
+        Step::Retain(1),
+        Ok(0),
+        (2, 3, 4, 1, 42),
+        BOTH,
+        1,
+        (true, true, false, 1),
+        Ok((Some(b"v"), 1)),
+    ),
+    (
+        Step::Delete(1),
+        Ok(0),
+        (1, 3, 5, 1, 21),
+        &[(b"a", 2)],
+        1,
+        (false, true, true, 1),
+        Ok((Some(b"v"), 1)),
+    ),
+    (
+        Step::Release(1),
+        Ok(0),
+        (1, 3, 5, 0, 21),
+        &[(b"a", 2)],
+        1,
+        GONE,
+        Err(Error::KeyspaceDeleted),
+    ),
+    (
+        Step::Release(1),
+        Err(Error::UnknownKeyspace),
+        (1, 3, 5, 0, 21),
+        &[(b"a", 2)],
+        1,
+        GONE,
+        Err(Error::KeyspaceDeleted),
+    ),
+    (
+        Step::Ask,
+        Ok(0),
+        (1, 3, 5, 0, 21),
+        &[(b"a", 2)],
+        2,
+        LIVES,
+        Ok((None, 0)),
+    ),
+];
+
 #[test]
-fn refusals_of_writes_come_in_order(rt: HostRuntime) -> std::result::Result<(), Fail> {
+fn a_memory_goes_by_its_steps(rt: HostRuntime) -> std::result::Result<(), Fail> {
     let alloc = rt.alloc();
-    let mut memory = one_deleted(alloc)?;
-    memory.poison();
-    let long = vec![in alloc; b'k'; 65_536]?;
-    for (id, key, error) in [
-        (9, b"".as_slice(), Error::KeyEmpty),
-        (9, long.as_slice(), Error::KeyTooLong),
-        (9, b"k", Error::UnknownKeyspace),
-        (0, b"k", Error::UnknownKeyspace),
-        (1, b"k", Error::KeyspaceDeleted),
-        (2, b"k", Error::Poisoned),
-    ] {
-        assert_eq!(rt; memory.write_refusal(id, key, b""), Some(error));
+    let mut memory = EngineState::new(alloc, MetaKeyspace::new(alloc), Vec::new(alloc), 1);
+    for (row, (step, answer, counted, names, id, stands, value)) in ROWS.iter().enumerate() {
+        let answered = take(alloc, &mut memory, *step);
+        let found = read(alloc, &memory, *id, b"k");
+        assert_eq!(rt;
+            (
+                answered,
+                counts_of(&memory),
+                are_named(alloc, &memory, names)?,
+                state_of(&memory, *id),
+                bytes_of(&found)
+            ),
+            (*answer, *counted, true, *stands, *value),
+            "row {row}"
+        );
     }
     Ok(())
 }
 
+/// A memory that a row names: with two keyspaces; with one of them deleted; the same poisoned; one whose numbers are
+/// used up.
+#[derive(Clone, Copy)]
+enum Given {
+    Two,
+    OneDeleted,
+    Poisoned,
+    UsedUp,
+}
+
+fn memory_of(alloc: Global, named: Given) -> Result<EngineState> {
+    Ok(match named {
+        Given::Two => two(alloc)?,
+        Given::OneDeleted => one_deleted(alloc)?,
+        Given::Poisoned => {
+            let mut memory = one_deleted(alloc)?;
+            memory.poison();
+            memory
+        }
+        Given::UsedUp => EngineState::new(
+            alloc,
+            MetaKeyspace::new(alloc),
+            Vec::new(alloc),
+            1 << 63,
+        ),
+    })
+}
+
+/// A refusal that a row asks for.
+#[derive(Clone, Copy)]
+enum Asked {
+    /// Of a write to this keyspace with a key of this length.
+    Write(u64, usize),
+    /// Of a creation and a deletion, with this number of the next table.
+    Creation(&'static [u8], u64),
+    Deletion(u64, u64),
+}
+
+use Asked::*;
+
+fn refusal(alloc: Global, memory: &EngineState, asked: Asked) -> Result<Option<Error>> {
+    Ok(match asked {
+        Write(id, len) => memory.write_refusal(id, &vec![in alloc; b'k'; len]?, b""),
+        Creation(name, next_table_id) => memory.creation_refusal(name, next_table_id),
+        Deletion(id, next_table_id) => memory.deletion_refusal(id, next_table_id),
+    })
+}
+
+const REFUSALS: [(Given, Asked, Option<Error>); 16] = [
+    // Refusals of writes come in this order.
+    (Given::Poisoned, Write(9, 0), Some(Error::KeyEmpty)),
+    (Given::Poisoned, Write(9, 65_536), Some(Error::KeyTooLong)),
+    (Given::Poisoned, Write(9, 1), Some(Error::UnknownKeyspace)),
+    (Given::Poisoned, Write(0, 1), Some(Error::UnknownKeyspace)),
+    (Given::Poisoned, Write(1, 1), Some(Error::KeyspaceDeleted)),
+    (Given::Poisoned, Write(2, 1), Some(Error::Poisoned)),
+    // So do those of changes of keyspaces.
+    (
+        Given::OneDeleted,
+        Creation(b"c", u64::MAX),
+        Some(Error::NumbersUsedUp),
+    ),
+    (Given::OneDeleted, Deletion(2, u64::MAX), None),
+    (
+        Given::Poisoned,
+        Creation(b"", u64::MAX),
+        Some(Error::InvalidName),
+    ),
+    (Given::Poisoned, Creation(b"a", u64::MAX), None),
+    (
+        Given::Poisoned,
+        Creation(b"c", u64::MAX),
+        Some(Error::Poisoned),
+    ),
+    (
+        Given::Poisoned,
+        Deletion(3, u64::MAX),
+        Some(Error::UnknownKeyspace),
+    ),
+    (Given::Poisoned, Deletion(1, u64::MAX), None),
+    (
+        Given::Poisoned,
+        Deletion(2, u64::MAX),
+        Some(Error::Poisoned),
+    ),
+    // Numbers end.
+    (Given::UsedUp, Creation(b"a", 0), Some(Error::NumbersUsedUp)),
+    (
+        Given::Two,
+        Deletion(1, u64::MAX),
+        Some(Error::NumbersUsedUp),
+    ),
+];
+
 #[test]
-fn refusals_of_changes_of_keyspaces_come_in_order(
-    rt: HostRuntime,
-) -> std::result::Result<(), Fail> {
-    let mut memory = one_deleted(rt.alloc())?;
-    let last = u64::MAX;
-    let used_up = Some(Error::NumbersUsedUp);
-    assert_eq!(rt; memory.creation_refusal(b"c", last), used_up);
-    assert_eq!(rt; memory.deletion_refusal(2, last), None);
-    memory.poison();
-    for (name, error) in [
-        (b"".as_slice(), Some(Error::InvalidName)),
-        (b"a", None),
-        (b"c", Some(Error::Poisoned)),
-    ] {
-        assert_eq!(rt; memory.creation_refusal(name, last), error);
-    }
-    for (id, error) in [
-        (3, Some(Error::UnknownKeyspace)),
-        (1, None),
-        (2, Some(Error::Poisoned)),
-    ] {
-        assert_eq!(rt; memory.deletion_refusal(id, last), error);
+fn refusals_come_in_order(rt: HostRuntime) -> std::result::Result<(), Fail> {
+    for (row, (named, asked, error)) in REFUSALS.iter().enumerate() {
+        let memory = memory_of(rt.alloc(), *named)?;
+        assert_eq!(rt; refusal(rt.alloc(), &memory, *asked)?, *error, "row {row}");
     }
     Ok(())
 }
 
-#[test]
-fn numbers_end(rt: HostRuntime) -> std::result::Result<(), Fail> {
-    let alloc = rt.alloc();
-    let used_up = Some(Error::NumbersUsedUp);
-    let memory = EngineState::new(alloc, MetaKeyspace::new(alloc), Vec::new(alloc), 1 << 63);
-    assert_eq!(rt; memory.creation_refusal(b"a", 0), used_up);
-    assert_eq!(rt; two(alloc)?.deletion_refusal(1, u64::MAX), used_up);
-    Ok(())
-}
+const CHANGES: [(Change<'static>, &[u8], ValueType); 3] = [
+    (Change::Put(b"v"), b"v", ValueType::Value),
+    (Change::Remove, b"", ValueType::Tombstone),
+    (Change::RemoveWeak, b"", ValueType::WeakTombstone),
+];
 
 #[test]
 fn changes_and_calls_say_what_they_are(rt: HostRuntime) -> std::result::Result<(), Fail> {
-    let alloc = rt.alloc();
-    for (change, bytes, value_type) in [
-        (Change::Put(b"v"), b"v".as_slice(), ValueType::Value),
-        (Change::Remove, b"", ValueType::Tombstone),
-        (Change::RemoveWeak, b"", ValueType::WeakTombstone),
-    ] {
-        assert_eq!(rt; (change.bytes(), change.value_type()), (bytes, value_type));
-    }
     let call = Call::Persist(PersistMode::SyncAll);
     let reply = Reply::Refused(Error::KeyEmpty);
     let view = View::Present;
-    let text = format!(in alloc; "{call:?} {reply:?} {view:?}")?;
-    assert_eq!(rt; text.as_str(), "Persist(SyncAll) Refused(KeyEmpty) Present");
+    let text = format!(in rt.alloc(); "{call:?} {reply:?} {view:?}")?;
+    for (change, bytes, value_type) in CHANGES {
+        assert_eq!(rt;
+            (change.bytes(), change.value_type(), text.as_str()),
+            (
+                bytes,
+                value_type,
+                "Persist(SyncAll) Refused(KeyEmpty) Present"
+            )
+        );
+    }
     Ok(())
 }

@@ -1,131 +1,151 @@
 //! Marks of transactions that meet or not, worked out by hand.
 
+use fjall_base::Result;
 use fjall_tx::{CommitOutcome, Conflict, ConflictManager, Oracle};
 use std::alloc::Global;
 use std::ops::Bound;
 use std::test::Fail;
 
-// Marks of a read of this key in keyspace 1.
-fn read_of(alloc: Global, key: &[u8]) -> fjall_base::Result<ConflictManager> {
+/// A mark that a row names: a read of a key or a range in keyspace 1, or a write in a keyspace.
+#[derive(Clone, Copy)]
+enum Mark {
+    Read(&'static [u8]),
+    Range(Bound<&'static [u8]>, Bound<&'static [u8]>),
+    Write(u64, &'static [u8]),
+}
+
+use Mark::*;
+
+fn marks_of(alloc: Global, named: &[Mark]) -> Result<ConflictManager> {
     let mut marks = ConflictManager::new(alloc);
-    marks.mark_read(1, key)?;
+    for mark in named {
+        match *mark {
+            Read(key) => marks.mark_read(1, key)?,
+            Range(start, end) => marks.mark_range(1, (start, end))?,
+            Write(keyspace_id, key) => marks.mark_conflict(keyspace_id, key)?,
+        }
+    }
     Ok(marks)
 }
 
-// Marks of a read of this range in keyspace 1.
-fn range_of(
-    alloc: Global,
-    start: Bound<&[u8]>,
-    end: Bound<&[u8]>,
-) -> fjall_base::Result<ConflictManager> {
-    let mut marks = ConflictManager::new(alloc);
-    marks.mark_range(1, (start, end))?;
-    Ok(marks)
-}
+const CLOSED: Mark = Range(Bound::Included(b"h"), Bound::Included(b"hello"));
 
-// Marks of a write of this key in a keyspace.
-fn write_of(alloc: Global, keyspace_id: u64, key: &[u8]) -> fjall_base::Result<ConflictManager> {
-    let mut marks = ConflictManager::new(alloc);
-    marks.mark_conflict(keyspace_id, key)?;
-    Ok(marks)
-}
-
-#[test]
-fn a_key_meets_itself_in_its_keyspace(rt: HostRuntime) -> Result<(), Fail> {
-    let reads = read_of(rt.alloc(), b"k")?;
-    assert!(rt; reads.has_conflict(&write_of(rt.alloc(), 1, b"k")?));
-    assert!(rt; !reads.has_conflict(&write_of(rt.alloc(), 2, b"k")?));
-    assert!(rt; !reads.has_conflict(&write_of(rt.alloc(), 1, b"kk")?));
-    Ok(())
-}
-
-#[test]
-fn a_range_meets_what_lies_between_its_bounds(rt: HostRuntime) -> Result<(), Fail> {
-    let alloc = rt.alloc();
-    let reads = range_of(alloc, Bound::Included(b"h"), Bound::Included(b"hello"))?;
-    assert!(rt; reads.has_conflict(&write_of(alloc, 1, b"hello")?));
-    assert!(rt; reads.has_conflict(&write_of(alloc, 1, b"h")?));
-    assert!(rt; !reads.has_conflict(&write_of(alloc, 1, b"hello2")?));
-    assert!(rt; !reads.has_conflict(&write_of(alloc, 2, b"hello")?));
-    Ok(())
-}
-
-#[test]
-fn excluded_bounds_are_left_out(rt: HostRuntime) -> Result<(), Fail> {
-    let alloc = rt.alloc();
-    let reads = range_of(alloc, Bound::Excluded(b"h"), Bound::Excluded(b"hello"))?;
-    assert!(rt; !reads.has_conflict(&write_of(alloc, 1, b"h")?));
-    assert!(rt; reads.has_conflict(&write_of(alloc, 1, b"h1")?));
-    assert!(rt; !reads.has_conflict(&write_of(alloc, 1, b"hello")?));
-    Ok(())
-}
-
+const OPEN: Mark = Range(Bound::Excluded(b"h"), Bound::Excluded(b"hello"));
 // The keys that begin with "hello" lie from it on, below "hellp".
+const PREFIX: Mark = Range(Bound::Included(b"hello"), Bound::Excluded(b"hellp"));
+
+const ALL: Mark = Range(Bound::Unbounded, Bound::Unbounded);
+
+const REVERSED: Mark = Range(Bound::Included(b"b"), Bound::Included(b"a"));
+
+const EMPTY: Mark = Range(Bound::Excluded(b"a"), Bound::Excluded(b"a"));
+
+// A mark, the writes of another, and whether it meets them.
+const MEETINGS: [(Mark, &[Mark], bool); 20] = [
+    // A key meets itself in its keyspace.
+    (Read(b"k"), &[Write(1, b"k")], true),
+    (Read(b"k"), &[Write(2, b"k")], false),
+    (Read(b"k"), &[Write(1, b"kk")], false),
+    // A range meets what lies between its bounds.
+    (CLOSED, &[Write(1, b"hello")], true),
+    (CLOSED, &[Write(1, b"h")], true),
+    (CLOSED, &[Write(1, b"hello2")], false),
+    (CLOSED, &[Write(2, b"hello")], false),
+    // Excluded bounds are left out.
+    (OPEN, &[Write(1, b"h")], false),
+    (OPEN, &[Write(1, b"h1")], true),
+    (OPEN, &[Write(1, b"hello")], false),
+    (PREFIX, &[Write(1, b"hello")], true),
+    (PREFIX, &[Write(1, b"hello2")], true),
+    (PREFIX, &[Write(1, b"foobar")], false),
+    // A range without bounds meets its whole keyspace.
+    (ALL, &[Write(1, b"")], true),
+    (ALL, &[Write(1, b"\xff\xff")], true),
+    (ALL, &[Write(0, b"k")], false),
+    (ALL, &[Write(2, b"k")], false),
+    // Reversed and empty ranges meet nothing.
+    (
+        REVERSED,
+        &[Write(1, b"a"), Write(1, b"b"), Write(1, b"ab")],
+        false,
+    ),
+    (
+        EMPTY,
+        &[Write(1, b"a"), Write(1, b"b"), Write(1, b"ab")],
+        false,
+    ),
+    // Blind writers meet neither way.
+    (Write(1, b"a"), &[Write(1, b"a")], false),
+];
+
 #[test]
-fn a_prefix_meets_what_begins_so(rt: HostRuntime) -> Result<(), Fail> {
-    let alloc = rt.alloc();
-    let reads = range_of(alloc, Bound::Included(b"hello"), Bound::Excluded(b"hellp"))?;
-    assert!(rt; reads.has_conflict(&write_of(alloc, 1, b"hello")?));
-    assert!(rt; reads.has_conflict(&write_of(alloc, 1, b"hello2")?));
-    assert!(rt; !reads.has_conflict(&write_of(alloc, 1, b"foobar")?));
+fn marks_meet_writes(rt: HostRuntime) -> std::result::Result<(), Fail> {
+    for (row, (mark, writes, meets)) in MEETINGS.iter().enumerate() {
+        let marks = marks_of(rt.alloc(), &[*mark])?;
+        let written = marks_of(rt.alloc(), writes)?;
+        assert_eq!(rt;
+            (marks.has_conflict(&written), written.has_conflict(&marks)),
+            (*meets, false),
+            "row {row}"
+        );
+    }
     Ok(())
 }
 
-#[test]
-fn a_range_without_bounds_meets_its_whole_keyspace(rt: HostRuntime) -> Result<(), Fail> {
-    let alloc = rt.alloc();
-    let reads = range_of(alloc, Bound::Unbounded, Bound::Unbounded)?;
-    assert!(rt; reads.has_conflict(&write_of(alloc, 1, b"")?));
-    assert!(rt; reads.has_conflict(&write_of(alloc, 1, b"\xff\xff")?));
-    assert!(rt; !reads.has_conflict(&write_of(alloc, 0, b"k")?));
-    assert!(rt; !reads.has_conflict(&write_of(alloc, 2, b"k")?));
-    Ok(())
+#[derive(Clone, Copy)]
+enum Step {
+    /// A transaction commits under this number, which wrote this key.
+    Push(u64, &'static [u8]),
+    Prune(u64),
+    /// One that began at this instant asks, which read this key.
+    Ask(u64, &'static [u8]),
 }
 
-#[test]
-fn reversed_and_empty_ranges_meet_nothing(rt: HostRuntime) -> Result<(), Fail> {
-    let alloc = rt.alloc();
-    let reversed = range_of(alloc, Bound::Included(b"b"), Bound::Included(b"a"))?;
-    let empty = range_of(alloc, Bound::Excluded(b"a"), Bound::Excluded(b"a"))?;
-    let mut writes = write_of(alloc, 1, b"a")?;
-    writes.mark_conflict(1, b"b")?;
-    writes.mark_conflict(1, b"ab")?;
-    assert!(rt; !reversed.has_conflict(&writes));
-    assert!(rt; !empty.has_conflict(&writes));
-    Ok(())
+use Step::*;
+
+/// Takes a step, and answers whether one that asks is in conflict.
+fn take(alloc: Global, oracle: &mut Oracle, step: Step) -> Result<bool> {
+    match step {
+        Push(number, key) => {
+            let written = marks_of(alloc, &[Write(1, key)])?;
+            if let Err(refused) = oracle.push(number, written) {
+                return Err(refused.error);
+            }
+            Ok(false)
+        }
+        Prune(watermark) => {
+            oracle.prune(watermark);
+            Ok(false)
+        }
+        Ask(instant, key) => Ok(oracle.has_conflict(instant, &marks_of(alloc, &[Read(key)])?)),
+    }
 }
 
-#[test]
-fn blind_writers_meet_neither_way(rt: HostRuntime) -> Result<(), Fail> {
-    let one = write_of(rt.alloc(), 1, b"a")?;
-    let other = write_of(rt.alloc(), 1, b"a")?;
-    assert!(rt; !one.has_conflict(&other));
-    assert!(rt; !other.has_conflict(&one));
-    Ok(())
-}
+// An oracle asks those at or above the instant.
+const STEPS: [(Step, bool); 10] = [
+    (Push(5, b"k"), false),
+    (Push(7, b"x"), false),
+    (Ask(4, b"k"), true),
+    (Ask(5, b"k"), true),
+    (Ask(6, b"k"), false),
+    (Prune(5), false),
+    (Ask(5, b"k"), true),
+    (Prune(6), false),
+    (Ask(0, b"k"), false),
+    (Ask(7, b"x"), true),
+];
 
 #[test]
-fn an_oracle_asks_those_at_or_above_the_instant(rt: HostRuntime) -> Result<(), Fail> {
-    let reads = read_of(rt.alloc(), b"k")?;
+fn an_oracle_goes_by_its_steps(rt: HostRuntime) -> std::result::Result<(), Fail> {
+    let outcome = CommitOutcome::Aborted(3);
+    let text = format!(in rt.alloc(); "{Conflict}, {outcome:?}")?;
     let mut oracle = Oracle::new(rt.alloc());
-    oracle.push(5, write_of(rt.alloc(), 1, b"k")?)?;
-    oracle.push(7, write_of(rt.alloc(), 1, b"x")?)?;
-    assert!(rt; oracle.has_conflict(4, &reads));
-    assert!(rt; oracle.has_conflict(5, &reads));
-    assert!(rt; !oracle.has_conflict(6, &reads));
-    oracle.prune(5);
-    assert!(rt; oracle.has_conflict(5, &reads));
-    oracle.prune(6);
-    assert!(rt; !oracle.has_conflict(0, &reads));
-    assert!(rt; oracle.has_conflict(7, &read_of(rt.alloc(), b"x")?));
-    Ok(())
-}
-
-#[test]
-fn outcomes_print(rt: HostRuntime) -> Result<(), Fail> {
-    let conflict = format!(in rt.alloc(); "{Conflict}")?;
-    assert_eq!(rt; conflict.as_str(), "Transaction conflict");
-    let aborted = format!(in rt.alloc(); "{:?}", CommitOutcome::Aborted(3))?;
-    assert_eq!(rt; aborted.as_str(), "Aborted(3)");
+    for (row, (step, answer)) in STEPS.iter().enumerate() {
+        assert_eq!(rt;
+            (take(rt.alloc(), &mut oracle, *step)?, text.as_str()),
+            (*answer, "Transaction conflict, Aborted(3)"),
+            "row {row}"
+        );
+    }
     Ok(())
 }

@@ -29,6 +29,17 @@ fn two(alloc: Global) -> Result<MetaKeyspace> {
     Ok(keyspaces)
 }
 
+/// A batch that a row names: its number, the keyspaces that it clears, and the keyspace and the key that it puts then.
+/// One that points also has an item that points to a value elsewhere.
+#[derive(Clone, Copy)]
+enum Named {
+    Puts(u64, u64, &'static [u8]),
+    Clears(u64, &'static [u64], u64, &'static [u8]),
+    Points(u64),
+}
+
+use Named::*;
+
 /// An item that says this of a key, with the value "v".
 fn item(
     alloc: Global,
@@ -44,207 +55,336 @@ fn item(
     })
 }
 
-/// The batch of that number that clears these keyspaces, and then puts this key of a keyspace.
-fn batch(
-    alloc: Global,
-    seqno: u64,
-    cleared_keyspaces: &[u64],
-    id: u64,
-    key: &[u8],
-) -> Result<Batch> {
+fn batch(alloc: Global, named: Named) -> Result<Batch> {
+    let (seqno, cleared, id, key) = match named {
+        Puts(seqno, id, key) => (seqno, [].as_slice(), id, key),
+        Clears(seqno, cleared, id, key) => (seqno, cleared, id, key),
+        Points(seqno) => (seqno, [].as_slice(), 1, b"k".as_slice()),
+    };
     let mut items = Vec::new(alloc);
     items.push(item(alloc, id, key, ValueType::Value)?)?;
+    if matches!(named, Points(_)) {
+        items.push(item(alloc, id, key, ValueType::Indirection)?)?;
+    }
     Ok(Batch {
         seqno,
         items,
-        cleared_keyspaces: Vec::from_slice(alloc, cleared_keyspaces)?,
+        cleared_keyspaces: Vec::from_slice(alloc, cleared)?,
     })
 }
 
-/// Whether a keyspace's key has this value, or none.
-fn has(versions: &[Version], id: u64, key: &[u8], value: Option<&[u8]>) -> bool {
-    match (newest_value(versions, id, key), value) {
-        (Some(found), Some(value)) => found.as_slice() == value,
-        (None, None) => true,
-        _ => false,
+fn batches_of(alloc: Global, named: &[Named]) -> Result<Vec<Batch>> {
+    let mut batches = Vec::new(alloc);
+    for one in named {
+        batches.push(batch(alloc, *one)?)?;
     }
+    Ok(batches)
 }
 
-/// Whether a keyspace has just these keys between the bounds.
-fn has_keys(
+#[derive(Clone, Copy)]
+enum Step {
+    /// A new run begins with two keyspaces and no versions.
+    Two,
+    /// The keyspace 1 is removed, and its name given again under this number.
+    MakeAgain(u64),
+    Replay(&'static [Named]),
+    ReplayOne,
+    /// A version is pushed: of this number and keyspace, and what it says of a key.
+    Push(u64, u64, &'static [u8], Option<&'static [u8]>),
+    Ask,
+}
+
+use Step::*;
+
+/// Takes a step, and answers the number behind batches, or the id of a keyspace.
+fn take(
     alloc: Global,
-    versions: &[Version],
-    id: u64,
-    range: &KeyRange,
-    back: bool,
-    max: usize,
-    keys: &[&[u8]],
-) -> Result<bool> {
-    let pairs = page(alloc, versions, id, range, back, max)?;
-    Ok(
-        pairs
-            .iter()
-            .map(|pair| pair.0.as_slice())
-            .eq(keys.iter().copied()),
-    )
+    keyspaces: &mut MetaKeyspace,
+    versions: &mut Vec<Version>,
+    step: Step,
+) -> Result<u64> {
+    let batches = match step {
+        Two => {
+            *keyspaces = two(alloc)?;
+            versions.clear();
+            return Ok(0);
+        }
+        MakeAgain(number) => {
+            keyspaces.remove_keyspace(1);
+            return create(alloc, keyspaces, b"a", number);
+        }
+        Push(seqno, id, key, value) => {
+            versions.push(Version::new(alloc, id, seqno, key, value)?)?;
+            return Ok(0);
+        }
+        Ask => return Ok(0),
+        Replay(named) => batches_of(alloc, named)?,
+        ReplayOne => read_journal(alloc, &ONE)?.batches,
+    };
+    let next = check_batches(&batches, 0)?;
+    replay(keyspaces, batches, versions)?;
+    Ok(next)
 }
 
-#[test]
-fn items_count_behind_the_creation(rt: HostRuntime) -> std::result::Result<(), Fail> {
-    let alloc = rt.alloc();
-    let keyspaces = two(alloc)?;
-    let mut batches = Vec::new(alloc);
-    for (seqno, id) in [(0, 1), (1, 1), (2, 2), (3, 2), (4, 2), (5, 3)] {
-        batches.push(batch(alloc, seqno, &[], id, b"k")?)?;
+/// Whether the versions are of these keyspaces and numbers.
+fn are_of(versions: &[Version], wanted: &[(u64, u64)]) -> bool {
+    for (version, (id, seqno)) in versions.iter().zip(wanted) {
+        if version.keyspace_id != *id || version.seqno != *seqno {
+            return false;
+        }
     }
-    assert_eq!(rt; check_batches(&batches, 0)?, 6);
-    let mut versions = Vec::new(alloc);
-    replay(&keyspaces, batches, &mut versions)?;
-    let made = [(1, 1), (2, 4)];
-    assert!(rt;
-        versions
-            .iter()
-            .map(|version| (version.keyspace_id, version.seqno))
-            .eq(made.iter().copied())
-    );
-    assert!(rt; has(&versions, 1, b"k", Some(b"v")) && has(&versions, 2, b"k", Some(b"v")));
-    assert!(rt; has(&versions, 3, b"k", None) && has(&versions, 1, b"l", None));
-    Ok(())
+    versions.len() == wanted.len()
 }
 
-#[test]
-fn a_name_given_again_has_nothing(rt: HostRuntime) -> std::result::Result<(), Fail> {
-    let alloc = rt.alloc();
-    let mut keyspaces = two(alloc)?;
-    let mut batches = Vec::new(alloc);
-    batches.push(batch(alloc, 1, &[], 1, b"old")?)?;
-    batches.push(batch(alloc, 2, &[], 3, b"early")?)?;
-    batches.push(batch(alloc, 8, &[], 3, b"new")?)?;
-    keyspaces.remove_keyspace(1);
-    assert_eq!(rt; create(alloc, &mut keyspaces, b"a", 7)?, 3);
-    let mut versions = Vec::new(alloc);
-    replay(&keyspaces, batches, &mut versions)?;
-    assert_eq!(rt; versions.len(), 1);
-    let all = (Bound::Unbounded, Bound::Unbounded);
-    assert!(rt; has_keys(alloc, &versions, 1, &all, false, 9, &[])?);
-    assert!(rt; has_keys(alloc, &versions, 3, &all, false, 9, &[b"new"])?);
-    Ok(())
+fn bound_of(alloc: Global, bound: Bound<&[u8]>) -> Result<Bound<Slice>> {
+    Ok(match bound {
+        Bound::Included(key) => Bound::Included(Slice::new(alloc, key)?),
+        Bound::Excluded(key) => Bound::Excluded(Slice::new(alloc, key)?),
+        Bound::Unbounded => Bound::Unbounded,
+    })
 }
 
-#[test]
-fn a_clear_empties_its_keyspace_alone(rt: HostRuntime) -> std::result::Result<(), Fail> {
-    let alloc = rt.alloc();
-    let keyspaces = two(alloc)?;
-    let mut earlier = Vec::new(alloc);
-    earlier.push(batch(alloc, 4, &[], 1, b"k")?)?;
-    earlier.push(batch(alloc, 5, &[], 2, b"k")?)?;
-    let mut versions = Vec::new(alloc);
-    replay(&keyspaces, earlier, &mut versions)?;
-    assert_eq!(rt; versions.len(), 2);
-    // Neither the clear of keyspace 2 under the number of its creation nor one of no keyspace counts.
-    let mut later = Vec::new(alloc);
-    later.push(batch(alloc, 3, &[2, 9], 1, b"l")?)?;
-    later.push(batch(alloc, 6, &[1], 1, b"m")?)?;
-    replay(&keyspaces, later, &mut versions)?;
-    let all = (Bound::Unbounded, Bound::Unbounded);
-    assert!(rt; has_keys(alloc, &versions, 1, &all, false, 9, &[b"m"])?);
-    assert!(rt; has_keys(alloc, &versions, 2, &all, false, 9, &[b"k"])?);
-    Ok(())
-}
+/// A page that a row asks for: the keyspace, the bounds, whether it is the last one, and how many keys it has at most.
+type Asked = (u64, Bound<&'static [u8]>, Bound<&'static [u8]>, bool, usize);
 
-/// Versions of two keyspaces: in keyspace 1 "a" is put twice, and "b" is taken away.
-fn versions_of_two(alloc: Global) -> Result<Vec<Version>> {
-    let mut versions = Vec::new(alloc);
-    for (seqno, id, key, value) in [
-        (1, 1, b"d", Some(b"1")),
-        (2, 1, b"a", Some(b"2")),
-        (3, 2, b"b", Some(b"3")),
-        (4, 1, b"c", Some(b"4")),
-        (5, 1, b"b", Some(b"5")),
-        (6, 1, b"a", Some(b"6")),
-        (7, 1, b"b", None),
-    ] {
-        let value = value.map(|value| value.as_slice());
-        versions.push(Version::new(alloc, id, seqno, key, value)?)?;
+/// Whether the page has just these keys.
+fn has_keys(alloc: Global, versions: &[Version], asked: Asked, keys: &[&[u8]]) -> Result<bool> {
+    let (id, start, end, back, max) = asked;
+    let range: KeyRange = (bound_of(alloc, start)?, bound_of(alloc, end)?);
+    let pairs = page(alloc, versions, id, &range, back, max)?;
+    for (pair, key) in pairs.iter().zip(keys) {
+        if pair.0.as_slice() != *key {
+            return Ok(false);
+        }
     }
-    Ok(versions)
+    Ok(pairs.len() == keys.len())
 }
 
+fn value_of<'a>(versions: &'a [Version], id: u64, key: &[u8]) -> Option<&'a [u8]> {
+    match newest_value(versions, id, key) {
+        Some(value) => Some(value.as_slice()),
+        None => None,
+    }
+}
+
+// All keys of a keyspace, at most nine, and others.
+const OF_1: Asked = (1, Bound::Unbounded, Bound::Unbounded, false, 9);
+
+const OF_2: Asked = (2, Bound::Unbounded, Bound::Unbounded, false, 9);
+
+const OF_3: Asked = (3, Bound::Unbounded, Bound::Unbounded, false, 9);
+
+const FIRST_TWO: Asked = (1, Bound::Unbounded, Bound::Unbounded, false, 2);
+
+const LAST_TWO: Asked = (1, Bound::Unbounded, Bound::Unbounded, true, 2);
+
+const BACK_OF_2: Asked = (2, Bound::Unbounded, Bound::Unbounded, true, 9);
+
+const BACK_OF_3: Asked = (3, Bound::Unbounded, Bound::Unbounded, true, 9);
+
+const BELOW_D: Asked = (1, Bound::Included(b"a"), Bound::Excluded(b"d"), true, 9);
+
+const REVERSED: Asked = (1, Bound::Included(b"d"), Bound::Excluded(b"a"), false, 9);
+
+// Each step and its answer; the keyspaces and numbers of the versions then; a page and its keys; and a key of the
+// page's keyspace and its value.
+type Row = (
+    Step,
+    u64,
+    &'static [(u64, u64)],
+    Asked,
+    &'static [&'static [u8]],
+    &'static [u8],
+    Option<&'static [u8]>,
+);
+
+const SEVEN: &[(u64, u64)] = &[(1, 1), (1, 2), (2, 3), (1, 4), (1, 5), (1, 6), (1, 7)];
+
+const ROWS: [Row; 32] = [
+    // Items count behind the creation of their keyspace.
+    (Two, 0, &[], OF_1, &[], b"k", None),
+    (
+        Replay(&[
+            Puts(0, 1, b"k"),
+            Puts(1, 1, b"k"),
+            Puts(2, 2, b"k"),
+            Puts(3, 2, b"k"),
+            Puts(4, 2, b"k"),
+            Puts(5, 3, b"k"),
+        ]),
+        6,
+        &[(1, 1), (2, 4)],
+        OF_1,
+        &[b"k"],
+        b"k",
+        Some(b"v"),
+    ),
+    (Ask, 0, &[(1, 1), (2, 4)], OF_2, &[b"k"], b"k", Some(b"v")),
+    (Ask, 0, &[(1, 1), (2, 4)], OF_3, &[], b"k", None),
+    (Ask, 0, &[(1, 1), (2, 4)], OF_1, &[b"k"], b"l", None),
+    // A name given again has nothing.
+    (Two, 0, &[], OF_3, &[], b"new", None),
+    (MakeAgain(7), 3, &[], OF_3, &[], b"new", None),
+    (
+        Replay(&[Puts(1, 1, b"old"), Puts(2, 3, b"early"), Puts(8, 3, b"new")]),
+        9,
+        &[(3, 8)],
+        OF_3,
+        &[b"new"],
+        b"new",
+        Some(b"v"),
+    ),
+    (Ask, 0, &[(3, 8)], OF_1, &[], b"old", None),
+    // A clear empties its keyspace alone. Neither the clear of keyspace 2 under the number of its creation nor one
+    // of no keyspace counts.
+    (Two, 0, &[], OF_1, &[], b"k", None),
+    (
+        Replay(&[Puts(4, 1, b"k"), Puts(5, 2, b"k")]),
+        6,
+        &[(1, 4), (2, 5)],
+        OF_1,
+        &[b"k"],
+        b"k",
+        Some(b"v"),
+    ),
+    (
+        Replay(&[Clears(3, &[2, 9], 1, b"l"), Clears(6, &[1], 1, b"m")]),
+        7,
+        &[(2, 5), (1, 6)],
+        OF_1,
+        &[b"m"],
+        b"k",
+        None,
+    ),
+    (Ask, 0, &[(2, 5), (1, 6)], OF_2, &[b"k"], b"k", Some(b"v")),
+    // A journal is replayed.
+    (Two, 0, &[], OF_1, &[], b"a", None),
+    (ReplayOne, 2, &[(1, 1)], OF_1, &[b"a"], b"a", Some(b"b")),
+    (Ask, 0, &[(1, 1)], OF_2, &[], b"a", None),
+    // The newest version answers: in keyspace 1 "a" is put twice, and "b" is taken away.
+    (Two, 0, &[], OF_1, &[], b"a", None),
+    (
+        Push(1, 1, b"d", Some(b"1")),
+        0,
+        &[(1, 1)],
+        OF_1,
+        &[b"d"],
+        b"d",
+        Some(b"1"),
+    ),
+    (
+        Push(2, 1, b"a", Some(b"2")),
+        0,
+        &[(1, 1), (1, 2)],
+        OF_1,
+        &[b"a", b"d"],
+        b"a",
+        Some(b"2"),
+    ),
+    (
+        Push(3, 2, b"b", Some(b"3")),
+        0,
+        &[(1, 1), (1, 2), (2, 3)],
+        OF_2,
+        &[b"b"],
+        b"b",
+        Some(b"3"),
+    ),
+    (
+        Push(4, 1, b"c", Some(b"4")),
+        0,
+        &[(1, 1), (1, 2), (2, 3), (1, 4)],
+        OF_1,
+        &[b"a", b"c", b"d"],
+        b"c",
+        Some(b"4"),
+    ),
+    (
+        Push(5, 1, b"b", Some(b"5")),
+        0,
+        &[(1, 1), (1, 2), (2, 3), (1, 4), (1, 5)],
+        OF_1,
+        &[b"a", b"b", b"c", b"d"],
+        b"b",
+        Some(b"5"),
+    ),
+    (
+        Push(6, 1, b"a", Some(b"6")),
+        0,
+        &[(1, 1), (1, 2), (2, 3), (1, 4), (1, 5), (1, 6)],
+        OF_1,
+        &[b"a", b"b", b"c", b"d"],
+        b"a",
+        Some(b"6"),
+    ),
+    (
+        Push(7, 1, b"b", None),
+        0,
+        SEVEN,
+        OF_1,
+        &[b"a", b"c", b"d"],
+        b"a",
+        Some(b"6"),
+    ),
+    (Ask, 0, SEVEN, OF_2, &[b"b"], b"b", Some(b"3")),
+    (Ask, 0, SEVEN, OF_2, &[b"b"], b"a", None),
+    // Pages from both ends, and between bounds.
+    (Ask, 0, SEVEN, FIRST_TWO, &[b"a", b"c"], b"b", None),
+    (Ask, 0, SEVEN, LAST_TWO, &[b"c", b"d"], b"a", Some(b"6")),
+    (Ask, 0, SEVEN, BACK_OF_2, &[b"b"], b"b", Some(b"3")),
+    (Ask, 0, SEVEN, BACK_OF_3, &[], b"b", None),
+    (Ask, 0, SEVEN, BELOW_D, &[b"a", b"c"], b"d", Some(b"1")),
+    (Ask, 0, SEVEN, REVERSED, &[], b"a", Some(b"6")),
+];
+
 #[test]
-fn the_newest_version_answers(rt: HostRuntime) -> std::result::Result<(), Fail> {
-    let versions = versions_of_two(rt.alloc())?;
-    assert!(rt; has(&versions, 1, b"a", Some(b"6")) && has(&versions, 1, b"b", None));
-    assert!(rt; has(&versions, 2, b"b", Some(b"3")) && has(&versions, 2, b"a", None));
+fn versions_go_by_their_steps(rt: HostRuntime) -> std::result::Result<(), Fail> {
+    let mut keyspaces = MetaKeyspace::new(rt.alloc());
+    let mut versions = Vec::new(rt.alloc());
+    for (row, (step, answer, ids, asked, keys, key, value)) in ROWS.iter().enumerate() {
+        let answered = take(rt.alloc(), &mut keyspaces, &mut versions, *step)?;
+        assert_eq!(rt;
+            (
+                answered,
+                are_of(&versions, ids),
+                has_keys(rt.alloc(), &versions, *asked, keys)?,
+                value_of(&versions, asked.0, key)
+            ),
+            (*answer, true, true, *value),
+            "row {row}"
+        );
+    }
     Ok(())
 }
 
-#[test]
-fn pages_from_both_ends(rt: HostRuntime) -> std::result::Result<(), Fail> {
-    let alloc = rt.alloc();
-    let versions = versions_of_two(alloc)?;
-    let all = (Bound::Unbounded, Bound::Unbounded);
-    assert!(rt; has_keys(alloc, &versions, 1, &all, false, 2, &[b"a", b"c"])?);
-    assert!(rt; has_keys(alloc, &versions, 1, &all, true, 2, &[b"c", b"d"])?);
-    assert!(rt; has_keys(alloc, &versions, 2, &all, true, 9, &[b"b"])?);
-    assert!(rt; has_keys(alloc, &versions, 3, &all, true, 9, &[])?);
-    Ok(())
-}
+const LAST: u64 = (1 << 63) - 1;
 
-#[test]
-fn pages_between_bounds(rt: HostRuntime) -> std::result::Result<(), Fail> {
-    let alloc = rt.alloc();
-    let versions = versions_of_two(alloc)?;
-    let first = Slice::new(alloc, b"a")?;
-    let last = Slice::new(alloc, b"d")?;
-    let some = (
-        Bound::Included(first.clone()?),
-        Bound::Excluded(last.clone()?),
-    );
-    let none = (Bound::Included(last), Bound::Excluded(first));
-    assert!(rt; has_keys(alloc, &versions, 1, &some, true, 9, &[b"a", b"c"])?);
-    assert!(rt; has_keys(alloc, &versions, 1, &none, false, 9, &[])?);
-    Ok(())
-}
+const TAG: Result<u64> = Err(Error::InvalidTag(("ValueType", 4)));
+
+// Batches, the least number that the first may have, and the number behind them or the first fault.
+const CHECKED: [(&[Named], u64, Result<u64>); 7] = [
+    (&[Puts(4, 1, b"k")], 4, Ok(5)),
+    (&[Puts(4, 1, b"k")], 5, Err(Error::Unrecoverable)),
+    (&[Puts(4, 1, b"k"), Points(5)], 0, TAG),
+    (&[Puts(4, 1, b"k"), Points(5), Puts(5, 1, b"k")], 0, TAG),
+    (
+        &[Puts(4, 1, b"k"), Points(5), Puts(5, 1, b"k")],
+        5,
+        Err(Error::Unrecoverable),
+    ),
+    (&[Puts(LAST, 1, b"k")], 0, Ok(1 << 63)),
+    (
+        &[Puts(LAST, 1, b"k"), Puts(1 << 63, 1, b"k")],
+        0,
+        Err(Error::Unrecoverable),
+    ),
+];
 
 #[test]
 fn the_first_fault_is_named(rt: HostRuntime) -> std::result::Result<(), Fail> {
-    let alloc = rt.alloc();
-    let mut batches = Vec::new(alloc);
-    batches.push(batch(alloc, 4, &[], 1, b"k")?)?;
-    assert_eq!(rt; check_batches(&batches, 4)?, 5);
-    assert_eq!(rt;
-        check_batches(&batches, 5).err(),
-        Some(Error::Unrecoverable)
-    );
-    let mut points = batch(alloc, 5, &[], 1, b"k")?;
-    points
-        .items
-        .push(item(alloc, 1, b"k", ValueType::Indirection)?)?;
-    batches.push(points)?;
-    let refused = Some(Error::InvalidTag(("ValueType", 4)));
-    assert_eq!(rt; check_batches(&batches, 0).err(), refused);
-    batches.push(batch(alloc, 5, &[], 1, b"k")?)?;
-    assert_eq!(rt; check_batches(&batches, 0).err(), refused);
-    assert_eq!(rt;
-        check_batches(&batches, 5).err(),
-        Some(Error::Unrecoverable)
-    );
-    let mut last = Vec::new(alloc);
-    last.push(batch(alloc, (1 << 63) - 1, &[], 1, b"k")?)?;
-    assert_eq!(rt; check_batches(&last, 0)?, 1 << 63);
-    last.push(batch(alloc, 1 << 63, &[], 1, b"k")?)?;
-    assert_eq!(rt; check_batches(&last, 0).err(), Some(Error::Unrecoverable));
-    Ok(())
-}
-
-#[test]
-fn a_journal_is_replayed(rt: HostRuntime) -> std::result::Result<(), Fail> {
-    let alloc = rt.alloc();
-    let keyspaces = two(alloc)?;
-    let mut versions = Vec::new(alloc);
-    let journal = read_journal(alloc, &ONE)?;
-    assert_eq!(rt; check_batches(&journal.batches, 0)?, 2);
-    replay(&keyspaces, journal.batches, &mut versions)?;
-    assert!(rt; has(&versions, 1, b"a", Some(b"b")) && has(&versions, 2, b"a", None));
+    for (row, (named, least, answer)) in CHECKED.iter().enumerate() {
+        let batches = batches_of(rt.alloc(), named)?;
+        assert_eq!(rt; check_batches(&batches, *least), *answer, "row {row}");
+    }
     Ok(())
 }

@@ -1,152 +1,176 @@
 //! Worked runs of a tracker.
 
-use fjall_base::Error;
+use fjall_base::{Error, Result};
 use fjall_meta::SnapshotTracker;
-use std::test::Fail;
 
-#[test]
-fn opens_at_the_visible_number(rt: HostRuntime) -> Result<(), Fail> {
-    let mut tracker = SnapshotTracker::new(rt.alloc());
-    assert_eq!(rt; tracker.open()?, 0);
-    tracker.close(0);
-    assert_eq!(rt; tracker.get_seqno_safe_to_gc(), 0);
-    tracker.publish(0);
-    assert_eq!(rt; tracker.open()?, 1);
-    tracker.close(1);
-    assert_eq!(rt; tracker.open_snapshots(), 0);
-    Ok(())
+/// A call of a tracker, or many of them.
+#[derive(Clone, Copy)]
+enum Step {
+    /// The run ends, and another one begins with a new tracker.
+    New,
+    Open,
+    Clone(u64),
+    Close(u64),
+    Publish(u32),
+    Set(u64),
+    CollectGarbage,
+    PullUp,
+    /// For each number from 1 to `count`: sets the visible number to the lesser of it and `top`, opens a snapshot
+    /// and closes it so often.
+    Turns { count: u64, top: u64, closings: u8 },
 }
 
-#[test]
-fn publish_raises_and_never_lowers(rt: HostRuntime) -> Result<(), Fail> {
-    let mut tracker = SnapshotTracker::new(rt.alloc());
-    tracker.publish(100);
-    assert_eq!(rt; tracker.get(), 101);
-    tracker.publish(1);
-    assert_eq!(rt; tracker.get(), 101);
-    tracker.set(101);
-    assert_eq!(rt; tracker.get(), 101);
-    tracker.set(7);
-    assert_eq!(rt; tracker.get(), 101);
-    Ok(())
+use Step::*;
+
+/// What a tracker says of itself: the visible number, how many snapshots and instants are open, and the watermark.
+type Seen = (u64, u64, usize, u64);
+
+fn state_of(tracker: &SnapshotTracker) -> Seen {
+    (
+        tracker.get(),
+        tracker.open_snapshots(),
+        tracker.len(),
+        tracker.get_seqno_safe_to_gc(),
+    )
 }
 
-#[test]
-fn counts_each_opening(rt: HostRuntime) -> Result<(), Fail> {
-    let mut tracker = SnapshotTracker::new(rt.alloc());
-    tracker.set(7);
-    assert_eq!(rt; tracker.open()?, 7);
-    assert_eq!(rt; tracker.open()?, 7);
-    assert_eq!(rt; tracker.open_snapshots(), 2);
-    assert_eq!(rt; tracker.len(), 1);
-    tracker.close(7);
-    assert_eq!(rt; tracker.open_snapshots(), 1);
-    assert_eq!(rt; tracker.len(), 1);
-    tracker.close(7);
-    assert_eq!(rt; tracker.open_snapshots(), 0);
-    assert_eq!(rt; tracker.len(), 0);
-    Ok(())
-}
-
-#[test]
-fn what_is_not_open_is_neither_closed_nor_cloned(rt: HostRuntime) -> Result<(), Fail> {
-    let mut tracker = SnapshotTracker::new(rt.alloc());
-    tracker.close(42);
-    assert_eq!(rt; tracker.len(), 0);
-    assert_eq!(rt; tracker.get_seqno_safe_to_gc(), 0);
-    tracker.set(7);
-    let _instant = tracker.open()?;
-    tracker.close(42);
-    assert_eq!(rt; tracker.open_snapshots(), 1);
-    assert_eq!(rt; tracker.len(), 1);
-    assert_eq!(rt; tracker.get(), 7);
-    assert!(rt; matches!(tracker.clone_snapshot(42), Err(Error::SnapshotClosed)));
-    assert_eq!(rt; tracker.open_snapshots(), 1);
-    Ok(())
-}
-
-#[test]
-fn a_clone_is_a_second_opening(rt: HostRuntime) -> Result<(), Fail> {
-    let mut tracker = SnapshotTracker::new(rt.alloc());
-    let instant = tracker.open()?;
-    tracker.set(9);
-    assert_eq!(rt; tracker.clone_snapshot(instant)?, 0);
-    assert_eq!(rt; tracker.open_snapshots(), 2);
-    assert_eq!(rt; tracker.len(), 1);
-    tracker.close(instant);
-    assert_eq!(rt; tracker.open_snapshots(), 1);
-    tracker.close(instant);
-    assert_eq!(rt; tracker.open_snapshots(), 0);
-    assert!(rt; matches!(tracker.clone_snapshot(instant), Err(Error::SnapshotClosed)));
-    Ok(())
-}
-
-#[test]
-fn the_watermark_stays_below_the_least_open_instant(rt: HostRuntime) -> Result<(), Fail> {
-    let mut tracker = SnapshotTracker::new(rt.alloc());
-    tracker.set(3);
-    assert_eq!(rt; tracker.open()?, 3);
-    tracker.set(5);
-    assert_eq!(rt; tracker.open()?, 5);
-    tracker.set(10);
-    assert_eq!(rt; tracker.open()?, 10);
-    tracker.gc();
-    assert_eq!(rt; tracker.get_seqno_safe_to_gc(), 2);
-    tracker.close(3);
-    tracker.gc();
-    assert_eq!(rt; tracker.get_seqno_safe_to_gc(), 4);
-    tracker.close(10);
-    tracker.pullup();
-    assert_eq!(rt; tracker.get_seqno_safe_to_gc(), 4);
-    tracker.close(5);
-    assert_eq!(rt; tracker.get_seqno_safe_to_gc(), 4);
-    tracker.pullup();
-    assert_eq!(rt; tracker.get_seqno_safe_to_gc(), 9);
-    tracker.set(1_001);
-    tracker.gc();
-    assert_eq!(rt; tracker.get_seqno_safe_to_gc(), 1_000);
-    Ok(())
-}
-
-#[test]
-fn an_open_snapshot_at_0_keeps_the_watermark_at_0(rt: HostRuntime) -> Result<(), Fail> {
-    let mut tracker = SnapshotTracker::new(rt.alloc());
-    assert_eq!(rt; tracker.open()?, 0);
-    tracker.set(1_000);
-    for _ in 0..10_000 {
+fn turns(tracker: &mut SnapshotTracker, count: u64, top: u64, closings: u8) -> Result<()> {
+    for number in 1..=count {
+        tracker.set(number.min(top));
         let instant = tracker.open()?;
-        tracker.close(instant);
+        for _ in 0..closings {
+            tracker.close(instant);
+        }
     }
-    assert_eq!(rt; tracker.get_seqno_safe_to_gc(), 0);
-    tracker.gc();
-    assert_eq!(rt; tracker.get_seqno_safe_to_gc(), 0);
     Ok(())
 }
 
-#[test]
-fn every_ten_thousandth_closing_raises_the_watermark(rt: HostRuntime) -> Result<(), Fail> {
-    let mut tracker = SnapshotTracker::new(rt.alloc());
-    tracker.set(8);
-    for _ in 0..9_999 {
-        let instant = tracker.open()?;
-        tracker.close(instant);
-        tracker.close(instant);
+/// Takes a step, and answers the instant that an opening answers, else `None`.
+fn take(tracker: &mut SnapshotTracker, step: Step) -> Result<Option<u64>> {
+    match step {
+        New => {}
+        Open => return Ok(Some(tracker.open()?)),
+        Clone(instant) => return Ok(Some(tracker.clone_snapshot(instant)?)),
+        Close(instant) => tracker.close(instant),
+        Publish(number) => tracker.publish(u64::from(number)),
+        Set(number) => tracker.set(number),
+        CollectGarbage => tracker.gc(),
+        PullUp => tracker.pullup(),
+        Turns {
+            count,
+            top,
+            closings,
+        } => turns(tracker, count, top, closings)?,
     }
-    assert_eq!(rt; tracker.get_seqno_safe_to_gc(), 0);
-    let instant = tracker.open()?;
-    tracker.close(instant);
-    assert_eq!(rt; tracker.get_seqno_safe_to_gc(), 7);
-    Ok(())
+    Ok(None)
 }
 
+const CLOSED: Result<Option<u64>> = Err(Error::SnapshotClosed);
+
+const ROWS: [(Step, Result<Option<u64>>, Seen); 57] = [
+    // A snapshot opens at the visible number.
+    (Open, Ok(Some(0)), (0, 1, 1, 0)),
+    (Close(0), Ok(None), (0, 0, 0, 0)),
+    (Publish(0), Ok(None), (1, 0, 0, 0)),
+    (Open, Ok(Some(1)), (1, 1, 1, 0)),
+    (Close(1), Ok(None), (1, 0, 0, 0)),
+    // What is published raises the visible number and never lowers it.
+    (New, Ok(None), (0, 0, 0, 0)),
+    (Publish(100), Ok(None), (101, 0, 0, 0)),
+    (Publish(1), Ok(None), (101, 0, 0, 0)),
+    (Set(101), Ok(None), (101, 0, 0, 0)),
+    (Set(7), Ok(None), (101, 0, 0, 0)),
+    // Each opening counts.
+    (New, Ok(None), (0, 0, 0, 0)),
+    (Set(7), Ok(None), (7, 0, 0, 0)),
+    (Open, Ok(Some(7)), (7, 1, 1, 0)),
+    (Open, Ok(Some(7)), (7, 2, 1, 0)),
+    (Close(7), Ok(None), (7, 1, 1, 0)),
+    (Close(7), Ok(None), (7, 0, 0, 0)),
+    // What is not open is neither closed nor cloned.
+    (New, Ok(None), (0, 0, 0, 0)),
+    (Close(42), Ok(None), (0, 0, 0, 0)),
+    (Set(7), Ok(None), (7, 0, 0, 0)),
+    (Open, Ok(Some(7)), (7, 1, 1, 0)),
+    (Close(42), Ok(None), (7, 1, 1, 0)),
+    (Clone(42), CLOSED, (7, 1, 1, 0)),
+    // A clone is a second opening.
+    (New, Ok(None), (0, 0, 0, 0)),
+    (Open, Ok(Some(0)), (0, 1, 1, 0)),
+    (Set(9), Ok(None), (9, 1, 1, 0)),
+    (Clone(0), Ok(Some(0)), (9, 2, 1, 0)),
+    (Close(0), Ok(None), (9, 1, 1, 0)),
+    (Close(0), Ok(None), (9, 0, 0, 0)),
+    (Clone(0), CLOSED, (9, 0, 0, 0)),
+    // The watermark stays below the least open instant.
+    (New, Ok(None), (0, 0, 0, 0)),
+    (Set(3), Ok(None), (3, 0, 0, 0)),
+    (Open, Ok(Some(3)), (3, 1, 1, 0)),
+    (Set(5), Ok(None), (5, 1, 1, 0)),
+    (Open, Ok(Some(5)), (5, 2, 2, 0)),
+    (Set(10), Ok(None), (10, 2, 2, 0)),
+    (Open, Ok(Some(10)), (10, 3, 3, 0)),
+    (CollectGarbage, Ok(None), (10, 3, 3, 2)),
+    (Close(3), Ok(None), (10, 2, 2, 2)),
+    (CollectGarbage, Ok(None), (10, 2, 2, 4)),
+    (Close(10), Ok(None), (10, 1, 1, 4)),
+    (PullUp, Ok(None), (10, 1, 1, 4)),
+    (Close(5), Ok(None), (10, 0, 0, 4)),
+    (PullUp, Ok(None), (10, 0, 0, 9)),
+    (Set(1_001), Ok(None), (1_001, 0, 0, 9)),
+    (CollectGarbage, Ok(None), (1_001, 0, 0, 1_000)),
+    // An open snapshot at 0 keeps the watermark at 0.
+    (New, Ok(None), (0, 0, 0, 0)),
+    (Open, Ok(Some(0)), (0, 1, 1, 0)),
+    (Set(1_000), Ok(None), (1_000, 1, 1, 0)),
+    (
+        Turns {
+            count: 10_000,
+            top: 0,
+            closings: 1,
+        },
+        Ok(None),
+        (1_000, 1, 1, 0),
+    ),
+    (CollectGarbage, Ok(None), (1_000, 1, 1, 0)),
+    // Every ten thousandth closing raises the watermark, and only what was open is closed.
+    (New, Ok(None), (0, 0, 0, 0)),
+    (Set(8), Ok(None), (8, 0, 0, 0)),
+    (
+        Turns {
+            count: 9_999,
+            top: 0,
+            closings: 2,
+        },
+        Ok(None),
+        (8, 0, 0, 0),
+    ),
+    (Open, Ok(Some(8)), (8, 1, 1, 0)),
+    (Close(8), Ok(None), (8, 0, 0, 7)),
+    // The watermark follows a hundred thousand snapshots.
+    (New, Ok(None), (0, 0, 0, 0)),
+    (
+        Turns {
+            count: 100_000,
+            top: 100_000,
+            closings: 1,
+        },
+        Ok(None),
+        (100_000, 0, 0, 99_999),
+    ),
+];
+
 #[test]
-fn the_watermark_follows_a_hundred_thousand_snapshots(rt: HostRuntime) -> Result<(), Fail> {
+fn trackers_go_by_their_steps(rt: HostRuntime) {
     let mut tracker = SnapshotTracker::new(rt.alloc());
-    for number in 1..=100_000 {
-        tracker.set(number);
-        let instant = tracker.open()?;
-        tracker.close(instant);
+    for (row, (step, answer, after)) in ROWS.iter().enumerate() {
+        if matches!(step, New) {
+            tracker = SnapshotTracker::new(rt.alloc());
+        }
+        assert_eq!(rt;
+            (take(&mut tracker, *step), state_of(&tracker)),
+            (*answer, *after),
+            "row {row}"
+        );
     }
-    assert_eq!(rt; tracker.get_seqno_safe_to_gc(), 99_999);
-    Ok(())
 }

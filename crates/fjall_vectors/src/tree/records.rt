@@ -1,295 +1,308 @@
 //! Worked rows of the formats, and damaged inputs.
 
-use super::checksum;
+use super::{
+    Named, are_equal, checksum, payload_of, payload_of_keys, put_framed, version_of, versions_of,
+};
 use fjall_base::{Error, Result, StorageError};
 use fjall_tree::{BLOCK_BYTES, Level, Record, TableInfo, Version, read_block, read_current};
 use std::alloc::Global;
-use std::process::Abort;
-use std::test::*;
+use std::test::Fail;
 
-fn empty_record(alloc: Global) -> Record {
-    Record {
-        persisted: None,
-        highest: None,
-        next_table_id: 1,
-        next_keyspace_id: 1,
-        tables: Vec::new(alloc),
-        clears: Vec::new(alloc),
+/// A record that a row names: the numbers that are persisted and highest, the next id of a table, the tables, each
+/// by its id and level, and the clears.
+type Fields = (
+    Option<u64>,
+    Option<u64>,
+    u64,
+    &'static [(u64, Level)],
+    &'static [u64],
+);
+
+fn table(id: u64, level: Level) -> TableInfo {
+    TableInfo {
+        id,
+        level,
+        file_len: 104,
+        entry_count: 1,
     }
 }
 
-fn one_table(alloc: Global) -> Result<Record> {
-    let mut record = empty_record(alloc);
-    record.persisted = Some(7);
-    record.highest = Some(9);
-    record.next_table_id = 2;
-    record.tables.push(TableInfo {
-        id: 1,
-        level: Level::L1,
-        file_len: 104,
-        entry_count: 1,
-    })?;
-    Ok(record)
-}
-
-fn text_of(alloc: Global, record: &Record) -> Result<Vec<u8>> {
+fn text_of(alloc: Global, fields: Fields) -> Result<Vec<u8>> {
+    let (persisted, highest, next_table_id, named, clears) = fields;
+    let mut tables = Vec::new(alloc);
+    for (id, level) in named {
+        tables.push(table(*id, *level))?;
+    }
+    let record = Record {
+        persisted,
+        highest,
+        next_table_id,
+        next_keyspace_id: 1,
+        tables,
+        clears: Vec::from_slice(alloc, clears)?,
+    };
     let mut out = Vec::new(alloc);
     record.encode_into(&mut out)?;
     Ok(out)
 }
 
-fn is_damaged(alloc: Global, bytes: &[u8]) -> bool {
-    matches!(
-        read_current(alloc, bytes),
-        Err(Error::Storage(StorageError::RecordDamaged))
-    )
-}
-
-#[test]
-fn record_lengths(rt: HostRuntime) -> std::result::Result<(), Fail> {
-    let mut record = empty_record(rt.alloc());
-    assert_eq!(rt; text_of(rt.alloc(), &record)?.len(), 55);
-    record.clears.push(3)?;
-    assert_eq!(rt; text_of(rt.alloc(), &record)?.len(), 63);
-    assert_eq!(rt; text_of(rt.alloc(), &one_table(rt.alloc())?)?.len(), 80);
-    Ok(())
-}
-
-// A record of 55 bytes and one of 80, cut at each length.
-#[test]
-fn cut_anywhere(rt: HostRuntime) -> std::result::Result<(), Fail> {
-    let mut bytes = text_of(rt.alloc(), &empty_record(rt.alloc()))?;
-    one_table(rt.alloc())?.encode_into(&mut bytes)?;
-    assert_eq!(rt; bytes.len(), 135);
-    for len in 0..135usize {
-        let current = read_current(rt.alloc(), &bytes[..len])?;
-        let end = if len < 55 { 0 } else { 55 };
-        assert_eq!(rt; current.end, end, "at {len}");
-        match &current.record {
-            Some(record) => assert_eq!(rt; (record.tables.len(), len >= 55), (0, true)),
-            None => assert!(rt; len < 55),
-        }
+/// Where the whole records end, and whether the last one is spelled so.
+fn read(alloc: Global, text: &[u8]) -> Result<(usize, bool)> {
+    let current = read_current(alloc, text)?;
+    let mut again = Vec::new(alloc);
+    if let Some(record) = &current.record {
+        record.encode_into(&mut again)?;
     }
-    let current = read_current(rt.alloc(), &bytes)?;
-    assert_eq!(rt; current.end, 135);
-    let last = current.record.expect(&rt, "a record");
-    assert_eq!(rt; (last.persisted, last.highest), (Some(7), Some(9)));
-    assert_eq!(rt; (last.next_table_id, last.next_keyspace_id), (2, 1));
-    assert_eq!(rt;
-        last.tables.as_slice(),
-        one_table(rt.alloc())?.tables.as_slice()
-    );
-    assert_eq!(rt; last.clears.len(), 0);
-    Ok(())
+    Ok((current.end, again.as_slice() == text))
 }
 
-fn with_ids(alloc: Global, ids: &[u64]) -> Result<Record> {
-    let mut record = empty_record(alloc);
-    record.next_table_id = 9;
-    for id in ids {
-        record.tables.push(TableInfo {
-            id: *id,
-            level: Level::L0,
-            file_len: 104,
-            entry_count: 1,
-        })?;
+const LIMIT: u64 = 1 << 63;
+
+const DAMAGED: Result<(usize, bool)> = Err(Error::Storage(StorageError::RecordDamaged));
+
+const EMPTY: Fields = (None, None, 1, &[], &[]);
+
+const ONE_TABLE: Fields = (Some(7), Some(9), 2, &[(1, Level::L1)], &[]);
+
+/// The text, where the byte at a place is another one, if one is given, and the check is right again.
+fn with_byte(alloc: Global, text: &[u8], other: Option<(usize, u8)>) -> Result<Vec<u8>> {
+    let mut changed = Vec::from_slice(alloc, text)?;
+    changed.truncate(text.len().saturating_sub(8));
+    if let Some((at, byte)) = other
+        && let Some(place) = changed.get_mut(at)
+    {
+        *place = byte;
     }
-    Ok(record)
+    let sum = checksum(&changed);
+    changed.extend_from_slice(&sum)?;
+    Ok(changed)
 }
 
-fn with_clears(alloc: Global, clears: &[u64]) -> Result<Record> {
-    let mut record = empty_record(alloc);
-    record.clears.extend_from_slice(clears)?;
-    Ok(record)
-}
-
-#[test]
-fn contradictions(rt: HostRuntime) -> std::result::Result<(), Fail> {
-    let limit = 1u64 << 63;
-    let mut persisted = empty_record(rt.alloc());
-    persisted.persisted = Some(limit);
-    let mut highest = empty_record(rt.alloc());
-    highest.highest = Some(limit);
-    assert!(rt; is_damaged(rt.alloc(), &text_of(rt.alloc(), &persisted)?));
-    assert!(rt; is_damaged(rt.alloc(), &text_of(rt.alloc(), &highest)?));
-    for (ids, damaged) in [
-        ([8, 1], false),
-        ([1, 8], false),
-        ([1, 9], true),
-        ([5, 5], true),
-    ] {
-        let text = text_of(rt.alloc(), &with_ids(rt.alloc(), &ids)?)?;
-        assert_eq!(rt; is_damaged(rt.alloc(), &text), damaged);
-    }
-    for (clears, damaged) in [
-        ([3, 4], false),
-        ([4, 3], true),
-        ([3, 3], true),
-        ([3, limit], true),
-    ] {
-        let text = text_of(rt.alloc(), &with_clears(rt.alloc(), &clears)?)?;
-        assert_eq!(rt; is_damaged(rt.alloc(), &text), damaged);
-    }
-    Ok(())
-}
-
-// The byte at an index is another one, and the check is right again.
-fn with_byte(alloc: Global, at: usize, byte: u8) -> Result<Vec<u8>> {
-    let mut text = text_of(alloc, &one_table(alloc)?)?;
-    text.truncate(72);
-    if let Some(other) = text.get_mut(at) {
-        *other = byte;
-    }
-    let sum = checksum(&text);
-    text.extend_from_slice(&sum)?;
-    Ok(text)
-}
-
-#[test]
-fn other_bytes(rt: HostRuntime) -> std::result::Result<(), Fail> {
+// A record, a byte of its text that is another one, the length of the text, and what is read there.
+const RECORDS: [(Fields, Option<(usize, u8)>, usize, Result<(usize, bool)>); 21] = [
+    (EMPTY, None, 55, Ok((55, true))),
+    ((None, None, 1, &[], &[3]), None, 63, Ok((63, true))),
+    (ONE_TABLE, None, 80, Ok((80, true))),
+    // Contradictions.
+    ((Some(LIMIT), None, 1, &[], &[]), None, 55, DAMAGED),
+    ((None, Some(LIMIT), 1, &[], &[]), None, 55, DAMAGED),
+    (
+        (None, None, 9, &[(8, Level::L0), (1, Level::L0)], &[]),
+        None,
+        105,
+        Ok((105, true)),
+    ),
+    (
+        (None, None, 9, &[(1, Level::L0), (8, Level::L0)], &[]),
+        None,
+        105,
+        Ok((105, true)),
+    ),
+    (
+        (None, None, 9, &[(1, Level::L0), (9, Level::L0)], &[]),
+        None,
+        105,
+        DAMAGED,
+    ),
+    (
+        (None, None, 9, &[(5, Level::L0), (5, Level::L0)], &[]),
+        None,
+        105,
+        DAMAGED,
+    ),
+    ((None, None, 1, &[], &[3, 4]), None, 71, Ok((71, true))),
+    ((None, None, 1, &[], &[4, 3]), None, 71, DAMAGED),
+    ((None, None, 1, &[], &[3, 3]), None, 71, DAMAGED),
+    ((None, None, 1, &[], &[3, LIMIT]), None, 71, DAMAGED),
     // The format, a flag, the level of the table, and the counts of tables and clears.
-    for (at, byte) in [(4, 2), (5, 2), (5, 0), (51, 2), (39, 0), (39, 2), (68, 1)] {
-        assert!(rt;
-            is_damaged(rt.alloc(), &with_byte(rt.alloc(), at, byte)?),
-            "{at}"
+    (ONE_TABLE, Some((4, 2)), 80, DAMAGED),
+    (ONE_TABLE, Some((5, 2)), 80, DAMAGED),
+    (ONE_TABLE, Some((5, 0)), 80, DAMAGED),
+    (ONE_TABLE, Some((51, 2)), 80, DAMAGED),
+    (ONE_TABLE, Some((39, 0)), 80, DAMAGED),
+    (ONE_TABLE, Some((39, 2)), 80, DAMAGED),
+    (ONE_TABLE, Some((68, 1)), 80, DAMAGED),
+    (ONE_TABLE, Some((51, 0)), 80, Ok((80, true))),
+];
+
+#[test]
+fn records(rt: HostRuntime) -> std::result::Result<(), Fail> {
+    for (row, (fields, other, len, answer)) in RECORDS.iter().enumerate() {
+        let whole = text_of(rt.alloc(), *fields)?;
+        let text = with_byte(rt.alloc(), &whole, *other)?;
+        let is_same = text == whole;
+        assert_eq!(rt;
+            (text.len(), read(rt.alloc(), &text), is_same),
+            (*len, *answer, other.is_none()),
+            "row {row}"
         );
     }
-    assert!(rt; !is_damaged(rt.alloc(), &with_byte(rt.alloc(), 51, 0)?));
     Ok(())
 }
 
+/// What the last record says, and how many clears it has.
+type Shown<'a> = Option<(Option<u64>, Option<u64>, u64, u64, &'a [TableInfo], usize)>;
+
+fn shown(record: &Option<Record>) -> Shown<'_> {
+    match record {
+        Some(last) => Some((
+            last.persisted,
+            last.highest,
+            last.next_table_id,
+            last.next_keyspace_id,
+            last.tables.as_slice(),
+            last.clears.len(),
+        )),
+        None => None,
+    }
+}
+
+fn with_other_bit(alloc: Global, bytes: &[u8], at: usize) -> Result<Vec<u8>> {
+    let mut changed = Vec::from_slice(alloc, bytes)?;
+    if let Some(other) = changed.get_mut(at) {
+        *other ^= 0x40;
+    }
+    Ok(changed)
+}
+
+// A record of 55 bytes and one of 80, cut at each length, and with each byte changed.
 #[test]
-fn every_changed_byte_of_a_current(rt: HostRuntime) -> std::result::Result<(), Fail> {
-    let mut bytes = text_of(rt.alloc(), &empty_record(rt.alloc()))?;
-    one_table(rt.alloc())?.encode_into(&mut bytes)?;
-    for at in 0..135usize {
-        let mut changed = bytes.clone()?;
-        if let Some(other) = changed.get_mut(at) {
-            *other ^= 0x40;
-        }
-        let current = read_current(rt.alloc(), &changed)?;
-        assert_eq!(rt; current.end, if at < 55 { 0 } else { 55 }, "at {at}");
+fn cut_and_changed_anywhere(rt: HostRuntime) -> std::result::Result<(), Fail> {
+    let mut bytes = text_of(rt.alloc(), EMPTY)?;
+    bytes.extend_from_slice(&text_of(rt.alloc(), ONE_TABLE)?)?;
+    let tables = [table(1, Level::L1)];
+    for at in 0..=135usize {
+        let cut = read_current(rt.alloc(), bytes.get(..at).unwrap_or(&[]))?;
+        let changed = read_current(rt.alloc(), &with_other_bit(rt.alloc(), &bytes, at)?)?;
+        let (last, end): (Shown<'_>, usize) = match at {
+            135 => (Some((Some(7), Some(9), 2, 1, &tables, 0)), 135),
+            55..135 => (Some((None, None, 1, 1, &[], 0)), 55),
+            _ => (None, 0),
+        };
+        assert_eq!(rt;
+            (shown(&cut.record), cut.end, changed.end, bytes.len()),
+            (last, end, end, 135),
+            "at {at}"
+        );
     }
     Ok(())
 }
 
-fn framed(alloc: Global, payload: &[u8]) -> Result<Vec<u8>> {
+/// The entries of a block: these versions, or so many two-byte keys from 0 on.
+#[derive(Clone, Copy)]
+enum Entries {
+    Versions(&'static [Named]),
+    Keys(u16),
+}
+
+fn block_of(alloc: Global, entries: Entries) -> Result<Vec<u8>> {
+    let payload = match entries {
+        Entries::Versions(named) => payload_of(alloc, &versions_of(alloc, named, b"b")?)?,
+        Entries::Keys(count) => payload_of_keys(alloc, 0, count)?,
+    };
     let mut out = Vec::new(alloc);
-    out.extend_from_slice(&(payload.len() as u64).to_le_bytes())?;
-    out.extend_from_slice(payload)?;
-    let sum = checksum(&out);
-    out.extend_from_slice(&sum)?;
+    put_framed(&mut out, alloc, &payload)?;
     Ok(out)
 }
 
-fn block_of(alloc: Global, versions: &[Version<'_>]) -> Result<Vec<u8>> {
-    let mut payload = Vec::new(alloc);
-    for version in versions {
-        version.encode_into(&mut payload)?;
-    }
-    framed(alloc, &payload)
+/// How many versions are read in a block, and whether they are these.
+fn block_read(alloc: Global, bytes: &[u8], entries: Entries) -> Result<(usize, bool)> {
+    let versions = read_block(alloc, bytes)?;
+    let same = match entries {
+        Entries::Versions(named) => are_equal(&versions, &versions_of(alloc, named, b"b")?),
+        Entries::Keys(_) => payload_of(alloc, &versions)?.as_slice()
+            == bytes.get(8..bytes.len().saturating_sub(8)).unwrap_or(&[]),
+    };
+    Ok((versions.len(), same))
 }
 
-fn is_no_block(alloc: Global, bytes: &[u8]) -> bool {
-    matches!(
-        read_block(alloc, bytes),
-        Err(Error::Storage(StorageError::TableDamaged))
-    )
-}
+const ONE: Named = (b"a", 1, Some(1));
 
-const ONE: Version<'static> = Version {
-    key: b"a",
-    number: 1,
-    value: Some(b"b"),
-};
+const REMOVED: Named = (b"a", 0, None);
 
-const REMOVED: Version<'static> = Version {
-    key: b"a",
-    number: 0,
-    value: None,
-};
+const NO_BLOCK: Result<(usize, bool)> = Err(Error::Storage(StorageError::TableDamaged));
 
-#[test]
-fn one_entry(rt: HostRuntime) -> std::result::Result<(), Fail> {
-    let bytes = block_of(rt.alloc(), &[ONE])?;
-    assert_eq!(rt; bytes.len(), 33);
-    assert!(rt;
-        bytes.starts_with(&[
-            17, 0, 0, 0, 0, 0, 0, 0, 1, 0, 0, 1, 0, 0, 0, 0, 0, 0, 0, 1, 0, 0, 0, 97, 98
-        ])
-    );
-    let versions = read_block(rt.alloc(), &bytes)?;
-    assert_eq!(rt; versions.len(), 1);
-    for version in &versions {
-        assert_eq!(rt; version.key, b"a".as_slice());
-        assert_eq!(rt; (version.number, version.value), (1, Some(b"b".as_slice())));
-    }
-    for at in 0..33usize {
-        let mut changed = bytes.clone()?;
-        if let Some(other) = changed.get_mut(at) {
-            *other ^= 0x40;
+/// Whether the first of two versions is before the second.
+fn is_before(entries: Entries) -> Option<bool> {
+    match entries {
+        Entries::Versions([one, other]) => {
+            Some(version_of(*one, b"b").is_before(&version_of(*other, b"b")))
         }
-        assert!(rt; is_no_block(rt.alloc(), &changed), "at {at}");
-        assert!(rt; is_no_block(rt.alloc(), &bytes[..at]), "{at} bytes");
+        _ => None,
+    }
+}
+
+// Entries, whether the first of two is before the second, the length of the block, and what is read in it.
+const BLOCKS: [(Entries, Option<bool>, usize, Result<(usize, bool)>); 9] = [
+    (Entries::Versions(&[ONE]), None, 33, Ok((1, true))),
+    (
+        Entries::Versions(&[ONE, REMOVED]),
+        Some(true),
+        49,
+        Ok((2, true)),
+    ),
+    (
+        Entries::Versions(&[REMOVED, ONE]),
+        Some(false),
+        49,
+        NO_BLOCK,
+    ),
+    (Entries::Versions(&[ONE, ONE]), Some(false), 50, NO_BLOCK),
+    (Entries::Versions(&[]), None, 16, NO_BLOCK),
+    // Full ones: 17 bytes each.
+    (Entries::Keys(59), None, 1_019, Ok((59, true))),
+    (Entries::Keys(240), None, 4_096, Ok((240, true))),
+    (Entries::Keys(241), None, 4_113, Ok((241, true))),
+    (Entries::Keys(242), None, 4_130, NO_BLOCK),
+];
+
+#[test]
+fn blocks(rt: HostRuntime) -> std::result::Result<(), Fail> {
+    for (row, (entries, before, len, answer)) in BLOCKS.iter().enumerate() {
+        let bytes = block_of(rt.alloc(), *entries)?;
+        let found = block_read(rt.alloc(), &bytes, *entries);
+        assert_eq!(rt;
+            (is_before(*entries), bytes.len(), found, BLOCK_BYTES),
+            (*before, *len, *answer, 4_096),
+            "row {row}"
+        );
     }
     Ok(())
 }
 
 #[test]
-fn order_of_versions(rt: HostRuntime) -> std::result::Result<(), Fail> {
-    assert!(rt; ONE.is_before(&REMOVED) && !REMOVED.is_before(&ONE) && !ONE.is_before(&ONE));
-    let versions_read = block_of(rt.alloc(), &[ONE, REMOVED])?;
-    let versions = read_block(rt.alloc(), &versions_read)?;
-    assert_eq!(rt; versions.len(), 2);
-    assert!(rt;
-        matches!(
-            versions.last(),
-            Some(Version {
-                number: 0,
-                value: None,
-                ..
-            })
-        )
-    );
-    assert!(rt; is_no_block(rt.alloc(), &block_of(rt.alloc(), &[REMOVED, ONE])?));
-    assert!(rt; is_no_block(rt.alloc(), &block_of(rt.alloc(), &[ONE, ONE])?));
-    assert!(rt; is_no_block(rt.alloc(), &block_of(rt.alloc(), &[])?));
+fn changed_and_cut_blocks(rt: HostRuntime) -> std::result::Result<(), Fail> {
+    let bytes = block_of(rt.alloc(), Entries::Versions(&[ONE]))?;
+    let begin = [
+        17, 0, 0, 0, 0, 0, 0, 0, 1, 0, 0, 1, 0, 0, 0, 0, 0, 0, 0, 1, 0, 0, 0, 97, 98,
+    ];
+    for at in 0..33usize {
+        let changed = with_other_bit(rt.alloc(), &bytes, at)?;
+        let cut = bytes.get(..at).unwrap_or(&[]);
+        assert_eq!(rt;
+            (
+                bytes.starts_with(&begin),
+                block_read(rt.alloc(), &changed, Entries::Keys(0)),
+                block_read(rt.alloc(), cut, Entries::Keys(0))
+            ),
+            (true, NO_BLOCK, NO_BLOCK),
+            "at {at}"
+        );
+    }
     Ok(())
 }
 
-// The two-byte big-endian keys from 0 on, with empty values: 17 bytes each.
-fn keys(alloc: Global, count: u16) -> Result<Vec<u8>> {
-    let mut payload = Vec::new(alloc);
-    for i in 0..count {
-        let version = Version {
-            key: &i.to_be_bytes(),
-            number: 1,
-            value: Some(b""),
-        };
-        version.encode_into(&mut payload)?;
-    }
-    framed(alloc, &payload)
-}
-
-#[test]
-fn full_blocks(rt: HostRuntime) -> std::result::Result<(), Fail> {
-    for (count, is_block) in [(59, true), (240, true), (241, true), (242, false)] {
-        let bytes = keys(rt.alloc(), count)?;
-        assert_eq!(rt; bytes.len(), 16 + 17 * usize::from(count));
-        assert_eq!(rt; !is_no_block(rt.alloc(), &bytes), is_block, "{count}");
-    }
-    assert_eq!(rt; BLOCK_BYTES, 4_096);
-    Ok(())
-}
+// The length of a key, why it is refused, and the length of what is spelled.
+const KEYS: [(usize, Option<Error>, usize); 4] = [
+    (0, Some(Error::KeyEmpty), 0),
+    (1, None, 16),
+    (65_535, None, 65_550),
+    (65_536, Some(Error::KeyTooLong), 0),
+];
 
 #[test]
 fn refused_versions(rt: HostRuntime) -> std::result::Result<(), Fail> {
-    for (len, error) in [
-        (0usize, Some(Error::KeyEmpty)),
-        (1, None),
-        (65_535, None),
-        (65_536, Some(Error::KeyTooLong)),
-    ] {
+    for (len, error, spelled) in KEYS {
         let key = vec![in rt.alloc(); 7u8; len]?;
         let mut out = Vec::new(rt.alloc());
         let version = Version {
@@ -297,8 +310,11 @@ fn refused_versions(rt: HostRuntime) -> std::result::Result<(), Fail> {
             number: 1,
             value: None,
         };
-        assert_eq!(rt; version.encode_into(&mut out).err(), error);
-        assert_eq!(rt; out.len(), if error.is_none() { 15 + len } else { 0 });
+        assert_eq!(rt;
+            (version.encode_into(&mut out).err(), out.len()),
+            (error, spelled),
+            "{len}"
+        );
     }
     Ok(())
 }

@@ -1,30 +1,10 @@
 //! Tables built by hand, and damaged ones.
 
-use super::checksum;
+use super::{Named, are_equal, payload_of, payload_of_keys, put_checked, put_framed, versions_of};
 use fjall_base::{Error, Result, StorageError};
 use fjall_tree::{FOOTER_LEN, Footer, Index, Level, Table, TableInfo, Version};
 use std::alloc::Global;
-use std::process::Abort;
-use std::test::*;
-
-const ONE: Version<'static> = Version {
-    key: b"a",
-    number: 1,
-    value: Some(b"b"),
-};
-
-fn put_framed(out: &mut Vec<u8>, alloc: Global, payload: &[u8]) -> Result<()> {
-    let mut framed = Vec::new(alloc);
-    framed.extend_from_slice(&(payload.len() as u64).to_le_bytes())?;
-    framed.extend_from_slice(payload)?;
-    put_checked(out, &framed)
-}
-
-fn put_checked(out: &mut Vec<u8>, bytes: &[u8]) -> Result<()> {
-    out.extend_from_slice(bytes)?;
-    out.extend_from_slice(&checksum(bytes))?;
-    Ok(())
-}
+use std::test::Fail;
 
 /// Blocks one behind another, and the payload of their index.
 #[derive(Drop)]
@@ -32,7 +12,6 @@ struct Building {
     alloc: Global,
     bytes: Vec<u8>,
     index: Vec<u8>,
-    entry_count: u64,
 }
 
 impl Building {
@@ -41,16 +20,7 @@ impl Building {
             alloc,
             bytes: Vec::new(alloc),
             index: Vec::new(alloc),
-            entry_count: 0,
         }
-    }
-
-    fn put_payload(&mut self, payload: &[u8], first_key: &[u8], count: u64) -> Result<()> {
-        let offset = self.bytes.len() as u64;
-        put_framed(&mut self.bytes, self.alloc, payload)?;
-        self.put_handle(offset, (payload.len() as u64).wrapping_add(16), first_key)?;
-        self.entry_count = self.entry_count.wrapping_add(count);
-        Ok(())
     }
 
     fn put_handle(&mut self, offset: u64, len: u64, first_key: &[u8]) -> Result<()> {
@@ -62,15 +32,10 @@ impl Building {
         Ok(())
     }
 
-    fn put_block(&mut self, versions: &[Version<'_>]) -> Result<()> {
-        let mut payload = Vec::new(self.alloc);
-        for version in versions {
-            version.encode_into(&mut payload)?;
-        }
-        match versions.first() {
-            Some(first) => self.put_payload(&payload, first.key, versions.len() as u64),
-            None => self.put_payload(&payload, &[], 0),
-        }
+    fn put_payload(&mut self, payload: &[u8], first_key: &[u8]) -> Result<()> {
+        let offset = self.bytes.len() as u64;
+        put_framed(&mut self.bytes, self.alloc, payload)?;
+        self.put_handle(offset, (payload.len() as u64).wrapping_add(16), first_key)
     }
 
     fn finish(self, entry_count: u64) -> Result<Vec<u8>> {
@@ -87,13 +52,39 @@ impl Building {
     }
 }
 
-fn table_of(alloc: Global, blocks: &[&[Version<'_>]]) -> Result<Vec<u8>> {
+/// A block that a row names: the first key that the index says, and its versions.
+type Block = (&'static [u8], &'static [Named]);
+
+fn table_of(alloc: Global, blocks: &[Block], count: u64, value: &[u8]) -> Result<Vec<u8>> {
     let mut building = Building::new(alloc);
-    for block in blocks {
-        building.put_block(block)?;
+    for (first_key, named) in blocks {
+        let versions = versions_of(alloc, named, value)?;
+        building.put_payload(&payload_of(alloc, &versions)?, first_key)?;
     }
-    let entry_count = building.entry_count;
-    building.finish(entry_count)
+    building.finish(count)
+}
+
+/// All versions of these blocks that have the key, if one is given, and are numbered below the instant.
+fn wanted_of<'a>(
+    alloc: Global,
+    blocks: &[Block],
+    value: &'a [u8],
+    key: Option<&[u8]>,
+    instant: u64,
+) -> Result<Vec<Version<'a>>> {
+    let mut wanted = Vec::new(alloc);
+    for (_, named) in blocks {
+        for version in &versions_of(alloc, named, value)? {
+            let has_key = match key {
+                Some(key) => version.key == key,
+                None => true,
+            };
+            if has_key && version.number < instant {
+                wanted.push(*version)?;
+            }
+        }
+    }
+    Ok(wanted)
 }
 
 fn info_of(bytes: &[u8], entry_count: u64) -> TableInfo {
@@ -105,253 +96,253 @@ fn info_of(bytes: &[u8], entry_count: u64) -> TableInfo {
     }
 }
 
-fn is_refused<T>(answer: &Result<T>) -> bool {
-    matches!(answer, Err(Error::Storage(StorageError::TableDamaged)))
+/// What a table answers: how many blocks, versions, and versions of a key at instant 10 it has.
+type Answers = Result<(usize, Result<usize>, Result<usize>)>;
+
+fn count_of(versions: Result<Vec<Version<'_>>>) -> Result<usize> {
+    Ok(versions?.len())
 }
 
-fn are_equal(versions: &[Version<'_>], others: &[Version<'_>]) -> bool {
-    if versions.len() != others.len() {
-        return false;
-    }
-    for (version, other) in versions.iter().zip(others) {
-        if version.key != other.key
-            || version.number != other.number
-            || version.value != other.value
-        {
-            return false;
-        }
-    }
-    true
+fn answers(alloc: Global, bytes: &[u8], info: TableInfo, key: &[u8]) -> Answers {
+    let table = Table::open(alloc, bytes, info)?;
+    Ok((
+        table.block_count(),
+        count_of(table.versions()),
+        count_of(table.versions_at(key, 10)),
+    ))
 }
+
+const ONE: Named = (b"a", 1, Some(1));
+
+const LONG: Option<usize> = Some(3_000);
+
+const DAMAGED: Error = Error::Storage(StorageError::TableDamaged);
+
+const SINGLE: &[Block] = &[(b"a", &[ONE])];
+// Two versions with values of 3,000 bytes fill a block. `k` has versions in three blocks, `m` in two.
+const MANY: &[Block] = &[
+    (b"a", &[(b"a", 5, LONG), (b"k", 9, LONG)]),
+    (b"k", &[(b"k", 8, LONG), (b"k", 7, LONG)]),
+    (b"k", &[(b"k", 6, LONG), (b"m", 4, LONG)]),
+    (b"m", &[(b"m", 3, LONG), (b"z", 3, LONG)]),
+    (b"z", &[(b"z", 0, LONG)]),
+];
+
+/// A table that a row names: its blocks, the counts of entries in the footer and in the record, and how many bytes
+/// more the record says than it has.
+type Given = (&'static [Block], u64, u64, u64);
+
+// A table, a key, and what is answered.
+const TABLES: [(Given, &[u8], Answers); 9] = [
+    ((SINGLE, 1, 1, 0), b"a", Ok((1, Ok(1), Ok(1)))),
+    ((MANY, 9, 9, 0), b"k", Ok((5, Ok(9), Ok(4)))),
+    // Other records, and another count of entries.
+    ((SINGLE, 1, 1, 1), b"a", Err(DAMAGED)),
+    ((SINGLE, 1, 2, 0), b"a", Err(DAMAGED)),
+    ((SINGLE, 2, 2, 0), b"a", Ok((1, Err(DAMAGED), Ok(1)))),
+    // The first block was closed early.
+    (
+        (
+            &[(b"a", &[(b"a", 5, LONG)]), (b"k", &[(b"k", 9, LONG)])],
+            2,
+            2,
+            0,
+        ),
+        b"k",
+        Ok((2, Err(DAMAGED), Ok(1))),
+    ),
+    // The second block begins before the first one ends, though not before it begins.
+    (
+        (
+            &[
+                (b"a", &[(b"a", 5, LONG), (b"m", 4, LONG)]),
+                (b"k", &[(b"k", 9, LONG)]),
+            ],
+            3,
+            3,
+            0,
+        ),
+        b"k",
+        Ok((2, Err(DAMAGED), Ok(1))),
+    ),
+    // The index says that the block begins with another key.
+    (
+        (&[(b"b", &[(b"a", 5, LONG)])], 1, 1, 0),
+        b"b",
+        Ok((1, Err(DAMAGED), Err(DAMAGED))),
+    ),
+    // Blocks whose first keys descend have no index.
+    (
+        (
+            &[(b"m", &[(b"m", 4, LONG)]), (b"a", &[(b"a", 5, LONG)])],
+            2,
+            2,
+            0,
+        ),
+        b"a",
+        Err(DAMAGED),
+    ),
+];
 
 #[test]
-fn table_of_one_entry(rt: HostRuntime) -> std::result::Result<(), Fail> {
-    let bytes = table_of(rt.alloc(), &[&[ONE]])?;
-    assert_eq!(rt; bytes.len(), 104);
-    assert_eq!(rt; FOOTER_LEN, 36);
-    let footer = Footer::read(&bytes[68..])?;
-    assert_eq!(rt;
-        (footer.index_offset, footer.index_len, footer.entry_count),
-        (33, 35, 1)
-    );
-    let index = Index::read(rt.alloc(), &bytes[33..68], 33)?;
-    assert_eq!(rt; index.handles().len(), 1);
-    let span = index.span(b"a");
-    assert_eq!(rt; (span.start, span.end), (0, 1));
-    let table = Table::open(rt.alloc(), &bytes, info_of(&bytes, 1))?;
-    assert_eq!(rt; table.block_count(), 1);
-    assert!(rt; are_equal(&table.versions()?, &[ONE]));
-    assert!(rt; are_equal(&table.versions_at(b"a", 2)?, &[ONE]));
-    assert_eq!(rt; table.versions_at(b"a", 1)?.len(), 0);
-    assert_eq!(rt; table.versions_at(b"b", 2)?.len(), 0);
-    assert_eq!(rt; table.versions_at(b"", 2)?.len(), 0);
-    Ok(())
-}
-
-// The two-byte big-endian keys from one number up to another, with empty values: 17 bytes each.
-fn put_keys(building: &mut Building, from: u16, to: u16) -> Result<()> {
-    let mut payload = Vec::new(building.alloc);
-    for i in from..to {
-        let version = Version {
-            key: &i.to_be_bytes(),
-            number: 1,
-            value: Some(b""),
-        };
-        version.encode_into(&mut payload)?;
-    }
-    building.put_payload(
-        &payload,
-        &from.to_be_bytes(),
-        u64::from(to.wrapping_sub(from)),
-    )
-}
-
-#[test]
-fn wrong_block(rt: HostRuntime) -> std::result::Result<(), Fail> {
-    let mut building = Building::new(rt.alloc());
-    put_keys(&mut building, 0, 241)?;
-    put_keys(&mut building, 241, 300)?;
-    let mut bytes = building.finish(300)?;
-    assert_eq!(rt; bytes.len(), 5_224);
-    let info = info_of(&bytes, 300);
-    assert_eq!(rt;
-        Table::open(rt.alloc(), &bytes, info)?.versions()?.len(),
-        300
-    );
-    bytes[4_121] ^= 0x40;
-    let table = Table::open(rt.alloc(), &bytes, info)?;
-    assert_eq!(rt; table.block_count(), 2);
-    assert!(rt; is_refused(&table.versions()));
-    for i in 0..300u16 {
-        let found = table.versions_at(&i.to_be_bytes(), 2);
-        if i < 241 {
-            assert_eq!(rt; found?.len(), 1, "{i}");
-        } else {
-            assert!(rt; is_refused(&found), "{i}");
-        }
-    }
-    Ok(())
-}
-
-#[test]
-fn every_changed_byte_of_a_table(rt: HostRuntime) -> std::result::Result<(), Fail> {
-    let bytes = table_of(rt.alloc(), &[&[ONE]])?;
-    assert_eq!(rt; bytes.len(), 104);
-    let info = info_of(&bytes, 1);
-    for at in 0..104usize {
-        let mut changed = bytes.clone()?;
-        if let Some(other) = changed.get_mut(at) {
-            *other ^= 0x40;
-        }
-        match Table::open(rt.alloc(), &changed, info) {
-            Ok(table) => {
-                assert!(rt; at < 33, "at {at}");
-                assert!(rt; is_refused(&table.versions()), "at {at}");
-                assert!(rt; is_refused(&table.versions_at(b"a", 2)), "at {at}");
-            }
-            Err(error) => {
-                assert!(rt; 33 <= at, "at {at}");
-                assert_eq!(rt; error, Error::Storage(StorageError::TableDamaged));
-            }
-        }
-        let cut = &bytes[..at];
-        assert!(rt;
-            is_refused(&Table::open(rt.alloc(), cut, info_of(cut, 1))),
-            "{at} bytes"
+fn tables_answer(rt: HostRuntime) -> std::result::Result<(), Fail> {
+    let value = vec![in rt.alloc(); b'b'; 3_000]?;
+    for (row, (given, key, wanted)) in TABLES.iter().enumerate() {
+        let (blocks, count, said, more) = *given;
+        let bytes = table_of(rt.alloc(), blocks, count, &value)?;
+        let mut info = info_of(&bytes, said);
+        info.file_len = info.file_len.wrapping_add(more);
+        assert_eq!(rt;
+            answers(rt.alloc(), &bytes, info, key),
+            *wanted,
+            "row {row}"
         );
     }
     Ok(())
 }
 
 #[test]
-fn other_records(rt: HostRuntime) -> std::result::Result<(), Fail> {
-    let bytes = table_of(rt.alloc(), &[&[ONE]])?;
-    let mut longer = info_of(&bytes, 1);
-    longer.file_len = 105;
-    assert!(rt; is_refused(&Table::open(rt.alloc(), &bytes, longer)));
-    assert!(rt; is_refused(&Table::open(rt.alloc(), &bytes, info_of(&bytes, 2))));
-    let mut building = Building::new(rt.alloc());
-    building.put_block(&[ONE])?;
-    let miscounted = building.finish(2)?;
-    let table = Table::open(rt.alloc(), &miscounted, info_of(&miscounted, 2))?;
-    assert!(rt; is_refused(&table.versions()));
+fn parts_of_a_table(rt: HostRuntime) -> std::result::Result<(), Fail> {
+    let bytes = table_of(rt.alloc(), SINGLE, 1, b"b")?;
+    let footer = Footer::read(bytes.get(68..).unwrap_or(&[]))?;
+    let index = Index::read(rt.alloc(), bytes.get(33..68).unwrap_or(&[]), 33)?;
+    let span = index.span(b"a");
+    assert_eq!(rt;
+        (
+            bytes.len(),
+            FOOTER_LEN,
+            footer.index_offset,
+            footer.index_len,
+            footer.entry_count,
+            index.handles().len(),
+            span.start,
+            span.end
+        ),
+        (104, 36, 33, 35, 1, 1, 0, 1)
+    );
     Ok(())
 }
 
-fn version_of<'a>(key: &'static [u8], number: u64, value: &'a [u8]) -> Version<'a> {
-    Version {
-        key,
-        number,
-        value: Some(value),
-    }
-}
+const KEYS: [&[u8]; 9] = [b"", b"a", b"b", b"k", b"kk", b"l", b"m", b"z", b"zz"];
 
-// Two versions with values of 3,000 bytes fill a block. `k` has versions in three blocks, `m` in two.
-#[test]
-fn key_in_many_blocks(rt: HostRuntime) -> std::result::Result<(), Fail> {
-    let value = vec![in rt.alloc(); 7u8; 3_000]?;
-    let versions = [
-        version_of(b"a", 5, &value),
-        version_of(b"k", 9, &value),
-        version_of(b"k", 8, &value),
-        version_of(b"k", 7, &value),
-        version_of(b"k", 6, &value),
-        version_of(b"m", 4, &value),
-        version_of(b"m", 3, &value),
-        version_of(b"z", 3, &value),
-        version_of(b"z", 0, &value),
-    ];
-    let blocks = [
-        &versions[..2],
-        &versions[2..4],
-        &versions[4..6],
-        &versions[6..8],
-        &versions[8..],
-    ];
-    let bytes = table_of(rt.alloc(), &blocks)?;
-    let table = Table::open(rt.alloc(), &bytes, info_of(&bytes, 9))?;
-    assert_eq!(rt; table.block_count(), 5);
-    assert!(rt; are_equal(&table.versions()?, &versions));
-    let keys: [&[u8]; 9] = [b"", b"a", b"b", b"k", b"kk", b"l", b"m", b"z", b"zz"];
-    for key in keys {
+/// The first key and instant at which a table of these blocks answers other versions than theirs.
+fn wrong_answer(
+    alloc: Global,
+    blocks: &[Block],
+    count: u64,
+    value: &[u8],
+) -> Result<Option<(usize, u64)>> {
+    let bytes = table_of(alloc, blocks, count, value)?;
+    let table = Table::open(alloc, &bytes, info_of(&bytes, count))?;
+    for (place, key) in KEYS.iter().enumerate() {
         for instant in 0..11u64 {
-            let mut wanted = Vec::new(rt.alloc());
-            for version in &versions {
-                if version.key == key && version.number < instant {
-                    wanted.push(*version)?;
-                }
+            let wanted = wanted_of(alloc, blocks, value, Some(key), instant)?;
+            if !are_equal(&table.versions_at(key, instant)?, &wanted) {
+                return Ok(Some((place, instant)));
             }
-            let found = table.versions_at(key, instant)?;
-            assert!(rt; are_equal(&found, &wanted), "at {instant}");
         }
     }
+    let all = wanted_of(alloc, blocks, value, None, 11)?;
+    Ok(if are_equal(&table.versions()?, &all) {
+        None
+    } else {
+        Some((9, 11))
+    })
+}
+
+#[test]
+fn each_key_at_each_instant(rt: HostRuntime) -> std::result::Result<(), Fail> {
+    let value = vec![in rt.alloc(); b'b'; 3_000]?;
+    for (blocks, count) in [(SINGLE, 1), (MANY, 9)] {
+        assert_eq!(rt;
+            wrong_answer(rt.alloc(), blocks, count, &value)?,
+            None,
+            "{count} entries"
+        );
+    }
     Ok(())
 }
 
 #[test]
-fn blocks_that_are_no_table(rt: HostRuntime) -> std::result::Result<(), Fail> {
-    let value = vec![in rt.alloc(); 7u8; 3_000]?;
-    let [a, k, m] = [
-        version_of(b"a", 5, &value),
-        version_of(b"k", 9, &value),
-        version_of(b"m", 4, &value),
-    ];
-    // The first block was closed early.
-    let early = table_of(rt.alloc(), &[&[a], &[k]])?;
-    let table = Table::open(rt.alloc(), &early, info_of(&early, 2))?;
-    assert!(rt; is_refused(&table.versions()));
-    assert_eq!(rt; table.versions_at(b"k", 10)?.len(), 1);
-    // The second block begins before the first one ends, though not before it begins.
-    let unordered = table_of(rt.alloc(), &[&[a, m], &[k]])?;
-    let table = Table::open(rt.alloc(), &unordered, info_of(&unordered, 3))?;
-    assert!(rt; is_refused(&table.versions()));
-    // The index says that the block begins with another key.
+fn wrong_block(rt: HostRuntime) -> std::result::Result<(), Fail> {
     let mut building = Building::new(rt.alloc());
-    building.put_payload(&table_payload(rt.alloc(), &a)?, b"b", 1)?;
-    let other_key = building.finish(1)?;
-    let table = Table::open(rt.alloc(), &other_key, info_of(&other_key, 1))?;
-    assert!(rt; is_refused(&table.versions()));
-    // Blocks whose first keys descend have no index.
-    let descending = table_of(rt.alloc(), &[&[m], &[a]])?;
-    assert!(rt; is_refused(&Table::open(rt.alloc(), &descending, info_of(&descending, 2))));
+    building.put_payload(&payload_of_keys(rt.alloc(), 0, 241)?, &[0, 0])?;
+    building.put_payload(&payload_of_keys(rt.alloc(), 241, 300)?, &[0, 241])?;
+    let bytes = building.finish(300)?;
+    let mut changed = bytes.clone()?;
+    if let Some(other) = changed.get_mut(4_121) {
+        *other ^= 0x40;
+    }
+    let info = info_of(&bytes, 300);
+    for i in 0..300u16 {
+        let key = i.to_be_bytes();
+        let found = if i < 241 { Ok(1) } else { Err(DAMAGED) };
+        assert_eq!(rt;
+            (
+                bytes.len(),
+                answers(rt.alloc(), &bytes, info, &key),
+                answers(rt.alloc(), &changed, info, &key)
+            ),
+            (5_224, Ok((2, Ok(300), Ok(1))), Ok((2, Err(DAMAGED), found))),
+            "{i}"
+        );
+    }
     Ok(())
 }
 
-fn table_payload(alloc: Global, version: &Version<'_>) -> Result<Vec<u8>> {
-    let mut payload = Vec::new(alloc);
-    version.encode_into(&mut payload)?;
-    Ok(payload)
+#[test]
+fn every_changed_byte_of_a_table(rt: HostRuntime) -> std::result::Result<(), Fail> {
+    let bytes = table_of(rt.alloc(), SINGLE, 1, b"b")?;
+    for at in 0..104usize {
+        let mut changed = bytes.clone()?;
+        if let Some(other) = changed.get_mut(at) {
+            *other ^= 0x40;
+        }
+        let cut = bytes.get(..at).unwrap_or(&[]);
+        let wanted: Answers = if at < 33 {
+            Ok((1, Err(DAMAGED), Err(DAMAGED)))
+        } else {
+            Err(DAMAGED)
+        };
+        assert_eq!(rt;
+            (
+                answers(rt.alloc(), &changed, info_of(&changed, 1), b"a"),
+                answers(rt.alloc(), cut, info_of(cut, 1), b"a")
+            ),
+            (wanted, Err(DAMAGED)),
+            "at {at}"
+        );
+    }
+    Ok(())
 }
 
-fn framed_index(alloc: Global, handles: &[(u64, u64, &[u8])]) -> Result<Vec<u8>> {
+// Handles, each of an offset, a length and a first key, and how many an index of them has before 15 bytes of blocks.
+const INDEXES: [(&[(u64, u64, &[u8])], Result<usize>); 10] = [
+    (&[(0, 10, b"a"), (10, 5, b"b")], Ok(2)),
+    (&[(0, 10, b"a"), (10, 5, b"a")], Ok(2)),
+    (&[(0, 10, b"b"), (10, 5, b"a")], Err(DAMAGED)),
+    (&[(0, 10, b"a"), (11, 4, b"b")], Err(DAMAGED)),
+    (&[(0, 10, b"a"), (9, 6, b"b")], Err(DAMAGED)),
+    (&[(0, 10, b"a"), (10, 4, b"b")], Err(DAMAGED)),
+    (&[(0, 10, b"a"), (10, 6, b"b")], Err(DAMAGED)),
+    (&[(0, 15, b"")], Err(DAMAGED)),
+    (&[], Err(DAMAGED)),
+    (&[(0, 16, b"a"), (16, u64::MAX, b"b")], Err(DAMAGED)),
+];
+
+fn index_len(alloc: Global, handles: &[(u64, u64, &[u8])]) -> Result<usize> {
     let mut building = Building::new(alloc);
-    for handle in handles {
-        building.put_handle(handle.0, handle.1, handle.2)?;
+    for (offset, len, first_key) in handles {
+        building.put_handle(*offset, *len, first_key)?;
     }
     let mut framed = Vec::new(alloc);
     put_framed(&mut framed, alloc, &building.index)?;
-    Ok(framed)
+    Ok(Index::read(alloc, &framed, 15)?.handles().len())
 }
 
 #[test]
-fn indexes(rt: HostRuntime) -> std::result::Result<(), Fail> {
-    let cases: [(&[(u64, u64, &[u8])], bool); 9] = [
-        (&[(0, 10, b"a"), (10, 5, b"b")], true),
-        (&[(0, 10, b"a"), (10, 5, b"a")], true),
-        (&[(0, 10, b"b"), (10, 5, b"a")], false),
-        (&[(0, 10, b"a"), (11, 4, b"b")], false),
-        (&[(0, 10, b"a"), (9, 6, b"b")], false),
-        (&[(0, 10, b"a"), (10, 4, b"b")], false),
-        (&[(0, 10, b"a"), (10, 6, b"b")], false),
-        (&[(0, 15, b"")], false),
-        (&[], false),
-    ];
-    for (handles, is_index) in cases {
-        let framed = framed_index(rt.alloc(), handles)?;
-        let index = Index::read(rt.alloc(), &framed, 15);
-        assert_eq!(rt; is_refused(&index), !is_index);
+fn indexes(rt: HostRuntime) {
+    for (row, (handles, len)) in INDEXES.iter().enumerate() {
+        assert_eq!(rt; index_len(rt.alloc(), handles), *len, "row {row}");
     }
-    let overflowing = framed_index(rt.alloc(), &[(0, 16, b"a"), (16, u64::MAX, b"b")])?;
-    assert!(rt; is_refused(&Index::read(rt.alloc(), &overflowing, 15)));
-    Ok(())
 }

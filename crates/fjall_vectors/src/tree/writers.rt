@@ -1,144 +1,176 @@
 //! Worked rows of the tables' format, as a writer makes them.
 
-use super::checksum;
+use super::{Named, are_equal, checksum, versions_of};
 use fjall_base::{Error, Result};
 use fjall_tree::{TableWriter, Version, put_frame, read_block};
 use std::alloc::Global;
-use std::process::Abort;
-use std::test::*;
+use std::test::Fail;
 
-fn entry<'a>(key: &'a [u8], number: u64) -> Version<'a> {
-    Version {
-        key,
-        number,
-        value: Some(b""),
-    }
-}
-
-// The one-byte keys from 0 on.
-fn small_table(alloc: Global, count: u8) -> Result<Option<Vec<u8>>> {
+/// The table of these versions, whose values are "b", or none.
+fn table_of(alloc: Global, named: &[Named]) -> Result<Option<Vec<u8>>> {
     let mut writer = TableWriter::new(alloc);
-    for key in 0..count {
-        writer.write(&entry(&[key], 1))?;
+    for version in &versions_of(alloc, named, b"b")? {
+        writer.write(version)?;
     }
     writer.finish()
 }
 
-fn len_of(table: &Option<Vec<u8>>) -> Option<usize> {
-    table.as_ref().map(|bytes| bytes.len())
+fn part(bytes: &Option<Vec<u8>>, from: usize, to: usize) -> &[u8] {
+    match bytes {
+        Some(bytes) => bytes.get(from..to).unwrap_or(&[]),
+        None => &[],
+    }
 }
 
-fn part(bytes: &[u8], from: usize, to: usize) -> &[u8] {
-    bytes.get(from..to).unwrap_or(&[])
-}
-
-#[test]
-fn one_entry_table(rt: HostRuntime) -> std::result::Result<(), Fail> {
-    let mut writer = TableWriter::new(rt.alloc());
-    writer.write(&Version {
-        key: b"a",
-        number: 1,
-        value: Some(b"b"),
-    })?;
-    let bytes = writer.finish()?.expect(&rt, "a table");
-    assert_eq!(rt; bytes.len(), 104);
-    let block = read_block(rt.alloc(), part(&bytes, 0, 33))?;
-    assert_eq!(rt; block.len(), 1);
-    // The block of the index: its length, the block's offset and length, and its first key.
-    assert!(rt;
-        part(&bytes, 33, 60).starts_with(&[
-            19, 0, 0, 0, 0, 0, 0, 0, 0, 0, 0, 0, 0, 0, 0, 0, 33, 0, 0, 0, 0, 0, 0, 0, 1, 0, 97
-        ])
-    );
-    // The footer: the index's offset and length, and the count of entries.
-    assert!(rt;
-        part(&bytes, 68, 96).starts_with(&[
+// The block, the block of the index with its length, the block's offset and length and its first key, and the footer
+// with the index's offset and length and the count of entries: where each part begins and ends, and its bytes before
+// its check.
+const PARTS: [(usize, usize, &[u8]); 3] = [
+    (
+        0,
+        33,
+        &[
+            17, 0, 0, 0, 0, 0, 0, 0, 1, 0, 0, 1, 0, 0, 0, 0, 0, 0, 0, 1, 0, 0, 0, 97, 98,
+        ],
+    ),
+    (
+        33,
+        68,
+        &[
+            19, 0, 0, 0, 0, 0, 0, 0, 0, 0, 0, 0, 0, 0, 0, 0, 33, 0, 0, 0, 0, 0, 0, 0, 1, 0, 97,
+        ],
+    ),
+    (
+        68,
+        104,
+        &[
             0x46, 0x4a, 0x54, 0x01, 33, 0, 0, 0, 0, 0, 0, 0, 35, 0, 0, 0, 0, 0, 0, 0, 1, 0, 0, 0,
-            0, 0, 0, 0
-        ])
-    );
-    assert_eq!(rt;
-        part(&bytes, 60, 68),
-        checksum(part(&bytes, 33, 60)).as_slice()
-    );
-    assert_eq!(rt;
-        part(&bytes, 96, 104),
-        checksum(part(&bytes, 68, 96)).as_slice()
-    );
+            0, 0, 0, 0,
+        ],
+    ),
+];
+
+#[test]
+fn parts_of_a_table(rt: HostRuntime) -> std::result::Result<(), Fail> {
+    let bytes = table_of(rt.alloc(), &[(b"a", 1, Some(1))])?;
+    let mut frame = Vec::new(rt.alloc());
+    put_frame(&mut frame, b"xy")?;
+    let frame_begins = frame.starts_with(&[2, 0, 0, 0, 0, 0, 0, 0, b'x', b'y']);
+    for (from, to, wanted) in PARTS {
+        let sum = checksum(wanted);
+        let middle = to.saturating_sub(8);
+        assert_eq!(rt;
+            (
+                part(&bytes, from, middle),
+                part(&bytes, middle, to),
+                part(&bytes, 104, 105).len(),
+                frame.len(),
+                frame_begins
+            ),
+            (wanted, sum.as_slice(), 0, 18, true),
+            "from {from}"
+        );
+    }
     Ok(())
 }
 
+/// The table of so many keys of these bytes, counted from 0 on, with empty values.
+fn table_of_keys(alloc: Global, width: usize, count: u16) -> Result<(u64, Option<Vec<u8>>)> {
+    let mut writer = TableWriter::new(alloc);
+    for i in 0..count {
+        let bytes = i.to_be_bytes();
+        let key = bytes.get(2usize.saturating_sub(width)..).unwrap_or(&[]);
+        writer.write(&Version {
+            key,
+            number: 1,
+            value: Some(b""),
+        })?;
+    }
+    Ok((writer.entry_count(), writer.finish()?))
+}
+
+/// How many entries the blocks hold that end there, one behind another, and whether they are the keys from 0 on.
+fn keys_in(
+    alloc: Global,
+    bytes: &Option<Vec<u8>>,
+    width: usize,
+    ends: &[usize],
+) -> Result<(u64, bool)> {
+    let (mut from, mut key, mut same) = (0, 0u16, true);
+    for end in ends {
+        for version in &read_block(alloc, part(bytes, from, *end))? {
+            let wanted = key.to_be_bytes();
+            let value = Some(b"".as_slice());
+            same = same && wanted.ends_with(version.key) && version.key.len() == width;
+            same = same && version.number == 1 && version.value == value;
+            key = key.wrapping_add(1);
+        }
+        from = *end;
+    }
+    Ok((u64::from(key), same))
+}
+
+// The width and the count of keys, the length of the table, and where its blocks end: a two-byte key has 17 bytes, and
+// 241 of them fill a block.
+const TABLES: [(usize, u16, Option<usize>, &[usize]); 6] = [
+    (1, 0, None, &[]),
+    (1, 2, Some(119), &[48]),
+    (1, 3, Some(135), &[64]),
+    (1, 5, Some(167), &[96]),
+    (1, 6, Some(183), &[112]),
+    (2, 300, Some(5_224), &[4_113, 5_132]),
+];
+
 #[test]
-fn lengths_of_small_tables(rt: HostRuntime) -> std::result::Result<(), Fail> {
-    for (count, len) in [
-        (0, None),
-        (2, Some(119)),
-        (3, Some(135)),
-        (5, Some(167)),
-        (6, Some(183)),
-    ] {
-        let table = small_table(rt.alloc(), count)?;
-        assert_eq!(rt; len_of(&table), len, "{count} entries");
+fn tables_of_keys(rt: HostRuntime) -> std::result::Result<(), Fail> {
+    for (width, count, len, ends) in TABLES {
+        let (entry_count, table) = table_of_keys(rt.alloc(), width, count)?;
+        let found = match &table {
+            Some(bytes) => Some(bytes.len()),
+            None => None,
+        };
+        let keys = keys_in(rt.alloc(), &table, width, ends)?;
+        assert_eq!(rt;
+            (entry_count, found, keys),
+            (u64::from(count), len, (u64::from(count), true)),
+            "{count} entries"
+        );
     }
     Ok(())
 }
 
-// The two-byte big-endian keys from 0 on: 17 bytes each.
-#[test]
-fn two_blocks(rt: HostRuntime) -> std::result::Result<(), Fail> {
-    let mut writer = TableWriter::new(rt.alloc());
-    for key in 0..300u16 {
-        writer.write(&entry(&key.to_be_bytes(), 1))?;
-    }
-    assert_eq!(rt; writer.entry_count(), 300);
-    let bytes = writer.finish()?.expect(&rt, "a table");
-    assert_eq!(rt; bytes.len(), 5_224);
-    let first = read_block(rt.alloc(), part(&bytes, 0, 4_113))?;
-    let second = read_block(rt.alloc(), part(&bytes, 4_113, 5_132))?;
-    assert_eq!(rt; (first.len(), second.len()), (241, 59));
-    for (key, version) in (0..300u16).zip(first.iter().chain(second.iter())) {
-        assert_eq!(rt; version.key, key.to_be_bytes().as_slice());
-        assert_eq!(rt; (version.number, version.value), (1, Some(b"".as_slice())));
-    }
-    Ok(())
-}
+// A byte of a key and how many of it the key has, the number, whether there is a value, and why it is refused.
+const WRITES: [(u8, usize, u64, bool, Option<Error>); 8] = [
+    (b'b', 1, 5, true, None),
+    (b'b', 1, 5, true, Some(Error::KeyOrder)),
+    (b'b', 1, 6, true, Some(Error::KeyOrder)),
+    (b'a', 1, 4, true, Some(Error::KeyOrder)),
+    (b'b', 0, 4, true, Some(Error::KeyEmpty)),
+    (7, 65_536, 4, true, Some(Error::KeyTooLong)),
+    (b'b', 1, 4, true, None),
+    (b'c', 1, 9, false, None),
+];
 
 #[test]
 fn refusals(rt: HostRuntime) -> std::result::Result<(), Fail> {
     let mut writer = TableWriter::new(rt.alloc());
-    let long = vec![in rt.alloc(); 7u8; 65_536]?;
-    writer.write(&entry(b"b", 5))?;
-    for (version, error) in [
-        (entry(b"b", 5), Error::KeyOrder),
-        (entry(b"b", 6), Error::KeyOrder),
-        (entry(b"a", 4), Error::KeyOrder),
-        (entry(b"", 4), Error::KeyEmpty),
-        (entry(&long, 4), Error::KeyTooLong),
-    ] {
-        assert_eq!(rt; writer.write(&version).err(), Some(error));
+    for (row, (byte, len, number, has_value, error)) in WRITES.iter().enumerate() {
+        let key = vec![in rt.alloc(); *byte; *len]?;
+        let value = if *has_value {
+            Some(b"".as_slice())
+        } else {
+            None
+        };
+        let version = Version {
+            key: &key,
+            number: *number,
+            value,
+        };
+        assert_eq!(rt; writer.write(&version).err(), *error, "row {row}");
     }
-    writer.write(&entry(b"b", 4))?;
-    writer.write(&Version {
-        key: b"c",
-        number: 9,
-        value: None,
-    })?;
-    let bytes = writer.finish()?.expect(&rt, "a table");
+    let bytes = writer.finish()?;
     let block = read_block(rt.alloc(), part(&bytes, 0, 64))?;
-    assert_eq!(rt; block.len(), 3);
-    for (version, (key, number)) in block.iter().zip([(b"b", 5), (b"b", 4), (b"c", 9)]) {
-        assert_eq!(rt; version.key, key.as_slice());
-        assert_eq!(rt; version.number, number);
-        assert_eq!(rt; version.value.is_none(), number == 9);
-    }
-    Ok(())
-}
-
-#[test]
-fn frames(rt: HostRuntime) -> std::result::Result<(), Fail> {
-    let mut out = Vec::new(rt.alloc());
-    put_frame(&mut out, b"xy")?;
-    assert_eq!(rt; out.len(), 18);
-    assert!(rt; out.starts_with(&[2, 0, 0, 0, 0, 0, 0, 0, b'x', b'y']));
+    let wanted: [Named; 3] = [(b"b", 5, Some(0)), (b"b", 4, Some(0)), (b"c", 9, None)];
+    assert!(rt; are_equal(&block, &versions_of(rt.alloc(), &wanted, b"")?));
     Ok(())
 }
