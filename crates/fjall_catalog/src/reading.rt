@@ -14,8 +14,8 @@ use crate::catalog::{Catalog, catalog_of};
 use crate::table::decode_entries;
 use crate::writing::CURRENT;
 use fjall_base::{Disk, Error, Result, StorageError};
-use fjall_meta::{MetaEntry, MetaKeyspace};
 use fjall_files::table_name;
+use fjall_meta::{MetaEntry, MetaKeyspace};
 use fjall_tree::{Current, TableInfo, read_current};
 use std::alloc::Global;
 

@@ -11,8 +11,8 @@ ghost use Rattle.fjall_catalog.specs.Updates.{HasKey, IsTableWritten, IsTableRef
 use crate::catalog::Catalog;
 use crate::table::encode_entries;
 use fjall_base::{Error, Result};
-use fjall_meta::{MetaEntry, MetaKeyspace};
 use fjall_files::table_name;
+use fjall_meta::{MetaEntry, MetaKeyspace};
 use fjall_tree::{Level, TableInfo};
 use std::alloc::Global;
 

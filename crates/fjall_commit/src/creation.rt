@@ -18,8 +18,8 @@ ghost use Rattle.fjall_commit.specs.Removals.{IsUnused};
 use crate::change::change_tree;
 use fjall_base::{Disk, Result};
 use fjall_catalog::{Catalog, Update, first_record_of, prepare};
-use fjall_meta::MetaKeyspace;
 use fjall_files::{current_name, keyspace_folder, make_file};
+use fjall_meta::MetaKeyspace;
 use std::alloc::Global;
 
 /// The folder of all keyspaces.

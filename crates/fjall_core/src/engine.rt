@@ -29,11 +29,13 @@ use crate::config::Config;
 use crate::turning::{is_fault, make_keyspace, unmake_keyspace};
 use fjall_base::{Disk, Error, KvPair, Refused, Result, Slice, UserValue};
 use fjall_catalog::{Catalog, prepare_deletion};
-use fjall_commit::{sync_journal, prepare_creation, prepare_removal, remove_keyspace, append_batch};
+use fjall_commit::{
+    append_batch, prepare_creation, prepare_removal, remove_keyspace, sync_journal,
+};
 use fjall_journal::{PersistMode, ValueType, Writer};
-use fjall_state::{Call, Change, EngineState, Reply, View};
 use fjall_options::KeyspaceCreateOptions;
 use fjall_repair::open_folder;
+use fjall_state::{Call, Change, EngineState, Reply, View};
 use fjall_versions::{KeyRange, Version};
 use std::alloc::Global;
 use std::marker::Model;

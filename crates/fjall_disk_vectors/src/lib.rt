@@ -1,20 +1,14 @@
-//! Folders on a disk in memory: read, changed, damaged, and cut short at each call; and a disk over a real folder.
+//! Folders on a disk in memory: read, changed, damaged, and cut short at each call.
 #![tactic(auto)]
 
 #[cfg(test)]
 mod beginning;
 #[cfg(test)]
-mod calls;
-#[cfg(test)]
 mod catalog;
 #[cfg(test)]
 mod changes;
 #[cfg(test)]
-mod faults;
-#[cfg(test)]
 mod folder;
-#[cfg(test)]
-mod folder_disk;
 #[cfg(test)]
 mod journaling;
 #[cfg(test)]
@@ -27,7 +21,3 @@ mod recovery;
 mod regions;
 #[cfg(test)]
 mod repair;
-#[cfg(test)]
-mod scripts;
-#[cfg(test)]
-mod steps;

@@ -20,8 +20,8 @@ use crate::listing::{list_journals, list_keyspaces};
 use crate::unfinished::check_unfinished;
 use fjall_base::{Disk, Error, Result, StorageError};
 use fjall_catalog::{Catalog, LoadedCatalog, read_catalog};
-use fjall_meta::LivingKeyspace;
 use fjall_files::{Marker, read_marker};
+use fjall_meta::LivingKeyspace;
 use std::alloc::Global;
 
 /// What a folder holds that was made to its end.

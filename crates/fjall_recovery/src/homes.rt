@@ -9,8 +9,8 @@ ghost use Rattle.fjall_recovery.specs.Refusals.{HasRisen, HomeRefuses, HomesRefu
 
 use crate::file::read_text;
 use fjall_base::{Disk, Error, Result, StorageError};
-use fjall_meta::LivingKeyspace;
 use fjall_files::current_name;
+use fjall_meta::LivingKeyspace;
 use fjall_tree::{Current, Record, read_current};
 use std::alloc::Global;
 

@@ -11,8 +11,8 @@ ghost use Rattle.fjall_recovery.specs.Refusals.{HasRisen, IsDue, IsOpeningRefusa
 
 use crate::file::read_text;
 use fjall_base::{Disk, Error, Result};
-use fjall_journal::{Batch, Contents, Tail, read_journal};
 use fjall_files::journal_name;
+use fjall_journal::{Batch, Contents, Tail, read_journal};
 use fjall_versions::check_batches;
 use std::alloc::Global;
 

@@ -9,8 +9,8 @@ ghost use Rattle.fjall_repair.specs.Listing.{AreTables, as_file, other_tables};
 ghost use Rattle.fjall_repair.specs.Sweeps.{FindsAll, FindsHomes, FindsTables, FindsTablesOf, HasAll, IsHomeFound, IsPlan, IsUnnamedHome, IsUnnamedTable, Lives};
 
 use fjall_base::{DirEntry, Disk, Error, Result};
-use fjall_meta::LivingKeyspace;
 use fjall_files::{keyspace_folder, table_name, tables};
+use fjall_meta::LivingKeyspace;
 use std::alloc::Global;
 
 /// The folder of a keyspace that doesn't live.

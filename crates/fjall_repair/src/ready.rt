@@ -19,13 +19,13 @@ ghost use Rattle.fjall_repair.specs.Sweeps.{FindsAll, IsPlan};
 use crate::numbers::{check_made, number_of};
 use crate::opened::Opened;
 use crate::plan::{SweepPlan, plan_sweep};
-use fjall_base::{Disk, Error, Result};
 use crate::{BeginPlan, MendPlan, plan_beginning, plan_mending};
+use fjall_base::{Disk, Error, Result};
 use fjall_catalog::Catalog;
+use fjall_files::{journal_name, keyspaces};
 use fjall_journal::{Batch, Writer};
 use fjall_meta::MetaKeyspace;
 use fjall_recovery::Finished;
-use fjall_files::{journal_name, keyspaces};
 use fjall_versions::{Version, replay};
 use std::alloc::Global;
 

@@ -20,11 +20,15 @@ ghost use Rattle.fjall_repair.specs.Sweeps.{AreGone, BringsNoTable, FindsTables,
 
 use crate::plan::SweepPlan;
 use crate::sweeping::sweep;
-use fjall_base::{Disk, Result};
 use crate::{BeginPlan, MendPlan, begin, mend};
+use fjall_base::{Disk, Result};
 
 /// Mends a folder and then sweeps it, by plans that were made of it.
-pub(crate) fn mend_and_sweep<D: Disk>(disk: &mut D, mending: &MendPlan, plan: &SweepPlan) -> Result<()>
+pub(crate) fn mend_and_sweep<D: Disk>(
+    disk: &mut D,
+    mending: &MendPlan,
+    plan: &SweepPlan,
+) -> Result<()>
     ensures any_moment { IsTrue D.honest → (found : Finished) (contents : Contents) → IsFinished (standing (state_in (D.meaning disk.old))) found → Shows found contents → Holds (state_in (D.meaning disk.old)) (Some contents)
         → IsMendingOf (standing (state_in (D.meaning disk.old))) found mending.now → IsPlan (option_map (λ table. table.id) found.catalog.catalog.table) found.catalog.keyspaces.living plan.now
         → LeavesOnly (D.meaning disk.old) (D.meaning disk.new) (λ image. StandsFor image (store_of contents)) }
@@ -55,7 +59,11 @@ pub(crate) fn mend_and_sweep<D: Disk>(disk: &mut D, mending: &MendPlan, plan: &S
 }
 
 /// Begins a database, or goes on with one whose making was cut short, and sweeps its folder, by plans that were made of it.
-pub(crate) fn begin_and_sweep<D: Disk>(disk: &mut D, making: &BeginPlan, plan: &SweepPlan) -> Result<()>
+pub(crate) fn begin_and_sweep<D: Disk>(
+    disk: &mut D,
+    making: &BeginPlan,
+    plan: &SweepPlan,
+) -> Result<()>
     ensures any_moment { IsTrue D.honest → Holds (state_in (D.meaning disk.old)) None → ComesBackUnfinished (state_in (D.meaning disk.old)) → IsMakingOf (standing (state_in (D.meaning disk.old))) making.now → IsPlan None [] plan.now
         → LeavesOnly (D.meaning disk.old) (D.meaning disk.new) (λ image. StandsFor image (bare no_keyspaces)) }
     ensures ok { IsTrue D.honest → Holds (state_in (D.meaning disk.old)) None → IsMakingOf (standing (state_in (D.meaning disk.old))) making.now → IsPlan None [] plan.now

@@ -80,7 +80,12 @@ fn shared_value(value: Option<&UserValue>) -> Result<Option<UserValue>>
 
 impl EngineState {
     /// These keyspaces, with these versions, whose next change takes this number.
-    pub fn new(alloc: Global, keyspaces: MetaKeyspace, versions: Vec<Version>, next: u64) -> EngineState
+    pub fn new(
+        alloc: Global,
+        keyspaces: MetaKeyspace,
+        versions: Vec<Version>,
+        next: u64,
+    ) -> EngineState
         requires made { All (λ k. k.number < next) keyspaces.living }
         requires given { All (λ v. v.keyspace_id < keyspaces.next) versions.items }
         ensures { result ≡ remembered keyspaces versions.items next }

@@ -7,8 +7,8 @@ ghost use Rattle.fjall_files.specs.Names.{current_name};
 ghost use Rattle.fjall_repair.specs.Steps.{IsPlanOf, IsTreeEnd, active_of, end_of, folder_names, home_end, whole_names};
 
 use fjall_base::{Disk, Error, Result};
-use fjall_recovery::{Finished, Home};
 use fjall_files::{current_name, journal_name, keyspace_folder};
+use fjall_recovery::{Finished, Home};
 use fjall_tree::read_current;
 use std::alloc::Global;
 
