@@ -54,9 +54,16 @@ fn a_failing_input_is_told(rt: HostRuntime) {
     }
 }
 
+// Whether the program ends so, and tells this, where the output fails at the call of that number.
+fn ends_so(alloc: Global, calls: usize, want: Status, told: &str) -> bool {
+    let mut input = b"persist\n".as_slice();
+    let mut errors = Vec::new(alloc);
+    let status = run_memory(alloc, &mut input, &mut Failing { calls }, &mut errors);
+    (status, errors.as_slice()) == (want, told.as_bytes())
+}
+
 #[test]
 fn a_failing_output_is_told(rt: HostRuntime) {
-    // At which call the output fails, how the program ends, and what is told.
     let rows = [
         (0, Status::Failure, "error 1 Io\n"),
         (1, Status::Failure, "error 1 Io\n"),
@@ -65,14 +72,7 @@ fn a_failing_output_is_told(rt: HostRuntime) {
     ];
     let alloc = rt.alloc();
     for (calls, want, told) in rows {
-        let mut input = b"persist\n".as_slice();
-        let mut errors = Vec::new(alloc);
-        let status = run_memory(alloc, &mut input, &mut Failing { calls }, &mut errors);
-        assert_eq!(rt;
-            (status, errors.as_slice()),
-            (want, told.as_bytes()),
-            "call {calls}"
-        );
+        assert!(rt; ends_so(alloc, calls, want, told), "call {calls}");
     }
 }
 
@@ -127,44 +127,46 @@ fn with_room(alloc: Global, room: usize) -> Narrow {
     Narrow { taken, room }
 }
 
-// At which call the disk fails, how many bytes the output and the errors take, how the program ends, and what stands in
-// them then.
-const FAILURES: [(u64, usize, usize, Status, &str, &str); 6] = [
-    (
-        0,
-        99,
-        99,
-        Status::Success,
-        "keyspace 1\nok\nok\nvalue 62\n",
-        "",
-    ),
-    (1, 99, 99, Status::Failure, "", "error 1 Io\n"),
-    (
-        48,
-        99,
-        99,
-        Status::Failure,
-        "keyspace 1\nok\n",
-        "error 1 Io\n",
-    ),
-    (0, 12, 99, Status::Failure, "keyspace 1\no", "error 1 Io\n"),
-    (48, 12, 99, Status::Failure, "keyspace 1\no", "error 1 Io\n"),
-    (48, 99, 7, Status::Untold, "keyspace 1\nok\n", "error 1"),
-];
+// How a run ends whose disk fails at that call, and whose output and errors take so many bytes; and what stands in them then.
+fn ran(alloc: Global, call: u64, room: usize, hearing: usize) -> (Status, Vec<u8>, Vec<u8>) {
+    let mut input = b"keyspace items\ninsert 1 61 62\ncrash 99\nget 1 61\n".as_slice();
+    let mut output = with_room(alloc, room);
+    let mut errors = with_room(alloc, hearing);
+    let place = Flawed { alloc, call };
+    let status = run_over(alloc, &place, &mut input, &mut output, &mut errors);
+    (status, output.taken, errors.taken)
+}
+
+// Whether it ends so, and this stands in them.
+fn is_so(seen: &(Status, Vec<u8>, Vec<u8>), want: Status, printed: &str, told: &str) -> bool {
+    let (status, output, errors) = seen;
+    (*status, output.as_slice(), errors.as_slice()) == (want, printed.as_bytes(), told.as_bytes())
+}
 
 #[test]
 fn a_failure_is_told_after_the_answers(rt: HostRuntime) {
+    let all = "keyspace 1\nok\nok\nvalue 62\n";
+    let rows = [
+        (0, 99, 99, Status::Success, all, ""),
+        (1, 99, 99, Status::Failure, "", "error 1 Io\n"),
+        (
+            48,
+            99,
+            99,
+            Status::Failure,
+            "keyspace 1\nok\n",
+            "error 1 Io\n",
+        ),
+        (0, 12, 99, Status::Failure, "keyspace 1\no", "error 1 Io\n"),
+        (48, 12, 99, Status::Failure, "keyspace 1\no", "error 1 Io\n"),
+        (48, 99, 7, Status::Untold, "keyspace 1\nok\n", "error 1"),
+    ];
     let alloc = rt.alloc();
-    for (row, (call, room, hearing, want, printed, told)) in FAILURES.into_iter().enumerate() {
-        let mut input = b"keyspace items\ninsert 1 61 62\ncrash 99\nget 1 61\n".as_slice();
-        let mut output = with_room(alloc, room);
-        let mut errors = with_room(alloc, hearing);
-        let place = Flawed { alloc, call };
-        let status = run_over(alloc, &place, &mut input, &mut output, &mut errors);
-        assert_eq!(rt;
-            (status, output.taken.as_slice(), errors.taken.as_slice()),
-            (want, printed.as_bytes(), told.as_bytes()),
-            "row {row}"
+    for (call, room, hearing, want, printed, told) in rows {
+        let seen = ran(alloc, call, room, hearing);
+        assert!(rt;
+            is_so(&seen, want, printed, told),
+            "disk {call}, output {room}, errors {hearing}"
         );
     }
 }

@@ -131,13 +131,13 @@ const ERRORS: [(Error, u8, &str, &str); 22] = [
 fn errors_have_numbers_names_and_texts(rt: HostRuntime) -> std::result::Result<(), Fail> {
     let [one, two, three] = [FormatVersion::V1, FormatVersion::V2, FormatVersion::V3];
     let others = format!(in rt.alloc(); "{one} {two} {three} {MISMATCH}")?;
-    let others_told = others.as_str() == "1 2 3 RecoveryError(ChecksumMismatch)";
+    let are_others = others.as_str() == "1 2 3 RecoveryError(ChecksumMismatch)";
     for (error, number, name, text) in ERRORS {
         let printed = format!(in rt.alloc(); "{error}")?;
-        let told = printed.as_str() == text;
+        let is_printed = printed.as_str() == text;
         assert_eq!(rt;
-            (error.number(), error.name(), told, others_told),
-            (number, name, true, true),
+            (error.number(), error.name() == name, is_printed, are_others),
+            (number, true, true, true),
             "{text}"
         );
     }
