@@ -6,7 +6,6 @@ use fjall_base::{Disk, Error, KvPair, MemoryDisk, Refused, Result, Slice, UserVa
 use fjall_core::{Call, Config, Core, KeyRange, PersistMode, Reply, View};
 use fjall_options::KeyspaceCreateOptions;
 use std::alloc::Global;
-use std::process::Abort;
 
 /// A core over a disk.
 #[derive(Drop)]
@@ -130,14 +129,6 @@ pub fn opened<D: Disk + Drop>(alloc: Global, disk: D) -> Result<Database<D>> {
     }
 }
 
-/// Why the database on a disk is refused, and the disk.
-pub fn refusal(rt: &impl Abort, alloc: Global, disk: MemoryDisk) -> Result<(Error, MemoryDisk)> {
-    match Database::open(alloc, disk) {
-        Ok(_) => panic!(rt; "it opens"),
-        Err(Refused { error, value }) => Ok((error, value)),
-    }
-}
-
 /// The disk of a database that was closed.
 pub fn closed<D: Disk + Drop>(database: Database<D>) -> Result<D> {
     let (disk, done) = database.close();
@@ -150,43 +141,6 @@ pub fn items<D: Disk + Drop>(alloc: Global, disk: D) -> Result<Database<D>> {
     let mut database = opened(alloc, disk)?;
     database.keyspace(b"items")?;
     Ok(database)
-}
-
-/// Whether a key of a keyspace has this value, or none.
-pub fn has<D: Disk>(
-    database: &mut Database<D>,
-    id: u64,
-    key: &[u8],
-    value: Option<&[u8]>,
-) -> Result<bool> {
-    let found = database.get(id, key)?;
-    Ok(match (&found, value) {
-        (Some(found), Some(value)) => found.as_slice() == value,
-        (None, None) => true,
-        _ => false,
-    })
-}
-
-/// Whether the names of the keyspaces are these.
-pub fn lists<D: Disk>(database: &mut Database<D>, names: &[&[u8]]) -> Result<bool> {
-    let listed = database.names()?;
-    Ok(
-        listed
-            .iter()
-            .map(|name| name.as_slice())
-            .eq(names.iter().copied()),
-    )
-}
-
-/// How many bytes the file of this name has, where there is one.
-pub fn len_of<D: Disk>(alloc: Global, disk: &mut D, name: &str) -> Result<Option<usize>> {
-    Ok(disk.read(alloc, name)?.map(|bytes| bytes.len()))
-}
-
-/// Whether something right in a folder has this name.
-pub fn is_there<D: Disk>(alloc: Global, disk: &mut D, folder: &str, name: &str) -> Result<bool> {
-    let listed = disk.list(alloc, folder)?;
-    Ok(listed.iter().any(|entry| entry.name.as_str() == name))
 }
 
 /// Adds a file with these bytes, or the bytes to a file that is there.

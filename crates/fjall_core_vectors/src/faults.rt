@@ -1,200 +1,231 @@
 //! Calls of the disk that fail, and what is safe from a crash.
 
-use crate::database::{Database, closed, has, items, lists, opened, refusal};
-use crate::tape::Tape;
-use fjall_base::{Error, MemoryDisk};
+use crate::acts::Act::*;
+use crate::acts::{Row, Scenario, WRITTEN, calls, first_wrong, written};
+use crate::database::{Database, opened};
+use crate::script::Line::*;
+use fjall_base::{Error, MemoryDisk, Refused, Result};
 use fjall_core::PersistMode;
 use std::alloc::Global;
 use std::io::ErrorKind;
-use std::process::Abort;
 use std::test::Fail;
 
-const FAULT: Error = Error::Io(ErrorKind::Other);
+// It reads a=b alone, and takes no change.
+const POISONED: &[Row] = &[
+    (Ask(Persist(PersistMode::Buffer)), "Poisoned"),
+    (Ask(Persist(PersistMode::SyncData)), "Poisoned"),
+    (Ask(Persist(PersistMode::SyncAll)), "Poisoned"),
+    (Ask(Insert(1, "e", "f")), "Poisoned"),
+    (Ask(Delete(1)), "Poisoned"),
+    (Ask(Create("other")), "Poisoned"),
+    (Ask(Create("items")), "1"),
+    (Ask(Insert(1, "", "f")), "KeyEmpty"),
+    (Ask(Insert(2, "e", "f")), "UnknownKeyspace"),
+    (Visible, "2"),
+    (Get(1, "a"), "b"),
+    (Get(1, "c"), "-"),
+];
 
-/// The disk of a database with the keyspace 1, in which a=b.
-fn written(alloc: Global) -> Result<MemoryDisk, Error> {
-    let mut core = items(alloc, MemoryDisk::new(alloc))?;
-    core.insert(1, b"a", b"b")?;
-    closed(core)
+const APPEND_20: &[Row] = &[
+    (Fail(&[], 20), ""),
+    (Open, ""),
+    (Ask(Insert(1, "c", "d")), "Io(Other)"),
+];
+
+const APPEND_49: &[Row] = &[
+    (Fail(&[], 49), ""),
+    (Open, ""),
+    (Ask(Insert(1, "c", "d")), "Io(Other)"),
+];
+
+const CRASHED: &[Row] = &[
+    (Close, "Poisoned"),
+    (Crash(98), ""),
+    (Open, ""),
+    (Get(1, "a"), "b"),
+];
+
+const LOST: &[Row] = &[(Get(1, "c"), "-"), (Seqno, "2"), (Space, "49")];
+
+const KEPT: &[Row] = &[(Get(1, "c"), "d"), (Seqno, "3"), (Space, "98")];
+
+const SYNC_DATA: &[Row] = &[
+    (Fail(&[], 0), ""),
+    (Open, ""),
+    (Ask(Persist(PersistMode::SyncData)), "Io(Other)"),
+];
+
+const SYNC_ALL: &[Row] = &[
+    (Fail(&[], 0), ""),
+    (Open, ""),
+    (Ask(Persist(PersistMode::SyncAll)), "Io(Other)"),
+];
+
+const CREATION: &[Row] = &[
+    (Fail(&[], 0), ""),
+    (Open, ""),
+    (Ask(Create("more")), "Io(Other)"),
+    (Exists("more"), "no"),
+];
+
+const NOT_CREATED: &[Row] = &[
+    (Leave, ""),
+    (Open, ""),
+    (Names, "items"),
+    (Ask(Create("more")), "2"),
+];
+
+const DELETION: &[Row] = &[
+    (Fail(&[], 0), ""),
+    (Open, ""),
+    (Ask(Delete(1)), "Io(Other)"),
+];
+
+const NOT_DELETED: &[Row] = &[
+    (Leave, ""),
+    (Open, ""),
+    (Names, "items"),
+    (Get(1, "a"), "b"),
+];
+
+const RELEASE: &[Row] = &[
+    (Fail(&[Delete(1)], 0), ""),
+    (Open, ""),
+    (Ask(Retain(1)), ""),
+    (Ask(Delete(1)), ""),
+    (Ask(Release(1)), "Io(Other)"),
+    (Ask(Create("more")), "Poisoned"),
+    (Get(1, "a"), "b"),
+    (Ask(Release(1)), ""),
+    (Get(1, "a"), "KeyspaceDeleted"),
+    (Leave, ""),
+    (Open, ""),
+    (Names, ""),
+    (Visible, "3"),
+];
+
+const OPENED: &[Row] = &[(Open, "")];
+
+const BUFFERED: &[Row] = &[
+    (Ask(Insert(1, "c", "d")), ""),
+    (Ask(Persist(PersistMode::Buffer)), ""),
+    (Leave, ""),
+    (Crash(0), ""),
+    (Open, ""),
+    (Get(1, "c"), "-"),
+];
+
+const DATA_SYNCED: &[Row] = &[
+    (Ask(Insert(1, "c", "d")), ""),
+    (Ask(Persist(PersistMode::SyncData)), ""),
+    (Leave, ""),
+    (Crash(0), ""),
+    (Open, ""),
+    (Get(1, "c"), "d"),
+];
+
+const ALL_SYNCED: &[Row] = &[
+    (Ask(Insert(1, "c", "d")), ""),
+    (Ask(Persist(PersistMode::SyncAll)), ""),
+    (Leave, ""),
+    (Crash(0), ""),
+    (Open, ""),
+    (Get(1, "c"), "d"),
+];
+
+const MORE: &[Row] = &[(Ask(Create("more")), "2"), (Ask(Insert(1, "c", "d")), "")];
+
+const CLOSING: &[Row] = &[
+    (Close, ""),
+    (Crash(0), ""),
+    (Open, ""),
+    (Get(1, "c"), "d"),
+    (Visible, "4"),
+];
+
+const ANOTHER_CREATION: &[Row] = &[
+    (Ask(Create("other")), "3"),
+    (Leave, ""),
+    (Crash(0), ""),
+    (Open, ""),
+    (Get(1, "c"), "d"),
+    (Visible, "5"),
+];
+
+const ANOTHER_DELETION: &[Row] = &[
+    (Ask(Delete(2)), ""),
+    (Leave, ""),
+    (Crash(0), ""),
+    (Open, ""),
+    (Get(1, "c"), "d"),
+    (Visible, "5"),
+];
+
+const SCENARIOS: &[Scenario] = &[
+    (
+        "a part of an append poisons",
+        &[APPEND_20, POISONED, CRASHED, LOST],
+    ),
+    (
+        "a whole append poisons",
+        &[APPEND_49, POISONED, CRASHED, KEPT],
+    ),
+    ("a sync of the data poisons", &[SYNC_DATA, POISONED]),
+    ("a sync of all poisons", &[SYNC_ALL, POISONED]),
+    ("a creation poisons", &[CREATION, POISONED, NOT_CREATED]),
+    ("a deletion poisons", &[DELETION, POISONED, NOT_DELETED]),
+    ("a failing release keeps the handle", &[RELEASE]),
+    (
+        "a buffer does not outlive a crash",
+        &[WRITTEN, OPENED, BUFFERED],
+    ),
+    (
+        "a sync of the data outlives it",
+        &[WRITTEN, OPENED, DATA_SYNCED],
+    ),
+    ("a sync of all outlives it", &[WRITTEN, OPENED, ALL_SYNCED]),
+    (
+        "a closing syncs what came before",
+        &[WRITTEN, OPENED, MORE, CLOSING],
+    ),
+    (
+        "a creation syncs it",
+        &[WRITTEN, OPENED, MORE, ANOTHER_CREATION],
+    ),
+    (
+        "a deletion syncs it",
+        &[WRITTEN, OPENED, MORE, ANOTHER_DELETION],
+    ),
+];
+
+#[test]
+fn faults_poison_and_syncs_are_safe(rt: HostRuntime) -> std::result::Result<(), Fail> {
+    assert_eq!(rt; first_wrong(rt.alloc(), SCENARIOS)?, None);
+    Ok(())
 }
 
-/// How many calls of the disk the opening of `written` makes.
-fn opening_calls(rt: &impl Abort, alloc: Global) -> Result<u64, Error> {
-    let tape = opened(alloc, Tape::new(alloc, written(alloc)?))?.into_disk();
-    assert!(rt; tape.log.is_whole);
-    Ok(tape.log.steps.len() as u64)
-}
-
-/// `written` opened, whose call of the disk of this number fails, counted from the first one behind the opening; of an
-/// append this part goes out.
-fn opened_to_fail(
-    rt: &impl Abort,
-    alloc: Global,
-    number: u64,
-    part: usize,
-) -> Result<Database<MemoryDisk>, Error> {
-    let calls = opening_calls(rt, alloc)?;
-    let mut disk = written(alloc)?;
-    disk.fail_at(calls.saturating_add(number), part);
-    opened(alloc, disk)
-}
-
-/// Whether a core reads a=b alone, and takes no change.
-fn is_poisoned(
-    rt: &impl Abort,
-    alloc: Global,
-    core: &mut Database<MemoryDisk>,
-) -> Result<bool, Error> {
-    let poisoned = Some(Error::Poisoned);
-    for mode in [
-        PersistMode::Buffer,
-        PersistMode::SyncData,
-        PersistMode::SyncAll,
-    ] {
-        assert_eq!(rt; core.persist(mode).err(), poisoned);
+/// Opens `written`, whose call of this number fails, and opens it again: why it is refused, and whether a=b is read then.
+fn opened_twice(alloc: Global, number: u64) -> Result<(Option<Error>, bool)> {
+    let mut disk: MemoryDisk = written(alloc)?;
+    disk.fail_at(number, 0);
+    match Database::open(alloc, disk) {
+        Ok(_) => Ok((None, false)),
+        Err(Refused { error, value }) => {
+            let found = opened(alloc, value)?.get(1, b"a")?;
+            let is_read = match &found {
+                Some(value) => value.as_slice() == b"b".as_slice(),
+                None => false,
+            };
+            Ok((Some(error), is_read))
+        }
     }
-    assert_eq!(rt; core.insert(1, b"e", b"f").err(), poisoned);
-    assert_eq!(rt; core.delete_keyspace(1).err(), poisoned);
-    assert_eq!(rt; core.keyspace(b"other").err(), poisoned);
-    assert_eq!(rt; core.keyspace(b"items")?, 1);
-    assert_eq!(rt; core.insert(1, b"", b"f").err(), Some(Error::KeyEmpty));
-    assert_eq!(rt;
-        core.insert(2, b"e", b"f").err(),
-        Some(Error::UnknownKeyspace)
-    );
-    assert_eq!(rt; core.visible_seqno(), 2);
-    Ok(has(core, 1, b"a", Some(b"b"))? && has(core, 1, b"c", None)?)
 }
 
 #[test]
-fn a_failing_append_poisons(rt: HostRuntime) -> Result<(), Fail> {
-    let alloc = rt.alloc();
-    for (part, value, seqno, len) in [(20, None, 2, 49), (49, Some(b"d".as_slice()), 3, 98)] {
-        let mut core = opened_to_fail(&rt, alloc, 1, part)?;
-        assert_eq!(rt; core.insert(1, b"c", b"d").err(), Some(FAULT));
-        assert!(rt; is_poisoned(&rt, alloc, &mut core)?);
-        let (disk, closed) = core.close();
-        assert_eq!(rt; closed.err(), Some(Error::Poisoned));
-        let mut core = opened(alloc, disk.crash(98)?)?;
-        assert!(rt; has(&mut core, 1, b"a", Some(b"b"))?);
-        assert!(rt; has(&mut core, 1, b"c", value)?, "part {part}");
-        assert_eq!(rt; (core.seqno(), core.journal_disk_space()), (seqno, len));
-    }
-    Ok(())
-}
-
-#[test]
-fn a_failing_sync_poisons(rt: HostRuntime) -> Result<(), Fail> {
-    let alloc = rt.alloc();
-    for mode in [PersistMode::SyncData, PersistMode::SyncAll] {
-        let mut core = opened_to_fail(&rt, alloc, 1, 0)?;
-        assert_eq!(rt; core.persist(mode).err(), Some(FAULT));
-        assert!(rt; is_poisoned(&rt, alloc, &mut core)?);
-    }
-    Ok(())
-}
-
-#[test]
-fn a_failing_creation_poisons(rt: HostRuntime) -> Result<(), Fail> {
-    let alloc = rt.alloc();
-    let mut core = opened_to_fail(&rt, alloc, 1, 0)?;
-    assert_eq!(rt; core.keyspace(b"more").err(), Some(FAULT));
-    assert!(rt; !core.keyspace_exists(b"more"));
-    assert!(rt; is_poisoned(&rt, alloc, &mut core)?);
-    let mut core = opened(alloc, core.into_disk())?;
-    assert!(rt; lists(&mut core, &[b"items"])?);
-    assert_eq!(rt; core.keyspace(b"more")?, 2);
-    Ok(())
-}
-
-#[test]
-fn a_failing_deletion_poisons(rt: HostRuntime) -> Result<(), Fail> {
-    let alloc = rt.alloc();
-    let mut core = opened_to_fail(&rt, alloc, 1, 0)?;
-    assert_eq!(rt; core.delete_keyspace(1).err(), Some(FAULT));
-    assert!(rt; is_poisoned(&rt, alloc, &mut core)?);
-    let mut core = opened(alloc, core.into_disk())?;
-    assert!(rt; lists(&mut core, &[b"items"])?);
-    assert!(rt; has(&mut core, 1, b"a", Some(b"b"))?);
-    Ok(())
-}
-
-// The deletion's calls are counted on a tape, so that the first one behind them fails.
-#[test]
-fn a_failing_release_keeps_the_handle(rt: HostRuntime) -> Result<(), Fail> {
-    let alloc = rt.alloc();
-    let mut core = opened(alloc, Tape::new(alloc, written(alloc)?))?;
-    core.delete_keyspace(1)?;
-    let calls = core.into_disk().log.steps.len() as u64;
-    let mut disk = written(alloc)?;
-    disk.fail_at(calls.saturating_add(1), 0);
-    let mut core = opened(alloc, disk)?;
-    core.retain(1)?;
-    core.delete_keyspace(1)?;
-    assert_eq!(rt; core.release(1).err(), Some(FAULT));
-    assert_eq!(rt; core.keyspace(b"more").err(), Some(Error::Poisoned));
-    assert!(rt; has(&mut core, 1, b"a", Some(b"b"))?);
-    core.release(1)?;
-    assert!(rt; core.get(1, b"a").is_err());
-    let mut core = opened(alloc, core.into_disk())?;
-    assert!(rt; lists(&mut core, &[])?);
-    assert_eq!(rt; core.visible_seqno(), 3);
-    Ok(())
-}
-
-#[test]
-fn a_failing_opening_hands_the_disk_back(rt: HostRuntime) -> Result<(), Fail> {
-    let alloc = rt.alloc();
-    let calls = opening_calls(&rt, alloc)?;
-    for number in 1..=calls {
-        let mut disk = written(alloc)?;
-        disk.fail_at(number, 0);
-        let (error, disk) = refusal(&rt, alloc, disk)?;
-        assert_eq!(rt; error, FAULT, "call {number}");
-        let mut core = opened(alloc, disk)?;
-        assert!(rt; has(&mut core, 1, b"a", Some(b"b"))?, "call {number}");
-    }
-    Ok(())
-}
-
-#[test]
-fn a_sync_outlives_a_crash(rt: HostRuntime) -> Result<(), Fail> {
-    let alloc = rt.alloc();
-    for (mode, value) in [
-        (PersistMode::Buffer, None),
-        (PersistMode::SyncData, Some(b"d".as_slice())),
-        (PersistMode::SyncAll, Some(b"d".as_slice())),
-    ] {
-        let mut core = opened(alloc, written(alloc)?)?;
-        core.insert(1, b"c", b"d")?;
-        core.persist(mode)?;
-        let mut core = opened(alloc, core.into_disk().crash(0)?)?;
-        assert!(rt; has(&mut core, 1, b"c", value)?, "{mode:?}");
-    }
-    Ok(())
-}
-
-#[test]
-fn closings_creations_and_deletions_sync_what_came_before(rt: HostRuntime) -> Result<(), Fail> {
-    let alloc = rt.alloc();
-    for way in 0..3 {
-        let mut core = opened(alloc, written(alloc)?)?;
-        let more = core.keyspace(b"more")?;
-        core.insert(1, b"c", b"d")?;
-        let disk = match way {
-            0 => closed(core)?,
-            1 => {
-                core.keyspace(b"other")?;
-                core.into_disk()
-            }
-            _ => {
-                core.delete_keyspace(more)?;
-                core.into_disk()
-            }
-        };
-        let mut core = opened(alloc, disk.crash(0)?)?;
-        assert!(rt; has(&mut core, 1, b"c", Some(b"d"))?, "way {way}");
-        assert_eq!(rt; core.visible_seqno(), if way == 0 { 4 } else { 5 });
+fn a_failing_opening_hands_the_disk_back(rt: HostRuntime) -> std::result::Result<(), Fail> {
+    let due = (Some(Error::Io(ErrorKind::Other)), true);
+    for number in 1..=calls(rt.alloc(), &[])? {
+        assert_eq!(rt; opened_twice(rt.alloc(), number)?, due, "call {number}");
     }
     Ok(())
 }

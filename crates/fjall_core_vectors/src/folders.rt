@@ -1,114 +1,118 @@
 //! Folders that no database made, or that something was added to.
 
-use crate::database::{add, closed, has, items, len_of, lists, opened, refusal};
-use fjall_base::{Disk, Error, FormatVersion, JournalRecoveryError, MemoryDisk};
-use std::alloc::Global;
-use std::process::Abort;
+use crate::acts::Act::*;
+use crate::acts::{Row, Scenario, WRITTEN, first_wrong};
+use crate::script::Line::*;
 use std::test::Fail;
 
-/// Why a disk is refused with this file more.
-fn refusal_with(
-    rt: &impl Abort,
-    alloc: Global,
-    disk: MemoryDisk,
-    name: &str,
-    text: &[u8],
-) -> fjall_base::Result<Error> {
-    let mut disk = disk;
-    add(&mut disk, name, text)?;
-    let (error, mut disk) = refusal(rt, alloc, disk)?;
-    assert_eq!(rt; len_of(alloc, &mut disk, name)?, Some(text.len()));
-    Ok(error)
-}
+const VERSION_1: &[Row] = &[
+    (Add("version", b"FJL\x01"), ""),
+    (Refuse("version"), "InvalidVersion(Some(V1))"),
+    (Len("version"), "4"),
+];
 
-/// The disk of a database whose keyspace 1 has a=b.
-fn written(alloc: Global) -> fjall_base::Result<MemoryDisk> {
-    let mut core = items(alloc, MemoryDisk::new(alloc))?;
-    core.insert(1, b"a", b"b")?;
-    closed(core)
-}
+const VERSION_2: &[Row] = &[
+    (Add("version", b"FJL\x02"), ""),
+    (Refuse("version"), "InvalidVersion(Some(V2))"),
+    (Len("version"), "4"),
+];
+
+const VERSION_4: &[Row] = &[
+    (Add("version", b"FJL\x04"), ""),
+    (Refuse("version"), "InvalidVersion(None)"),
+    (Len("version"), "4"),
+];
+
+const NO_VERSION: &[Row] = &[
+    (Add("version", b"FJX"), ""),
+    (Refuse("version"), "InvalidVersion(None)"),
+    (Len("version"), "3"),
+];
+
+const CUT_SHORT: &[Row] = &[
+    (Add("version", b"FJ"), ""),
+    (Add("0.jnl", b""), ""),
+    (Open, ""),
+    (Visible, "0"),
+    (Space, "0"),
+    (Names, ""),
+    (Leave, ""),
+    (Holds("version", b"FJL\x03"), "yes"),
+];
+
+const UPPER: &[Row] = &[
+    (Add("0.JNL", b""), ""),
+    (Refuse("0.JNL"), "JournalRecovery(InvalidFileName)"),
+    (Len("0.JNL"), "0"),
+];
+
+const TWO_ZEROS: &[Row] = &[
+    (Add("00.jnl", b""), ""),
+    (Refuse("00.jnl"), "JournalRecovery(InvalidFileName)"),
+    (Len("00.jnl"), "0"),
+];
+
+const LETTER: &[Row] = &[
+    (Add("x.jnl", b""), ""),
+    (Refuse("x.jnl"), "JournalRecovery(InvalidFileName)"),
+    (Len("x.jnl"), "0"),
+];
+
+const OTHERS: &[Row] = &[
+    (Add("notes.txt", b""), ""),
+    (Add(".jnl", b""), ""),
+    (Add("keyspaces/notes", b""), ""),
+    (Add("keyspaces/1/notes", b""), ""),
+    (Open, ""),
+    (Get(1, "a"), "b"),
+    (Leave, ""),
+    (Len("notes.txt"), "0"),
+    (Len(".jnl"), "0"),
+    (Len("keyspaces/notes"), "0"),
+    (Len("keyspaces/1/notes"), "0"),
+];
+
+const TORN: &[Row] = &[
+    (Add("0.jnl", b"\x01torn"), ""),
+    (Add("1.jnl", b""), ""),
+    (Refuse("1.jnl"), "Unrecoverable"),
+    (Len("1.jnl"), "0"),
+];
+
+const LAST: &[Row] = &[
+    (Add("10.jnl", b""), ""),
+    (Add("9.jnl", b""), ""),
+    (Open, ""),
+    (Ask(Insert(1, "c", "d")), ""),
+    (Space, "49"),
+    (Close, ""),
+    (Len("0.jnl"), "49"),
+    (Len("9.jnl"), "0"),
+    (Len("10.jnl"), "49"),
+    (Open, ""),
+    (Get(1, "a"), "b"),
+    (Get(1, "c"), "d"),
+];
+
+const SCENARIOS: &[Scenario] = &[
+    ("version 1 is refused", &[VERSION_1]),
+    ("version 2 is refused", &[VERSION_2]),
+    ("version 4 is refused", &[VERSION_4]),
+    ("what is no version is refused", &[NO_VERSION]),
+    ("a creation cut short goes on", &[CUT_SHORT]),
+    ("0.JNL is nearly a journal", &[WRITTEN, UPPER]),
+    ("00.jnl is nearly a journal", &[WRITTEN, TWO_ZEROS]),
+    ("x.jnl is nearly a journal", &[WRITTEN, LETTER]),
+    ("other files are passed over", &[WRITTEN, OTHERS]),
+    (
+        "a torn journal before the last is refused",
+        &[WRITTEN, TORN],
+    ),
+    ("the last journal goes on", &[WRITTEN, LAST]),
+];
 
 #[test]
-fn another_version_is_refused(rt: HostRuntime) -> Result<(), Fail> {
-    let alloc = rt.alloc();
-    for (marker, version) in [
-        (b"FJL\x01".as_slice(), Some(FormatVersion::V1)),
-        (b"FJL\x02", Some(FormatVersion::V2)),
-        (b"FJL\x04", None),
-        (b"FJX", None),
-    ] {
-        let disk = MemoryDisk::new(alloc);
-        let error = refusal_with(&rt, alloc, disk, "version", marker)?;
-        assert_eq!(rt; error, Error::InvalidVersion(version));
-    }
-    Ok(())
-}
-
-#[test]
-fn a_creation_cut_short_goes_on(rt: HostRuntime) -> Result<(), Fail> {
-    let alloc = rt.alloc();
-    let mut disk = MemoryDisk::new(alloc);
-    add(&mut disk, "version", b"FJ")?;
-    add(&mut disk, "0.jnl", b"")?;
-    let mut core = opened(alloc, disk)?;
-    assert_eq!(rt; (core.visible_seqno(), core.journal_disk_space()), (0, 0));
-    assert!(rt; lists(&mut core, &[])?);
-    let text = core.into_disk().read(alloc, "version")?.ok_or("no marker")?;
-    assert_eq!(rt; text.as_slice(), b"FJL\x03".as_slice());
-    Ok(())
-}
-
-#[test]
-fn files_named_nearly_like_a_journal_are_refused(rt: HostRuntime) -> Result<(), Fail> {
-    let alloc = rt.alloc();
-    let misnamed = Error::JournalRecovery(JournalRecoveryError::InvalidFileName);
-    for name in ["0.JNL", "00.jnl", "x.jnl"] {
-        let error = refusal_with(&rt, alloc, written(alloc)?, name, b"")?;
-        assert_eq!(rt; error, misnamed, "{name}");
-    }
-    Ok(())
-}
-
-#[test]
-fn other_files_are_passed_over(rt: HostRuntime) -> Result<(), Fail> {
-    let alloc = rt.alloc();
-    let mut disk = written(alloc)?;
-    for name in ["notes.txt", ".jnl", "keyspaces/notes", "keyspaces/1/notes"] {
-        add(&mut disk, name, b"")?;
-    }
-    let mut core = opened(alloc, disk)?;
-    assert!(rt; has(&mut core, 1, b"a", Some(b"b"))?);
-    let mut disk = core.into_disk();
-    for name in ["notes.txt", ".jnl", "keyspaces/notes", "keyspaces/1/notes"] {
-        assert_eq!(rt; len_of(alloc, &mut disk, name)?, Some(0), "{name}");
-    }
-    Ok(())
-}
-
-#[test]
-fn a_torn_journal_before_the_last_is_refused(rt: HostRuntime) -> Result<(), Fail> {
-    let alloc = rt.alloc();
-    let mut disk = written(alloc)?;
-    add(&mut disk, "0.jnl", b"\x01torn")?;
-    let error = refusal_with(&rt, alloc, disk, "1.jnl", b"")?;
-    assert_eq!(rt; error, Error::Unrecoverable);
-    Ok(())
-}
-
-#[test]
-fn the_last_journal_goes_on(rt: HostRuntime) -> Result<(), Fail> {
-    let alloc = rt.alloc();
-    let mut disk = written(alloc)?;
-    add(&mut disk, "10.jnl", b"")?;
-    add(&mut disk, "9.jnl", b"")?;
-    let mut core = opened(alloc, disk)?;
-    core.insert(1, b"c", b"d")?;
-    assert_eq!(rt; core.journal_disk_space(), 49);
-    let mut disk = closed(core)?;
-    for (name, len) in [("0.jnl", 49), ("9.jnl", 0), ("10.jnl", 49)] {
-        assert_eq!(rt; len_of(alloc, &mut disk, name)?, Some(len), "{name}");
-    }
-    let mut core = opened(alloc, disk)?;
-    assert!(rt; has(&mut core, 1, b"a", Some(b"b"))? && has(&mut core, 1, b"c", Some(b"d"))?);
+fn folders_open_or_are_refused(rt: HostRuntime) -> Result<(), Fail> {
+    assert_eq!(rt; first_wrong(rt.alloc(), SCENARIOS)?, None);
     Ok(())
 }

@@ -1,232 +1,249 @@
 //! Journals that a crash cut, or that something damaged.
 
-use crate::database::{Database, add, closed, has, items, len_of, opened, refusal};
-use fjall_base::{CompressionType, Disk, Error, JournalRecoveryError, MemoryDisk, Slice};
-use fjall_journal::{Entry, ValueType, checksum};
-use std::alloc::Global;
-use std::process::Abort;
+use crate::acts::Act::*;
+use crate::acts::{Change, ITEMS, ONE, Row, Scenario, first_wrong, wrong_act};
+use crate::script::Line::*;
+use fjall_journal::ValueType;
 use std::test::Fail;
 
-// The journal of one insert of a=b into keyspace 1 under number 1. The check was computed apart from this repository.
-const ONE: [u8; 49] = [
-    1, 1, 0, 0, 0, 1, 0, 0, 0, 0, 0, 0, 0, 2, 0, 0, 1, 0, 0, 0, 0, 0, 0, 0, 1, 0, 1, 0, 0, 0, 1, 0,
-    0, 0, 97, 98, 3, 18, 215, 64, 145, 131, 194, 0, 0, 70, 74, 76, 3,
+const ONE_BATCH: &[Row] = &[
+    (Ask(Insert(1, "a", "b")), ""),
+    (Visible, "2"),
+    (Space, "49"),
+    (Leave, ""),
+    (Holds("0.jnl", ONE), "yes"),
+    (Open, ""),
+    (Ask(Insert(1, "a", "c")), ""),
+    (Get(1, "a"), "c"),
+    (Visible, "3"),
+    (Space, "98"),
 ];
 
-/// The disk of a database with the keyspace 1, whose journal holds these bytes.
-fn disk_with(alloc: Global, text: &[u8]) -> Result<MemoryDisk, Error> {
-    let mut disk = closed(items(alloc, MemoryDisk::new(alloc))?)?;
-    add(&mut disk, "0.jnl", text)?;
-    Ok(disk)
-}
+const BEGINNING: &[Row] = &[
+    (Ask(Insert(1, "a", "v")), ""),
+    (Ask(Insert(1, "b", "v")), ""),
+    (Ask(Insert(1, "c", "v")), ""),
+    (Space, "147"),
+    (Leave, ""),
+    (Crash(100), ""),
+    (Open, ""),
+    (Get(1, "a"), "v"),
+    (Get(1, "b"), "v"),
+    (Get(1, "c"), "-"),
+    (Visible, "3"),
+    (Space, "98"),
+];
 
-/// The bytes of the journal.
-fn journal<D: Disk>(rt: &impl Abort, alloc: Global, disk: &mut D) -> Result<Vec<u8>, Error> {
-    let Some(text) = disk.read(alloc, "0.jnl")? else {
-        panic!(rt; "no journal")
-    };
-    Ok(text)
-}
+const CLOSED: &[Row] = &[(Close, "")];
 
-/// What the next change takes as its number, and how many bytes the journal has.
-fn ends<D: Disk>(core: &Database<D>) -> (u64, u64) {
-    (core.visible_seqno(), core.journal_disk_space())
-}
+const INSERT: &[Row] = &[(One(49), "")];
+
+const READ: &[Row] = &[
+    (Open, ""),
+    (Get(1, "a"), "b"),
+    (Visible, "2"),
+    (Space, "49"),
+];
+
+const FEWER_BYTES: &[Row] = &[
+    (Damage("0.jnl", 1, 2), ""),
+    (Refuse("0.jnl"), "JournalRecovery(InsufficientLength)"),
+];
+
+const MORE_ITEMS: &[Row] = &[
+    (Damage("0.jnl", 1, 0), ""),
+    (Refuse("0.jnl"), "JournalRecovery(TooManyItems)"),
+];
+
+const OTHER_NUMBER: &[Row] = &[
+    (Damage("0.jnl", 5, 2), ""),
+    (Refuse("0.jnl"), "JournalRecovery(ChecksumMismatch)"),
+];
+
+const OTHER_VALUE: &[Row] = &[
+    (Damage("0.jnl", 35, 99), ""),
+    (Refuse("0.jnl"), "JournalRecovery(ChecksumMismatch)"),
+];
+
+const NO_END: &[Row] = &[
+    (Damage("0.jnl", 48, 4), ""),
+    (Open, ""),
+    (Visible, "1"),
+    (Space, "0"),
+];
+
+const PUT: &[Change] = &[Change::Item(1, ValueType::Value)];
+
+const NUMBER_0: &[Row] = &[(Batch(0, PUT), ""), (Refuse("0.jnl"), "Unrecoverable")];
+
+const NUMBER_1: &[Row] = &[(Batch(1, PUT), ""), (Refuse("0.jnl"), "Unrecoverable")];
+
+const NUMBER_TOO_HIGH: &[Row] = &[
+    (Batch(1 << 63, PUT), ""),
+    (Refuse("0.jnl"), "Unrecoverable"),
+];
+
+const INDIRECTION: &[Row] = &[
+    (Batch(2, &[Change::Item(1, ValueType::Indirection)]), ""),
+    (Refuse("0.jnl"), "InvalidTag((\"ValueType\", 4))"),
+];
+
+const OWN_VALUE: &[Row] = &[(Batch(2, PUT), "")];
+
+const OWN_REMOVAL: &[Row] = &[(Batch(2, &[Change::Item(1, ValueType::Tombstone)]), "")];
+
+const OWN_WEAK_REMOVAL: &[Row] = &[(Batch(2, &[Change::Item(1, ValueType::WeakTombstone)]), "")];
+
+const OTHERS_VALUE: &[Row] = &[(Batch(2, &[Change::Item(2, ValueType::Value)]), "")];
+
+const OTHERS_REMOVAL: &[Row] = &[(Batch(2, &[Change::Item(2, ValueType::Tombstone)]), "")];
+
+const OTHERS_WEAK_REMOVAL: &[Row] = &[(Batch(2, &[Change::Item(2, ValueType::WeakTombstone)]), "")];
+
+const OWN_CLEAR: &[Row] = &[(Batch(2, &[Change::Clear(1)]), "")];
+
+const OTHERS_CLEAR: &[Row] = &[(Batch(2, &[Change::Clear(2)]), "")];
+
+const CLEAR_AND_VALUE: &[Row] = &[(
+    Batch(2, &[Change::Clear(1), Change::Item(1, ValueType::Value)]),
+    "",
+)];
+
+// The insert has 49 bytes. A batch begins and ends with 13 bytes each, an item has 23, and a clear 9.
+const ITEM_MORE: &[Row] = &[
+    (Len("0.jnl"), "98"),
+    (Open, ""),
+    (Visible, "3"),
+    (Space, "98"),
+];
+
+const CLEAR_MORE: &[Row] = &[
+    (Len("0.jnl"), "84"),
+    (Open, ""),
+    (Visible, "3"),
+    (Space, "84"),
+];
+
+const BOTH_MORE: &[Row] = &[
+    (Len("0.jnl"), "107"),
+    (Open, ""),
+    (Visible, "3"),
+    (Space, "107"),
+];
+
+const NEW: &[Row] = &[(Get(1, "a"), "w")];
+
+const OLD: &[Row] = &[(Get(1, "a"), "b")];
+
+const NONE: &[Row] = &[(Get(1, "a"), "-")];
+
+// The keyspace was made under number 0, so that nothing of that number is in it.
+const OWN_NUMBER: &[Row] = &[
+    (Batch(0, PUT), ""),
+    (Open, ""),
+    (Get(1, "a"), "-"),
+    (Visible, "1"),
+    (Space, "49"),
+];
+
+const NUMBERS_END: &[Row] = &[
+    (Batch((1 << 63) - 1, PUT), ""),
+    (Open, ""),
+    (Ask(Insert(1, "a", "x")), "NumbersUsedUp"),
+    (Ask(Delete(1)), "NumbersUsedUp"),
+    (Ask(Create("more")), "NumbersUsedUp"),
+    (Ask(Create("items")), "1"),
+    (Get(1, "a"), "w"),
+    (Visible, "9223372036854775808"),
+    (Space, "98"),
+];
+
+const SCENARIOS: &[Scenario] = &[
+    ("an insert is one batch", &[ITEMS, ONE_BATCH]),
+    ("a crash keeps a beginning", &[ITEMS, BEGINNING]),
+    ("a whole batch is read", &[ITEMS, CLOSED, INSERT, READ]),
+    (
+        "one item where two are due",
+        &[ITEMS, CLOSED, INSERT, FEWER_BYTES],
+    ),
+    (
+        "one item where none is due",
+        &[ITEMS, CLOSED, INSERT, MORE_ITEMS],
+    ),
+    ("another number", &[ITEMS, CLOSED, INSERT, OTHER_NUMBER]),
+    ("another value", &[ITEMS, CLOSED, INSERT, OTHER_VALUE]),
+    ("another last byte", &[ITEMS, CLOSED, INSERT, NO_END]),
+    ("number 0 behind 1", &[ITEMS, CLOSED, INSERT, NUMBER_0]),
+    ("number 1 behind 1", &[ITEMS, CLOSED, INSERT, NUMBER_1]),
+    (
+        "a number too high",
+        &[ITEMS, CLOSED, INSERT, NUMBER_TOO_HIGH],
+    ),
+    ("an indirection", &[ITEMS, CLOSED, INSERT, INDIRECTION]),
+    (
+        "a value",
+        &[ITEMS, CLOSED, INSERT, OWN_VALUE, ITEM_MORE, NEW],
+    ),
+    (
+        "a removal",
+        &[ITEMS, CLOSED, INSERT, OWN_REMOVAL, ITEM_MORE, NONE],
+    ),
+    (
+        "a weak removal",
+        &[ITEMS, CLOSED, INSERT, OWN_WEAK_REMOVAL, ITEM_MORE, NONE],
+    ),
+    (
+        "another keyspace's value",
+        &[ITEMS, CLOSED, INSERT, OTHERS_VALUE, ITEM_MORE, OLD],
+    ),
+    (
+        "another keyspace's removal",
+        &[ITEMS, CLOSED, INSERT, OTHERS_REMOVAL, ITEM_MORE, OLD],
+    ),
+    (
+        "another keyspace's weak removal",
+        &[ITEMS, CLOSED, INSERT, OTHERS_WEAK_REMOVAL, ITEM_MORE, OLD],
+    ),
+    (
+        "a clear",
+        &[ITEMS, CLOSED, INSERT, OWN_CLEAR, CLEAR_MORE, NONE],
+    ),
+    (
+        "another keyspace's clear",
+        &[ITEMS, CLOSED, INSERT, OTHERS_CLEAR, CLEAR_MORE, OLD],
+    ),
+    (
+        "a clear and a value",
+        &[ITEMS, CLOSED, INSERT, CLEAR_AND_VALUE, BOTH_MORE, NEW],
+    ),
+    (
+        "a batch of a keyspace's own number is passed over",
+        &[ITEMS, CLOSED, OWN_NUMBER],
+    ),
+    ("numbers end", &[ITEMS, CLOSED, INSERT, NUMBERS_END]),
+];
 
 #[test]
-fn an_insert_is_one_batch(rt: HostRuntime) -> Result<(), Fail> {
-    let alloc = rt.alloc();
-    let mut core = items(alloc, MemoryDisk::new(alloc))?;
-    core.insert(1, b"a", b"b")?;
-    assert_eq!(rt; ends(&core), (2, 49));
-    let mut disk = core.into_disk();
-    assert_eq!(rt; journal(&rt, alloc, &mut disk)?.as_slice(), ONE.as_slice());
-    let mut core = opened(alloc, disk)?;
-    core.insert(1, b"a", b"c")?;
-    assert!(rt; has(&mut core, 1, b"a", Some(b"c"))?);
-    assert_eq!(rt; ends(&core), (3, 98));
+fn journals_are_read_or_refused(rt: HostRuntime) -> Result<(), Fail> {
+    assert_eq!(rt; first_wrong(rt.alloc(), SCENARIOS)?, None);
     Ok(())
 }
+
+const TORN: &[Row] = &[
+    (Open, ""),
+    (Get(1, "a"), "-"),
+    (Visible, "1"),
+    (Space, "0"),
+    (Leave, ""),
+    (Len("0.jnl"), "0"),
+];
 
 #[test]
 fn a_torn_batch_is_cut(rt: HostRuntime) -> Result<(), Fail> {
-    let alloc = rt.alloc();
     for len in 0..49usize {
-        let mut core = opened(alloc, disk_with(alloc, &ONE[..len])?)?;
-        assert!(rt; has(&mut core, 1, b"a", None)?, "at {len}");
-        assert_eq!(rt; ends(&core), (1, 0), "at {len}");
-        let mut disk = core.into_disk();
-        assert_eq!(rt; len_of(alloc, &mut disk, "0.jnl")?, Some(0), "at {len}");
+        let part = [(One(len), "")];
+        let wrong = wrong_act(rt.alloc(), &[ITEMS, CLOSED, &part, TORN])?;
+        assert_eq!(rt; wrong, None, "at {len}");
     }
-    let mut core = opened(alloc, disk_with(alloc, &ONE)?)?;
-    assert!(rt; has(&mut core, 1, b"a", Some(b"b"))?);
-    assert_eq!(rt; ends(&core), (2, 49));
-    Ok(())
-}
-
-#[test]
-fn a_crash_keeps_a_beginning(rt: HostRuntime) -> Result<(), Fail> {
-    let alloc = rt.alloc();
-    let mut core = items(alloc, MemoryDisk::new(alloc))?;
-    for key in [b"a", b"b", b"c"] {
-        core.insert(1, key, b"v")?;
-    }
-    assert_eq!(rt; core.journal_disk_space(), 147);
-    let mut core = opened(alloc, core.into_disk().crash(100)?)?;
-    assert!(rt; has(&mut core, 1, b"a", Some(b"v"))?);
-    assert!(rt; has(&mut core, 1, b"b", Some(b"v"))?);
-    assert!(rt; has(&mut core, 1, b"c", None)?);
-    assert_eq!(rt; ends(&core), (3, 98));
-    Ok(())
-}
-
-/// Why a journal isn't opened, once its file is seen to hold what it held.
-fn refusal_of(rt: &impl Abort, alloc: Global, text: &[u8]) -> Result<Error, Error> {
-    let (error, mut disk) = refusal(rt, alloc, disk_with(alloc, text)?)?;
-    assert_eq!(rt; journal(rt, alloc, &mut disk)?.as_slice(), text);
-    Ok(error)
-}
-
-/// The one insert with another byte at a place.
-fn one_with(at: usize, byte: u8) -> [u8; 49] {
-    let mut text = ONE;
-    if let Some(other) = text.get_mut(at) {
-        *other = byte;
-    }
-    text
-}
-
-#[test]
-fn a_damaged_batch_is_refused(rt: HostRuntime) -> Result<(), Fail> {
-    let alloc = rt.alloc();
-    for (at, byte, damage) in [
-        (1, 2, JournalRecoveryError::InsufficientLength),
-        (1, 0, JournalRecoveryError::TooManyItems),
-        (5, 2, JournalRecoveryError::ChecksumMismatch),
-        (35, 99, JournalRecoveryError::ChecksumMismatch),
-    ] {
-        let error = refusal_of(&rt, alloc, &one_with(at, byte))?;
-        assert_eq!(rt; error, Error::JournalRecovery(damage), "byte {at}");
-    }
-    let core = opened(alloc, disk_with(alloc, &one_with(48, 4))?)?;
-    assert_eq!(rt; ends(&core), (1, 0));
-    Ok(())
-}
-
-/// The text of a batch of these changes.
-fn batch(rt: &impl Abort, alloc: Global, seqno: u64, changes: &[Entry]) -> Result<Vec<u8>, Error> {
-    let item_count = u32::try_from(changes.len()).expect(rt, "few changes");
-    let mut text = Vec::new(alloc);
-    Entry::Start { item_count, seqno }.encode_into(&mut text)?;
-    for change in changes {
-        change.encode_into(&mut text)?;
-    }
-    let check = checksum(&text);
-    Entry::End(check).encode_into(&mut text)?;
-    Ok(text)
-}
-
-/// An item that gives or takes the value of `a`.
-fn item(alloc: Global, keyspace_id: u64, value_type: ValueType) -> Result<Entry, Error> {
-    Ok(Entry::Item {
-        keyspace_id,
-        key: Slice::new(alloc, b"a")?,
-        value: Slice::new(alloc, b"w")?,
-        value_type,
-        compression: CompressionType::None,
-    })
-}
-
-/// The one insert, and a batch behind it.
-fn one_and(
-    rt: &impl Abort,
-    alloc: Global,
-    seqno: u64,
-    changes: &[Entry],
-) -> Result<Vec<u8>, Error> {
-    let mut text = Vec::from_slice(alloc, &ONE)?;
-    text.extend_from_slice(&batch(rt, alloc, seqno, changes)?)?;
-    Ok(text)
-}
-
-#[test]
-fn numbers_that_do_not_rise_are_refused(rt: HostRuntime) -> Result<(), Fail> {
-    let alloc = rt.alloc();
-    let put = [item(alloc, 1, ValueType::Value)?];
-    for seqno in [0, 1, 1 << 63] {
-        let text = one_and(&rt, alloc, seqno, &put)?;
-        let error = refusal_of(&rt, alloc, &text)?;
-        assert_eq!(rt; error, Error::Unrecoverable, "number {seqno}");
-    }
-    let points = [item(alloc, 1, ValueType::Indirection)?];
-    let text = one_and(&rt, alloc, 2, &points)?;
-    let error = refusal_of(&rt, alloc, &text)?;
-    assert_eq!(rt; error, Error::InvalidTag(("ValueType", 4)));
-    Ok(())
-}
-
-/// Whether a journal of the one insert, and these changes behind it, opens with this value for `a`.
-fn leaves(
-    rt: &impl Abort,
-    alloc: Global,
-    changes: &[Entry],
-    value: Option<&[u8]>,
-) -> Result<bool, Error> {
-    let text = one_and(rt, alloc, 2, changes)?;
-    let mut core = opened(alloc, disk_with(alloc, &text)?)?;
-    assert_eq!(rt; ends(&core), (3, text.len() as u64));
-    has(&mut core, 1, b"a", value)
-}
-
-#[test]
-fn batches_are_replayed_in_their_keyspaces(rt: HostRuntime) -> Result<(), Fail> {
-    let alloc = rt.alloc();
-    for (value_type, value) in [
-        (ValueType::Value, Some(b"w".as_slice())),
-        (ValueType::Tombstone, None),
-        (ValueType::WeakTombstone, None),
-    ] {
-        let own = [item(alloc, 1, value_type)?];
-        assert!(rt; leaves(&rt, alloc, &own, value)?);
-        let other = [item(alloc, 2, value_type)?];
-        assert!(rt; leaves(&rt, alloc, &other, Some(b"b"))?);
-    }
-    let clear = [Entry::Clear { keyspace_id: 1 }];
-    assert!(rt; leaves(&rt, alloc, &clear, None)?);
-    let other = [Entry::Clear { keyspace_id: 2 }];
-    assert!(rt; leaves(&rt, alloc, &other, Some(b"b"))?);
-    let both = [
-        Entry::Clear { keyspace_id: 1 },
-        item(alloc, 1, ValueType::Value)?,
-    ];
-    assert!(rt; leaves(&rt, alloc, &both, Some(b"w"))?);
-    Ok(())
-}
-
-// The keyspace was made under number 0, so that nothing of that number is in it.
-#[test]
-fn a_batch_of_a_keyspace_s_own_number_is_passed_over(rt: HostRuntime) -> Result<(), Fail> {
-    let alloc = rt.alloc();
-    let put = [item(alloc, 1, ValueType::Value)?];
-    let text = batch(&rt, alloc, 0, &put)?;
-    let mut core = opened(alloc, disk_with(alloc, &text)?)?;
-    assert!(rt; has(&mut core, 1, b"a", None)?);
-    assert_eq!(rt; ends(&core), (1, 49));
-    Ok(())
-}
-
-#[test]
-fn numbers_end(rt: HostRuntime) -> Result<(), Fail> {
-    let alloc = rt.alloc();
-    let put = [item(alloc, 1, ValueType::Value)?];
-    let text = one_and(&rt, alloc, (1 << 63) - 1, &put)?;
-    let mut core = opened(alloc, disk_with(alloc, &text)?)?;
-    let used_up = Some(Error::NumbersUsedUp);
-    assert_eq!(rt; core.insert(1, b"a", b"x").err(), used_up);
-    assert_eq!(rt; core.delete_keyspace(1).err(), used_up);
-    assert_eq!(rt; core.keyspace(b"more").err(), used_up);
-    assert_eq!(rt; core.keyspace(b"items")?, 1);
-    assert!(rt; has(&mut core, 1, b"a", Some(b"w"))?);
-    assert_eq!(rt; ends(&core), (1 << 63, 98));
     Ok(())
 }

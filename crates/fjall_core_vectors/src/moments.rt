@@ -8,7 +8,7 @@ use std::alloc::Global;
 use std::mem;
 
 /// What stands at a name.
-#[derive(Clone, Debug, PartialEq, Eq, Drop)]
+#[derive(Clone, PartialEq, Eq, Drop)]
 enum Entry {
     Missing,
     Folder,
@@ -17,7 +17,7 @@ enum Entry {
 }
 
 /// What stands at a name, and what else a crash may bring back there.
-#[derive(Clone, Debug, PartialEq, Eq, Drop)]
+#[derive(Clone, PartialEq, Eq, Drop)]
 struct Place {
     name: String,
     now: Entry,
@@ -25,13 +25,13 @@ struct Place {
 }
 
 /// What a disk holds at a moment: names in an order in which each one's folder comes before it.
-#[derive(Clone, Debug, PartialEq, Eq, Drop)]
+#[derive(Clone, PartialEq, Eq, Drop)]
 pub struct Moment {
     places: Vec<Place>,
 }
 
 /// A way to crash.
-#[derive(Clone, Copy, Debug)]
+#[derive(Clone, Copy)]
 pub struct Crash {
     /// Which entry of each name comes back: all combinations are numbered, and at 0 each has what stands there now.
     pick: usize,
@@ -143,14 +143,23 @@ impl Moment {
         }
     }
 
+    /// Where a name is among the places.
     fn find(&self, name: &str) -> Option<usize> {
-        let named = |place: &Place| place.name.as_str() == name;
-        self.places.iter().position(named)
+        for (at, place) in self.places.iter().enumerate() {
+            if place.name.as_str() == name {
+                return Some(at);
+            }
+        }
+        None
+    }
+
+    fn place(&self, name: &str) -> Option<&Place> {
+        self.places.get(self.find(name)?)
     }
 
     /// Whether there is such a folder; the root always is.
     fn has_folder(&self, name: &str) -> bool {
-        match self.find(name).and_then(|at| self.places.get(at)) {
+        match self.place(name) {
             Some(place) => place.now == Entry::Folder,
             None => name.is_empty(),
         }
@@ -158,21 +167,22 @@ impl Moment {
 
     /// Puts an entry at a name, unless one like it stands there; answers whether it did.
     fn put(&mut self, alloc: Global, name: &str, entry: Entry) -> Result<bool> {
-        let at = self.find(name);
-        match at.and_then(|at| self.places.get_mut(at)) {
-            Some(place) => {
-                if place.now.is_like(&entry) {
-                    return Ok(false);
-                }
-                let before = mem::replace(&mut place.now, entry);
-                place.older.push(before)?;
-            }
-            None => self.places.push(Place {
+        let Some(at) = self.find(name) else {
+            self.places.push(Place {
                 name: String::from_str(alloc, name)?,
                 now: entry,
                 older: vec![in alloc; Entry::Missing]?,
-            })?,
+            })?;
+            return Ok(true);
+        };
+        let Some(place) = self.places.get_mut(at) else {
+            return Ok(false);
+        };
+        if place.now.is_like(&entry) {
+            return Ok(false);
         }
+        let before = mem::replace(&mut place.now, entry);
+        place.older.push(before)?;
         Ok(true)
     }
 
@@ -266,7 +276,10 @@ impl Moment {
 
     /// The ways to crash in which a file keeps none of its unsynced bytes, or all.
     pub fn crashes(&self, alloc: Global) -> Result<Vec<Crash>> {
-        let is_loose = self.places.iter().any(|place| place.now.loose_len() > 0);
+        let mut is_loose = false;
+        for place in &self.places {
+            is_loose = is_loose || place.now.loose_len() > 0;
+        }
         let mut crashes = Vec::new(alloc);
         for pick in self.picks(alloc)? {
             crashes.push(Crash::keeping(pick, 0))?;
@@ -283,9 +296,8 @@ impl Moment {
         Ok(vec![in alloc; Crash::keeping(last, 0), Crash::keeping(0, usize::MAX)]?)
     }
 
-    /// Ways to crash behind an append in which all names stay, and a part of its bytes is kept: each length where they
-    /// are few, and where they are more than 200 each one that this number divides.
-    pub fn cuts(&self, alloc: Global, step: &Step, stride: usize) -> Result<Vec<Crash>> {
+    /// Ways to crash behind an append in which all names stay, and a part of its bytes is kept, of each length.
+    pub fn cuts(&self, alloc: Global, step: &Step) -> Result<Vec<Crash>> {
         let mut crashes = Vec::new(alloc);
         let Step::Append(name, bytes) = step else {
             return Ok(crashes);
@@ -293,20 +305,17 @@ impl Moment {
         let Some(file) = self.find(name) else {
             return Ok(crashes);
         };
-        let loose = self
-            .places
-            .get(file)
-            .map_or(0, |place| place.now.loose_len());
-        let before = loose.saturating_sub(bytes.len());
+        let Some(place) = self.places.get(file) else {
+            return Ok(crashes);
+        };
+        let before = place.now.loose_len().saturating_sub(bytes.len());
         for len in 1..bytes.len() {
-            if bytes.len() <= 200 || len.checked_rem(stride) == Some(0) {
-                crashes.push(Crash {
-                    pick: 0,
-                    file,
-                    keep: before.saturating_add(len),
-                    others: usize::MAX,
-                })?;
-            }
+            crashes.push(Crash {
+                pick: 0,
+                file,
+                keep: before.saturating_add(len),
+                others: usize::MAX,
+            })?;
         }
         Ok(crashes)
     }

@@ -3,10 +3,11 @@
 use crate::database::Database;
 use fjall_base::{Disk, KvPair, Result, Slice};
 use std::alloc::Global;
+use std::mem;
 use std::ops::Bound;
 
 /// What takes a number of its own.
-#[derive(Clone, Debug, Drop)]
+#[derive(Clone, Drop)]
 pub enum Command {
     /// Makes a keyspace of this name, under the next id.
     Create(Slice),
@@ -26,15 +27,49 @@ pub struct Home {
     pub pairs: Vec<KvPair>,
 }
 
-/// A key of the keyspace of this id has this value from now on, or none.
-fn alter(homes: &mut Vec<Home>, id: u64, key: &Slice, value: Option<&Slice>) -> Result<()> {
-    let Some(at) = homes.iter().position(|home| home.id == id) else {
-        return Ok(());
-    };
-    if let Some(home) = homes.get_mut(at) {
-        home.pairs.retain(|(other, _)| other != key);
-        if let Some(value) = value {
-            home.pairs.push((key.clone()?, value.clone()?))?;
+/// The pairs but those of a key.
+fn without(alloc: Global, pairs: Vec<KvPair>, key: &Slice) -> Result<Vec<KvPair>> {
+    let mut left = Vec::new(alloc);
+    for pair in pairs {
+        if pair.0 != *key {
+            left.push(pair)?;
+        }
+    }
+    Ok(left)
+}
+
+/// A key of a keyspace has this value from now on, or none.
+fn alter(alloc: Global, home: &mut Home, key: &Slice, value: Option<&Slice>) -> Result<()> {
+    let pairs = mem::replace(&mut home.pairs, Vec::new(alloc));
+    home.pairs = without(alloc, pairs, key)?;
+    if let Some(value) = value {
+        home.pairs.push((key.clone()?, value.clone()?))?;
+    }
+    Ok(())
+}
+
+/// The keyspaces but that of an id.
+fn deleted(alloc: Global, homes: Vec<Home>, id: u64) -> Result<Vec<Home>> {
+    let mut left = Vec::new(alloc);
+    for home in homes {
+        if home.id != id {
+            left.push(home)?;
+        }
+    }
+    Ok(left)
+}
+
+/// A key of the keyspace of this id, where it lives, has this value from now on, or none.
+fn write(
+    alloc: Global,
+    homes: &mut Vec<Home>,
+    id: u64,
+    key: &Slice,
+    value: Option<&Slice>,
+) -> Result<()> {
+    for home in homes {
+        if home.id == id {
+            alter(alloc, home, key, value)?;
         }
     }
     Ok(())
@@ -48,17 +83,15 @@ pub fn fold(alloc: Global, commands: &[Command]) -> Result<Vec<Home>> {
         match command {
             Command::Create(name) => {
                 last = last.saturating_add(1);
-                let name = name.clone()?;
-                let pairs = Vec::new(alloc);
                 homes.push(Home {
-                    name,
+                    name: name.clone()?,
                     id: last,
-                    pairs,
+                    pairs: Vec::new(alloc),
                 })?;
             }
-            Command::Delete(id) => homes.retain(|home| home.id != *id),
-            Command::Put(id, key, value) => alter(&mut homes, *id, key, Some(value))?,
-            Command::Take(id, key) => alter(&mut homes, *id, key, None)?,
+            Command::Delete(id) => homes = deleted(alloc, homes, *id)?,
+            Command::Put(id, key, value) => write(alloc, &mut homes, *id, key, Some(value))?,
+            Command::Take(id, key) => write(alloc, &mut homes, *id, key, None)?,
         }
     }
     for home in &mut homes {

@@ -2,16 +2,14 @@
 
 use crate::database::opened;
 use crate::moments::Moment;
-use crate::script::{SCRIPT, Tried};
+use crate::script::{Checked, SCRIPT, Tried};
 use crate::sweep::{lines, played};
 use crate::tape::Tape;
-use fjall_base::Result;
 use std::alloc::Global;
-use std::process::Abort;
 use std::test::Fail;
 
 /// Adds what each crash leaves of a moment, where it isn't in the list already.
-fn add_left(alloc: Global, moment: &Moment, images: &mut Vec<Moment>) -> Result<()> {
+fn add_left(alloc: Global, moment: &Moment, images: &mut Vec<Moment>) -> Checked<()> {
     for crash in moment.crashes(alloc)? {
         let left = moment.left(alloc, crash)?;
         if !images.contains(&left) {
@@ -23,14 +21,13 @@ fn add_left(alloc: Global, moment: &Moment, images: &mut Vec<Moment>) -> Result<
 
 /// Opens a disk, and adds what a crash may leave of each moment of that.
 fn crash_opening(
-    rt: &impl Abort,
     alloc: Global,
     image: &Moment,
     tried: &Tried,
     images: &mut Vec<Moment>,
-) -> Result<()> {
+) -> Checked<()> {
     let mut core = opened(alloc, Tape::new(alloc, image.disk(alloc)?))?;
-    tried.stand_in(rt, alloc, &mut core)?;
+    tried.stand_in(alloc, &mut core)?;
     let tape = core.into_disk();
     let mut moment = image.clone()?;
     for step in &tape.log.steps {
@@ -46,33 +43,33 @@ fn crash_opening(
 
 /// Crashes the opening of a disk, the next opening and the one behind it, each at each of its moments, and opens what is
 /// left: the store is always the same. Answers how many openings that were.
-fn check_openings(rt: &impl Abort, alloc: Global, image: Moment, tried: &Tried) -> Result<usize> {
+fn check_openings(alloc: Global, image: Moment, tried: &Tried) -> Checked<usize> {
     let mut core = opened(alloc, image.disk(alloc)?)?;
     let mut same = tried.clone()?;
-    same.safe = tried.stand_in(rt, alloc, &mut core)?;
+    same.safe = tried.stand_in(alloc, &mut core)?;
     same.commands.truncate(same.safe);
     let mut images = vec![in alloc; image]?;
     let mut count = 1usize;
     for _ in 0..3 {
         let mut left = Vec::new(alloc);
         for image in &images {
-            crash_opening(rt, alloc, image, &same, &mut left)?;
+            crash_opening(alloc, image, &same, &mut left)?;
         }
         count = count.saturating_add(images.len());
         images = left;
     }
     for image in &images {
         let mut core = opened(alloc, image.disk(alloc)?)?;
-        same.stand_in(rt, alloc, &mut core)?;
+        same.stand_in(alloc, &mut core)?;
     }
     Ok(count.saturating_add(images.len()))
 }
 
 /// Crashes the openings of what each crash may leave of the script's lines from one on, before another.
-fn check_restarts(rt: &impl Abort, alloc: Global, from: usize, end: usize) -> Result<usize> {
-    let (_, tape) = played(rt, alloc, lines(from), 0, 0)?;
+fn check_restarts(alloc: Global, from: usize, end: usize) -> Checked<usize> {
+    let (_, tape) = played(alloc, lines(from), 0, 0)?;
     let from = tape.log.steps.len();
-    let (history, tape) = played(rt, alloc, lines(end), 0, 0)?;
+    let (history, tape) = played(alloc, lines(end), 0, 0)?;
     let tried = Tried {
         commands: history.tried.commands.clone()?,
         safe: 0,
@@ -87,36 +84,34 @@ fn check_restarts(rt: &impl Abort, alloc: Global, from: usize, end: usize) -> Re
     }
     let mut count = 0usize;
     for image in images {
-        count = count.saturating_add(check_openings(rt, alloc, image, &tried)?);
+        count = count.saturating_add(check_openings(alloc, image, &tried)?);
     }
     Ok(count)
 }
 
 /// Crashes the openings of what each crash may leave of the first opening.
-fn check_first(rt: &impl Abort, alloc: Global) -> Result<usize> {
-    let (history, _) = played(rt, alloc, &[], 0, 0)?;
-    check_openings(rt, alloc, Moment::new(alloc), &history.tried)
+fn check_first(alloc: Global) -> Checked<usize> {
+    let (history, _) = played(alloc, &[], 0, 0)?;
+    check_openings(alloc, Moment::new(alloc), &history.tried)
 }
 
 #[test]
-fn the_first_opening_is_crashed_three_times(rt: HostRuntime) -> std::result::Result<(), Fail> {
-    let count = check_first(&rt, rt.alloc())?;
+fn the_first_opening_is_crashed_three_times(rt: HostRuntime) -> Result<(), Fail> {
+    let count = check_first(rt.alloc())?;
     assert!(rt; count > 40, "{count} openings");
     Ok(())
 }
 
 #[test]
-fn openings_up_to_the_first_closing_are_crashed_three_times(
-    rt: HostRuntime,
-) -> std::result::Result<(), Fail> {
-    let count = check_restarts(&rt, rt.alloc(), 0, 16)?;
+fn openings_up_to_the_first_closing_are_crashed_three_times(rt: HostRuntime) -> Result<(), Fail> {
+    let count = check_restarts(rt.alloc(), 0, 16)?;
     assert!(rt; count > 550, "{count} openings");
     Ok(())
 }
 
 #[test]
-fn openings_behind_it_are_crashed_three_times(rt: HostRuntime) -> std::result::Result<(), Fail> {
-    let count = check_restarts(&rt, rt.alloc(), 16, SCRIPT.len())?;
+fn openings_behind_it_are_crashed_three_times(rt: HostRuntime) -> Result<(), Fail> {
+    let count = check_restarts(rt.alloc(), 16, SCRIPT.len())?;
     assert!(rt; count > 800, "{count} openings");
     Ok(())
 }

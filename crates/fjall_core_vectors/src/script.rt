@@ -4,8 +4,7 @@ use crate::database::{Database, opened};
 use crate::reference::{Command, Home, fold, shown};
 use fjall_base::{Disk, Error, Refused, Result, Slice};
 use fjall_core::PersistMode;
-use std::alloc::Global;
-use std::process::Abort;
+use std::alloc::{AllocError, AllocFailed, Global};
 
 /// A call of the script.
 #[derive(Clone, Copy, Debug)]
@@ -14,8 +13,8 @@ pub enum Line {
     Delete(u64),
     Retain(u64),
     Release(u64),
-    /// Keyspace, key, and a value of so many bytes of a kind.
-    Insert(u64, &'static str, u8, usize),
+    /// Keyspace, key and value.
+    Insert(u64, &'static str, &'static str),
     Remove(u64, &'static str),
     RemoveWeak(u64, &'static str),
     Persist(PersistMode),
@@ -27,40 +26,80 @@ pub enum Line {
 pub const SCRIPT: [Line; 32] = [
     Line::Create("b"),
     Line::Create("a"),
-    Line::Insert(1, "k", b'1', 1),
-    Line::Insert(2, "k", b'2', 1),
+    Line::Insert(1, "k", "1"),
+    Line::Insert(2, "k", "2"),
     Line::Persist(PersistMode::SyncData),
-    Line::Insert(1, "l", b'3', 30),
+    Line::Insert(1, "l", "333333333333333333333333333333"),
     Line::Remove(1, "k"),
     Line::Retain(1),
     Line::Delete(1),
-    Line::Insert(2, "l", b'4', 2),
+    Line::Insert(2, "l", "44"),
     Line::Release(1),
     Line::Create("b"),
-    Line::Insert(3, "k", b'5', 1),
+    Line::Insert(3, "k", "5"),
     Line::RemoveWeak(2, "l"),
     Line::Persist(PersistMode::Buffer),
     Line::Reopen,
-    Line::Insert(3, "m", b'6', 2),
-    Line::Insert(2, "k", b'7', 0),
+    Line::Insert(3, "m", "66"),
+    Line::Insert(2, "k", ""),
     Line::Persist(PersistMode::SyncAll),
-    Line::Insert(2, "n", b'8', 3),
+    Line::Insert(2, "n", "888"),
     Line::Delete(2),
-    Line::Insert(3, "k", b'9', 1),
+    Line::Insert(3, "k", "9"),
     Line::Reopen,
     Line::Create("a"),
-    Line::Insert(4, "z", b'0', 40),
+    Line::Insert(4, "z", "0000000000000000000000000000000000000000"),
     Line::Remove(3, "missing"),
     Line::Delete(3),
     Line::Create("b"),
-    Line::Insert(5, "k", b'1', 1),
-    Line::Insert(4, "z", b'2', 1),
+    Line::Insert(5, "k", "1"),
+    Line::Insert(4, "z", "2"),
     Line::Reopen,
-    Line::Insert(5, "l", b'3', 1),
+    Line::Insert(5, "l", "3"),
 ];
 
+/// What isn't as it must be.
+#[derive(Debug, Drop)]
+pub enum Wrong {
+    /// A call was refused.
+    Error(Error),
+    /// A database stands for so many commands, of which so many are safe, and so many were tried.
+    Count(usize, usize, usize),
+    /// A database shows these keyspaces.
+    Homes(Vec<Home>),
+    /// A line was done, or refused, or left other keyspaces behind it.
+    Line(Line),
+    /// A closing was refused.
+    Closing,
+    /// A call met another fault, or was refused for what is none.
+    Fault(Error),
+    /// The call of this number did not fail, or one did without being told to.
+    Number(usize),
+}
+
+/// What a check answers, where all is as it must be.
+pub type Checked<T> = std::result::Result<T, Wrong>;
+
+impl From<Error> for Wrong {
+    fn from(error: Error) -> Self {
+        Wrong::Error(error)
+    }
+}
+
+impl From<AllocError> for Wrong {
+    fn from(_: AllocError) -> Self {
+        Wrong::Error(Error::OutOfMemory)
+    }
+}
+
+impl<T: Drop> From<AllocFailed<T>> for Wrong {
+    fn from(_: AllocFailed<T>) -> Self {
+        Wrong::Error(Error::OutOfMemory)
+    }
+}
+
 /// Which commands were tried, and how many of them no crash may take.
-#[derive(Clone, Debug, Drop)]
+#[derive(Clone, Drop)]
 pub struct Tried {
     pub commands: Vec<Command>,
     pub safe: usize,
@@ -78,25 +117,19 @@ pub struct History {
 }
 
 impl Tried {
-    /// Whether a database stands for a beginning of the commands, with all that are safe; answers how many they are.
-    pub fn stand_in<D: Disk>(
-        &self,
-        rt: &impl Abort,
-        alloc: Global,
-        core: &mut Database<D>,
-    ) -> Result<usize> {
+    /// A database stands for a beginning of the commands, with all that are safe; answers how many they are.
+    pub fn stand_in<D: Disk>(&self, alloc: Global, core: &mut Database<D>) -> Checked<usize> {
         let count = core.visible_seqno() as usize;
-        assert!(rt;
-            self.safe <= count,
-            "{count} of {} commands",
-            self.commands.len()
-        );
-        let Some(beginning) = self.commands.get(..count) else {
-            panic!(rt; "{count} of {} commands", self.commands.len())
+        let beginning = match self.commands.get(..count) {
+            Some(beginning) if self.safe <= count => beginning,
+            _ => return Err(Wrong::Count(count, self.safe, self.commands.len())),
         };
         let homes = shown(alloc, core)?;
-        assert!(rt; homes == fold(alloc, beginning)?, "{homes:?}");
-        Ok(count)
+        if homes == fold(alloc, beginning)? {
+            Ok(count)
+        } else {
+            Err(Wrong::Homes(homes))
+        }
     }
 }
 
@@ -111,23 +144,39 @@ impl Line {
         }
     }
 
-    /// Asks for it.
-    fn ask<D: Disk>(&self, alloc: Global, core: &mut Database<D>) -> Result<()> {
+    /// Asks for it; answers the id of what it creates.
+    pub fn ask<D: Disk>(&self, core: &mut Database<D>) -> Result<Option<u64>> {
         match self {
-            Line::Create(name) => core.keyspace(name.as_bytes()).map(|_| ()),
-            Line::Delete(id) => core.delete_keyspace(*id),
-            Line::Retain(id) => core.retain(*id),
-            Line::Release(id) => core.release(*id),
-            Line::Insert(id, key, byte, len) => {
-                let value = vec![in alloc; *byte; *len]?;
-                core.insert(*id, key.as_bytes(), &value)
-            }
-            Line::Remove(id, key) => core.remove(*id, key.as_bytes()),
-            Line::RemoveWeak(id, key) => core.remove_weak(*id, key.as_bytes()),
-            Line::Persist(mode) => core.persist(*mode),
-            Line::Reopen => Ok(()),
+            Line::Create(name) => return Ok(Some(core.keyspace(name.as_bytes())?)),
+            Line::Delete(id) => core.delete_keyspace(*id)?,
+            Line::Retain(id) => core.retain(*id)?,
+            Line::Release(id) => core.release(*id)?,
+            Line::Insert(id, key, value) => core.insert(*id, key.as_bytes(), value.as_bytes())?,
+            Line::Remove(id, key) => core.remove(*id, key.as_bytes())?,
+            Line::RemoveWeak(id, key) => core.remove_weak(*id, key.as_bytes())?,
+            Line::Persist(mode) => core.persist(*mode)?,
+            Line::Reopen => {}
         }
+        Ok(None)
     }
+}
+
+/// Whether a keyspace of this id lives.
+fn lives(homes: &[Home], id: u64) -> bool {
+    let mut is_living = false;
+    for home in homes {
+        is_living = is_living || home.id == id;
+    }
+    is_living
+}
+
+/// Whether a keyspace of this name lives.
+fn is_named(homes: &[Home], name: &Slice) -> bool {
+    let mut is_named = false;
+    for home in homes {
+        is_named = is_named || home.name == *name;
+    }
+    is_named
 }
 
 impl History {
@@ -153,20 +202,18 @@ impl History {
     /// Which command a line is, where its keyspace lives or is to be made.
     fn command(&self, alloc: Global, line: Line) -> Result<Option<Command>> {
         let homes = self.homes(alloc)?;
-        let is_living = |id: u64| homes.iter().any(|home| home.id == id);
         Ok(match line {
             Line::Create(name) => {
                 let name = Slice::new(alloc, name.as_bytes())?;
-                let is_new = !homes.iter().any(|home| home.name == name);
+                let is_new = !is_named(&homes, &name);
                 is_new.then_some(Command::Create(name))
             }
-            Line::Delete(id) if is_living(id) => Some(Command::Delete(id)),
-            Line::Insert(id, key, byte, len) if is_living(id) => {
-                let value = vec![in alloc; byte; len]?;
+            Line::Delete(id) if lives(&homes, id) => Some(Command::Delete(id)),
+            Line::Insert(id, key, value) if lives(&homes, id) => {
                 let key = Slice::new(alloc, key.as_bytes())?;
-                Some(Command::Put(id, key, Slice::new(alloc, &value)?))
+                Some(Command::Put(id, key, Slice::new(alloc, value.as_bytes())?))
             }
-            Line::Remove(id, key) | Line::RemoveWeak(id, key) if is_living(id) => {
+            Line::Remove(id, key) | Line::RemoveWeak(id, key) if lives(&homes, id) => {
                 Some(Command::Take(id, Slice::new(alloc, key.as_bytes())?))
             }
             _ => None,
@@ -174,9 +221,11 @@ impl History {
     }
 
     /// A call was done.
-    fn accept(&mut self, rt: &impl Abort, line: Line, command: Option<Command>) -> Result<()> {
+    fn accept(&mut self, line: Line, command: Option<Command>) -> Checked<()> {
         let is_command = command.is_some();
-        assert!(rt; !is_command || !self.is_poisoned, "{line:?}");
+        if is_command && self.is_poisoned {
+            return Err(Wrong::Line(line));
+        }
         self.tried.commands.extend(command)?;
         if !self.is_poisoned {
             self.accepted = self.tried.commands.len();
@@ -188,67 +237,59 @@ impl History {
     }
 
     /// A call met the fault, and a crash may leave its command or not; or it found no memory, and then nothing was tried.
-    fn fault(&mut self, rt: &impl Abort, error: &Error, command: Option<Command>) -> Result<()> {
-        assert!(rt; self.at_fault.is_none(), "{error:?}");
-        if *error != Error::OutOfMemory {
-            assert!(rt; matches!(error, Error::Io(_)), "{error:?}");
-            self.is_poisoned = true;
-            self.tried.commands.extend(command)?;
+    fn fault(&mut self, error: Error, command: Option<Command>) -> Checked<()> {
+        match error {
+            Error::OutOfMemory if self.at_fault.is_none() => {}
+            Error::Io(_) if self.at_fault.is_none() => {
+                self.is_poisoned = true;
+                self.tried.commands.extend(command)?;
+            }
+            _ => return Err(Wrong::Fault(error)),
         }
         self.at_fault = Some(self.tried.clone()?);
         Ok(())
     }
 
     /// A call was refused, for the fault or since one before it was.
-    fn refuse(
-        &mut self,
-        rt: &impl Abort,
-        line: Line,
-        error: Error,
-        command: Option<Command>,
-    ) -> Result<()> {
-        match error {
-            Error::Poisoned => assert!(rt; self.is_poisoned, "{line:?}"),
+    fn refuse(&mut self, line: Line, error: Error, command: Option<Command>) -> Checked<()> {
+        let is_due = match error {
+            Error::Poisoned => self.is_poisoned,
             Error::UnknownKeyspace | Error::KeyspaceDeleted => {
-                assert!(rt; command.is_none() && self.at_fault.is_some(), "{line:?}");
+                command.is_none() && self.at_fault.is_some()
             }
-            _ => self.fault(rt, &error, command)?,
+            _ => return self.fault(error, command),
+        };
+        if is_due {
+            Ok(())
+        } else {
+            Err(Wrong::Line(line))
         }
-        Ok(())
     }
 
     /// Asks for what a line says.
-    fn serve<D: Disk>(
-        &mut self,
-        rt: &impl Abort,
-        alloc: Global,
-        core: &mut Database<D>,
-        line: Line,
-    ) -> Result<()> {
+    fn serve<D: Disk>(&mut self, alloc: Global, core: &mut Database<D>, line: Line) -> Checked<()> {
         let command = self.command(alloc, line)?;
-        match line.ask(alloc, core) {
-            Ok(()) => self.accept(rt, line, command)?,
-            Err(error) => self.refuse(rt, line, error, command)?,
+        match line.ask(core) {
+            Ok(_) => self.accept(line, command)?,
+            Err(error) => self.refuse(line, error, command)?,
         }
-        assert!(rt; shown(alloc, core)? == self.homes(alloc)?, "{line:?}");
-        Ok(())
+        if shown(alloc, core)? == self.homes(alloc)? {
+            Ok(())
+        } else {
+            Err(Wrong::Line(line))
+        }
     }
 
     /// Opens a database, with a second try where the first meets the fault. From then on all that it shows is safe.
-    fn open<D: Disk + Drop>(
-        &mut self,
-        rt: &impl Abort,
-        alloc: Global,
-        disk: D,
-    ) -> Result<Database<D>> {
+    fn open<D: Disk + Drop>(&mut self, alloc: Global, disk: D) -> Checked<Database<D>> {
         let mut core = match Database::open(alloc, disk) {
             Ok(core) => core,
             Err(Refused { error, value }) => {
-                self.fault(rt, &error, None)?;
+                self.fault(error, None)?;
                 opened(alloc, value)?
             }
         };
-        let count = self.tried.stand_in(rt, alloc, &mut core)?;
+        let count = self.tried.stand_in(alloc, &mut core)?;
         self.tried.commands.truncate(count);
         self.tried.safe = count;
         self.accepted = count;
@@ -257,31 +298,26 @@ impl History {
     }
 
     /// Closes a database.
-    fn close<D: Disk + Drop>(&mut self, rt: &impl Abort, core: Database<D>) -> Result<D> {
+    fn close<D: Disk + Drop>(&mut self, core: Database<D>) -> Checked<D> {
         let (disk, closed) = core.close();
         match closed {
             Ok(()) => self.tried.safe = self.accepted,
-            Err(Error::Poisoned) => assert!(rt; self.is_poisoned),
-            Err(error) => self.fault(rt, &error, None)?,
+            Err(Error::Poisoned) if self.is_poisoned => {}
+            Err(Error::Poisoned) => return Err(Wrong::Closing),
+            Err(error) => self.fault(error, None)?,
         }
         Ok(disk)
     }
 
     /// Opens a database, and asks for what these lines say.
-    pub fn play<D: Disk + Drop>(
-        &mut self,
-        rt: &impl Abort,
-        alloc: Global,
-        disk: D,
-        lines: &[Line],
-    ) -> Result<D> {
-        let mut core = self.open(rt, alloc, disk)?;
+    pub fn play<D: Disk + Drop>(&mut self, alloc: Global, disk: D, lines: &[Line]) -> Checked<D> {
+        let mut core = self.open(alloc, disk)?;
         for line in lines {
             if let Line::Reopen = line {
-                let disk = self.close(rt, core)?;
-                core = self.open(rt, alloc, disk)?;
+                let disk = self.close(core)?;
+                core = self.open(alloc, disk)?;
             } else {
-                self.serve(rt, alloc, &mut core, *line)?;
+                self.serve(alloc, &mut core, *line)?;
             }
         }
         Ok(core.into_disk())

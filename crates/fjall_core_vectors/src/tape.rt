@@ -4,7 +4,7 @@ use fjall_base::{DirEntry, Disk, Result};
 use std::alloc::{AllocError, Global};
 
 /// A call of a disk.
-#[derive(Debug, Drop)]
+#[derive(Drop)]
 pub enum Step {
     Read,
     Create(String),
@@ -38,6 +38,11 @@ impl Log {
     // The name of a call.
     fn name(&self, name: &str) -> std::result::Result<String, AllocError> {
         String::from_str(self.alloc, name)
+    }
+
+    // A cut at this length.
+    fn cut(&self, name: &str, len: usize) -> std::result::Result<Step, AllocError> {
+        Ok(Step::Cut(self.name(name)?, len))
     }
 
     // An append of these bytes.
@@ -113,8 +118,7 @@ impl<D: Disk> Disk for Tape<D> {
     }
 
     fn cut_sync(&mut self, name: &str, len: usize) -> Result<()> {
-        self.log
-            .add(self.log.name(name).map(|name| Step::Cut(name, len)));
+        self.log.add(self.log.cut(name, len));
         self.disk.cut_sync(name, len)
     }
 

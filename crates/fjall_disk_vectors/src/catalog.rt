@@ -1,219 +1,183 @@
-//! Changes of the catalog on a disk in memory.
+//! Changes of the catalog, and what damages it.
 
+use crate::calls::Call::*;
+use crate::calls::{DONE, YES, add_some, len_of};
+use crate::folder::{CURRENT, TREE};
+use crate::steps::Question::*;
+use crate::steps::Step::*;
+use crate::steps::{Row, Start, Step, take_all};
 use fjall_base::{Disk, Error, MemoryDisk, Result, Slice, StorageError};
-use fjall_catalog::{
-    Catalog, LoadedCatalog, Update, commit, first_record, first_record_of, prepare, read_catalog,
-    remove_old, write_table,
-};
+use fjall_catalog::{Catalog, commit, prepare, read_catalog, remove_old, write_table};
 use fjall_files::make_file;
 use fjall_meta::MetaKeyspace;
 use fjall_options::KeyspaceCreateOptions;
 use std::alloc::Global;
 use std::test::Fail;
 
-const CURRENT: &str = "keyspaces/0/current";
+/// The table of the first change.
+const TABLE: &str = "keyspaces/0/1.table";
 
-// A disk whose tree 0 has these records and nothing else.
-fn disk_with(alloc: Global, records: &[u8]) -> Result<MemoryDisk> {
-    let mut disk = MemoryDisk::new(alloc);
-    disk.make_folder("keyspaces")?;
-    disk.make_folder("keyspaces/0")?;
-    make_file(&mut disk, CURRENT, records)?;
-    disk.sync_folder("keyspaces/0")?;
-    disk.sync_folder("keyspaces")?;
-    disk.sync_folder("")?;
-    Ok(disk)
+/// A number that isn't there.
+const NONE: u64 = u64::MAX;
+
+// Makes the change of this number, whole.
+fn change(
+    alloc: Global,
+    disk: &mut MemoryDisk,
+    catalog: &Catalog,
+    keyspaces: &MetaKeyspace,
+    number: u64,
+) -> Result<()> {
+    let update = prepare(alloc, catalog, keyspaces, number)?;
+    write_table(disk, &update)?;
+    commit(disk, &update)?;
+    remove_old(disk, &update)
 }
 
-fn new_disk(alloc: Global) -> Result<MemoryDisk> {
-    disk_with(alloc, &first_record(alloc)?)
-}
-
-// The change of this number, whole.
-fn change(disk: &mut MemoryDisk, update: &Update) -> Result<()> {
-    write_table(disk, update)?;
-    commit(disk, update)?;
-    remove_old(disk, update)
-}
-
-// Creates a keyspace of this name.
-fn create(alloc: Global, disk: &mut MemoryDisk, name: &[u8], number: u64) -> Result<Update> {
-    let LoadedCatalog {
-        catalog,
-        mut keyspaces,
-        ..
-    } = read_catalog(alloc, disk)?;
+/// Creates a keyspace of this name.
+pub fn add_entry(alloc: Global, disk: &mut MemoryDisk, name: &[u8], number: u64) -> Result<()> {
+    let mut found = read_catalog(alloc, disk)?;
     let options = KeyspaceCreateOptions::default(alloc)?;
-    keyspaces.create_keyspace(Slice::new(alloc, name)?, options, number)?;
-    prepare(alloc, &catalog, &keyspaces, number)
+    found
+        .keyspaces
+        .create_keyspace(Slice::new(alloc, name)?, options, number)?;
+    change(alloc, disk, &found.catalog, &found.keyspaces, number)
 }
 
-// Removes the keyspace of this id.
-fn remove(alloc: Global, disk: &mut MemoryDisk, id: u64, number: u64) -> Result<Update> {
-    let LoadedCatalog {
-        catalog,
-        mut keyspaces,
-        ..
-    } = read_catalog(alloc, disk)?;
-    keyspaces.remove_keyspace(id);
-    prepare(alloc, &catalog, &keyspaces, number)
+/// Removes the keyspace of this id.
+pub fn remove_entry(alloc: Global, disk: &mut MemoryDisk, id: u64, number: u64) -> Result<()> {
+    let mut found = read_catalog(alloc, disk)?;
+    found.keyspaces.remove_keyspace(id);
+    change(alloc, disk, &found.catalog, &found.keyspaces, number)
 }
 
-fn len_of(alloc: Global, disk: &mut MemoryDisk, name: &str) -> Result<Option<usize>> {
-    Ok(disk.read(alloc, name)?.map(|bytes| bytes.len()))
-}
-
-#[test]
-fn the_first_records(rt: HostRuntime) -> std::result::Result<(), Fail> {
-    let alloc = rt.alloc();
-    assert_eq!(rt; first_record(alloc)?.len(), 55);
-    assert_eq!(rt; first_record_of(alloc, 7)?.len(), 55);
-    let mut disk = new_disk(alloc)?;
-    let found = read_catalog(alloc, &mut disk)?;
-    assert_eq!(rt; found.catalog, Catalog::new());
-    assert_eq!(rt; found.keyspaces.keyspace_count(), 0);
-    assert_eq!(rt; (found.end, found.is_torn), (55, false));
+/// Adds how many keyspaces live, the end of the records, whether they are torn, and the fields of the catalog: the next
+/// ids of a table and of a keyspace, the numbers that are persisted and highest, and the count of the table's entries.
+pub fn describe(alloc: Global, disk: &mut MemoryDisk, seen: &mut Vec<u64>) -> Result<()> {
+    let found = read_catalog(alloc, disk)?;
+    let catalog = &found.catalog;
+    let entry_count = match &catalog.table {
+        Some(table) => table.entry_count,
+        None => NONE,
+    };
+    seen.extend_from_slice(&[
+        found.keyspaces.keyspace_count() as u64,
+        found.end as u64,
+        u64::from(found.is_torn),
+        catalog.next_table_id,
+        catalog.next_keyspace_id,
+        catalog.persisted.unwrap_or(NONE),
+        catalog.highest.unwrap_or(NONE),
+        entry_count,
+    ])?;
     Ok(())
 }
 
-#[test]
-fn creations_and_deletions(rt: HostRuntime) -> std::result::Result<(), Fail> {
-    let alloc = rt.alloc();
-    let mut disk = new_disk(alloc)?;
-    let update = create(alloc, &mut disk, b"a", 4)?;
-    change(&mut disk, &update)?;
-    assert_eq!(rt; len_of(alloc, &mut disk, CURRENT)?, Some(135));
-    let update = create(alloc, &mut disk, b"b", 9)?;
-    change(&mut disk, &update)?;
-    let found = read_catalog(alloc, &mut disk)?;
-    assert_eq!(rt; found.keyspaces.resolve_id(b"a"), Some(1));
-    assert_eq!(rt; found.keyspaces.resolve_id(b"b"), Some(2));
-    assert_eq!(rt;
-        (found.catalog.persisted, found.catalog.highest),
-        (Some(9), Some(9))
-    );
-    assert_eq!(rt;
-        (found.catalog.next_table_id, found.catalog.next_keyspace_id),
-        (3, 3)
-    );
-    assert_eq!(rt;
-        found.catalog.table.map(|table| table.entry_count),
-        Some(42)
-    );
-    assert_eq!(rt; len_of(alloc, &mut disk, "keyspaces/0/1.table")?, None);
-    assert!(rt; len_of(alloc, &mut disk, "keyspaces/0/2.table")?.is_some());
-    let update = remove(alloc, &mut disk, 1, 10)?;
-    change(&mut disk, &update)?;
-    let found = read_catalog(alloc, &mut disk)?;
-    assert_eq!(rt; found.keyspaces.resolve_id(b"a"), None);
-    assert_eq!(rt;
-        found.keyspaces.get(2).map(|keyspace| keyspace.number),
-        Some(9)
-    );
-    let update = remove(alloc, &mut disk, 2, 11)?;
-    change(&mut disk, &update)?;
-    let found = read_catalog(alloc, &mut disk)?;
-    assert_eq!(rt; found.keyspaces.keyspace_count(), 0);
-    assert_eq!(rt;
-        (found.catalog.next_table_id, found.catalog.next_keyspace_id),
-        (4, 3)
-    );
-    assert_eq!(rt; found.catalog.table, None);
-    assert_eq!(rt; (found.end, found.is_torn), (55 + 80 + 80 + 80 + 55, false));
-    assert_eq!(rt; disk.list(alloc, "keyspaces/0")?.len(), 1);
+/// Adds how many keyspaces live.
+pub fn add_count(alloc: Global, disk: &mut MemoryDisk, seen: &mut Vec<u64>) -> Result<()> {
+    let count = read_catalog(alloc, disk)?.keyspaces.keyspace_count();
+    add_some(seen, Some(count))
+}
+
+/// Adds the id of the keyspace of this name, where there is one.
+pub fn add_id(
+    alloc: Global,
+    disk: &mut MemoryDisk,
+    name: &[u8],
+    seen: &mut Vec<u64>,
+) -> Result<()> {
+    if let Some(id) = read_catalog(alloc, disk)?.keyspaces.resolve_id(name) {
+        seen.push(id)?;
+    }
     Ok(())
 }
 
-// How many keyspaces live after a crash of the second creation at this device call, where so many unsynced bytes stay.
-fn count_after(alloc: Global, at: u64, part: usize, keep: usize) -> Result<usize> {
-    let mut disk = new_disk(alloc)?;
-    let update = create(alloc, &mut disk, b"a", 4)?;
-    change(&mut disk, &update)?;
-    let update = create(alloc, &mut disk, b"b", 5)?;
-    disk.fail_at(at, part);
-    let _ = change(&mut disk, &update);
-    disk.fail_at(0, 0);
-    let mut left = disk.crash(keep)?;
-    let found = read_catalog(alloc, &mut left)?;
-    Ok(found.keyspaces.keyspace_count())
+/// Adds the number under which the keyspace of this id was made, where there is one.
+pub fn add_number(
+    alloc: Global,
+    disk: &mut MemoryDisk,
+    id: u64,
+    seen: &mut Vec<u64>,
+) -> Result<()> {
+    if let Some(keyspace) = read_catalog(alloc, disk)?.keyspaces.get(id) {
+        seen.push(keyspace.number)?;
+    }
+    Ok(())
 }
 
-#[test]
-fn each_call_fails_in_turn(rt: HostRuntime) -> std::result::Result<(), Fail> {
-    let alloc = rt.alloc();
-    // Four calls write the table, two commit, one removes the old table.
-    for at in 1..9 {
-        for part in [0, 30, 80] {
-            let nothing = count_after(alloc, at, part, 0)?;
-            assert_eq!(rt; nothing, if at < 7 { 1 } else { 2 }, "{at} {part}");
-            let all = count_after(alloc, at, part, 80)?;
-            let whole = at > 5 || (at == 5 && part == 80);
-            assert_eq!(rt; all, if whole { 2 } else { 1 }, "{at} {part}");
+const RECORD_DAMAGED: Error = Error::Storage(StorageError::RecordDamaged);
+
+const TABLE_DAMAGED: Error = Error::Storage(StorageError::TableDamaged);
+
+pub const SCRIPT: &[Row] = &[
+    // The first records.
+    (New(Start::Tree), DONE),
+    (On(Len(CURRENT)), Ok(&[55])),
+    (Ask(FirstLen(7)), Ok(&[55])),
+    (Ask(State), Ok(&[0, 55, 0, 1, 1, NONE, NONE, NONE])),
+    // Creations and deletions.
+    (AddEntry(b"a", 4), DONE),
+    (On(Len(CURRENT)), Ok(&[135])),
+    (AddEntry(b"b", 9), DONE),
+    (Ask(Id(b"a")), Ok(&[1])),
+    (Ask(Id(b"b")), Ok(&[2])),
+    (Ask(State), Ok(&[2, 215, 0, 3, 3, 9, 9, 42])),
+    (
+        On(Lists(TREE, "keyspaces/0/2.table keyspaces/0/current ")),
+        YES,
+    ),
+    (RemoveEntry(1, 10), DONE),
+    (Ask(Id(b"a")), DONE),
+    (Ask(NumberOf(2)), Ok(&[9])),
+    (RemoveEntry(2, 11), DONE),
+    (Ask(State), Ok(&[0, 350, 0, 4, 3, 11, 11, NONE])),
+    (On(Count(TREE)), Ok(&[1])),
+    // No record.
+    (New(Start::Torn(0)), DONE),
+    (Ask(State), Err(RECORD_DAMAGED)),
+    (On(Remove(CURRENT)), DONE),
+    (Ask(State), Err(RECORD_DAMAGED)),
+    // A table that is too long, and none.
+    (New(Start::Tree), DONE),
+    (AddEntry(b"a", 4), DONE),
+    (On(Append(TABLE, b"x")), DONE),
+    (Ask(State), Err(TABLE_DAMAGED)),
+    (On(Remove(TABLE)), DONE),
+    (Ask(State), Err(TABLE_DAMAGED)),
+];
+
+// Changes the byte at this place of a file, or changes it back.
+fn damage(alloc: Global, disk: &mut MemoryDisk, name: &str, at: usize) -> Result<()> {
+    let mut copy = Vec::new(alloc);
+    if let Some(bytes) = disk.read(alloc, name)? {
+        for (i, byte) in bytes.iter().enumerate() {
+            copy.push(if i == at { *byte ^ 1 } else { *byte })?;
         }
     }
-    Ok(())
-}
-
-// These bytes with another one at this place.
-fn changed(alloc: Global, bytes: &[u8], at: usize) -> Result<Vec<u8>> {
-    let mut copy = Vec::new(alloc);
-    for (i, byte) in bytes.iter().enumerate() {
-        copy.push(if i == at { *byte ^ 1 } else { *byte })?;
-    }
-    Ok(copy)
-}
-
-#[test]
-fn damaged_records(rt: HostRuntime) -> std::result::Result<(), Fail> {
-    let alloc = rt.alloc();
-    let refused = Some(Error::Storage(StorageError::RecordDamaged));
-    let record = first_record(alloc)?;
-    for at in 0..55 {
-        let mut disk = disk_with(alloc, &changed(alloc, &record, at)?)?;
-        assert_eq!(rt; read_catalog(alloc, &mut disk).err(), refused);
-    }
-    let mut disk = disk_with(alloc, b"")?;
-    assert_eq!(rt; read_catalog(alloc, &mut disk).err(), refused);
-    disk.remove(CURRENT)?;
-    assert_eq!(rt; read_catalog(alloc, &mut disk).err(), refused);
-    Ok(())
-}
-
-#[test]
-fn damaged_tables(rt: HostRuntime) -> std::result::Result<(), Fail> {
-    let alloc = rt.alloc();
-    let refused = Some(Error::Storage(StorageError::TableDamaged));
-    let mut disk = new_disk(alloc)?;
-    let update = create(alloc, &mut disk, b"a", 4)?;
-    change(&mut disk, &update)?;
-    let name = "keyspaces/0/1.table";
-    let table = disk.read(alloc, name)?.ok_or("missing")?;
-    for at in [0, 100, table.len() / 2, table.len().saturating_sub(1)] {
-        disk.remove(name)?;
-        make_file(&mut disk, name, &changed(alloc, &table, at)?)?;
-        assert_eq!(rt; read_catalog(alloc, &mut disk).err(), refused);
-    }
-    disk.append(name, b"x")?;
-    assert_eq!(rt; read_catalog(alloc, &mut disk).err(), refused);
     disk.remove(name)?;
-    assert_eq!(rt; read_catalog(alloc, &mut disk).err(), refused);
-    Ok(())
+    make_file(disk, name, &copy)
 }
 
+// Each file is damaged at every byte.
+const DAMAGED: [(&[Step], &str, Error); 2] = [
+    (&[New(Start::Tree)], CURRENT, RECORD_DAMAGED),
+    (&[New(Start::Tree), AddEntry(b"a", 4)], TABLE, TABLE_DAMAGED),
+];
+
 #[test]
-fn numbers_are_used_up(rt: HostRuntime) -> std::result::Result<(), Fail> {
+fn each_damaged_byte_is_seen(rt: HostRuntime) -> std::result::Result<(), Fail> {
     let alloc = rt.alloc();
-    let refused = Some(Error::NumbersUsedUp);
-    let mut catalog = Catalog::new();
-    let mut keyspaces = MetaKeyspace::new(alloc);
-    assert_eq!(rt;
-        prepare(alloc, &catalog, &keyspaces, 1 << 63).err(),
-        refused
-    );
-    catalog.next_table_id = u64::MAX;
-    assert!(rt; prepare(alloc, &catalog, &keyspaces, 1)?.table.is_none());
-    let options = KeyspaceCreateOptions::default(alloc)?;
-    keyspaces.create_keyspace(Slice::new(alloc, b"a")?, options, 1)?;
-    assert_eq!(rt; prepare(alloc, &catalog, &keyspaces, 1).err(), refused);
+    let mut seen = Vec::new(alloc);
+    for (steps, file, error) in DAMAGED {
+        let mut disk = MemoryDisk::new(alloc);
+        take_all(alloc, &mut disk, steps, &mut seen)?;
+        let len = len_of(alloc, &mut disk, file)?.ok_or("missing")?;
+        for at in 0..len {
+            damage(alloc, &mut disk, file, at)?;
+            let refusal = read_catalog(alloc, &mut disk).err();
+            damage(alloc, &mut disk, file, at)?;
+            assert_eq!(rt; refusal, Some(error), "{file}, byte {at}");
+        }
+    }
     Ok(())
 }

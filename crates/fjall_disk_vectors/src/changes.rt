@@ -1,140 +1,126 @@
-//! Keyspaces made, deleted and removed on a disk in memory.
+//! Keyspaces made, deleted and removed.
 
-use fjall_base::{Disk, Error, MemoryDisk, Result, Slice};
-use fjall_catalog::{Catalog, LoadedCatalog, Update, first_record, prepare, read_catalog};
+use crate::calls::Call::*;
+use crate::calls::{DONE, FAULT, YES};
+use crate::folder::CURRENT;
+use crate::steps::Question::*;
+use crate::steps::Step::*;
+use crate::steps::{Row, Start};
+use fjall_base::{Error, MemoryDisk, Result, Slice};
+use fjall_catalog::{Catalog, first_record_of, prepare, read_catalog};
 use fjall_commit::{
-    Creation, create_keyspace, delete_keyspace, prepare_creation, prepare_removal, remove_keyspace,
+    create_keyspace, delete_keyspace, prepare_creation, prepare_removal, remove_keyspace,
 };
-use fjall_files::make_file;
 use fjall_meta::MetaKeyspace;
 use fjall_options::KeyspaceCreateOptions;
 use std::alloc::Global;
 use std::test::Fail;
 
-const CURRENT: &str = "keyspaces/0/current";
+pub const FIRST: &str = "keyspaces/1/current";
 
-const FIRST: &str = "keyspaces/1/current";
-
-// A disk without keyspaces.
-fn new_disk(alloc: Global) -> Result<MemoryDisk> {
-    let mut disk = MemoryDisk::new(alloc);
-    disk.make_folder("keyspaces")?;
-    disk.make_folder("keyspaces/0")?;
-    make_file(&mut disk, CURRENT, &first_record(alloc)?)?;
-    disk.sync_folder("keyspaces/0")?;
-    disk.sync_folder("keyspaces")?;
-    disk.sync_folder("")?;
-    Ok(disk)
-}
-
-// Prepares the creation of a keyspace of this name.
-fn creation(alloc: Global, disk: &mut MemoryDisk, name: &[u8], number: u64) -> Result<Creation> {
-    let LoadedCatalog {
-        catalog,
-        mut keyspaces,
-        ..
-    } = read_catalog(alloc, disk)?;
+/// Creates a keyspace of this name, and answers whether its record is the first one of this number.
+pub fn create(alloc: Global, disk: &mut MemoryDisk, name: &[u8], number: u64) -> Result<bool> {
+    let mut found = read_catalog(alloc, disk)?;
     let options = KeyspaceCreateOptions::default(alloc)?;
-    let id = keyspaces.create_keyspace(Slice::new(alloc, name)?, options, number)?;
-    prepare_creation(alloc, &catalog, &keyspaces, id, number)
+    let id = found
+        .keyspaces
+        .create_keyspace(Slice::new(alloc, name)?, options, number)?;
+    let creation = prepare_creation(alloc, &found.catalog, &found.keyspaces, id, number)?;
+    create_keyspace(disk, &creation)?;
+    Ok(creation.record_text == first_record_of(alloc, number)?)
 }
 
-// Prepares the deletion of the keyspace of this id.
-fn deletion(alloc: Global, disk: &mut MemoryDisk, id: u64, number: u64) -> Result<Update> {
-    let LoadedCatalog {
-        catalog,
-        mut keyspaces,
-        ..
-    } = read_catalog(alloc, disk)?;
-    keyspaces.remove_keyspace(id);
-    prepare(alloc, &catalog, &keyspaces, number)
+/// Deletes the keyspace of this id.
+pub fn delete(alloc: Global, disk: &mut MemoryDisk, id: u64, number: u64) -> Result<()> {
+    let mut found = read_catalog(alloc, disk)?;
+    found.keyspaces.remove_keyspace(id);
+    let update = prepare(alloc, &found.catalog, &found.keyspaces, number)?;
+    delete_keyspace(disk, &update)
 }
 
-fn len_of(alloc: Global, disk: &mut MemoryDisk, name: &str) -> Result<Option<usize>> {
-    Ok(disk.read(alloc, name)?.map(|bytes| bytes.len()))
+/// Removes the folder of the keyspace of this id.
+pub fn remove(alloc: Global, disk: &mut MemoryDisk, id: u64) -> Result<()> {
+    let removal = prepare_removal(alloc, id)?;
+    remove_keyspace(disk, &removal)
 }
 
-fn keyspace_count(alloc: Global, disk: &mut MemoryDisk) -> Result<usize> {
-    Ok(read_catalog(alloc, disk)?.keyspaces.keyspace_count())
-}
+pub const SCRIPT: &[Row] = &[
+    // Made, deleted and removed.
+    (New(Start::Tree), DONE),
+    (CreateHome(b"a", 4), YES),
+    (On(Len(FIRST)), Ok(&[55])),
+    (On(Len(CURRENT)), Ok(&[135])),
+    (CreateHome(b"b", 9), YES),
+    (Crash(0), DONE),
+    (Ask(Keyspaces), Ok(&[2])),
+    (On(Len("keyspaces/2/current")), Ok(&[55])),
+    (DeleteHome(1, 10), DONE),
+    (Ask(Keyspaces), Ok(&[1])),
+    (On(Len(FIRST)), Ok(&[55])),
+    (RemoveKeyspace(1), DONE),
+    (Crash(0), DONE),
+    (On(Count("keyspaces")), Ok(&[2])),
+    (Ask(Keyspaces), Ok(&[1])),
+    (RemoveKeyspace(1), DONE),
+    // An older file is taken away.
+    (New(Start::Tree), DONE),
+    (On(MakeFolder("keyspaces/1")), DONE),
+    (MakeFile(FIRST, b"older"), DONE),
+    (CreateHome(b"a", 4), YES),
+    (Crash(0), DONE),
+    (Ask(IsFirst(FIRST, 4)), YES),
+    // A folder with more stays.
+    (New(Start::Tree), DONE),
+    (On(MakeFolder("keyspaces/1")), DONE),
+    (MakeFile("keyspaces/1/1.table", b"table"), DONE),
+    (RemoveKeyspace(1), FAULT),
+    (Ask(Keyspaces), Ok(&[0])),
+];
 
-#[test]
-fn made_deleted_and_removed(rt: HostRuntime) -> std::result::Result<(), Fail> {
-    let alloc = rt.alloc();
-    let mut disk = new_disk(alloc)?;
-    let first = creation(alloc, &mut disk, b"a", 4)?;
-    create_keyspace(&mut disk, &first)?;
-    assert_eq!(rt; len_of(alloc, &mut disk, FIRST)?, Some(55));
-    assert_eq!(rt; len_of(alloc, &mut disk, CURRENT)?, Some(135));
-    let second = creation(alloc, &mut disk, b"b", 9)?;
-    create_keyspace(&mut disk, &second)?;
-    let mut left = disk.crash(0)?;
-    assert_eq!(rt; keyspace_count(alloc, &mut left)?, 2);
-    assert_eq!(rt; len_of(alloc, &mut left, "keyspaces/2/current")?, Some(55));
-    let update = deletion(alloc, &mut left, 1, 10)?;
-    delete_keyspace(&mut left, &update)?;
-    assert_eq!(rt; keyspace_count(alloc, &mut left)?, 1);
-    assert_eq!(rt; len_of(alloc, &mut left, FIRST)?, Some(55));
-    let removal = prepare_removal(alloc, 1)?;
-    remove_keyspace(&mut left, &removal)?;
-    let mut last = left.crash(0)?;
-    assert_eq!(rt; last.list(alloc, "keyspaces")?.len(), 2);
-    assert_eq!(rt; keyspace_count(alloc, &mut last)?, 1);
-    remove_keyspace(&mut last, &removal)?;
-    Ok(())
-}
-
-#[test]
-fn an_older_file_is_taken_away(rt: HostRuntime) -> std::result::Result<(), Fail> {
-    let alloc = rt.alloc();
-    let mut disk = new_disk(alloc)?;
-    disk.make_folder("keyspaces/1")?;
-    make_file(&mut disk, FIRST, b"older")?;
-    let first = creation(alloc, &mut disk, b"a", 4)?;
-    create_keyspace(&mut disk, &first)?;
-    let mut left = disk.crash(0)?;
-    let text = left.read(alloc, FIRST)?.ok_or("missing")?;
-    assert_eq!(rt; text.as_slice(), first.record_text.as_slice());
-    Ok(())
-}
-
-#[test]
-fn each_call_fails_in_turn(rt: HostRuntime) -> std::result::Result<(), Fail> {
-    let alloc = rt.alloc();
-    // Seven calls make the home, four write the table, and two commit.
-    for at in 1..15 {
-        let mut disk = new_disk(alloc)?;
-        let first = creation(alloc, &mut disk, b"a", 4)?;
-        disk.fail_at(at, 40);
-        let made = create_keyspace(&mut disk, &first);
-        assert_eq!(rt; made.is_ok(), at == 14, "{at}");
-        disk.fail_at(0, 0);
-        let mut left = disk.crash(80)?;
-        let count = keyspace_count(alloc, &mut left)?;
-        assert_eq!(rt; count, if at < 13 { 0 } else { 1 }, "{at}");
-        let len = len_of(alloc, &mut left, FIRST)?;
-        assert!(rt; count == 0 || len == Some(55), "{at}");
+// Whether a table is made by a change, or by a creation of keyspace 1, over these keyspaces.
+fn makes_table(
+    alloc: Global,
+    next_table_id: u64,
+    names: &[&[u8]],
+    number: u64,
+    is_creation: bool,
+) -> Result<bool> {
+    let mut catalog = Catalog::new();
+    catalog.next_table_id = next_table_id;
+    let mut keyspaces = MetaKeyspace::new(alloc);
+    for name in names {
+        let options = KeyspaceCreateOptions::default(alloc)?;
+        keyspaces.create_keyspace(Slice::new(alloc, name)?, options, 1)?;
     }
-    Ok(())
+    if is_creation {
+        let creation = prepare_creation(alloc, &catalog, &keyspaces, 1, number)?;
+        return Ok(creation.update.table.is_some());
+    }
+    Ok(
+        prepare(alloc, &catalog, &keyspaces, number)?
+            .table
+            .is_some(),
+    )
 }
 
-#[test]
-fn a_folder_with_more_stays(rt: HostRuntime) -> std::result::Result<(), Fail> {
-    let alloc = rt.alloc();
-    let mut disk = new_disk(alloc)?;
-    disk.make_folder("keyspaces/1")?;
-    make_file(&mut disk, "keyspaces/1/1.table", b"table")?;
-    let removal = prepare_removal(alloc, 1)?;
-    assert!(rt; remove_keyspace(&mut disk, &removal).is_err());
-    assert_eq!(rt; keyspace_count(alloc, &mut disk)?, 0);
-    Ok(())
-}
+const USED_UP: Result<bool> = Err(Error::NumbersUsedUp);
+
+// The next id of a table, the names of the keyspaces, the change's number, and whether it is a creation.
+const NUMBERS: [(u64, &[&[u8]], u64, bool, Result<bool>); 4] = [
+    (1, &[], 1 << 63, false, USED_UP),
+    (u64::MAX, &[], 1, false, Ok(false)),
+    (u64::MAX, &[b"a"], 1, false, USED_UP),
+    (1, &[], 1 << 63, true, USED_UP),
+];
 
 #[test]
 fn numbers_are_used_up(rt: HostRuntime) -> std::result::Result<(), Fail> {
-    let alloc = rt.alloc();
-    let keyspaces = MetaKeyspace::new(alloc);
-    let refused = prepare_creation(alloc, &Catalog::new(), &keyspaces, 1, 1 << 63);
-    assert_eq!(rt; refused.err(), Some(Error::NumbersUsedUp));
+    for (row, (table_id, names, number, is_creation, answer)) in NUMBERS.iter().enumerate() {
+        assert_eq!(rt;
+            makes_table(rt.alloc(), *table_id, names, *number, *is_creation),
+            *answer,
+            "row {row}"
+        );
+    }
     Ok(())
 }

@@ -1,5 +1,6 @@
-//! The folders that several tests begin with.
+//! The folders that scripts begin with.
 
+use crate::calls::{add_answer, add_some};
 use fjall_base::{Disk, MemoryDisk, Result, Slice};
 use fjall_catalog::{commit, first_record, first_record_of, prepare, read_catalog, write_table};
 use fjall_files::{make_file, make_home};
@@ -7,16 +8,51 @@ use fjall_journal::{PersistMode, ValueType, Writer};
 use fjall_options::KeyspaceCreateOptions;
 use std::alloc::Global;
 
-/// A disk with an empty tree 0, and this marker.
-pub fn empty_folder(alloc: Global, marker: &[u8]) -> Result<MemoryDisk> {
+/// The folder of tree 0, and its records.
+pub const TREE: &str = "keyspaces/0";
+
+pub const CURRENT: &str = "keyspaces/0/current";
+
+/// The marker of a whole folder.
+pub const MARKER: &[u8] = b"FJL\x03";
+
+/// What stands behind a journal's last batch where a write was cut short.
+pub const TORN: &[u8] = b"\x01torn";
+
+/// A disk with an empty tree 0, and no marker.
+pub fn unmarked_folder(alloc: Global) -> Result<MemoryDisk> {
     let mut disk = MemoryDisk::new(alloc);
     disk.make_folder("keyspaces")?;
-    make_home(
-        &mut disk,
-        "keyspaces/0",
-        "keyspaces/0/current",
-        &first_record(alloc)?,
-    )?;
+    make_home(&mut disk, TREE, CURRENT, &first_record(alloc)?)?;
+    Ok(disk)
+}
+
+/// A disk with an empty tree 0, all synced.
+pub fn synced_tree(alloc: Global) -> Result<MemoryDisk> {
+    let mut disk = MemoryDisk::new(alloc);
+    disk.make_folder("keyspaces")?;
+    disk.make_folder(TREE)?;
+    make_file(&mut disk, CURRENT, &first_record(alloc)?)?;
+    disk.sync_folder(TREE)?;
+    disk.sync_folder("keyspaces")?;
+    disk.sync_folder("")?;
+    Ok(disk)
+}
+
+/// A disk with at most so many bytes of an empty tree 0, which aren't synced.
+pub fn torn_tree(alloc: Global, len: usize) -> Result<MemoryDisk> {
+    let first = first_record(alloc)?;
+    let mut disk = MemoryDisk::new(alloc);
+    disk.make_folder("keyspaces")?;
+    disk.make_folder(TREE)?;
+    disk.create(CURRENT)?;
+    disk.append(CURRENT, &first[..len.min(first.len())])?;
+    Ok(disk)
+}
+
+/// A disk with an empty tree 0, and this marker.
+pub fn empty_folder(alloc: Global, marker: &[u8]) -> Result<MemoryDisk> {
+    let mut disk = unmarked_folder(alloc)?;
     make_file(&mut disk, "version", marker)?;
     Ok(disk)
 }
@@ -39,7 +75,7 @@ pub fn create(alloc: Global, disk: &mut MemoryDisk, name: &[u8], number: u64) ->
 
 /// A disk with the keyspace 1, "items", made under number 0, and no journal.
 pub fn folder_of_items(alloc: Global) -> Result<MemoryDisk> {
-    let mut disk = empty_folder(alloc, b"FJL\x03")?;
+    let mut disk = empty_folder(alloc, MARKER)?;
     create(alloc, &mut disk, b"items", 0)?;
     Ok(disk)
 }
@@ -51,7 +87,48 @@ pub fn insert(alloc: Global, disk: &mut MemoryDisk, journal: &str, number: u64) 
     writer.persist(disk, PersistMode::SyncAll)
 }
 
-/// How many bytes the file of this name has, where there is one.
-pub fn len_of(alloc: Global, disk: &mut MemoryDisk, name: &str) -> Result<Option<usize>> {
-    Ok(disk.read(alloc, name)?.map(|bytes| bytes.len()))
+/// The keyspace 1 made under number 0, and a write in each of two journals.
+pub fn sound_folder(alloc: Global) -> Result<MemoryDisk> {
+    let mut disk = folder_of_items(alloc)?;
+    insert(alloc, &mut disk, "0.jnl", 1)?;
+    insert(alloc, &mut disk, "1.jnl", 2)?;
+    Ok(disk)
+}
+
+/// The keyspace 1 with a=b written under number 5, a torn journal, and tables and a folder that nothing names.
+pub fn swollen_folder(alloc: Global) -> Result<MemoryDisk> {
+    let mut disk = folder_of_items(alloc)?;
+    insert(alloc, &mut disk, "0.jnl", 5)?;
+    disk.append("0.jnl", TORN)?;
+    disk.make_folder("keyspaces/7")?;
+    for name in [
+        "keyspaces/0/9.table",
+        "keyspaces/0/notes",
+        "keyspaces/1/1.table",
+        "keyspaces/7/3.table",
+        "keyspaces/7/current",
+        "keyspaces/7/notes",
+    ] {
+        disk.create(name)?;
+    }
+    Ok(disk)
+}
+
+/// Adds how many bytes the first record has that is made under this number.
+pub fn add_first_len(alloc: Global, number: u64, seen: &mut Vec<u64>) -> Result<()> {
+    add_some(seen, Some(first_record_of(alloc, number)?.len()))
+}
+
+/// Adds whether the file is the first record that is made under this number, where there is one.
+pub fn add_is_first(
+    alloc: Global,
+    disk: &mut MemoryDisk,
+    name: &str,
+    number: u64,
+    seen: &mut Vec<u64>,
+) -> Result<()> {
+    let Some(text) = disk.read(alloc, name)? else {
+        return Ok(());
+    };
+    add_answer(seen, text == first_record_of(alloc, number)?)
 }

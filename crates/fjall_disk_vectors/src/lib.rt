@@ -1,14 +1,20 @@
-//! Folders on a disk in memory: read, changed, damaged, and cut short at each call.
+//! Folders on a disk in memory: read, changed, damaged, and cut short at each call; and a disk over a real folder.
 #![tactic(auto)]
 
 #[cfg(test)]
 mod beginning;
 #[cfg(test)]
+mod calls;
+#[cfg(test)]
 mod catalog;
 #[cfg(test)]
 mod changes;
 #[cfg(test)]
+mod faults;
+#[cfg(test)]
 mod folder;
+#[cfg(test)]
+mod folder_disk;
 #[cfg(test)]
 mod journaling;
 #[cfg(test)]
@@ -21,3 +27,7 @@ mod recovery;
 mod regions;
 #[cfg(test)]
 mod repair;
+#[cfg(test)]
+mod scripts;
+#[cfg(test)]
+mod steps;

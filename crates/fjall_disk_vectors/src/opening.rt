@@ -1,145 +1,136 @@
-//! Folders on a disk in memory, sound and faulty.
+//! Folders read, sound and faulty.
 
-use crate::folder::{create, empty_folder, folder_of_items, insert};
-use fjall_base::{
-    Disk, Error, FormatVersion, JournalRecoveryError, MemoryDisk, Result, StorageError,
-};
+use crate::calls::Call::*;
+use crate::calls::{Answer, DONE};
+use crate::folder::{CURRENT, MARKER, TORN};
+use crate::steps::Question::*;
+use crate::steps::Step::*;
+use crate::steps::{Question, Row, Start};
+use fjall_base::{Error, FormatVersion, JournalRecoveryError, MemoryDisk, Result, StorageError};
 use fjall_recovery::{Finished, read_folder};
 use std::alloc::Global;
-use std::test::Fail;
 
-const MARKER: &[u8] = b"FJL\x03";
-
-/// Why the folder of this disk is refused.
-fn refusal(alloc: Global, mut disk: MemoryDisk) -> Option<Error> {
-    read_folder(alloc, &mut disk).err()
-}
-
-/// A sound folder: keyspace 1 made under number 0, and a write in each of two journals.
-fn sound(alloc: Global) -> Result<MemoryDisk> {
-    let mut disk = folder_of_items(alloc)?;
-    insert(alloc, &mut disk, "0.jnl", 1)?;
-    insert(alloc, &mut disk, "1.jnl", 2)?;
-    Ok(disk)
-}
-
-#[test]
-fn a_sound_folder(rt: HostRuntime) -> std::result::Result<(), Fail> {
-    let alloc = rt.alloc();
-    let mut disk = sound(alloc)?;
-    disk.append("1.jnl", b"\x01torn")?;
-    let folder: Finished = read_folder(alloc, &mut disk)?.ok_or("unfinished")?;
-    assert_eq!(rt; folder.journal_ids.as_slice(), [0, 1].as_slice());
-    assert_eq!(rt; folder.folder_ids.as_slice(), [0, 1].as_slice());
-    assert_eq!(rt; folder.journals.batches.len(), 2);
-    assert_eq!(rt; folder.journals.least, 3);
-    assert_eq!(rt; (folder.journals.end, folder.journals.torn), (49, true));
-    assert_eq!(rt; folder.catalog.keyspaces.resolve_id(b"items"), Some(1));
-    assert_eq!(rt;
-        folder
-            .homes
-            .iter()
-            .map(|home| (home.id, home.end, home.len))
-            .eq([(1, 55, 55)]),
-        true
-    );
-    Ok(())
-}
-
-/// The number that a next change of this folder may have.
-fn number(alloc: Global, disk: &mut MemoryDisk) -> Result<Option<u64>> {
-    Ok(read_folder(alloc, disk)?.map(|folder| folder.number()))
-}
-
-#[test]
-fn numbers(rt: HostRuntime) -> std::result::Result<(), Fail> {
-    let alloc = rt.alloc();
-    let mut disk = empty_folder(alloc, MARKER)?;
-    assert_eq!(rt; number(alloc, &mut disk)?, Some(0));
-    create(alloc, &mut disk, b"items", 7)?;
-    assert_eq!(rt; number(alloc, &mut disk)?, Some(8));
-    insert(alloc, &mut disk, "0.jnl", 9)?;
-    assert_eq!(rt; number(alloc, &mut disk)?, Some(10));
-    create(alloc, &mut disk, b"more", 20)?;
-    assert_eq!(rt; number(alloc, &mut disk)?, Some(21));
-    Ok(())
-}
-
-#[test]
-fn markers(rt: HostRuntime) -> std::result::Result<(), Fail> {
-    let alloc = rt.alloc();
-    let other = Error::InvalidVersion(Some(FormatVersion::V2));
-    assert_eq!(rt;
-        refusal(alloc, empty_folder(alloc, b"FJL\x02")?),
-        Some(other)
-    );
-    assert_eq!(rt;
-        refusal(alloc, empty_folder(alloc, b"FJX\x01")?),
-        Some(Error::InvalidVersion(None))
-    );
-    let mut disk = empty_folder(alloc, b"FJ")?;
-    disk.create("0.jnl")?;
-    assert!(rt; read_folder(alloc, &mut disk)?.is_none());
-    insert(alloc, &mut disk, "0.jnl", 1)?;
-    assert_eq!(rt; refusal(alloc, disk), Some(Error::Unrecoverable));
-    let mut empty = MemoryDisk::new(alloc);
-    assert!(rt; read_folder(alloc, &mut empty)?.is_none());
-    let mut written = empty_folder(alloc, b"")?;
-    create(alloc, &mut written, b"a", 0)?;
-    assert_eq!(rt; refusal(alloc, written), Some(Error::Unrecoverable));
-    Ok(())
-}
-
-#[test]
-fn names_of_journals(rt: HostRuntime) -> std::result::Result<(), Fail> {
-    let alloc = rt.alloc();
-    let misnamed = Error::JournalRecovery(JournalRecoveryError::InvalidFileName);
-    for name in ["0.JNL", "00.jnl", "x.jnl"] {
-        let mut disk = sound(alloc)?;
-        disk.create(name)?;
-        assert_eq!(rt; refusal(alloc, disk), Some(misnamed.clone()?));
+fn add_homes(folder: &Finished, seen: &mut Vec<u64>) -> Result<()> {
+    for home in &folder.homes {
+        seen.extend_from_slice(&[home.id, home.end as u64, home.len as u64])?;
     }
-    let mut disk = sound(alloc)?;
-    disk.create("notes.txt")?;
-    disk.create(".jnl")?;
-    disk.create("keyspaces/a file")?;
-    assert!(rt; read_folder(alloc, &mut disk)?.is_some());
-    disk.make_folder("keyspaces/01")?;
-    assert_eq!(rt; refusal(alloc, disk), Some(Error::Unrecoverable));
     Ok(())
 }
 
-#[test]
-fn faults_of_journals(rt: HostRuntime) -> std::result::Result<(), Fail> {
-    let alloc = rt.alloc();
-    let mut torn = sound(alloc)?;
-    torn.append("0.jnl", b"\x01torn")?;
-    assert_eq!(rt; refusal(alloc, torn), Some(Error::Unrecoverable));
-    let mut again = sound(alloc)?;
-    insert(alloc, &mut again, "2.jnl", 2)?;
-    assert_eq!(rt; refusal(alloc, again), Some(Error::Unrecoverable));
+fn add_some_id(seen: &mut Vec<u64>, id: Option<u64>) -> Result<()> {
+    if let Some(id) = id {
+        seen.push(id)?;
+    }
     Ok(())
 }
 
-#[test]
-fn faults_of_keyspaces(rt: HostRuntime) -> std::result::Result<(), Fail> {
-    let alloc = rt.alloc();
-    let damaged = Error::Storage(StorageError::RecordDamaged);
-    let mut cut = sound(alloc)?;
-    cut.cut_sync("keyspaces/1/current", 54)?;
-    assert_eq!(rt; refusal(alloc, cut), Some(damaged.clone()?));
-    let mut gone = sound(alloc)?;
-    gone.remove("keyspaces/1/current")?;
-    gone.remove_folder("keyspaces/1")?;
-    assert_eq!(rt; refusal(alloc, gone), Some(Error::Unrecoverable));
-    let mut tree = sound(alloc)?;
-    tree.cut_sync("keyspaces/0/current", 54)?;
-    assert_eq!(rt; refusal(alloc, tree), Some(damaged));
-    let mut table = sound(alloc)?;
-    table.remove("keyspaces/0/1.table")?;
-    assert_eq!(rt;
-        refusal(alloc, table),
-        Some(Error::Storage(StorageError::TableDamaged))
-    );
+/// Asks a question of a finished folder, and adds what is seen; of an unfinished one nothing is.
+pub fn ask(
+    alloc: Global,
+    disk: &mut MemoryDisk,
+    question: Question,
+    seen: &mut Vec<u64>,
+) -> Result<()> {
+    let Some(folder) = read_folder(alloc, disk)? else {
+        return Ok(());
+    };
+    let journals = &folder.journals;
+    let keyspaces = &folder.catalog.keyspaces;
+    match question {
+        Number => seen.push(folder.number())?,
+        Journals => seen.extend_from_slice(&folder.journal_ids)?,
+        Folders => seen.extend_from_slice(&folder.folder_ids)?,
+        Named(name) => add_some_id(seen, keyspaces.resolve_id(name))?,
+        NextId => seen.push(keyspaces.next_id())?,
+        Batches => seen.extend_from_slice(&[
+            journals.batches.len() as u64,
+            journals.least,
+            journals.end as u64,
+            u64::from(journals.torn),
+        ])?,
+        _ => add_homes(&folder, seen)?,
+    }
     Ok(())
 }
+
+const UNREADABLE: Answer = Err(Error::Unrecoverable);
+
+const MISNAMED: Answer = Err(Error::JournalRecovery(JournalRecoveryError::InvalidFileName));
+
+const RECORD_DAMAGED: Answer = Err(Error::Storage(StorageError::RecordDamaged));
+
+pub const SCRIPT: &[Row] = &[
+    // A sound folder.
+    (New(Start::Sound), DONE),
+    (On(Append("1.jnl", TORN)), DONE),
+    (Ask(Journals), Ok(&[0, 1])),
+    (Ask(Folders), Ok(&[0, 1])),
+    (Ask(Batches), Ok(&[2, 3, 49, 1])),
+    (Ask(Named(b"items")), Ok(&[1])),
+    (Ask(Homes), Ok(&[1, 55, 55])),
+    // Numbers.
+    (New(Start::Marked(MARKER)), DONE),
+    (Ask(Number), Ok(&[0])),
+    (Keyspace(b"items", 7), DONE),
+    (Ask(Number), Ok(&[8])),
+    (Insert("0.jnl", 9), DONE),
+    (Ask(Number), Ok(&[10])),
+    (Keyspace(b"more", 20), DONE),
+    (Ask(Number), Ok(&[21])),
+    // Markers.
+    (New(Start::Marked(b"FJL\x02")), DONE),
+    (
+        Ask(Number),
+        Err(Error::InvalidVersion(Some(FormatVersion::V2))),
+    ),
+    (New(Start::Marked(b"FJX\x01")), DONE),
+    (Ask(Number), Err(Error::InvalidVersion(None))),
+    (New(Start::Marked(b"FJ")), DONE),
+    (On(Create("0.jnl")), DONE),
+    (Ask(Number), DONE),
+    (Insert("0.jnl", 1), DONE),
+    (Ask(Number), UNREADABLE),
+    (New(Start::Nothing), DONE),
+    (Ask(Number), DONE),
+    (New(Start::Marked(b"")), DONE),
+    (Keyspace(b"a", 0), DONE),
+    (Ask(Number), UNREADABLE),
+    // Names of journals and of keyspaces.
+    (New(Start::Sound), DONE),
+    (On(Create("0.JNL")), DONE),
+    (Ask(Number), MISNAMED),
+    (New(Start::Sound), DONE),
+    (On(Create("00.jnl")), DONE),
+    (Ask(Number), MISNAMED),
+    (New(Start::Sound), DONE),
+    (On(Create("x.jnl")), DONE),
+    (Ask(Number), MISNAMED),
+    (New(Start::Sound), DONE),
+    (On(Create("notes.txt")), DONE),
+    (On(Create(".jnl")), DONE),
+    (On(Create("keyspaces/a file")), DONE),
+    (Ask(Number), Ok(&[3])),
+    (On(MakeFolder("keyspaces/01")), DONE),
+    (Ask(Number), UNREADABLE),
+    // Faults of journals.
+    (New(Start::Sound), DONE),
+    (On(Append("0.jnl", TORN)), DONE),
+    (Ask(Number), UNREADABLE),
+    (New(Start::Sound), DONE),
+    (Insert("2.jnl", 2), DONE),
+    (Ask(Number), UNREADABLE),
+    // Faults of keyspaces.
+    (New(Start::Sound), DONE),
+    (On(Cut("keyspaces/1/current", 54)), DONE),
+    (Ask(Number), RECORD_DAMAGED),
+    (New(Start::Sound), DONE),
+    (On(Remove("keyspaces/1/current")), DONE),
+    (On(RemoveFolder("keyspaces/1")), DONE),
+    (Ask(Number), UNREADABLE),
+    (New(Start::Sound), DONE),
+    (On(Cut(CURRENT, 54)), DONE),
+    (Ask(Number), RECORD_DAMAGED),
+    (New(Start::Sound), DONE),
+    (On(Remove("keyspaces/0/1.table")), DONE),
+    (Ask(Number), Err(Error::Storage(StorageError::TableDamaged))),
+];

@@ -1,4 +1,4 @@
-//! Worked rows, and each call that allocates on its happy path.
+//! Names, lists and markers, each with what it means.
 
 use fjall_base::{DirEntry, Error, FormatVersion, JournalRecoveryError, Result};
 use fjall_files::{
@@ -6,155 +6,208 @@ use fjall_files::{
     parse_journal_name, read_marker, table_name, tables, version_of, write_file_header,
 };
 use std::alloc::Global;
-use std::process::Abort;
-use std::test::*;
+use std::test::Fail;
 
-fn misnamed<T>() -> Result<T> {
-    Err(Error::JournalRecovery(JournalRecoveryError::InvalidFileName))
-}
+const MISNAMED: Error = Error::JournalRecovery(JournalRecoveryError::InvalidFileName);
 
-fn file(alloc: Global, name: &str) -> Result<DirEntry> {
-    Ok(DirEntry {
-        name: String::from_str(alloc, name)?,
-        is_folder: false,
-    })
-}
+/// What a marker is, the version that its header names, and that which its fourth byte names.
+type Read = (Result<Marker>, Option<FormatVersion>, Option<FormatVersion>);
 
-fn folder(alloc: Global, name: &str) -> Result<DirEntry> {
-    Ok(DirEntry {
-        name: String::from_str(alloc, name)?,
-        is_folder: true,
-    })
-}
+const OF_NONE: Result<Marker> = Err(Error::InvalidVersion(None));
 
-#[test]
-fn headers(rt: HostRuntime) {
-    assert_eq!(rt; parse_file_header(b"\x46\x4a\x58\x01"), None);
-    assert_eq!(rt; parse_file_header(b"\x46\x4a\x4c"), None);
-    assert_eq!(rt;
-        parse_file_header(b"\x46\x4a\x4c\x01"),
-        Some(FormatVersion::V1)
-    );
-    assert_eq!(rt;
-        parse_file_header(b"\x46\x4a\x4c\x03\x00"),
-        Some(FormatVersion::V3)
-    );
-    assert_eq!(rt; parse_file_header(b"\x46\x4a\x4c\x04"), None);
-    assert_eq!(rt; version_of(2), Some(FormatVersion::V2));
-    assert_eq!(rt; version_of(0), None);
-}
+const OF_1: Result<Marker> = Err(Error::InvalidVersion(Some(FormatVersion::V1)));
 
-#[test]
-fn markers(rt: HostRuntime) {
-    assert_eq!(rt; read_marker(None), Ok(Marker::Unfinished));
-    assert_eq!(rt; read_marker(Some(b"")), Ok(Marker::Unfinished));
-    assert_eq!(rt; read_marker(Some(b"\x46\x4a")), Ok(Marker::Unfinished));
-    assert_eq!(rt; read_marker(Some(b"\x46\x4a\x4c\x03")), Ok(Marker::Whole));
-    assert_eq!(rt;
-        read_marker(Some(b"\x46\x4a\x4c\x03\x00")),
-        Ok(Marker::Whole)
-    );
-    assert_eq!(rt;
-        read_marker(Some(b"\x46\x4a\x4c\x02")),
-        Err(Error::InvalidVersion(Some(FormatVersion::V2)))
-    );
-    assert_eq!(rt;
-        read_marker(Some(b"\x46\x4a\x58")),
-        Err(Error::InvalidVersion(None))
-    );
+const OF_2: Result<Marker> = Err(Error::InvalidVersion(Some(FormatVersion::V2)));
+
+const V1: Option<FormatVersion> = Some(FormatVersion::V1);
+
+const V2: Option<FormatVersion> = Some(FormatVersion::V2);
+
+const V3: Option<FormatVersion> = Some(FormatVersion::V3);
+
+// A marker, whether it is what is written, and how it is read.
+const MARKERS: [(Option<&[u8]>, bool, Read); 11] = [
+    (None, false, (Ok(Marker::Unfinished), None, None)),
+    (Some(b""), false, (Ok(Marker::Unfinished), None, None)),
+    (Some(b"FJ"), false, (Ok(Marker::Unfinished), None, None)),
+    (Some(b"FJL"), false, (Ok(Marker::Unfinished), None, None)),
+    (Some(b"FJL\x03"), true, (Ok(Marker::Whole), V3, V3)),
+    (Some(b"FJL\x03\x00"), false, (Ok(Marker::Whole), V3, V3)),
+    (Some(b"FJL\x01"), false, (OF_1, V1, V1)),
+    (Some(b"FJL\x02"), false, (OF_2, V2, V2)),
+    (Some(b"FJL\x04"), false, (OF_NONE, None, None)),
+    (Some(b"FJX"), false, (OF_NONE, None, None)),
+    (Some(b"FJX\x01"), false, (OF_NONE, None, V1)),
+];
+
+fn read(marker: Option<&[u8]>) -> Read {
+    let bytes = marker.unwrap_or(b"");
+    let byte = match bytes.get(3) {
+        Some(byte) => *byte,
+        None => 0,
+    };
+    (
+        read_marker(marker),
+        parse_file_header(bytes),
+        version_of(byte),
+    )
 }
 
 #[test]
-fn a_header_is_written(rt: HostRuntime) -> std::result::Result<(), Fail> {
-    let mut output = Vec::new(rt.alloc());
-    write_file_header(&mut output)?;
-    assert_eq!(rt; output.as_slice(), b"\x46\x4a\x4c\x03".as_slice());
+fn markers(rt: HostRuntime) -> std::result::Result<(), Fail> {
+    let mut header = Vec::new(rt.alloc());
+    write_file_header(&mut header)?;
+    for (row, (marker, is_written, wanted)) in MARKERS.iter().enumerate() {
+        assert_eq!(rt;
+            (*marker == Some(header.as_slice()), read(*marker)),
+            (*is_written, *wanted),
+            "row {row}"
+        );
+    }
     Ok(())
 }
 
+/// What a name is of.
+#[derive(Clone, Copy)]
+enum Named {
+    Journal(u64),
+    Folder(u64),
+    Current(u64),
+    Table(u64, u64),
+    /// None that is spelled.
+    Other,
+}
+
+use Named::*;
+
+// The name, spelled; of another one it is this text.
+fn spelled(alloc: Global, named: Named, text: &str) -> Result<String> {
+    match named {
+        Journal(id) => journal_name(alloc, id),
+        Folder(id) => keyspace_folder(alloc, id),
+        Current(id) => current_name(alloc, id),
+        Table(id, table) => table_name(alloc, id, table),
+        Other => Ok(String::from_str(alloc, text)?),
+    }
+}
+
+// What a name is of, the name, and the id of a journal that it is read as.
+const NAMES: [(Named, &str, Result<Option<u64>>); 18] = [
+    (Journal(0), "0.jnl", Ok(Some(0))),
+    (
+        Journal(u64::MAX),
+        "18446744073709551615.jnl",
+        Ok(Some(u64::MAX)),
+    ),
+    (Folder(12), "keyspaces/12", Ok(None)),
+    (Current(12), "keyspaces/12/current", Ok(None)),
+    (Table(12, 3), "keyspaces/12/3.table", Ok(None)),
+    (Other, "notes.txt", Ok(None)),
+    (Other, ".jnl", Ok(None)),
+    (Other, "jnl", Ok(None)),
+    (Other, "0.jnl.bak", Ok(None)),
+    (Other, "", Ok(None)),
+    (Other, "version", Ok(None)),
+    (Other, "x.jnl", Err(MISNAMED)),
+    (Other, "0.JNL", Err(MISNAMED)),
+    (Other, "00.jnl", Err(MISNAMED)),
+    (Other, "+1.jnl", Err(MISNAMED)),
+    (Other, "18446744073709551616.jnl", Err(MISNAMED)),
+    (Other, "..jnl", Err(MISNAMED)),
+    (Other, "0..jnl", Err(MISNAMED)),
+];
+
 #[test]
-fn names_are_spelled(rt: HostRuntime) -> std::result::Result<(), Fail> {
-    let alloc = rt.alloc();
-    assert_eq!(rt; journal_name(alloc, 0)?.as_str(), "0.jnl");
-    assert_eq!(rt;
-        journal_name(alloc, u64::MAX)?.as_str(),
-        "18446744073709551615.jnl"
-    );
-    assert_eq!(rt; keyspace_folder(alloc, 12)?.as_str(), "keyspaces/12");
-    assert_eq!(rt; current_name(alloc, 12)?.as_str(), "keyspaces/12/current");
-    assert_eq!(rt; table_name(alloc, 12, 3)?.as_str(), "keyspaces/12/3.table");
+fn names(rt: HostRuntime) -> std::result::Result<(), Fail> {
+    for (named, text, id) in NAMES {
+        assert_eq!(rt;
+            (
+                spelled(rt.alloc(), named, text)?.as_str(),
+                parse_journal_name(text)
+            ),
+            (text, id),
+            "at {text}"
+        );
+    }
     Ok(())
 }
 
-#[test]
-fn names_of_journals(rt: HostRuntime) {
-    assert_eq!(rt; parse_journal_name("0.jnl"), Ok(Some(0)));
-    assert_eq!(rt;
-        parse_journal_name("18446744073709551615.jnl"),
-        Ok(Some(u64::MAX))
-    );
-    for name in ["notes.txt", ".jnl", "jnl", "0.jnl.bak", "", "version"] {
-        assert_eq!(rt; parse_journal_name(name), Ok(None), "at {name}");
-    }
-    for name in [
-        "x.jnl",
-        "0.JNL",
-        "00.jnl",
-        "+1.jnl",
-        "18446744073709551616.jnl",
-        "..jnl",
-        "0..jnl",
-    ] {
-        assert_eq!(rt; parse_journal_name(name), misnamed(), "at {name}");
-    }
+/// What a list is read for.
+#[derive(Clone, Copy)]
+enum Sought {
+    Journals,
+    Keyspaces,
+    TablesOf(u64),
 }
 
-#[test]
-fn the_root_is_listed(rt: HostRuntime) -> std::result::Result<(), Fail> {
-    let alloc = rt.alloc();
+// The ids that are found in a list of these files and these folders.
+fn found(alloc: Global, sought: Sought, files: &[&str], folders: &[&str]) -> Result<Vec<u64>> {
     let mut listed = Vec::new(alloc);
-    for name in ["10.jnl", "version", "9.jnl", "0.jnl", "lock"] {
-        listed.push(file(alloc, name)?)?;
+    for (names, is_folder) in [(files, false), (folders, true)] {
+        for name in names {
+            let name = String::from_str(alloc, name)?;
+            listed.push(DirEntry { name, is_folder })?;
+        }
     }
-    listed.push(folder(alloc, "keyspaces")?)?;
-    listed.push(folder(alloc, "00.jnl")?)?;
-    assert_eq!(rt; journals(alloc, &listed)?.as_slice(), [0, 9, 10].as_slice());
-    listed.push(file(alloc, "00.jnl")?)?;
-    assert_eq!(rt; journals(alloc, &listed), misnamed());
-    Ok(())
+    match sought {
+        Sought::Journals => journals(alloc, &listed),
+        Sought::Keyspaces => keyspaces(alloc, &listed),
+        Sought::TablesOf(id) => tables(alloc, id, &listed),
+    }
+}
+
+// What is sought, the files and the folders of a list, and the ids that are found.
+const LISTS: [(Sought, &[&str], &[&str], Result<&[u64]>); 5] = [
+    (
+        Sought::Journals,
+        &["10.jnl", "version", "9.jnl", "0.jnl", "lock"],
+        &["keyspaces", "00.jnl"],
+        Ok(&[0, 9, 10]),
+    ),
+    (
+        Sought::Journals,
+        &["10.jnl", "version", "9.jnl", "0.jnl", "lock", "00.jnl"],
+        &["keyspaces", "00.jnl"],
+        Err(MISNAMED),
+    ),
+    (
+        Sought::Keyspaces,
+        &["keyspaces/notes"],
+        &["keyspaces/10", "keyspaces/2", "keyspaces/0"],
+        Ok(&[0, 2, 10]),
+    ),
+    (
+        Sought::Keyspaces,
+        &["keyspaces/notes"],
+        &["keyspaces/10", "keyspaces/2", "keyspaces/0", "keyspaces/01"],
+        Err(Error::Unrecoverable),
+    ),
+    (
+        Sought::TablesOf(12),
+        &[
+            "keyspaces/12/7.table",
+            "keyspaces/12/current",
+            "keyspaces/12/3.table",
+            "keyspaces/12/03.table",
+            "keyspaces/1/4.table",
+        ],
+        &["keyspaces/12/5.table"],
+        Ok(&[3, 7]),
+    ),
+];
+
+fn owned(alloc: Global, ids: Result<&[u64]>) -> Result<Vec<u64>> {
+    Ok(Vec::from_slice(alloc, ids?)?)
 }
 
 #[test]
-fn keyspaces_are_listed(rt: HostRuntime) -> std::result::Result<(), Fail> {
-    let alloc = rt.alloc();
-    let mut listed = Vec::new(alloc);
-    for name in ["keyspaces/10", "keyspaces/2", "keyspaces/0"] {
-        listed.push(folder(alloc, name)?)?;
+fn lists(rt: HostRuntime) -> std::result::Result<(), Fail> {
+    for (row, (sought, files, folders, ids)) in LISTS.iter().enumerate() {
+        assert_eq!(rt;
+            found(rt.alloc(), *sought, files, folders),
+            owned(rt.alloc(), *ids),
+            "row {row}"
+        );
     }
-    listed.push(file(alloc, "keyspaces/notes")?)?;
-    assert_eq!(rt;
-        keyspaces(alloc, &listed)?.as_slice(),
-        [0, 2, 10].as_slice()
-    );
-    listed.push(folder(alloc, "keyspaces/01")?)?;
-    assert_eq!(rt; keyspaces(alloc, &listed), Err(Error::Unrecoverable));
-    Ok(())
-}
-
-#[test]
-fn tables_are_listed(rt: HostRuntime) -> std::result::Result<(), Fail> {
-    let alloc = rt.alloc();
-    let mut listed = Vec::new(alloc);
-    for name in [
-        "keyspaces/12/7.table",
-        "keyspaces/12/current",
-        "keyspaces/12/3.table",
-        "keyspaces/12/03.table",
-        "keyspaces/1/4.table",
-    ] {
-        listed.push(file(alloc, name)?)?;
-    }
-    listed.push(folder(alloc, "keyspaces/12/5.table")?)?;
-    assert_eq!(rt; tables(alloc, 12, &listed)?.as_slice(), [3, 7].as_slice());
     Ok(())
 }

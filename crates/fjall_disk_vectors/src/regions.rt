@@ -1,88 +1,87 @@
-//! Each moment of a folder that is made and removed, on a disk in memory.
+//! A keyspace's folder that is made and removed, and files that are ended.
 
-use fjall_base::{Disk, Error, MemoryDisk};
+use crate::calls::Call::*;
+use crate::calls::{DONE, FAULT, YES};
+use crate::steps::Step::*;
+use crate::steps::{Row, Start, Step};
+use fjall_base::{MemoryDisk, Result};
 use fjall_files::{append_synced, end_file, make_file, make_home, put_file, remove_home};
 use std::alloc::Global;
-use std::test::Fail;
 
 const HOME: &str = "keyspaces/5";
 
-const CURRENT: &str = "keyspaces/5/current";
+pub const CURRENT: &str = "keyspaces/5/current";
 
 const TABLE: &str = "keyspaces/5/1.table";
 
-// A disk with the folder of keyspaces, synced.
-fn prepared(alloc: Global) -> Result<MemoryDisk, Error> {
-    let mut disk = MemoryDisk::new(alloc);
-    disk.make_folder("keyspaces")?;
-    disk.sync_folder("")?;
-    Ok(disk)
-}
-
-#[test]
-fn a_home_is_made(rt: HostRuntime) -> Result<(), Fail> {
-    let alloc = rt.alloc();
-    let mut disk = prepared(alloc)?;
-    make_home(&mut disk, HOME, CURRENT, b"first")?;
-    append_synced(&mut disk, CURRENT, b" second")?;
-    let read = disk.read(alloc, CURRENT)?.ok_or("missing")?;
-    assert_eq!(rt; read.as_slice(), b"first second".as_slice());
-    put_file(&mut disk, HOME, TABLE, b"table")?;
-    disk.sync_folder("keyspaces")?;
-    let mut left = disk.crash(0)?;
-    let read = left.read(alloc, TABLE)?.ok_or("lost")?;
-    assert_eq!(rt; read.as_slice(), b"table".as_slice());
-    Ok(())
-}
-
-#[test]
-fn each_call_fails_in_turn(rt: HostRuntime) -> Result<(), Fail> {
-    let alloc = rt.alloc();
-    for at in 1..6 {
-        let mut disk = prepared(alloc)?;
-        disk.fail_at(at, 2);
-        let made = make_home(&mut disk, HOME, CURRENT, b"first");
-        assert_eq!(rt; made.is_ok(), at == 5);
-        disk.fail_at(0, 0);
-        let found = disk.read(alloc, CURRENT)?;
-        let len = found.map(|bytes| bytes.len());
-        let want = [None, None, None, Some(2), Some(5), Some(5)];
-        assert_eq!(rt; len, want[at as usize % 6]);
-    }
-    Ok(())
-}
-
-#[test]
-fn a_home_is_removed(rt: HostRuntime) -> Result<(), Fail> {
-    let alloc = rt.alloc();
-    let mut disk = prepared(alloc)?;
-    make_home(&mut disk, HOME, CURRENT, b"first")?;
-    make_file(&mut disk, TABLE, b"table")?;
+// Removes the home with its records, and with a table or not.
+fn remove(alloc: Global, disk: &mut MemoryDisk, with_table: bool) -> Result<()> {
     let mut files = Vec::new(alloc);
     files.push(String::from_str(alloc, CURRENT)?)?;
-    assert!(rt; remove_home(&mut disk, HOME, files.as_slice()).is_err());
+    if !with_table {
+        return remove_home(disk, HOME, files.as_slice());
+    }
     files.push(String::from_str(alloc, TABLE)?)?;
-    remove_home(&mut disk, HOME, files.as_slice())?;
-    remove_home(&mut disk, HOME, files.as_slice())?;
-    assert!(rt; disk.list(alloc, "keyspaces")?.is_empty());
-    Ok(())
+    remove_home(disk, HOME, files.as_slice())
 }
 
-#[test]
-fn a_file_is_ended(rt: HostRuntime) -> Result<(), Fail> {
-    let alloc = rt.alloc();
-    for cut in [false, true] {
-        let mut disk = prepared(alloc)?;
-        make_home(&mut disk, HOME, CURRENT, b"first")?;
-        disk.sync_folder("keyspaces")?;
-        disk.sync_folder(HOME)?;
-        disk.append(CURRENT, b" second")?;
-        end_file(&mut disk, CURRENT, cut, 5)?;
-        let mut left = disk.crash(0)?;
-        let found = left.read(alloc, CURRENT)?;
-        let len = found.map(|bytes| bytes.len());
-        assert_eq!(rt; len, Some(if cut { 5 } else { 12 }));
-        assert!(rt; end_file(&mut left, TABLE, cut, 0).is_err());
+/// Takes a step of this crate's; no other one does anything.
+pub fn work(alloc: Global, disk: &mut MemoryDisk, step: Step) -> Result<()> {
+    match step {
+        MakeHome(bytes) => make_home(disk, HOME, CURRENT, bytes),
+        MakeFile(file, bytes) => make_file(disk, file, bytes),
+        PutFile(bytes) => put_file(disk, HOME, TABLE, bytes),
+        AppendSynced(file, bytes) => append_synced(disk, file, bytes),
+        RemoveHome(with_table) => remove(alloc, disk, with_table),
+        EndFile(file, cut, len) => end_file(disk, file, cut, len),
+        _ => Ok(()),
     }
-    Ok(())
 }
+
+pub const SCRIPT: &[Row] = &[
+    // A home is made.
+    (New(Start::Nothing), DONE),
+    (On(MakeFolder("keyspaces")), DONE),
+    (On(SyncFolder("")), DONE),
+    (MakeHome(b"first"), DONE),
+    (AppendSynced(CURRENT, b" second"), DONE),
+    (On(Holds(CURRENT, b"first second")), YES),
+    (PutFile(b"table"), DONE),
+    (On(SyncFolder("keyspaces")), DONE),
+    (Crash(0), DONE),
+    (On(Holds(TABLE, b"table")), YES),
+    // A home is removed.
+    (New(Start::Nothing), DONE),
+    (On(MakeFolder("keyspaces")), DONE),
+    (On(SyncFolder("")), DONE),
+    (MakeHome(b"first"), DONE),
+    (MakeFile(TABLE, b"table"), DONE),
+    (RemoveHome(false), FAULT),
+    (RemoveHome(true), DONE),
+    (RemoveHome(true), DONE),
+    (On(Count("keyspaces")), Ok(&[0])),
+    // A file is ended where it ends.
+    (New(Start::Nothing), DONE),
+    (On(MakeFolder("keyspaces")), DONE),
+    (On(SyncFolder("")), DONE),
+    (MakeHome(b"first"), DONE),
+    (On(SyncFolder("keyspaces")), DONE),
+    (On(SyncFolder(HOME)), DONE),
+    (On(Append(CURRENT, b" second")), DONE),
+    (EndFile(CURRENT, false, 5), DONE),
+    (Crash(0), DONE),
+    (On(Len(CURRENT)), Ok(&[12])),
+    (EndFile(TABLE, false, 0), FAULT),
+    // A file is ended by a cut.
+    (New(Start::Nothing), DONE),
+    (On(MakeFolder("keyspaces")), DONE),
+    (On(SyncFolder("")), DONE),
+    (MakeHome(b"first"), DONE),
+    (On(SyncFolder("keyspaces")), DONE),
+    (On(SyncFolder(HOME)), DONE),
+    (On(Append(CURRENT, b" second")), DONE),
+    (EndFile(CURRENT, true, 5), DONE),
+    (Crash(0), DONE),
+    (On(Len(CURRENT)), Ok(&[5])),
+    (EndFile(TABLE, true, 0), FAULT),
+];

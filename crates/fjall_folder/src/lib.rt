@@ -8,8 +8,6 @@ mod kept;
 mod lock;
 mod names;
 mod paths;
-#[cfg(test)]
-mod tests;
 
 pub use disk::FolderDisk;
 pub use lock::LockedFileGuard;
