@@ -138,7 +138,7 @@ fn errors_have_numbers_names_and_texts(rt: HostRuntime) -> std::result::Result<(
         assert_eq!(rt;
             (error.number(), error.name() == name, is_printed, are_others),
             (number, true, true, true),
-            "{text}"
+            "error {number}"
         );
     }
     Ok(())

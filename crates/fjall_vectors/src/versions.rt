@@ -89,8 +89,6 @@ enum Step {
     MakeAgain(u64),
     Replay(&'static [Named]),
     ReplayOne,
-    /// A version is pushed: of this number and keyspace, and what it says of a key.
-    Push(u64, u64, &'static [u8], Option<&'static [u8]>),
     Ask,
 }
 
@@ -112,10 +110,6 @@ fn take(
         MakeAgain(number) => {
             keyspaces.remove_keyspace(1);
             return create(alloc, keyspaces, b"a", number);
-        }
-        Push(seqno, id, key, value) => {
-            versions.push(Version::new(alloc, id, seqno, key, value)?)?;
-            return Ok(0);
         }
         Ask => return Ok(0),
         Replay(named) => batches_of(alloc, named)?,
@@ -167,190 +161,183 @@ fn value_of<'a>(versions: &'a [Version], id: u64, key: &[u8]) -> Option<&'a [u8]
     }
 }
 
-// All keys of a keyspace, at most nine, and others.
-const OF_1: Asked = (1, Bound::Unbounded, Bound::Unbounded, false, 9);
-
-const OF_2: Asked = (2, Bound::Unbounded, Bound::Unbounded, false, 9);
-
-const OF_3: Asked = (3, Bound::Unbounded, Bound::Unbounded, false, 9);
-
-const FIRST_TWO: Asked = (1, Bound::Unbounded, Bound::Unbounded, false, 2);
-
-const LAST_TWO: Asked = (1, Bound::Unbounded, Bound::Unbounded, true, 2);
-
-const BACK_OF_2: Asked = (2, Bound::Unbounded, Bound::Unbounded, true, 9);
-
-const BACK_OF_3: Asked = (3, Bound::Unbounded, Bound::Unbounded, true, 9);
-
-const BELOW_D: Asked = (1, Bound::Included(b"a"), Bound::Excluded(b"d"), true, 9);
-
-const REVERSED: Asked = (1, Bound::Included(b"d"), Bound::Excluded(b"a"), false, 9);
-
-// Each step and its answer; the keyspaces and numbers of the versions then; a page and its keys; and a key of the
-// page's keyspace and its value.
+// Each step and its answer; the keyspaces and numbers of the versions then; a keyspace and all its keys; and a key
+// there and its value.
 type Row = (
     Step,
     u64,
     &'static [(u64, u64)],
-    Asked,
+    u64,
     &'static [&'static [u8]],
     &'static [u8],
     Option<&'static [u8]>,
 );
 
-const SEVEN: &[(u64, u64)] = &[(1, 1), (1, 2), (2, 3), (1, 4), (1, 5), (1, 6), (1, 7)];
+const SIX: &[Named] = &[
+    Puts(0, 1, b"k"),
+    Puts(1, 1, b"k"),
+    Puts(2, 2, b"k"),
+    Puts(3, 2, b"k"),
+    Puts(4, 2, b"k"),
+    Puts(5, 3, b"k"),
+];
 
-const ROWS: [Row; 32] = [
+const AGAIN: &[Named] = &[Puts(1, 1, b"old"), Puts(2, 3, b"early"), Puts(8, 3, b"new")];
+// Neither the clear of keyspace 2 under the number of its creation nor one of no keyspace counts.
+const CLEARED: &[Named] = &[Clears(3, &[2, 9], 1, b"l"), Clears(6, &[1], 1, b"m")];
+
+const ROWS: [Row; 16] = [
     // Items count behind the creation of their keyspace.
-    (Two, 0, &[], OF_1, &[], b"k", None),
+    (Two, 0, &[], 1, &[], b"k", None),
     (
-        Replay(&[
-            Puts(0, 1, b"k"),
-            Puts(1, 1, b"k"),
-            Puts(2, 2, b"k"),
-            Puts(3, 2, b"k"),
-            Puts(4, 2, b"k"),
-            Puts(5, 3, b"k"),
-        ]),
+        Replay(SIX),
         6,
         &[(1, 1), (2, 4)],
-        OF_1,
+        1,
         &[b"k"],
         b"k",
         Some(b"v"),
     ),
-    (Ask, 0, &[(1, 1), (2, 4)], OF_2, &[b"k"], b"k", Some(b"v")),
-    (Ask, 0, &[(1, 1), (2, 4)], OF_3, &[], b"k", None),
-    (Ask, 0, &[(1, 1), (2, 4)], OF_1, &[b"k"], b"l", None),
+    (Ask, 0, &[(1, 1), (2, 4)], 2, &[b"k"], b"k", Some(b"v")),
+    (Ask, 0, &[(1, 1), (2, 4)], 3, &[], b"k", None),
+    (Ask, 0, &[(1, 1), (2, 4)], 1, &[b"k"], b"l", None),
     // A name given again has nothing.
-    (Two, 0, &[], OF_3, &[], b"new", None),
-    (MakeAgain(7), 3, &[], OF_3, &[], b"new", None),
+    (Two, 0, &[], 3, &[], b"new", None),
+    (MakeAgain(7), 3, &[], 3, &[], b"new", None),
     (
-        Replay(&[Puts(1, 1, b"old"), Puts(2, 3, b"early"), Puts(8, 3, b"new")]),
+        Replay(AGAIN),
         9,
         &[(3, 8)],
-        OF_3,
+        3,
         &[b"new"],
         b"new",
         Some(b"v"),
     ),
-    (Ask, 0, &[(3, 8)], OF_1, &[], b"old", None),
-    // A clear empties its keyspace alone. Neither the clear of keyspace 2 under the number of its creation nor one
-    // of no keyspace counts.
-    (Two, 0, &[], OF_1, &[], b"k", None),
+    (Ask, 0, &[(3, 8)], 1, &[], b"old", None),
+    // A clear empties its keyspace alone.
+    (Two, 0, &[], 1, &[], b"k", None),
     (
         Replay(&[Puts(4, 1, b"k"), Puts(5, 2, b"k")]),
         6,
         &[(1, 4), (2, 5)],
-        OF_1,
+        1,
         &[b"k"],
         b"k",
         Some(b"v"),
     ),
     (
-        Replay(&[Clears(3, &[2, 9], 1, b"l"), Clears(6, &[1], 1, b"m")]),
+        Replay(CLEARED),
         7,
         &[(2, 5), (1, 6)],
-        OF_1,
+        1,
         &[b"m"],
         b"k",
         None,
     ),
-    (Ask, 0, &[(2, 5), (1, 6)], OF_2, &[b"k"], b"k", Some(b"v")),
+    (Ask, 0, &[(2, 5), (1, 6)], 2, &[b"k"], b"k", Some(b"v")),
     // A journal is replayed.
-    (Two, 0, &[], OF_1, &[], b"a", None),
-    (ReplayOne, 2, &[(1, 1)], OF_1, &[b"a"], b"a", Some(b"b")),
-    (Ask, 0, &[(1, 1)], OF_2, &[], b"a", None),
-    // The newest version answers: in keyspace 1 "a" is put twice, and "b" is taken away.
-    (Two, 0, &[], OF_1, &[], b"a", None),
-    (
-        Push(1, 1, b"d", Some(b"1")),
-        0,
-        &[(1, 1)],
-        OF_1,
-        &[b"d"],
-        b"d",
-        Some(b"1"),
-    ),
-    (
-        Push(2, 1, b"a", Some(b"2")),
-        0,
-        &[(1, 1), (1, 2)],
-        OF_1,
-        &[b"a", b"d"],
-        b"a",
-        Some(b"2"),
-    ),
-    (
-        Push(3, 2, b"b", Some(b"3")),
-        0,
-        &[(1, 1), (1, 2), (2, 3)],
-        OF_2,
-        &[b"b"],
-        b"b",
-        Some(b"3"),
-    ),
-    (
-        Push(4, 1, b"c", Some(b"4")),
-        0,
-        &[(1, 1), (1, 2), (2, 3), (1, 4)],
-        OF_1,
-        &[b"a", b"c", b"d"],
-        b"c",
-        Some(b"4"),
-    ),
-    (
-        Push(5, 1, b"b", Some(b"5")),
-        0,
-        &[(1, 1), (1, 2), (2, 3), (1, 4), (1, 5)],
-        OF_1,
-        &[b"a", b"b", b"c", b"d"],
-        b"b",
-        Some(b"5"),
-    ),
-    (
-        Push(6, 1, b"a", Some(b"6")),
-        0,
-        &[(1, 1), (1, 2), (2, 3), (1, 4), (1, 5), (1, 6)],
-        OF_1,
-        &[b"a", b"b", b"c", b"d"],
-        b"a",
-        Some(b"6"),
-    ),
-    (
-        Push(7, 1, b"b", None),
-        0,
-        SEVEN,
-        OF_1,
-        &[b"a", b"c", b"d"],
-        b"a",
-        Some(b"6"),
-    ),
-    (Ask, 0, SEVEN, OF_2, &[b"b"], b"b", Some(b"3")),
-    (Ask, 0, SEVEN, OF_2, &[b"b"], b"a", None),
-    // Pages from both ends, and between bounds.
-    (Ask, 0, SEVEN, FIRST_TWO, &[b"a", b"c"], b"b", None),
-    (Ask, 0, SEVEN, LAST_TWO, &[b"c", b"d"], b"a", Some(b"6")),
-    (Ask, 0, SEVEN, BACK_OF_2, &[b"b"], b"b", Some(b"3")),
-    (Ask, 0, SEVEN, BACK_OF_3, &[], b"b", None),
-    (Ask, 0, SEVEN, BELOW_D, &[b"a", b"c"], b"d", Some(b"1")),
-    (Ask, 0, SEVEN, REVERSED, &[], b"a", Some(b"6")),
+    (Two, 0, &[], 1, &[], b"a", None),
+    (ReplayOne, 2, &[(1, 1)], 1, &[b"a"], b"a", Some(b"b")),
+    (Ask, 0, &[(1, 1)], 2, &[], b"a", None),
 ];
 
 #[test]
 fn versions_go_by_their_steps(rt: HostRuntime) -> std::result::Result<(), Fail> {
     let mut keyspaces = MetaKeyspace::new(rt.alloc());
     let mut versions = Vec::new(rt.alloc());
-    for (row, (step, answer, ids, asked, keys, key, value)) in ROWS.iter().enumerate() {
+    for (row, (step, answer, ids, id, keys, key, value)) in ROWS.iter().enumerate() {
         let answered = take(rt.alloc(), &mut keyspaces, &mut versions, *step)?;
+        let all = (*id, Bound::Unbounded, Bound::Unbounded, false, 9);
+        let same = are_of(&versions, ids) && has_keys(rt.alloc(), &versions, all, keys)?;
+        let found = value_of(&versions, *id, key);
         assert_eq!(rt;
-            (
-                answered,
-                are_of(&versions, ids),
-                has_keys(rt.alloc(), &versions, *asked, keys)?,
-                value_of(&versions, asked.0, key)
-            ),
-            (*answer, true, true, *value),
+            (answered, same, found),
+            (*answer, true, *value),
+            "row {row}"
+        );
+    }
+    Ok(())
+}
+
+// Versions of two keyspaces: in keyspace 1 "a" is put twice, and "b" is taken away.
+const PUSHED: [(u64, u64, &[u8], Option<&[u8]>); 7] = [
+    (1, 1, b"d", Some(b"1")),
+    (2, 1, b"a", Some(b"2")),
+    (3, 2, b"b", Some(b"3")),
+    (4, 1, b"c", Some(b"4")),
+    (5, 1, b"b", Some(b"5")),
+    (6, 1, b"a", Some(b"6")),
+    (7, 1, b"b", None),
+];
+
+fn versions_of_two(alloc: Global) -> Result<Vec<Version>> {
+    let mut versions = Vec::new(alloc);
+    for (seqno, id, key, value) in PUSHED {
+        versions.push(Version::new(alloc, id, seqno, key, value)?)?;
+    }
+    Ok(versions)
+}
+
+// A page and its keys; and a key of the page's keyspace and its newest value.
+const PAGES: [(Asked, &[&[u8]], &[u8], Option<&[u8]>); 8] = [
+    (
+        (1, Bound::Unbounded, Bound::Unbounded, false, 2),
+        &[b"a", b"c"],
+        b"a",
+        Some(b"6"),
+    ),
+    (
+        (1, Bound::Unbounded, Bound::Unbounded, true, 2),
+        &[b"c", b"d"],
+        b"b",
+        None,
+    ),
+    (
+        (2, Bound::Unbounded, Bound::Unbounded, true, 9),
+        &[b"b"],
+        b"b",
+        Some(b"3"),
+    ),
+    (
+        (2, Bound::Unbounded, Bound::Unbounded, false, 9),
+        &[b"b"],
+        b"a",
+        None,
+    ),
+    (
+        (3, Bound::Unbounded, Bound::Unbounded, true, 9),
+        &[],
+        b"a",
+        None,
+    ),
+    (
+        (1, Bound::Included(b"a"), Bound::Excluded(b"d"), true, 9),
+        &[b"a", b"c"],
+        b"d",
+        Some(b"1"),
+    ),
+    (
+        (1, Bound::Included(b"d"), Bound::Excluded(b"a"), false, 9),
+        &[],
+        b"c",
+        Some(b"4"),
+    ),
+    (
+        (1, Bound::Unbounded, Bound::Unbounded, false, 9),
+        &[b"a", b"c", b"d"],
+        b"e",
+        None,
+    ),
+];
+
+#[test]
+fn pages_and_newest_versions(rt: HostRuntime) -> std::result::Result<(), Fail> {
+    let versions = versions_of_two(rt.alloc())?;
+    for (row, (asked, keys, key, value)) in PAGES.iter().enumerate() {
+        let same = has_keys(rt.alloc(), &versions, *asked, keys)?;
+        assert_eq!(rt;
+            (same, value_of(&versions, asked.0, key)),
+            (true, *value),
             "row {row}"
         );
     }

@@ -332,15 +332,12 @@ const STORED: [(&str, &[u8], usize, u64, Result<(bool, Option<u8>)>); 12] = [
 fn stored_values(rt: HostRuntime) -> std::result::Result<(), Fail> {
     let name_key = encode_name_key(rt.alloc(), 1)?;
     let config_key = encode_config_key(rt.alloc(), 258, "version")?;
-    let keys = (name_key.as_slice(), config_key.as_slice());
-    let wanted_keys = (
-        [0x6e, 0, 0, 0, 0, 0, 0, 0, 1].as_slice(),
-        b"c\x00\x00\x00\x00\x00\x00\x01\x02version".as_slice(),
-    );
+    let are_keys = name_key.as_slice() == [0x6e, 0, 0, 0, 0, 0, 0, 0, 1].as_slice()
+        && config_key.as_slice() == b"c\x00\x00\x00\x00\x00\x00\x01\x02version".as_slice();
     for (row, (name, value, count, keyspace_id, answer)) in STORED.iter().enumerate() {
         let pairs = stored_pairs(rt.alloc(), name, value, *count)?;
         let found = by_hand(rt.alloc(), *keyspace_id, &pairs);
-        assert_eq!(rt; (found, keys), (*answer, wanted_keys), "row {row}");
+        assert_eq!(rt; (found, are_keys), (*answer, true), "row {row}");
     }
     Ok(())
 }
