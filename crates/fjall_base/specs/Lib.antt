@@ -6,3 +6,5 @@ pub mod Files
 pub mod Store
 pub mod Crash
 pub mod MemoryDisk
+pub mod Fields
+pub mod Lists

@@ -4,6 +4,7 @@
 mod closed;
 mod disk;
 mod error;
+mod fields;
 mod files;
 mod laws;
 mod memory;
@@ -15,6 +16,7 @@ pub use disk::{DirEntry, Disk};
 pub use error::{
     CompressionType, Error, FormatVersion, JournalRecoveryError, Refused, Result, StorageError,
 };
+pub use fields::{bytes_of, u8_of, u16_of, u32_of, u64_of};
 pub use laws::{append_is_covered, cut_is_covered};
 pub use memory::MemoryDisk;
 pub use slice::{KvPair, Slice, UserKey, UserValue};

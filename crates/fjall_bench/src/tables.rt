@@ -2,12 +2,12 @@
 
 use crate::data::{key_of, value_of};
 use fjall_base::Result;
-use fjall_tree::{BLOCK_BYTES, Level, Table, TableInfo, TableWriter, Version};
+use fjall_table::{BLOCK_BYTES, Level, Table, TableEntry, TableInfo, TableWriter};
 use sha2::{Digest, Sha256};
 use std::alloc::Global;
 
 fn put<'a>(writer: &mut TableWriter, number: u64, key: &'a [u8], value: &'a [u8]) -> Result<()> {
-    let version = Version {
+    let version = TableEntry {
         key,
         number,
         value: Some(value),

@@ -4,11 +4,12 @@ use Rattle.std.specs.Str.{bytes_eq}
 use Rattle.fjall_base.specs.Disk.{Name, Entry, State, Image, IsFile, Survives}
 use Rattle.fjall_files.specs.Regions.{IsImageIn, is_under}
 use Rattle.fjall_files.proofs.Under.{in_folder, under_self}
-use Rattle.fjall_tree.specs.declared.record.TableInfo.{TableInfo}
-use Rattle.fjall_tree.specs.Blocks as blocks
-use Rattle.fjall_tree.specs.Records.{Fields, IsRecords, last_of}
+use Rattle.fjall_table.specs.declared.table_info.TableInfo.{TableInfo}
+use Rattle.fjall_table.specs.Blocks as blocks
+use Rattle.fjall_tree.specs.Records.{Fields, IsRecords}
+use Rattle.fjall_base.specs.Lists.{last_of}
 use Rattle.fjall_tree.proofs.Currents.{one_reading}
-use Rattle.fjall_tree.proofs.TableLaws.{one_list_of_entries}
+use Rattle.fjall_table.proofs.TableLaws.{one_list_of_entries}
 use Rattle.fjall_files.specs.Names.{keyspace_folder, current_name, table_name}
 use Rattle.fjall_meta.specs.declared.entry.MetaEntry.{MetaEntry}
 use Rattle.fjall_meta.specs.Keyspaces.{Keyspaces}

@@ -4,18 +4,18 @@ use Rattle.std.specs.List.{AllByRecursion}
 use Rattle.std.proofs.lemmas.List.Concat.{flat_map-cons}
 use Rattle.std.specs.declared.cmp.Ordering.TheVariants.{Less}
 use Rattle.fjall_base.specs.Pairs.{byte_order}
-use Rattle.fjall_tree.specs.declared.version.Version.{Version}
-use Rattle.fjall_tree.specs.Blocks as blocks
-use Rattle.fjall_tree.specs.Blocks.{seen}
-use Rattle.fjall_tree.specs.Records.{last_of}
-use Rattle.fjall_tree.specs.Tables as tables
-use Rattle.fjall_tree.specs.Tables.{IsTable}
-use Rattle.fjall_tree.specs.Writing.{Follows}
-use Rattle.fjall_tree.specs.declared.level.Level.TheVariants.{L1}
-use Rattle.fjall_tree.specs.declared.record.TableInfo.{TableInfo}
-use Rattle.fjall_tree.specs.TableReading.{HasNoIndex, IsNoTable}
-use Rattle.fjall_tree.proofs.TableBlocks.{one_index}
-use Rattle.fjall_tree.proofs.TableLaws.{one_list_of_entries, tables_have_an_index}
+use Rattle.fjall_table.specs.declared.table_entry.TableEntry.{TableEntry}
+use Rattle.fjall_table.specs.Blocks as blocks
+use Rattle.fjall_table.specs.Blocks.{seen}
+use Rattle.fjall_base.specs.Lists.{last_of}
+use Rattle.fjall_table.specs.Tables as tables
+use Rattle.fjall_table.specs.Tables.{IsTable}
+use Rattle.fjall_table.specs.Writing.{Follows}
+use Rattle.fjall_table.specs.declared.level.Level.TheVariants.{L1}
+use Rattle.fjall_table.specs.declared.table_info.TableInfo.{TableInfo}
+use Rattle.fjall_table.specs.TableReading.{HasNoIndex, IsNoTable}
+use Rattle.fjall_table.proofs.TableBlocks.{one_index}
+use Rattle.fjall_table.proofs.TableLaws.{one_list_of_entries, tables_have_an_index}
 use Rattle.std.proofs.lemmas.List.{length-map}
 use Rattle.fjall_meta.specs.declared.entry.MetaEntry.{MetaEntry}
 use Rattle.fjall_meta.specs.Entries.{IsAscending}
@@ -42,7 +42,7 @@ follows_at xs (suc i) e ascending lt at =
 -- ---- read
 
 -- where an entry is no pair's, the entries are those of no pairs
-pub no_pairs : (vs : List Version) (i : ℕ) (d : Version) → i < length vs → ((e : MetaEntry) → table_entry e ≡ seen (get_or vs i d) → ⊥) → (es : List MetaEntry) → map table_entry es ≡ map seen vs → ⊥
+pub no_pairs : (vs : List TableEntry) (i : ℕ) (d : TableEntry) → i < length vs → ((e : MetaEntry) → table_entry e ≡ seen (get_or vs i d) → ⊥) → (es : List MetaEntry) → map table_entry es ≡ map seen vs → ⊥
 no_pairs [] i d lt none es same = omega (arith, lt)
 no_pairs (v ∷ vs) i d lt none [] same = let no : [] ≡ seen v ∷ map seen vs = same in cc
 no_pairs (v ∷ vs) zero d lt none (e ∷ es) same = none e cc

@@ -1,7 +1,7 @@
 -- What is prepared of a change.
 use Rattle.std.proofs.Common.{◌≡◌, ℕ, ◌+◌, ◌<◌, ◌^◌, List, [], Option, Some, None, IfSome, MatchOption, string_bytes, refl, sym, ap, subst, arith}
 use Rattle.std.specs.Option.{option_map}
-use Rattle.fjall_tree.specs.declared.record.TableInfo.{TableInfo}
+use Rattle.fjall_table.specs.declared.table_info.TableInfo.{TableInfo}
 use Rattle.fjall_tree.specs.Records.{Fits, record_text}
 use Rattle.fjall_files.specs.Names.{table_name}
 use Rattle.fjall_meta.specs.declared.entry.MetaEntry.{MetaEntry}

@@ -8,9 +8,10 @@ use Rattle.fjall_base.specs.declared.error.StorageError.{StorageError}
 use Rattle.fjall_base.specs.declared.error.StorageError.TheVariants.{RecordDamaged, TableDamaged, OptionMissing, OptionInvalid}
 use Rattle.fjall_base.specs.Disk.{Name, Entry, Missing, File, Folder, Image, IsFile, Reads}
 use Rattle.fjall_base.specs.Errors.{IsFaultOrMemory, Rose}
-use Rattle.fjall_tree.specs.declared.record.TableInfo.{TableInfo}
-use Rattle.fjall_tree.specs.Reading.{DamagedWhere}
-use Rattle.fjall_tree.specs.Records.{Fields, last_of}
+use Rattle.fjall_table.specs.declared.table_info.TableInfo.{TableInfo}
+use Rattle.fjall_table.specs.Reading.{DamagedWhere}
+use Rattle.fjall_tree.specs.Records.{Fields}
+use Rattle.fjall_base.specs.Lists.{last_of}
 use Rattle.fjall_files.specs.Names.{current_name, table_name}
 use Rattle.fjall_meta.specs.declared.entry.MetaEntry.{MetaEntry}
 use Rattle.fjall_meta.specs.Keyspaces.{Keyspaces, AreKeyspaces, is_name}

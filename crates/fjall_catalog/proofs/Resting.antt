@@ -6,8 +6,9 @@ use Rattle.fjall_base.specs.Disk.{Name, Entry, File, Folder, State, Image, IsFil
 use Rattle.fjall_base.proofs.States.{survives_whole}
 use Rattle.fjall_files.specs.Regions.{IsImageIn, IsSafe}
 use Rattle.fjall_files.proofs.Parts.{left_at}
-use Rattle.fjall_tree.specs.declared.record.TableInfo.{TableInfo}
-use Rattle.fjall_tree.specs.Records.{Fields, HasRoom, IsRecord, IsRecords, record_text, last_of}
+use Rattle.fjall_table.specs.declared.table_info.TableInfo.{TableInfo}
+use Rattle.fjall_tree.specs.Records.{Fields, HasRoom, IsRecord, IsRecords, record_text}
+use Rattle.fjall_base.specs.Lists.{last_of}
 use Rattle.fjall_tree.proofs.Currents.{texts_are_records}
 use Rattle.fjall_files.specs.Names.{keyspace_folder, current_name, table_name}
 use Rattle.fjall_meta.specs.declared.entry.MetaEntry.{MetaEntry}

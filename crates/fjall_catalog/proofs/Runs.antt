@@ -13,7 +13,7 @@ use Rattle.fjall_files.proofs.Under.{folder_is_shorter, in_folder, shorter_out}
 use Rattle.fjall_files.proofs.Changes.{settle-now, within_state}
 use Rattle.fjall_files.proofs.Parts.{in_region, leaves_outside}
 use Rattle.fjall_files.proofs.Made.{removing_within, safe_file, within_none}
-use Rattle.fjall_tree.specs.declared.record.TableInfo.{TableInfo}
+use Rattle.fjall_table.specs.declared.table_info.TableInfo.{TableInfo}
 use Rattle.fjall_tree.specs.Records.{Fields, IsRecord}
 use Rattle.fjall_files.specs.Names.{keyspace_folder, current_name, table_name}
 use Rattle.fjall_meta.specs.declared.entry.MetaEntry.{MetaEntry}

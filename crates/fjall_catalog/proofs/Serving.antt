@@ -12,7 +12,7 @@ use Rattle.fjall_files.specs.Names.{keyspace_folder, current_name, table_name}
 use Rattle.fjall_files.specs.Tidy.{FitsAt}
 use Rattle.fjall_files.proofs.Fitting.{fits_table}
 use Rattle.std.specs.Prelude.{Option, None, Some, IfSome}
-use Rattle.fjall_tree.specs.declared.record.TableInfo.{TableInfo}
+use Rattle.fjall_table.specs.declared.table_info.TableInfo.{TableInfo}
 use Rattle.fjall_meta.specs.declared.entry.MetaEntry.{MetaEntry}
 use Rattle.fjall_catalog.specs.Catalog.{AreSafe, IsReady, Rests}
 use Rattle.fjall_catalog.proofs.Naming.{bool_cases, current_zero, folder_zero}

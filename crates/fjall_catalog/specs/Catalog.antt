@@ -4,11 +4,12 @@ use Rattle.std.specs.Str.{bytes_eq}
 use Rattle.std.specs.List.{flat_map, AllByRecursion}
 use Rattle.fjall_base.specs.Disk.{Name, Entry, File, Missing, Folder, Place, State, Image, IsFile}
 use Rattle.fjall_files.specs.Regions.{is_under, IsSafe}
-use Rattle.fjall_tree.specs.declared.level.Level.TheVariants.{L1}
-use Rattle.fjall_tree.specs.declared.record.TableInfo.{TableInfo}
-use Rattle.fjall_tree.specs.Records.{Fields, IsRecord, IsRecords, record_text, last_of}
-use Rattle.fjall_tree.specs.Blocks as blocks
-use Rattle.fjall_tree.specs.Tables.{IsTable}
+use Rattle.fjall_table.specs.declared.level.Level.TheVariants.{L1}
+use Rattle.fjall_table.specs.declared.table_info.TableInfo.{TableInfo}
+use Rattle.fjall_tree.specs.Records.{Fields, IsRecord, IsRecords, record_text}
+use Rattle.fjall_base.specs.Lists.{last_of}
+use Rattle.fjall_table.specs.Blocks as blocks
+use Rattle.fjall_table.specs.Tables.{IsTable}
 use Rattle.fjall_files.specs.Names.{keyspace_folder, current_name, table_name}
 use Rattle.fjall_meta.specs.declared.entry.MetaEntry.{MetaEntry}
 use Rattle.fjall_meta.specs.Keyspaces.{Keyspaces, AreKeyspaces}

@@ -6,8 +6,9 @@ use Rattle.fjall_base.specs.declared.error.StorageError.{StorageError}
 use Rattle.fjall_base.specs.declared.error.StorageError.TheVariants.{RecordDamaged, TableDamaged, OptionMissing, OptionInvalid}
 use Rattle.fjall_base.specs.Disk.{Image}
 use Rattle.fjall_base.specs.Errors.{Rose}
-use Rattle.fjall_tree.specs.declared.record.TableInfo.{TableInfo}
-use Rattle.fjall_tree.specs.Records.{Fields, IsRecords, last_of}
+use Rattle.fjall_table.specs.declared.table_info.TableInfo.{TableInfo}
+use Rattle.fjall_tree.specs.Records.{Fields, IsRecords}
+use Rattle.fjall_base.specs.Lists.{last_of}
 use Rattle.fjall_meta.specs.declared.entry.MetaEntry.{MetaEntry}
 use Rattle.fjall_meta.specs.Reading.{IsReadingRefusal}
 use Rattle.fjall_catalog.specs.declared.catalog.Catalog.{Catalog}

@@ -4,7 +4,7 @@ use Rattle.std.specs.Option.{option_map}
 use Rattle.fjall_base.specs.declared.error.Error.{Error}
 use Rattle.fjall_base.specs.declared.error.Error.TheVariants.{NumbersUsedUp, OutOfMemory, ValueTooLong}
 use Rattle.fjall_base.specs.Disk.{Missing, State, Image}
-use Rattle.fjall_tree.specs.declared.record.TableInfo.{TableInfo}
+use Rattle.fjall_table.specs.declared.table_info.TableInfo.{TableInfo}
 use Rattle.fjall_tree.specs.Records.{Fields, IsRecord, record_text}
 use Rattle.fjall_files.specs.Names.{table_name}
 use Rattle.fjall_meta.specs.declared.entry.MetaEntry.{MetaEntry}

@@ -7,7 +7,8 @@ ghost use Rattle.fjall_tree.specs.Records.{view, record_text, Fits, IsRecord};
 ghost use Rattle.fjall_catalog.specs.Catalog.{fields, listed, first_catalog, first_of, IsAtLevel1};
 
 use fjall_base::{Error, Result, StorageError};
-use fjall_tree::{Level, Record, TableInfo};
+use fjall_table::{Level, TableInfo};
+use fjall_tree::Record;
 use std::alloc::Global;
 
 /// What the last record of tree 0 says, but for its clears, of which it has none.

@@ -4,7 +4,7 @@ ghost use Rattle.std.specs.Prelude.{◌≡◌, ◌<◌, ◌≤◌, ◌↔◌, []
 ghost use Rattle.fjall_base.specs.declared.error.StorageError.TheVariants.{RecordDamaged};
 ghost use Rattle.fjall_base.specs.Errors.{IsFaultOrMemory};
 ghost use Rattle.fjall_base.specs.Disk.{Took, standing, state_in};
-ghost use Rattle.fjall_tree.specs.Reading.{DamagedWhere};
+ghost use Rattle.fjall_table.specs.Reading.{DamagedWhere};
 ghost use Rattle.fjall_tree.specs.Records.{Fields, IsRecords};
 ghost use Rattle.fjall_meta.specs.Keyspaces.{Keyspaces};
 ghost use Rattle.fjall_catalog.specs.Catalog.{records_in, HoldsEntries, Says, IsAtLevel1};
@@ -16,7 +16,8 @@ use crate::writing::CURRENT;
 use fjall_base::{Disk, Error, Result, StorageError};
 use fjall_files::table_name;
 use fjall_meta::{MetaEntry, MetaKeyspace};
-use fjall_tree::{Current, TableInfo, read_current};
+use fjall_table::TableInfo;
+use fjall_tree::{Current, read_current};
 use std::alloc::Global;
 
 /// What tree 0 says.

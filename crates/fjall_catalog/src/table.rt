@@ -2,18 +2,18 @@
 
 ghost use Rattle.std.specs.Prelude.{◌≡◌, ◌<◌, ◌≤◌, ◌^◌, ◌++◌, [], ◌∷◌, List, All, Any, map, length, IfOk, IfErr, OnOk, MatchOption};
 ghost use Rattle.fjall_base.specs.declared.error.StorageError.TheVariants.{TableDamaged};
-ghost use Rattle.fjall_tree.specs.declared.level.Level.TheVariants.{L1};
-ghost use Rattle.fjall_tree.specs.Reading.{DamagedWhere};
-ghost use Rattle.fjall_tree.specs.Blocks.{seen};
-ghost use Rattle.fjall_tree.specs.Tables.{IsTable};
-ghost use Rattle.fjall_tree.specs.Writing.{Follows};
+ghost use Rattle.fjall_table.specs.declared.level.Level.TheVariants.{L1};
+ghost use Rattle.fjall_table.specs.Reading.{DamagedWhere};
+ghost use Rattle.fjall_table.specs.Blocks.{seen};
+ghost use Rattle.fjall_table.specs.Tables.{IsTable};
+ghost use Rattle.fjall_table.specs.Writing.{Follows};
 ghost use Rattle.fjall_meta.specs.Entries.{IsAscending};
 ghost use Rattle.fjall_catalog.specs.Catalog.{table_entry, IsTableOf};
 ghost use Rattle.fjall_catalog.specs.Updates.{HasKey, IsWritingRefusal};
 
 use fjall_base::{Error, Result, Slice, StorageError};
 use fjall_meta::MetaEntry;
-use fjall_tree::{Table, TableInfo, TableWriter, Version};
+use fjall_table::{Table, TableEntry, TableInfo, TableWriter};
 use std::alloc::Global;
 
 /// Adds a pair to a table.
@@ -23,7 +23,7 @@ fn write_entry(writer: &mut TableWriter, entry: &MetaEntry) -> Result<()>
     ensures ok { OnOk result (writer.new ≡ writer.old ++ table_entry entry.now ∷ []) }
     ensures cause { IfErr result (IsWritingRefusal (entry.now ∷ [])) }
 {
-    writer.write(&Version {
+    writer.write(&TableEntry {
         key: &entry.key,
         number: entry.number,
         value: Some(&entry.value),
@@ -46,7 +46,7 @@ pub(crate) fn encode_entries(alloc: Global, entries: &[MetaEntry]) -> Result<Opt
 }
 
 /// The pair that an entry of a table is. A tombstone is `Storage(TableDamaged)`.
-fn entry_of(alloc: Global, version: &Version<'_>) -> Result<MetaEntry>
+fn entry_of(alloc: Global, version: &TableEntry<'_>) -> Result<MetaEntry>
     ensures ok { IfOk result (λ entry. table_entry entry ≡ seen version.now) }
     ensures damaged { IfErr result (DamagedWhere TableDamaged ((entry : MetaEntry) → table_entry entry ≡ seen version.now → ⊥)) }
 {
@@ -61,7 +61,7 @@ fn entry_of(alloc: Global, version: &Version<'_>) -> Result<MetaEntry>
 }
 
 /// The pairs that entries of a table are.
-fn entries_of(alloc: Global, versions: &[Version<'_>]) -> Result<Vec<MetaEntry>>
+fn entries_of(alloc: Global, versions: &[TableEntry<'_>]) -> Result<Vec<MetaEntry>>
     ensures ok { IfOk result (λ entries. map table_entry entries.items ≡ map seen versions.now) }
     ensures damaged { IfErr result (DamagedWhere TableDamaged ((entries : List MetaEntry) → map table_entry entries ≡ map seen versions.now → ⊥)) }
 {

@@ -13,7 +13,7 @@ use crate::table::encode_entries;
 use fjall_base::{Error, Result};
 use fjall_files::table_name;
 use fjall_meta::{MetaEntry, MetaKeyspace};
-use fjall_tree::{Level, TableInfo};
+use fjall_table::{Level, TableInfo};
 use std::alloc::Global;
 
 /// Numbers of changes end here.

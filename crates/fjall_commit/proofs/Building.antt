@@ -16,7 +16,7 @@ use Rattle.fjall_files.proofs.Under.{folder_is_shorter, shorter_out, under_self}
 use Rattle.fjall_files.proofs.Changes.{SameOutside, settle-now, within_state}
 use Rattle.fjall_files.proofs.Parts.{in_region, leaves_outside}
 use Rattle.fjall_files.proofs.Made.{removing_within, safe_file, settled_within, within_both, within_none}
-use Rattle.fjall_tree.specs.declared.record.TableInfo.{TableInfo}
+use Rattle.fjall_table.specs.declared.table_info.TableInfo.{TableInfo}
 use Rattle.fjall_tree.specs.Records.{Fields, IsRecords, record_text}
 use Rattle.fjall_tree.proofs.Currents.{texts_are_records}
 use Rattle.fjall_files.specs.Names.{keyspace_folder, current_name, table_name}

@@ -2,7 +2,7 @@
 use Rattle.std.proofs.Common.{◌≡◌, ℕ, true, Option, Some, None, List, [], refl, sym, ◌∙◌, ap, subst, codes, All}
 use Rattle.fjall_base.specs.Disk.{Name, Place, State}
 use Rattle.fjall_files.proofs.Under.{in_folder}
-use Rattle.fjall_tree.specs.declared.record.TableInfo.{TableInfo}
+use Rattle.fjall_table.specs.declared.table_info.TableInfo.{TableInfo}
 use Rattle.fjall_tree.specs.Records.{Fields}
 use Rattle.fjall_files.specs.Names.{current_name, keyspace_folder, table_name}
 use Rattle.fjall_meta.specs.declared.entry.MetaEntry.{MetaEntry}

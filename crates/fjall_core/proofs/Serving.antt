@@ -7,7 +7,7 @@ use Rattle.fjall_base.specs.Disk as disk
 use Rattle.fjall_base.specs.declared.error.Error.{Error}
 use Rattle.fjall_base.specs.declared.error.Error.TheVariants.{Io, OutOfMemory, ValueTooLong}
 use Rattle.fjall_files.specs.Regions.{IsSafe}
-use Rattle.fjall_tree.specs.declared.record.TableInfo.{TableInfo}
+use Rattle.fjall_table.specs.declared.table_info.TableInfo.{TableInfo}
 use Rattle.fjall_files.specs.Names.{table_name}
 use Rattle.fjall_meta.specs.declared.entry.MetaEntry.{MetaEntry}
 use Rattle.fjall_catalog.specs.declared.catalog.Catalog.{Catalog}

@@ -9,7 +9,8 @@ use Rattle.fjall_base.specs.Disk.{Image}
 use Rattle.fjall_journal.specs.declared.batch.Tail.TheVariants.{Clean, Torn}
 use Rattle.fjall_journal.specs.Batches.{Written, IsWhole}
 use Rattle.fjall_journal.proofs.Wholes as Wholes
-use Rattle.fjall_tree.specs.Records.{Fields, last_of}
+use Rattle.fjall_tree.specs.Records.{Fields}
+use Rattle.fjall_base.specs.Lists.{last_of}
 use Rattle.fjall_tree.proofs.Currents as Currents
 use Rattle.fjall_meta.specs.Keyspaces.{Keyspaces}
 use Rattle.fjall_meta.specs.declared.living.LivingKeyspace.{LivingKeyspace}

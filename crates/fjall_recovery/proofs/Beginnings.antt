@@ -9,7 +9,7 @@ use Rattle.fjall_base.specs.Disk.{Entry, Missing, File, Folder, Image, IsFile}
 use Rattle.fjall_journal.specs.declared.batch.Tail.{Tail}
 use Rattle.fjall_journal.specs.Spelling.{spelling}
 use Rattle.fjall_journal.specs.Batches.{Shown, Written, IsWritten, IsWhole, NoneAt, batch_text, shown}
-use Rattle.fjall_tree.specs.Frame.{NoFrame}
+use Rattle.fjall_table.specs.Frame.{NoFrame}
 use Rattle.fjall_tree.specs.Records.{Fields, HasContradiction, IsRecord, IsRecords, record_text}
 use Rattle.fjall_tree.proofs.Currents.{contradiction_has_no_reading}
 use Rattle.fjall_files.specs.Names.{journal_name}

@@ -8,9 +8,10 @@ use Rattle.fjall_base.specs.Disk.{Image}
 use Rattle.fjall_base.specs.declared.error.Error.{Error}
 use Rattle.fjall_base.specs.declared.error.Error.TheVariants.{Io, OutOfMemory, Storage, Unrecoverable}
 use Rattle.fjall_base.specs.declared.error.StorageError.TheVariants.{RecordDamaged}
-use Rattle.fjall_tree.specs.Reading.{DamagedWhere}
+use Rattle.fjall_table.specs.Reading.{DamagedWhere}
 use Rattle.fjall_tree.specs.declared.record.Record.{Record}
-use Rattle.fjall_tree.specs.Records.{Fields, IsRecords, HasContradiction, last_of, view}
+use Rattle.fjall_tree.specs.Records.{Fields, IsRecords, HasContradiction, view}
+use Rattle.fjall_base.specs.Lists.{last_of}
 use Rattle.fjall_tree.proofs.Currents.{contradiction_has_no_reading}
 use Rattle.fjall_meta.specs.declared.living.LivingKeyspace.{LivingKeyspace}
 use Rattle.fjall_recovery.specs.declared.homes.Home.{Home}

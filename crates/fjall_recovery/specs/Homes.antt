@@ -1,7 +1,8 @@
 -- The folders of keyspaces, and the records in them.
 use Rattle.std.specs.Prelude.{◌≡◌, ℕ, List, [], ◌∷◌, length, Some, None}
 use Rattle.fjall_base.specs.Disk.{Folder, Image}
-use Rattle.fjall_tree.specs.Records.{Fields, IsRecords, last_of, view}
+use Rattle.fjall_tree.specs.Records.{Fields, IsRecords, view}
+use Rattle.fjall_base.specs.Lists.{last_of}
 use Rattle.fjall_meta.specs.declared.living.LivingKeyspace.{LivingKeyspace}
 use Rattle.fjall_files.specs.Names.{keyspace_folder, current_name}
 use Rattle.fjall_recovery.specs.declared.homes.Home.{Home}

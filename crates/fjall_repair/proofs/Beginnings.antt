@@ -9,7 +9,7 @@ use Rattle.fjall_files.specs.Trims.{IsTrimmed}
 use Rattle.fjall_journal.specs.declared.batch.Tail.TheVariants.{Clean, Torn}
 use Rattle.fjall_journal.specs.Batches.{Written, IsWhole}
 use Rattle.fjall_journal.proofs.Wholes as Wholes
-use Rattle.fjall_tree.specs.Records.{last_of}
+use Rattle.fjall_base.specs.Lists.{last_of}
 use Rattle.fjall_files.specs.Marker.{marker_tells}
 use Rattle.fjall_files.specs.Names.{journal_name, current_name, table_name}
 use Rattle.fjall_recovery.specs.Folders.{Contents, IsSound, file_bytes}

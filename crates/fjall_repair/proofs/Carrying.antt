@@ -7,7 +7,8 @@ use Rattle.std.proofs.Math.Seq.{take-append-add}
 use Rattle.fjall_base.specs.declared.error.Error.{Error}
 use Rattle.fjall_base.specs.Disk.{Name, Entry, Missing, File, Folder, Place, State, Image, IsImage, IsFile, IsThere, LeavesOnly, Meaning, Survives, SomeSurvives, all_synced, folder_of, standing, state_in}
 use Rattle.fjall_base.proofs.Moments.{at_end, runs_on, weaken}
-use Rattle.fjall_tree.specs.Records.{Fields, IsRecords, last_of}
+use Rattle.fjall_tree.specs.Records.{Fields, IsRecords}
+use Rattle.fjall_base.specs.Lists.{last_of}
 use Rattle.fjall_tree.proofs.Currents as Currents
 use Rattle.fjall_files.specs.Names.{journal_name, keyspace_folder, current_name}
 use Rattle.fjall_recovery.specs.Folders.{Contents, IsSound, StandsFor, store_of}

@@ -7,8 +7,9 @@ use Rattle.fjall_journal.specs.declared.batch.Tail.TheVariants.{Clean, Torn}
 use Rattle.fjall_journal.specs.declared.entry.Entry.TheVariants.{End}
 use Rattle.fjall_journal.specs.Spelling.{spelling}
 use Rattle.fjall_journal.specs.Batches.{Written, IsWhole, IsTail, NoneAt, EndsEarly, GoesOn, HasOtherCheck, begun, checked, batch_text}
-use Rattle.fjall_tree.specs.Frame.{NoFrame, framed}
-use Rattle.fjall_tree.specs.Records.{Fields, IsRecords, last_of}
+use Rattle.fjall_table.specs.Frame.{NoFrame, framed}
+use Rattle.fjall_tree.specs.Records.{Fields, IsRecords}
+use Rattle.fjall_base.specs.Lists.{last_of}
 use Rattle.fjall_tree.proofs.Currents as Currents
 use Rattle.fjall_recovery.specs.Journals.{ReadsAs}
 use Rattle.fjall_recovery.specs.Places.{texts_of}

@@ -9,11 +9,11 @@ use Rattle.std.specs.List.{flat_map, AllByRecursion}
 use Rattle.fjall_base.specs.declared.error.FormatVersion.{FormatVersion}
 use Rattle.fjall_base.specs.declared.error.FormatVersion.TheVariants.{V1, V2, V3}
 use Rattle.fjall_journal.specs.Batches.{NoneAt, batch_text}
-use Rattle.fjall_tree.specs.Frame.{NoFrame, framed}
-use Rattle.fjall_tree.specs.Reading.{frame_at}
+use Rattle.fjall_table.specs.Frame.{NoFrame, framed}
+use Rattle.fjall_table.specs.Reading.{frame_at}
 use Rattle.fjall_tree.specs.Records.{Fields, IsRecord, body, record_text}
-use Rattle.fjall_tree.proofs.Codecs.{one_text}
-use Rattle.fjall_tree.proofs.Frames.{frame4}
+use Rattle.fjall_base.proofs.Codecs.{one_text}
+use Rattle.fjall_table.proofs.Frames.{frame4}
 use Rattle.fjall_files.specs.declared.marker.Marker.TheVariants.{Unfinished}
 use Rattle.fjall_files.specs.Marker.{accepted, header, is_cut_short, marker_tells, version_at}
 use Rattle.fjall_catalog.specs.Catalog.{fields, first_catalog}

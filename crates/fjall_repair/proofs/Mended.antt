@@ -1,7 +1,7 @@
 -- A folder all of whose steps were taken is mended.
 use Rattle.std.proofs.Common.{◌≡◌, List, [], ◌∷◌, length, Some, refl, sym, ◌∙◌, ap}
 use Rattle.fjall_base.specs.Disk.{Name, State}
-use Rattle.fjall_tree.specs.Records.{last_of}
+use Rattle.fjall_base.specs.Lists.{last_of}
 use Rattle.fjall_files.specs.Names.{journal_name}
 use Rattle.fjall_recovery.specs.declared.folder.Finished.{Finished}
 use Rattle.fjall_recovery.specs.Folders.{Contents}

@@ -17,7 +17,8 @@ use Rattle.fjall_files.specs.Names.{journal_name}
 use Rattle.fjall_versions.specs.Versions.{store_of as store_behind, versions_behind}
 use Rattle.fjall_recovery.specs.Places.{texts_of, contents_with}
 use Rattle.fjall_versions.specs.Replays.{store_in, least_after}
-use Rattle.fjall_tree.specs.Records.{Fields, IsRecord, last_of}
+use Rattle.fjall_tree.specs.Records.{Fields, IsRecord}
+use Rattle.fjall_base.specs.Lists.{last_of}
 use Rattle.fjall_tree.specs.Records as records
 use Rattle.fjall_meta.specs.declared.living.LivingKeyspace.{LivingKeyspace}
 use Rattle.fjall_catalog.specs.Catalog.{fields}

@@ -10,8 +10,9 @@ use Rattle.fjall_base.specs.Disk.{Name, Entry, Missing, File, Folder, State, Ima
 use Rattle.fjall_files.specs.Regions.{IsSafe}
 use Rattle.fjall_journal.specs.declared.batch.Tail.TheVariants.{Clean, Torn}
 use Rattle.fjall_journal.specs.Batches.{Written, IsWritten, shown}
-use Rattle.fjall_tree.specs.declared.record.TableInfo.{TableInfo}
-use Rattle.fjall_tree.specs.Records.{Fields, IsRecord, IsRecords, last_of, record_text}
+use Rattle.fjall_table.specs.declared.table_info.TableInfo.{TableInfo}
+use Rattle.fjall_tree.specs.Records.{Fields, IsRecord, IsRecords, record_text}
+use Rattle.fjall_base.specs.Lists.{last_of}
 use Rattle.fjall_tree.proofs.Currents.{last_behind}
 use Rattle.fjall_files.specs.Marker.{marker_tells}
 use Rattle.fjall_files.specs.Names.{journal_name, keyspace_folder, current_name, table_name}

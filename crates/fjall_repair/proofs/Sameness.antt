@@ -5,7 +5,7 @@ use Rattle.std.specs.List.{AllByRecursion}
 use Rattle.std.proofs.lemmas.List.{take_all, length-take}
 use Rattle.fjall_base.specs.Disk.{Name, Entry, Missing, File, Folder, State, Image, IsFile, IsImage, IsThere, Survives, SomeSurvives, folder_of, standing}
 use Rattle.fjall_base.proofs.States.{survives_whole}
-use Rattle.fjall_tree.specs.declared.record.TableInfo.{TableInfo}
+use Rattle.fjall_table.specs.declared.table_info.TableInfo.{TableInfo}
 use Rattle.fjall_tree.specs.Records.{Fields, IsRecord, IsRecords}
 use Rattle.fjall_files.specs.Names.{journal_name, keyspace_folder, current_name, table_name}
 use Rattle.fjall_meta.specs.declared.entry.MetaEntry.{MetaEntry}

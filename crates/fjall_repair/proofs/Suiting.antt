@@ -6,7 +6,8 @@ use Rattle.std.proofs.lemmas.List.Concat.{flat_map-cons}
 use Rattle.std.proofs.lemmas.Bool.Decides.{nat_tests}
 use Rattle.fjall_base.specs.Disk.{Name, Entry, Missing, File, Folder, Image, IsFile}
 use Rattle.fjall_journal.specs.Batches.{IsWhole, IsTail}
-use Rattle.fjall_tree.specs.Records.{Fields, IsRecords, last_of, record_text}
+use Rattle.fjall_tree.specs.Records.{Fields, IsRecords, record_text}
+use Rattle.fjall_base.specs.Lists.{last_of}
 use Rattle.fjall_tree.proofs.Currents.{records_apart}
 use Rattle.fjall_files.specs.Names.{journal_name, current_name}
 use Rattle.fjall_meta.specs.Keyspaces.{Keyspaces}

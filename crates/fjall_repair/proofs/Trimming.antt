@@ -6,7 +6,8 @@ use Rattle.std.proofs.lemmas.List.Kept.{AllPairs-from_increasing}
 use Rattle.fjall_base.specs.Disk.{Name, Entry, Folder, State, Image, IsFile}
 use Rattle.fjall_base.proofs.Lists.{front_of_part}
 use Rattle.fjall_journal.specs.declared.batch.Tail.TheVariants.{Clean, Torn}
-use Rattle.fjall_tree.specs.Records.{Fields, IsRecords, last_of}
+use Rattle.fjall_tree.specs.Records.{Fields, IsRecords}
+use Rattle.fjall_base.specs.Lists.{last_of}
 use Rattle.fjall_meta.proofs.Rising.{Rises, from_pairs}
 use Rattle.fjall_files.specs.Names.{journal_name, current_name, table_name}
 use Rattle.fjall_catalog.proofs.Resting.{last_has}

@@ -4,14 +4,15 @@ use Rattle.std.specs.List.{flat_map, AllByRecursion}
 use Rattle.std.proofs.lemmas.Bool.{cases_lt}
 use Rattle.std.proofs.lemmas.List.{take_at, drop_at, length-append, length-drop, append-nil, take-append-drop, append_cancel_left, nil_from_length, take_all, take-append-le}
 use Rattle.std.proofs.lemmas.List.Concat.{flat_map-cons}
-use Rattle.fjall_tree.specs.Frame.{framed, NoFrame}
-use Rattle.fjall_tree.specs.Reading.{frame_at}
-use Rattle.fjall_tree.specs.Records.{Fields, body, record_text, body_of, IsConsistent, IsRecord, IsRecords, IsNoBody, HasContradiction, last_of, Kept}
-use Rattle.fjall_tree.proofs.Codecs.{IsBytes, IsBytes-back, some_is, one_text}
-use Rattle.fjall_tree.proofs.Frames.{frame4, length_framed}
+use Rattle.fjall_table.specs.Frame.{framed, NoFrame}
+use Rattle.fjall_table.specs.Reading.{frame_at}
+use Rattle.fjall_tree.specs.Records.{Fields, body, record_text, body_of, IsConsistent, IsRecord, IsRecords, IsNoBody, HasContradiction, Kept}
+use Rattle.fjall_base.specs.Lists.{last_of}
+use Rattle.fjall_base.proofs.Codecs.{IsBytes, IsBytes-back, some_is, one_text}
+use Rattle.fjall_table.proofs.Frames.{frame4, length_framed}
 use Rattle.fjall_tree.proofs.Records.{length_body}
 use Rattle.fjall_tree.proofs.RecordCodecs.{body_again, body_takes}
-use Rattle.fjall_tree.proofs.Lists.{Apart, NoItem, first_of, one_behind, same_lists, each_more}
+use Rattle.fjall_table.proofs.Lists.{Apart, NoItem, first_of, one_behind, same_lists, each_more}
 
 -- ---- one body
 

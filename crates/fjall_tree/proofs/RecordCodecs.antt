@@ -4,13 +4,13 @@ use Rattle.std.specs.List.{flat_map}
 use Rattle.std.proofs.lemmas.Bool.{eqb-true}
 use Rattle.std.proofs.lemmas.List.{append-nil, nil_from_length}
 use Rattle.byteorder.specs.Endian.{little_bytes}
-use Rattle.fjall_tree.specs.declared.level.Level.{Level}
-use Rattle.fjall_tree.specs.declared.level.Level.TheVariants.{L0, L1}
-use Rattle.fjall_tree.specs.declared.record.TableInfo.{TableInfo}
+use Rattle.fjall_table.specs.declared.level.Level.{Level}
+use Rattle.fjall_table.specs.declared.level.Level.TheVariants.{L0, L1}
+use Rattle.fjall_table.specs.declared.table_info.TableInfo.{TableInfo}
 use Rattle.fjall_tree.specs.declared.record.Numbers.{Numbers}
-use Rattle.fjall_tree.specs.Reading.{◌>>=◌, byte_at, number_at, many_at}
+use Rattle.fjall_base.specs.Fields.{◌>>=◌, byte_at, number_at, many_at}
 use Rattle.fjall_tree.specs.Records.{Fields, fields_of, level_byte, optional_text, table_line, body, HasRoom, HasRoomForAll, level_of, optional_of, optional_at, table_at, nothing_behind, format_of, numbers_at, body_of}
-use Rattle.fjall_tree.proofs.Codecs.{IsBytes, some_is, bind_some, pass_some, picked, Found, IsCodec, step, byte_codec, u32_codec, u64_codec, many_codec}
+use Rattle.fjall_base.proofs.Codecs.{IsBytes, some_is, bind_some, pass_some, picked, Found, IsCodec, step, byte_codec, u32_codec, u64_codec, many_codec}
 
 -- ---- an optional number
 

@@ -4,10 +4,10 @@ use Rattle.std.specs.List.{flat_map}
 use Rattle.std.proofs.lemmas.List.{length-append, drop_at}
 use Rattle.std.proofs.lemmas.List.Concat.{flat_map-cons}
 use Rattle.byteorder.specs.Endian.{little_bytes}
-use Rattle.fjall_tree.specs.Frame.{check, with_check, headed}
-use Rattle.fjall_tree.specs.declared.record.TableInfo.{TableInfo}
+use Rattle.fjall_table.specs.Frame.{check, with_check, headed}
+use Rattle.fjall_table.specs.declared.table_info.TableInfo.{TableInfo}
 use Rattle.fjall_tree.specs.Records.{Fields, optional_text, table_line, numbers_text, body}
-use Rattle.fjall_tree.proofs.Codecs.{length-little}
+use Rattle.fjall_base.proofs.Codecs.{length-little}
 
 -- texts of one length
 pub length_each : {A : Type 0} (f : A → List ℕ) (k : ℕ) → ((a : A) → length (f a) ≡ k) → (xs : List A) → length (flat_map f xs) ≡ k * length xs

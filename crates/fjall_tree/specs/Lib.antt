@@ -1,7 +1,1 @@
-pub mod Frame
-pub mod Reading
 pub mod Records
-pub mod Blocks
-pub mod Tables
-pub mod Writing
-pub mod TableReading

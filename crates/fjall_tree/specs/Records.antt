@@ -1,15 +1,15 @@
 -- Records of `current`: their texts, the whole ones at the front of a file, and how one is read.
-use Rattle.std.specs.Prelude.{◌≡◌, ◌≢◌, ℕ, ◌<◌, ◌≤◌, ◌^◌, List, [], ◌∷◌, ◌++◌, length, take, drop, map, Option, Some, None, All, AllPairs, IfSome, ◌==◌, if◌then◌else◌}
+use Rattle.std.specs.Prelude.{◌≡◌, ◌≢◌, ℕ, ◌<◌, ◌≤◌, ◌^◌, List, ◌∷◌, ◌++◌, length, take, drop, map, Option, Some, None, All, AllPairs, IfSome, ◌==◌, if◌then◌else◌}
 use Rattle.std.specs.List.{flat_map, AllByRecursion}
 use Rattle.std.specs.List.Sorted.{IsStrictlyIncreasing}
 use Rattle.byteorder.specs.Endian.{little_bytes}
-use Rattle.fjall_tree.specs.declared.level.Level.{Level}
-use Rattle.fjall_tree.specs.declared.level.Level.TheVariants.{L0, L1}
-use Rattle.fjall_tree.specs.declared.record.TableInfo.{TableInfo}
+use Rattle.fjall_table.specs.declared.level.Level.{Level}
+use Rattle.fjall_table.specs.declared.level.Level.TheVariants.{L0, L1}
+use Rattle.fjall_table.specs.declared.table_info.TableInfo.{TableInfo}
 use Rattle.fjall_tree.specs.declared.record.Numbers.{Numbers}
 use Rattle.fjall_tree.specs.declared.record.Record.{Record}
-use Rattle.fjall_tree.specs.Frame.{framed, NoFrame}
-use Rattle.fjall_tree.specs.Reading.{◌>>=◌, byte_at, number_at, many_at}
+use Rattle.fjall_table.specs.Frame.{framed, NoFrame}
+use Rattle.fjall_base.specs.Fields.{◌>>=◌, byte_at, number_at, many_at}
 
 -- what a record says
 pub record Fields : Type 0 where
@@ -118,12 +118,6 @@ pub record HasContradiction (bytes : List ℕ) : Type 0 where
   pub fits : length payload < 256 ^ 4
   pub none : IsNoBody payload
   pub text : bytes ≡ flat_map record_text records ++ (framed 4 payload ++ more)
-
--- the last of a list
-abbrev pub last_of : {A : Type 0} → List A → Option A
-last_of [] = None
-last_of (x ∷ []) = Some x
-last_of (x ∷ y ∷ ys) = last_of (y ∷ ys)
 
 -- The file reads as the first of these records.
 pub record Kept (records : List Fields) (bytes : List ℕ) : Type 0 where

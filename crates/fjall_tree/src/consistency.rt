@@ -4,8 +4,9 @@ ghost use Rattle.std.specs.Prelude.{◌≡◌, ◌≢◌, ◌<◌, ◌^◌, ◌�
 ghost use Rattle.std.specs.List.Sorted.{IsStrictlyIncreasing};
 ghost use Rattle.fjall_tree.specs.Records.{view, IsConsistent};
 
-use crate::record::{Record, TableInfo};
+use crate::record::Record;
 use fjall_base::{Error, Result};
+use fjall_table::TableInfo;
 use std::alloc::Global;
 use std::collections::HashSet;
 

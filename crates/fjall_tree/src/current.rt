@@ -3,13 +3,14 @@
 ghost use Rattle.std.specs.Prelude.{◌≡◌, ℕ, List, IfOk, IfErr, IsOkUnless};
 ghost use Rattle.std.specs.Option.{option_map};
 ghost use Rattle.fjall_base.specs.declared.error.StorageError.TheVariants.{RecordDamaged};
-ghost use Rattle.fjall_tree.specs.Reading.{DamagedWhere};
-ghost use Rattle.fjall_tree.specs.Records.{Fields, view, last_of, IsRecords, HasContradiction};
+ghost use Rattle.fjall_table.specs.Reading.{DamagedWhere};
+ghost use Rattle.fjall_tree.specs.Records.{Fields, view, IsRecords, HasContradiction};
+ghost use Rattle.fjall_base.specs.Lists.{last_of};
 
 use crate::decoding::record_of;
-use crate::frame::frame_of;
 use crate::record::Record;
 use fjall_base::Result;
+use fjall_table::frame_of;
 use std::alloc::Global;
 
 /// What a `current` holds.

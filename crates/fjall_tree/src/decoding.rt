@@ -2,13 +2,13 @@
 
 ghost use Rattle.std.specs.Prelude.{◌≡◌, ◌≤◌, ◌<◌, ◌^◌, ℕ, List, length, IfOk, IfErr, IsOkUnless, IsTrue, ◌↔◌};
 ghost use Rattle.fjall_base.specs.declared.error.StorageError.TheVariants.{RecordDamaged};
-ghost use Rattle.fjall_tree.specs.Reading.{Shows, Gives, DamagedWhere, number_at, many_at};
+ghost use Rattle.fjall_base.specs.Fields.{Shows, number_at, many_at};
+ghost use Rattle.fjall_table.specs.Reading.{Gives, DamagedWhere};
 ghost use Rattle.fjall_tree.specs.Records.{view, level_of, optional_at, table_at, numbers_at, body_of, body, IsRecord, IsNoBody};
 
-use crate::fields::{u8_of, u32_of, u64_of};
-use crate::level::Level;
-use crate::record::{Numbers, Record, TableInfo};
-use fjall_base::{Error, Result, StorageError};
+use crate::record::{Numbers, Record};
+use fjall_base::{Error, Result, StorageError, u8_of, u32_of, u64_of};
+use fjall_table::{Level, TableInfo};
 use std::alloc::Global;
 
 const DAMAGED: Error = Error::Storage(StorageError::RecordDamaged);

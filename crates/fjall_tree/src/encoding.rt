@@ -5,10 +5,10 @@ ghost use Rattle.std.specs.List.{flat_map, AllByRecursion};
 ghost use Rattle.byteorder.specs.Endian.{little_bytes};
 ghost use Rattle.fjall_tree.specs.Records.{view, optional_text, table_line, numbers_text, body, record_text, HasRoom, HasRoomForAll, Fits};
 
-use crate::check::put_check;
-use crate::record::{Record, TableInfo};
+use crate::record::Record;
 use byteorder::{ByteOrder, LittleEndian};
 use fjall_base::{Error, Result};
+use fjall_table::{TableInfo, put_check};
 
 fn optional_bytes(number: Option<u64>) -> [u8; 9]
     ensures text { result ≡ optional_text number }

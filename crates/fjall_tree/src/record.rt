@@ -1,16 +1,6 @@
 //! Records of a keyspace's `current`.
 
-use crate::level::Level;
-
-/// What a record says of a table.
-#[derive(Clone, Copy, Debug, PartialEq, Eq)]
-pub struct TableInfo {
-    pub id: u64,
-    pub level: Level,
-    /// In bytes.
-    pub file_len: u64,
-    pub entry_count: u64,
-}
+use fjall_table::{Level, TableInfo};
 
 /// Which tables a keyspace has, and up to where they hold its changes.
 #[derive(Debug, Drop)]

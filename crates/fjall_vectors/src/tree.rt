@@ -1,7 +1,7 @@
 //! The formats below the journal: records, blocks and tables, whole and damaged.
 
 use fjall_base::Result;
-use fjall_tree::Version;
+use fjall_table::TableEntry;
 use sha2::{Digest, Sha256};
 use std::alloc::Global;
 
@@ -32,16 +32,16 @@ fn put_framed(out: &mut Vec<u8>, alloc: Global, payload: &[u8]) -> Result<()> {
 /// A version that a row names: its key, its number, and how many of the bytes that are given it has as its value.
 type Named = (&'static [u8], u64, Option<usize>);
 
-fn version_of(named: Named, bytes: &[u8]) -> Version<'_> {
+fn version_of(named: Named, bytes: &[u8]) -> TableEntry<'_> {
     let (key, number, len) = named;
     let value = match len {
         Some(len) => bytes.get(..len),
         None => None,
     };
-    Version { key, number, value }
+    TableEntry { key, number, value }
 }
 
-fn versions_of<'a>(alloc: Global, named: &[Named], bytes: &'a [u8]) -> Result<Vec<Version<'a>>> {
+fn versions_of<'a>(alloc: Global, named: &[Named], bytes: &'a [u8]) -> Result<Vec<TableEntry<'a>>> {
     let mut versions = Vec::new(alloc);
     for one in named {
         versions.push(version_of(*one, bytes))?;
@@ -49,7 +49,7 @@ fn versions_of<'a>(alloc: Global, named: &[Named], bytes: &'a [u8]) -> Result<Ve
     Ok(versions)
 }
 
-fn payload_of(alloc: Global, versions: &[Version<'_>]) -> Result<Vec<u8>> {
+fn payload_of(alloc: Global, versions: &[TableEntry<'_>]) -> Result<Vec<u8>> {
     let mut payload = Vec::new(alloc);
     for version in versions {
         version.encode_into(&mut payload)?;
@@ -61,7 +61,7 @@ fn payload_of(alloc: Global, versions: &[Version<'_>]) -> Result<Vec<u8>> {
 fn payload_of_keys(alloc: Global, from: u16, to: u16) -> Result<Vec<u8>> {
     let mut payload = Vec::new(alloc);
     for i in from..to {
-        let version = Version {
+        let version = TableEntry {
             key: &i.to_be_bytes(),
             number: 1,
             value: Some(b""),
@@ -71,7 +71,7 @@ fn payload_of_keys(alloc: Global, from: u16, to: u16) -> Result<Vec<u8>> {
     Ok(payload)
 }
 
-fn are_equal(versions: &[Version<'_>], others: &[Version<'_>]) -> bool {
+fn are_equal(versions: &[TableEntry<'_>], others: &[TableEntry<'_>]) -> bool {
     for (version, other) in versions.iter().zip(others) {
         if version.key != other.key
             || version.number != other.number

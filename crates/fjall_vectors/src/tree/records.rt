@@ -4,7 +4,8 @@ use super::{
     Named, are_equal, checksum, payload_of, payload_of_keys, put_framed, version_of, versions_of,
 };
 use fjall_base::{Error, Result, StorageError};
-use fjall_tree::{BLOCK_BYTES, Level, Record, TableInfo, Version, read_block, read_current};
+use fjall_table::{BLOCK_BYTES, Level, TableEntry, TableInfo, read_block};
+use fjall_tree::{Record, read_current};
 use std::alloc::Global;
 use std::test::Fail;
 
@@ -305,7 +306,7 @@ fn refused_versions(rt: HostRuntime) -> std::result::Result<(), Fail> {
     for (len, error, spelled) in KEYS {
         let key = vec![in rt.alloc(); 7u8; len]?;
         let mut out = Vec::new(rt.alloc());
-        let version = Version {
+        let version = TableEntry {
             key: &key,
             number: 1,
             value: None,

@@ -2,7 +2,7 @@
 
 use super::{Named, are_equal, payload_of, payload_of_keys, put_checked, put_framed, versions_of};
 use fjall_base::{Error, Result, StorageError};
-use fjall_tree::{FOOTER_LEN, Footer, Index, Level, Table, TableInfo, Version};
+use fjall_table::{FOOTER_LEN, Footer, Index, Level, Table, TableEntry, TableInfo};
 use std::alloc::Global;
 use std::test::Fail;
 
@@ -71,7 +71,7 @@ fn wanted_of<'a>(
     value: &'a [u8],
     key: Option<&[u8]>,
     instant: u64,
-) -> Result<Vec<Version<'a>>> {
+) -> Result<Vec<TableEntry<'a>>> {
     let mut wanted = Vec::new(alloc);
     for (_, named) in blocks {
         for version in &versions_of(alloc, named, value)? {
@@ -99,7 +99,7 @@ fn info_of(bytes: &[u8], entry_count: u64) -> TableInfo {
 /// What a table answers: how many blocks, versions, and versions of a key at instant 10 it has.
 type Answers = Result<(usize, Result<usize>, Result<usize>)>;
 
-fn count_of(versions: Result<Vec<Version<'_>>>) -> Result<usize> {
+fn count_of(versions: Result<Vec<TableEntry<'_>>>) -> Result<usize> {
     Ok(versions?.len())
 }
 

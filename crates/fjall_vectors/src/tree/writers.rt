@@ -2,7 +2,7 @@
 
 use super::{Named, are_equal, checksum, versions_of};
 use fjall_base::{Error, Result};
-use fjall_tree::{TableWriter, Version, put_frame, read_block};
+use fjall_table::{TableEntry, TableWriter, put_frame, read_block};
 use std::alloc::Global;
 use std::test::Fail;
 
@@ -80,7 +80,7 @@ fn table_of_keys(alloc: Global, width: usize, count: u16) -> Result<(u64, Option
     for i in 0..count {
         let bytes = i.to_be_bytes();
         let key = bytes.get(2usize.saturating_sub(width)..).unwrap_or(&[]);
-        writer.write(&Version {
+        writer.write(&TableEntry {
             key,
             number: 1,
             value: Some(b""),
@@ -161,7 +161,7 @@ fn refusals(rt: HostRuntime) -> std::result::Result<(), Fail> {
         } else {
             None
         };
-        let version = Version {
+        let version = TableEntry {
             key: &key,
             number: *number,
             value,

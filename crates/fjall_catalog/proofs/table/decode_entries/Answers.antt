@@ -1,10 +1,10 @@
 use Rattle.std.proofs.Common.{◌≡◌, ◌∙◌, refl, Err, List, ℕ, map, rules, subst}
 use Rattle.std.proofs.lemmas.Result.{IfOk-weaker, MatchResult-weaker}
 use Rattle.fjall_base.specs.declared.error.StorageError.TheVariants.{TableDamaged}
-use Rattle.fjall_tree.specs.Blocks.{seen}
-use Rattle.fjall_tree.specs.Tables.{IsTable}
-use Rattle.fjall_tree.specs.TableReading.{IsNoTable}
-use Rattle.fjall_tree.proofs.Damages.{passed_on}
+use Rattle.fjall_table.specs.Blocks.{seen}
+use Rattle.fjall_table.specs.Tables.{IsTable}
+use Rattle.fjall_table.specs.TableReading.{IsNoTable}
+use Rattle.fjall_table.proofs.Damages.{passed_on}
 use Rattle.fjall_catalog.proofs.Pairs.{no_index_of, no_pairs_of, no_table_of, table_of}
 use Rattle.fjall_catalog.proofs.table.decode_entries.Goals as goal
 

@@ -1,6 +1,6 @@
 use Rattle.std.proofs.Common.{◌≡◌, Err, rules}
 use Rattle.fjall_base.specs.declared.error.StorageError.TheVariants.{TableDamaged}
-use Rattle.fjall_tree.proofs.Damages.{passed_on}
+use Rattle.fjall_table.proofs.Damages.{passed_on}
 use Rattle.fjall_catalog.proofs.Pairs.{no_pairs}
 use Rattle.fjall_catalog.proofs.table.entries_of.Goals as goal
 

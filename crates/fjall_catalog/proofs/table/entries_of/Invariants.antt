@@ -1,5 +1,5 @@
 use Rattle.std.proofs.Common.{◌≡◌, map, take}
-use Rattle.fjall_tree.specs.Blocks.{seen}
+use Rattle.fjall_table.specs.Blocks.{seen}
 use Rattle.fjall_catalog.specs.Catalog.{table_entry}
 use Rattle.fjall_catalog.proofs.table.entries_of.Given as goal
 

@@ -2,7 +2,7 @@ use Rattle.std.proofs.Common.{◌≡◌, ℕ, List, None, Some, Option, String, 
 use Rattle.std.specs.Option.{option_map}
 use Rattle.std.specs.Prelude.{IfSome}
 use Rattle.fjall_base.specs.Disk.{IsNoFolder, Meaning, Name, state_in}
-use Rattle.fjall_tree.specs.declared.record.TableInfo.{TableInfo}
+use Rattle.fjall_table.specs.declared.table_info.TableInfo.{TableInfo}
 use Rattle.fjall_files.specs.Regions.{is_under}
 use Rattle.fjall_files.proofs.Made.{removed_within}
 use Rattle.fjall_files.specs.Names.{keyspace_folder, table_name}

@@ -2,8 +2,9 @@ use Rattle.std.proofs.Common.{ap, sym, ◌∙◌, arith, refl}
 use Rattle.std.specs.Option.{option_map}
 use Rattle.std.proofs.lemmas.Result.{err_from_is_err_and}
 use Rattle.fjall_base.specs.declared.error.StorageError.TheVariants.{RecordDamaged}
-use Rattle.fjall_tree.specs.Records.{view, last_of, IsNoBody, HasContradiction}
-use Rattle.fjall_tree.proofs.Damages.{passed_on}
+use Rattle.fjall_tree.specs.Records.{view, IsNoBody, HasContradiction}
+use Rattle.fjall_base.specs.Lists.{last_of}
+use Rattle.fjall_table.proofs.Damages.{passed_on}
 use Rattle.fjall_tree.proofs.Currents.{frame_takes, rest_fits, one_more, contradiction, finished, one_reading, no_frame}
 use Rattle.fjall_tree.proofs.current.read_current.Goals as goal
 

@@ -1,5 +1,5 @@
 use Rattle.std.proofs.Common.{◌≡◌, ◌-◌}
-use Rattle.fjall_tree.specs.Reading.{many_at, number_at}
+use Rattle.fjall_base.specs.Fields.{many_at, number_at}
 use Rattle.fjall_tree.proofs.Loops.{with_front}
 use Rattle.fjall_tree.proofs.decoding.clears_of.Given as goal
 

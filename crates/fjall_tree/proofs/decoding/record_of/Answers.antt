@@ -2,7 +2,7 @@ use Rattle.std.proofs.Common.{refl, arith}
 use Rattle.std.proofs.lemmas.Result.{err_from_is_err_and}
 use Rattle.fjall_base.specs.declared.error.StorageError.TheVariants.{RecordDamaged}
 use Rattle.fjall_tree.specs.Records.{view, body_of, IsNoBody}
-use Rattle.fjall_tree.proofs.Damages.{from_fails}
+use Rattle.fjall_table.proofs.Damages.{from_fails}
 use Rattle.fjall_tree.proofs.Currents.{is_record, no_body, not_agreeing}
 use Rattle.fjall_tree.proofs.decoding.record_of.Goals as goal
 

@@ -1,5 +1,5 @@
 use Rattle.std.proofs.Common.{◌∙◌, arith}
-use Rattle.fjall_tree.specs.Frame.{headed}
+use Rattle.fjall_table.specs.Frame.{headed}
 use Rattle.fjall_tree.specs.Records.{view, body}
 use Rattle.fjall_tree.proofs.Records.{check_added, head_added, length_body}
 use Rattle.fjall_tree.proofs.record.Record.put_text.Goals as goal

@@ -1,0 +1,6 @@
+pub mod Frame
+pub mod Reading
+pub mod Blocks
+pub mod Tables
+pub mod Writing
+pub mod TableReading

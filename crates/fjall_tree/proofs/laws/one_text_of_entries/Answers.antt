@@ -1,5 +1,0 @@
-use Rattle.fjall_tree.proofs.TableLaws as TableLaws
-use Rattle.fjall_tree.proofs.laws.one_text_of_entries.Goals as goal
-
-pub returns : goal.returns
-returns c = TableLaws.one_text_of_entries

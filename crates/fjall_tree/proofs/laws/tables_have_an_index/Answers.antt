@@ -1,5 +1,0 @@
-use Rattle.fjall_tree.proofs.TableLaws as TableLaws
-use Rattle.fjall_tree.proofs.laws.tables_have_an_index.Goals as goal
-
-pub returns : goal.returns
-returns c = TableLaws.tables_have_an_index

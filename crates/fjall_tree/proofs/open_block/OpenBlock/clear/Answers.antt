@@ -1,8 +1,0 @@
-use Rattle.fjall_tree.proofs.TableWriting.{emptied}
-use Rattle.fjall_tree.proofs.open_block.OpenBlock.clear.Goals as goal
-
-pub invariant_of-self : goal.invariant_of-self
-invariant_of-self c = (emptied c.clear.new.self.items c.clear.ensures.items).0
-
-pub returns : goal.returns
-returns c = (emptied c.clear.new.self.items c.clear.ensures.items).1
