@@ -1,10 +1,7 @@
 pub mod Pairs
 pub mod Disk
-pub mod Memory
 pub mod Errors
-pub mod Files
 pub mod Store
 pub mod Crash
-pub mod MemoryDisk
 pub mod Fields
 pub mod Lists

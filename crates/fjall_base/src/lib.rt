@@ -1,14 +1,12 @@
-//! What every layer speaks of: refusals, byte slices, disks and what a crash may leave of them, and, for contracts, stores and commands.
+//! What every layer speaks of: refusals, byte slices and their fields, disks and what a crash may leave of them, and, for
+//! contracts, stores and commands.
 #![tactic(auto)]
 
 mod closed;
 mod disk;
 mod error;
 mod fields;
-mod files;
 mod laws;
-mod memory;
-mod node;
 mod slice;
 
 pub use closed::ClosedDisk;
@@ -18,5 +16,4 @@ pub use error::{
 };
 pub use fields::{bytes_of, u8_of, u16_of, u32_of, u64_of};
 pub use laws::{append_is_covered, cut_is_covered};
-pub use memory::MemoryDisk;
 pub use slice::{KvPair, Slice, UserKey, UserValue};

@@ -1,7 +1,8 @@
 //! Where databases are made: in memory, or in folders of their own below one.
 
-use fjall_base::{Disk, MemoryDisk, Result};
+use fjall_base::{Disk, Result};
 use fjall_folder::FolderDisk;
+use fjall_memory::MemoryDisk;
 use std::alloc::Global;
 
 /// Makes a disk for each workload.

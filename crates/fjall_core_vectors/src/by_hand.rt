@@ -4,8 +4,8 @@ use crate::acts::Act::*;
 use crate::acts::{Row, Scenario, first_wrong};
 use crate::database::opened;
 use crate::script::Line::*;
-use fjall_base::MemoryDisk;
 use fjall_core::PersistMode;
+use fjall_memory::MemoryDisk;
 use std::test::Fail;
 
 // The writes of keyspace 1 are persisted by hand, and those of keyspace 2 aren't.

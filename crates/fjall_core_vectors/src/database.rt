@@ -2,8 +2,9 @@
 //!
 //! The calls of a core are passed on without what they promise, since a test asserts what it wants to know.
 
-use fjall_base::{Disk, Error, KvPair, MemoryDisk, Refused, Result, Slice, UserValue};
+use fjall_base::{Disk, Error, KvPair, Refused, Result, Slice, UserValue};
 use fjall_core::{Call, Config, Core, KeyRange, PersistMode, Reply, View};
+use fjall_memory::MemoryDisk;
 use fjall_options::KeyspaceCreateOptions;
 use std::alloc::Global;
 

@@ -3,7 +3,8 @@
 ghost use Rattle.std.specs.Prelude.{◌<◌};
 
 use crate::tape::Step;
-use fjall_base::{Disk, MemoryDisk, Result};
+use fjall_base::{Disk, Result};
+use fjall_memory::MemoryDisk;
 use std::alloc::Global;
 use std::mem;
 

@@ -5,7 +5,8 @@ use crate::database::opened;
 use crate::moments::{Crash, Moment};
 use crate::script::{Checked, History, Line, SCRIPT, Tried, Wrong};
 use crate::tape::{Step, Tape};
-use fjall_base::{Error, MemoryDisk};
+use fjall_base::Error;
+use fjall_memory::MemoryDisk;
 use std::alloc::Global;
 use std::test::Fail;
 

@@ -6,11 +6,12 @@ use crate::folder::CURRENT;
 use crate::steps::Question::*;
 use crate::steps::Step::*;
 use crate::steps::{Row, Start};
-use fjall_base::{Error, MemoryDisk, Result, Slice};
+use fjall_base::{Error, Result, Slice};
 use fjall_catalog::{Catalog, first_record_of, prepare, read_catalog};
 use fjall_commit::{
     create_keyspace, delete_keyspace, prepare_creation, prepare_removal, remove_keyspace,
 };
+use fjall_memory::MemoryDisk;
 use fjall_meta::MetaKeyspace;
 use fjall_options::KeyspaceCreateOptions;
 use std::alloc::Global;

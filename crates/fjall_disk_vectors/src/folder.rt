@@ -1,10 +1,11 @@
 //! The folders that scripts begin with.
 
 use crate::calls::{add_answer, add_some};
-use fjall_base::{Disk, MemoryDisk, Result, Slice};
+use fjall_base::{Disk, Result, Slice};
 use fjall_catalog::{commit, first_record, first_record_of, prepare, read_catalog, write_table};
 use fjall_files::{make_file, make_home};
 use fjall_journal::{PersistMode, ValueType, Writer};
+use fjall_memory::MemoryDisk;
 use fjall_options::KeyspaceCreateOptions;
 use std::alloc::Global;
 

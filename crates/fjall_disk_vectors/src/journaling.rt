@@ -1,8 +1,9 @@
 //! The bytes of a journal that batches were written to.
 
-use fjall_base::{Disk, MemoryDisk, Result};
+use fjall_base::{Disk, Result};
 use fjall_commit::{append_batch, sync_journal};
 use fjall_journal::{PersistMode, ValueType, Writer};
+use fjall_memory::MemoryDisk;
 use std::alloc::Global;
 use std::mem;
 use std::test::Fail;

@@ -6,7 +6,8 @@ use crate::folder::{CURRENT, MARKER, TORN};
 use crate::steps::Question::*;
 use crate::steps::Step::*;
 use crate::steps::{Question, Row, Start};
-use fjall_base::{Error, FormatVersion, JournalRecoveryError, MemoryDisk, Result, StorageError};
+use fjall_base::{Error, FormatVersion, JournalRecoveryError, Result, StorageError};
+use fjall_memory::MemoryDisk;
 use fjall_recovery::{Finished, read_folder};
 use std::alloc::Global;
 

@@ -4,8 +4,9 @@ use crate::calls::Call::*;
 use crate::calls::{DONE, FAULT, YES};
 use crate::steps::Step::*;
 use crate::steps::{Row, Start, Step};
-use fjall_base::{MemoryDisk, Result};
+use fjall_base::Result;
 use fjall_files::{append_synced, end_file, make_file, make_home, put_file, remove_home};
+use fjall_memory::MemoryDisk;
 use std::alloc::Global;
 
 const HOME: &str = "keyspaces/5";

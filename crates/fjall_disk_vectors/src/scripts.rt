@@ -3,7 +3,8 @@
 use crate::calls::is_answer;
 use crate::steps::{Row, Step, take};
 use crate::{beginning, catalog, changes, mending, opening, regions, repair};
-use fjall_base::{MemoryDisk, Result};
+use fjall_base::Result;
+use fjall_memory::MemoryDisk;
 use std::alloc::Global;
 
 // Takes a step, and answers what it sees.

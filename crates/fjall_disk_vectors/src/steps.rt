@@ -2,7 +2,8 @@
 
 use crate::calls::{Answer, Call, add_answer, add_some, make};
 use crate::{beginning, catalog, changes, folder, mending, opening, regions, repair};
-use fjall_base::{MemoryDisk, Result};
+use fjall_base::Result;
+use fjall_memory::MemoryDisk;
 use std::alloc::Global;
 use std::mem;
 

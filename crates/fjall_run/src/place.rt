@@ -5,8 +5,9 @@ ghost use Rattle.fjall_run.specs.Machine.{IsNew, IsNoDisk};
 ghost use Rattle.fjall_run.specs.Sessions.{Leaves};
 
 use crate::command::Command;
-use fjall_base::{Disk, MemoryDisk, Result};
+use fjall_base::{Disk, Result};
 use fjall_folder::FolderDisk;
+use fjall_memory::MemoryDisk;
 use std::alloc::Global;
 
 /// Gives a session its disk, and gives it again after each crash and reopening.

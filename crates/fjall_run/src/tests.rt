@@ -3,7 +3,8 @@
 use crate::command::Command;
 use crate::place::{Memory, Place};
 use crate::run::{Status, run_memory, run_over};
-use fjall_base::{MemoryDisk, Result as BaseResult};
+use fjall_base::Result as BaseResult;
+use fjall_memory::MemoryDisk;
 use std::alloc::Global;
 use std::io;
 use std::io::{Error, ErrorKind, Read, Write};

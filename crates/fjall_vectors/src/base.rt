@@ -2,9 +2,10 @@
 //! where it was told to.
 
 use fjall_base::{
-    ClosedDisk, CompressionType, Disk, Error, FormatVersion, JournalRecoveryError, MemoryDisk,
-    Refused, Result, Slice, StorageError,
+    ClosedDisk, CompressionType, Disk, Error, FormatVersion, JournalRecoveryError, Refused, Result,
+    Slice, StorageError,
 };
+use fjall_memory::MemoryDisk;
 use std::alloc::{AllocError, AllocFailed, Global};
 use std::hash::{DefaultHasher, Hash, Hasher};
 use std::io::{self, ErrorKind};

@@ -1,10 +1,11 @@
 //! Worked rows of the format, and calls of each public function.
 
-use fjall_base::{CompressionType, Disk, Error, JournalRecoveryError, MemoryDisk, Result, Slice};
+use fjall_base::{CompressionType, Disk, Error, JournalRecoveryError, Result, Slice};
 use fjall_journal::{
     Batch, Entry, JOURNAL_BUFFER_BYTES, JournalBatchReader, PersistMode, RecoveryMode, Tail,
     ValueType, Writer, read_journal, serialize_marker_item,
 };
+use fjall_memory::MemoryDisk;
 use std::alloc::Global;
 use std::io::ErrorKind;
 use std::test::Fail;

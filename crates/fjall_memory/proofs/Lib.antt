@@ -1,0 +1,7 @@
+mod Names
+mod Folders
+mod Cuts
+mod Crashed
+mod Housed
+mod Listed
+mod Results

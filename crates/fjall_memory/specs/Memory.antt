@@ -1,0 +1,57 @@
+-- What a disk in memory stands for.
+use Rattle.std.specs.Prelude.{◌≡◌, ℕ, List, map, string_bytes}
+use Rattle.fjall_base.specs.Disk.{Name, placed, Entry, Missing, File, Folder, Place, State, Step, Put, Append, Sync, Loosen, Cut, SyncFolder, appended, all_synced, cut_to, IsFile, IsLong}
+use Rattle.fjall_memory.specs.declared.node.Node.{Node}
+use Rattle.fjall_memory.specs.declared.node.Node as node
+use Rattle.fjall_memory.specs.declared.node.Named.{Named}
+use Rattle.fjall_memory.specs.declared.node.Change.{Change}
+use Rattle.fjall_memory.specs.declared.node.Change as logged
+use Rattle.fjall_memory.specs.declared.node.Kind.{Kind}
+use Rattle.fjall_memory.specs.declared.node.Kind as kind
+use Rattle.fjall_memory.specs.declared.node.FileChange.{FileChange}
+use Rattle.fjall_memory.specs.declared.node.FileChange as of_file
+
+-- what stands at a name
+abbrev pub entry_of : Node → Entry
+entry_of node.TheVariants.Missing = Missing
+entry_of (node.TheVariants.File synced unsynced) = File synced.items unsynced.items
+entry_of node.TheVariants.Folder = Folder
+
+-- what stands there now, and what stood there since the folder was synced
+abbrev pub place_of : Named → Place
+place_of named = record { now = entry_of named.now; older = map entry_of named.older.items }
+
+-- the entry's name, and what stands there
+abbrev pub named_place : Named → Name × Place
+named_place named = (string_bytes named.name, place_of named)
+
+-- what stands at a name: the first of that name counts
+abbrev pub state_of : List Named → State
+state_of names = placed (map named_place names)
+
+-- the step that a change is
+abbrev pub step_of : Change → Step
+step_of (logged.TheVariants.Put name entry) = Put (string_bytes name) (entry_of entry)
+step_of (logged.TheVariants.Append name bytes) = Append (string_bytes name) bytes.items
+step_of (logged.TheVariants.Sync name) = Sync (string_bytes name)
+step_of (logged.TheVariants.Loosen name len) = Loosen (string_bytes name) len
+step_of (logged.TheVariants.Cut name len) = Cut (string_bytes name) len
+step_of (logged.TheVariants.SyncFolder name) = SyncFolder (string_bytes name)
+
+-- what the change makes of an entry
+abbrev pub changed : FileChange → Entry → Entry
+changed (of_file.TheVariants.Append bytes) = appended bytes.now
+changed of_file.TheVariants.Sync = all_synced
+changed (of_file.TheVariants.Cut len) = cut_to len
+
+-- the change can be made of such an entry
+abbrev pub Fits : FileChange → Entry → Type 0
+Fits (of_file.TheVariants.Append bytes) = IsFile
+Fits of_file.TheVariants.Sync = IsFile
+Fits (of_file.TheVariants.Cut len) = IsLong len
+
+-- the entry is of that kind
+abbrev pub IsKind : Kind → Entry → Type 0
+IsKind kind.TheVariants.Missing entry = entry ≡ Missing
+IsKind kind.TheVariants.File entry = (synced : List ℕ) × (unsynced : List ℕ) × (entry ≡ File synced unsynced)
+IsKind kind.TheVariants.Folder entry = entry ≡ Folder

@@ -1,0 +1,322 @@
+//! A disk in memory, for tests of crashes and of faults.
+
+ghost use Rattle.std.specs.Prelude.{◌≡◌, ◌≤◌, ◌-◌, ◌↔◌, [], true, map, IfOk, IsOkUnless, IsTrue};
+ghost use Rattle.fjall_base.specs.Disk.{IsImage, disk_of, state_in};
+ghost use Rattle.fjall_base.specs.Errors.{Rose};
+ghost use Rattle.fjall_base.specs.Crash.{crashed};
+ghost use Rattle.fjall_memory.specs.Memory.{named_place, step_of};
+
+use crate::files::Files;
+use crate::node::{Kind, Node, crash_names, holds_any, list_names};
+use fjall_base::{DirEntry, Disk, Error, Result};
+use std::alloc::Global;
+use std::io::ErrorKind;
+
+/// Counts the faults that came, and the device calls down to the one that is to fail.
+///
+/// `call` is how many device calls are left up to and with that one, reads too: at 1 the next one
+/// fails, at 0 none does. The count of faults stays at the greatest `u64` once it is there.
+#[derive(Drop)]
+struct Failing {
+    count: u64,
+    // how many of them were calls that no disk can serve
+    misuses: u64,
+    call: u64,
+    // how many bytes of an append that is to fail go out first
+    part: usize,
+}
+
+impl Failing {
+    // Counts a fault.
+    fn fault(&mut self) -> Error
+        ensures io { result ≡ Error.Io ErrorKind.Other }
+        ensures rose { Rose self.old.count self.new.count }
+        ensures later { self.old.count ≤ self.new.count }
+        ensures misuses { self.new.misuses ≡ self.old.misuses }
+    {
+        self.count = self.count.saturating_add(1);
+        Error::Io(ErrorKind::Other)
+    }
+
+    // Counts a call that no disk can serve, which is a fault too.
+    fn misuse(&mut self) -> Error
+        ensures io { result ≡ Error.Io ErrorKind.Other }
+        ensures rose { Rose self.old.count self.new.count }
+        ensures later { self.old.count ≤ self.new.count }
+        ensures misuses { Rose self.old.misuses self.new.misuses }
+    {
+        self.misuses = self.misuses.saturating_add(1);
+        self.fault()
+    }
+
+    // Counts a device call, and says whether it is the one that is to fail.
+    fn strikes(&mut self) -> bool
+        ensures strikes { IsTrue result ↔ (self.old.call ≡ 1) }
+        ensures call { self.new.call ≡ self.old.call - 1 }
+        ensures count { self.new.count ≡ self.old.count }
+        ensures misuses { self.new.misuses ≡ self.old.misuses }
+    {
+        if self.call == 0 {
+            return false;
+        }
+        self.call -= 1;
+        self.call == 0
+    }
+}
+
+/// A disk that is a list of names in memory. It is honest: contracts know all that it holds, and which
+/// steps it took.
+///
+/// It can be told to fail at a call, and be crashed. Each lookup walks the whole list.
+#[derive(Drop)]
+pub struct MemoryDisk {
+    files: Files,
+    failing: Failing,
+}
+
+impl MemoryDisk {
+    ghost use Rattle.fjall_memory.specs.MemoryDisk.{meaning_in};
+
+    /// An empty disk, without a fault. It allocates nothing.
+    pub fn new(alloc: Global) -> MemoryDisk
+        ensures meaning { meaning_in result ≡ record { places = []; steps = []; faults = 0; misuses = 0 } }
+    {
+        MemoryDisk {
+            files: Files {
+                alloc,
+                names: Vec::new(alloc),
+                log: Vec::new(alloc),
+            },
+            failing: Failing {
+                count: 0,
+                misuses: 0,
+                call: 0,
+                part: 0,
+            },
+        }
+    }
+
+    /// Makes the device call of that number fail, counted from 1 from now on, reads too; where it is an
+    /// append, `part` of its bytes go out first. The number 0 makes none fail.
+    ///
+    /// An earlier number that has not come up yet is forgotten. After the call that fails the next ones
+    /// are as before.
+    pub fn fail_at(&mut self, call: u64, part: usize)
+        ensures same { meaning_in self.new ≡ meaning_in self.old }
+        ensures call { self.new.failing.call ≡ call }
+        ensures part { self.new.failing.part ≡ part }
+    {
+        self.failing.call = call;
+        self.failing.part = part;
+    }
+
+    /// The disk after a crash: each file keeps at most `keep` of its unsynced bytes, and all names stay.
+    /// What is left counts as synced.
+    ///
+    /// That is one of the images that a crash may leave. A call that was told to fail still does.
+    ///
+    /// It fails with `Error::OutOfMemory` alone.
+    pub fn crash(self, keep: usize) -> Result<MemoryDisk>
+        ensures image { IfOk result (λ _. IsImage (state_in (meaning_in self)) (crashed keep (state_in (meaning_in self)))) }
+        ensures cause { IsOkUnless result Error.OutOfMemory }
+        ensures left { IfOk result (λ disk. state_in (meaning_in disk) ≡ disk_of (crashed keep (state_in (meaning_in self)))) }
+        ensures steps { IfOk result (λ disk. (meaning_in disk).steps ≡ []) }
+        ensures faults { IfOk result (λ disk. (meaning_in disk).faults ≡ (meaning_in self).faults) }
+        ensures told { IfOk result (λ disk. disk.failing ≡ self.failing) }
+    {
+        let MemoryDisk { files, failing } = self;
+        let Files {
+            alloc,
+            mut names,
+            mut log,
+        } = files;
+        crash_names(&mut names, keep)?;
+        log.clear();
+        Ok(MemoryDisk {
+            files: Files { alloc, names, log },
+            failing,
+        })
+    }
+}
+
+impl Disk for MemoryDisk {
+    ghost honest = { true };
+
+    ghost meaning = { λ disk. record { places = map named_place disk.files.names.items; steps = map step_of disk.files.log.items; faults = disk.failing.count; misuses = disk.failing.misuses } };
+
+    fn faults(&self) -> u64 {
+        self.failing.count
+    }
+
+    fn read(&mut self, alloc: Global, name: &str) -> Result<Option<Vec<u8>>> {
+        if self.failing.strikes() {
+            return Err(self.failing.fault());
+        }
+        Ok(self.files.read(alloc, name)?)
+    }
+
+    fn read_at(
+        &mut self,
+        alloc: Global,
+        name: &str,
+        at: usize,
+        len: usize,
+    ) -> Result<Option<Vec<u8>>> {
+        if self.failing.strikes() {
+            return Err(self.failing.fault());
+        }
+        let Some(bytes) = self.files.read(alloc, name)? else {
+            return Ok(None);
+        };
+        if bytes.len() < at || bytes.len() - at < len {
+            return Ok(None);
+        }
+        Ok(Some(Vec::from_slice(alloc, &bytes.as_slice()[at..at + len])?))
+    }
+
+    fn list(&mut self, alloc: Global, folder: &str) -> Result<Vec<DirEntry>> {
+        if self.failing.strikes() {
+            return Err(self.failing.fault());
+        }
+        Ok(list_names(alloc, self.files.names.as_slice(), folder)?)
+    }
+
+    fn create(&mut self, name: &str) -> Result<()> {
+        let strikes = self.failing.strikes();
+        if !self.files.can_create(name) {
+            return Err(self.failing.misuse());
+        }
+        if strikes {
+            return Err(self.failing.fault());
+        }
+        match self.files.kind(name) {
+            Kind::File => Ok(()),
+            Kind::Folder => Err(self.failing.fault()),
+            Kind::Missing => {
+                let alloc = self.files.alloc;
+                if self
+                    .files
+                    .put(name, Node::file(alloc), Node::file(alloc))
+                    .is_err()
+                {
+                    return Err(self.failing.fault());
+                }
+                Ok(())
+            }
+        }
+    }
+
+    fn append(&mut self, name: &str, bytes: &[u8]) -> Result<()> {
+        let strikes = self.failing.strikes();
+        if !self.files.is_file(name) {
+            return Err(self.failing.misuse());
+        }
+        if strikes {
+            let part = self.failing.part.min(bytes.len());
+            let _ = self.files.append(name, &bytes[..part]);
+            return Err(self.failing.fault());
+        }
+        if self.files.append(name, bytes).is_err() {
+            return Err(self.failing.fault());
+        }
+        Ok(())
+    }
+
+    fn sync(&mut self, name: &str) -> Result<()> {
+        let strikes = self.failing.strikes();
+        if !self.files.is_file(name) {
+            return Err(self.failing.misuse());
+        }
+        if strikes || self.files.sync(name).is_err() {
+            return Err(self.failing.fault());
+        }
+        Ok(())
+    }
+
+    fn cut_sync(&mut self, name: &str, len: usize) -> Result<()> {
+        let strikes = self.failing.strikes();
+        if !self.files.is_long(name, len) {
+            return Err(self.failing.misuse());
+        }
+        if strikes || self.files.cut(name, len).is_err() {
+            return Err(self.failing.fault());
+        }
+        Ok(())
+    }
+
+    fn remove(&mut self, name: &str) -> Result<()> {
+        let strikes = self.failing.strikes();
+        if !self.files.is_no_folder(name) {
+            return Err(self.failing.misuse());
+        }
+        if strikes {
+            return Err(self.failing.fault());
+        }
+        match self.files.kind(name) {
+            Kind::Missing => Ok(()),
+            Kind::Folder => Err(self.failing.fault()),
+            Kind::File => {
+                if self.files.put(name, Node::Missing, Node::Missing).is_err() {
+                    return Err(self.failing.fault());
+                }
+                Ok(())
+            }
+        }
+    }
+
+    fn remove_folder(&mut self, name: &str) -> Result<()> {
+        let strikes = self.failing.strikes();
+        if !self.files.can_remove_folder(name) {
+            return Err(self.failing.misuse());
+        }
+        if strikes {
+            return Err(self.failing.fault());
+        }
+        match self.files.kind(name) {
+            Kind::Missing => Ok(()),
+            Kind::File => Err(self.failing.fault()),
+            Kind::Folder => {
+                if holds_any(self.files.names.as_slice(), name) {
+                    return Err(self.failing.fault());
+                }
+                if self.files.put(name, Node::Missing, Node::Missing).is_err() {
+                    return Err(self.failing.fault());
+                }
+                Ok(())
+            }
+        }
+    }
+
+    fn make_folder(&mut self, name: &str) -> Result<()> {
+        let strikes = self.failing.strikes();
+        if !self.files.can_make_folder(name) {
+            return Err(self.failing.misuse());
+        }
+        if strikes {
+            return Err(self.failing.fault());
+        }
+        match self.files.kind(name) {
+            Kind::Folder => Ok(()),
+            Kind::File => Err(self.failing.fault()),
+            Kind::Missing => {
+                if self.files.put(name, Node::Folder, Node::Folder).is_err() {
+                    return Err(self.failing.fault());
+                }
+                Ok(())
+            }
+        }
+    }
+
+    fn sync_folder(&mut self, name: &str) -> Result<()> {
+        let strikes = self.failing.strikes();
+        if !self.files.is_there(name) {
+            return Err(self.failing.misuse());
+        }
+        if strikes || self.files.sync_folder(name).is_err() {
+            return Err(self.failing.fault());
+        }
+        Ok(())
+    }
+
+    ghost housed = { λ disk honest. disk.files.housed };
+}
