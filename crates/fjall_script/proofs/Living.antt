@@ -1,10 +1,11 @@
 -- A session over a disk that returns what it holds comes to lives of engines one after another.
-use Rattle.std.proofs.Common.{◌≡◌, inl, inr, ℕ, suc, ◌+◌, Bool, true, false, IsTrue, List, [], ◌∷◌, ◌++◌, length, length-append, codes, Option, Some, None, Result, Ok, Err, refl, sym, ◌∙◌, ap, subst, append_assoc, arith}
+use Rattle.std.proofs.Common.{◌≡◌, inl, inr, ℕ, suc, ◌+◌, Bool, true, false, IsTrue, List, [], ◌∷◌, ◌++◌, length, length-append, codes, Option, Some, None, Result, Ok, Err, refl, sym, ◌∙◌, ap, subst, append_assoc, arith, map}
 use Rattle.std.proofs.lemmas.Bool.{true≢false}
-use Rattle.std.proofs.lemmas.List.{append-nil}
-use Rattle.std.proofs.lemmas.List.Elements.{All-head, All-tail, filter_map-append}
+use Rattle.std.proofs.lemmas.List.{append-nil, map-append}
+use Rattle.std.proofs.lemmas.List.Elements.{All-head, All-nil, All-tail, All-append, filter_map-append}
+use Rattle.std.proofs.lemmas.List.Splits.{slice_split_at, slice_split_none}
 use Rattle.std.proofs.lemmas.Grind.{flat_map-append}
-use Rattle.std.specs.List.{flat_map}
+use Rattle.std.specs.List.{flat_map, slice_split}
 use Rattle.std.specs.Prelude.{All}
 use Rattle.fjall_base.specs.Store.{Store, fold, kept}
 use Rattle.fjall_base.specs.Store as store
@@ -99,6 +100,62 @@ replied old new (call ∷ calls) (reply ∷ replies) owes = ap suc (replied owes
 
 -- ---- lives so far
 
+-- The lines up to here: those that each life ended behind, and those behind the last crash or reopening. However the lines go
+-- on, a crash or reopening ends the running part.
+record Parts (front : List (Option Command)) (lives : List Life) (calls : List Call) : Type 0 where
+  pub ended : List (List (Option Command))
+  pub running : List (Option Command)
+  pub alone : All IsCall running
+  pub split : (more : List (Option Command)) → slice_split is_stop (front ++ more) ≡ ended ++ slice_split is_stop (running ++ more)
+  pub ended_are : map calls_of ended ≡ map (λ (life : Life). life.calls) lives
+  pub running_are : calls_of running ≡ calls
+
+no_parts : Parts [] [] []
+no_parts = record {
+  ended = [];
+  running = [];
+  alone = All-nil IsCall;
+  split = λ more. refl;
+  ended_are = refl;
+  running_are = refl;
+}
+
+-- more calls are of the running part
+parts_run : (front lines : List (Option Command)) (lives : List Life) (calls : List Call) → Parts front lives calls → All IsCall lines → Parts (front ++ lines) lives (calls ++ calls_of lines)
+parts_run front lines lives calls p alone = record {
+  ended = p.ended;
+  running = p.running ++ lines;
+  alone = All-append IsCall p.running lines p.alone alone;
+  split = λ more. ap (slice_split is_stop) (append_assoc front lines more) ∙ p.split (lines ++ more)
+      ∙ ap (λ (l : List (Option Command)). p.ended ++ slice_split is_stop l) (sym (append_assoc p.running lines more));
+  ended_are = p.ended_are;
+  running_are = filter_map-append sessions.call_of p.running lines ∙ ap (λ (l : List Call). l ++ calls_of lines) p.running_are;
+}
+
+-- a crash or a reopening ends it
+parts_stop : (front : List (Option Command)) (stop : Option Command) (lives : List Life) (life : Life) → Parts front lives life.calls → is_stop stop ≡ true → Parts (front ++ stop ∷ []) (lives ++ life ∷ []) []
+parts_stop front stop lives life p stops = record {
+  ended = p.ended ++ p.running ∷ [];
+  running = [];
+  alone = All-nil IsCall;
+  split = λ more. ap (slice_split is_stop) (append_assoc front (stop ∷ []) more) ∙ p.split (stop ∷ more)
+      ∙ ap (λ (l : List (List (Option Command))). p.ended ++ l) (slice_split_at is_stop p.running stop more p.alone stops)
+      ∙ sym (append_assoc p.ended (p.running ∷ []) (slice_split is_stop more));
+  ended_are = map-append calls_of p.ended (p.running ∷ []) ∙ ap (λ (l : List (List Call)). l ++ calls_of p.running ∷ []) p.ended_are
+      ∙ ap (λ (c : List Call). map (λ (l : Life). l.calls) lives ++ c ∷ []) p.running_are
+      ∙ sym (map-append (λ (l : Life). l.calls) lives (life ∷ []));
+  running_are = refl;
+}
+
+-- each part has the calls of a life
+parts_are : (front : List (Option Command)) (lives : List Life) (calls : List Call) → Parts front lives calls → map calls_of (slice_split is_stop front) ≡ map (λ (life : Life). life.calls) lives ++ calls ∷ []
+parts_are front lives calls p =
+    let whole : slice_split is_stop front ≡ p.ended ++ p.running ∷ [] = ap (slice_split is_stop) (sym (append-nil front)) ∙ p.split []
+        ∙ ap (λ (l : List (Option Command)). p.ended ++ slice_split is_stop l) (append-nil p.running)
+        ∙ ap (λ (l : List (List (Option Command))). p.ended ++ l) (slice_split_none is_stop p.running p.alone) in
+    ap (map calls_of) whole ∙ map-append calls_of p.ended (p.running ∷ []) ∙ ap (λ (l : List (List Call)). l ++ calls_of p.running ∷ []) p.ended_are
+    ∙ ap (λ (c : List Call). map (λ (l : Life). l.calls) lives ++ c ∷ []) p.running_are
+
 record LivedSo (commands rest : List (Option Command)) (printed : List (List ℕ)) (core : Held) : Type 0 where
   pub front : List (Option Command)
   pub split : commands ≡ front ++ rest
@@ -112,7 +169,7 @@ record LivedSo (commands rest : List (Option Command)) (printed : List (List ℕ
   pub calls : List Call
   pub replies : List Reply
   pub run : Served first (kept (fold base opened.front)) opened.opens calls replies core
-  pub calls_are : calls_of front ≡ flat_map (λ life. life.calls) lives ++ calls
+  pub parts : Parts front lives calls
   pub printed_are : printed ≡ answers_through front (flat_map (λ life. life.replies) lives ++ replies)
   pub all : length (calls_of front) ≡ length (flat_map (λ life. life.replies) lives ++ replies)
 
@@ -142,7 +199,7 @@ begins commands core h =
       calls = [];
       replies = [];
       run = just_opened h.disk core (bare no_keyspaces) [] opened;
-      calls_are = refl;
+      parts = no_parts;
       printed_are = refl;
       all = refl;
     }
@@ -168,8 +225,7 @@ runs commands lines rest old new printed replies s alone run =
       calls = s.calls ++ calls_of lines;
       replies = s.replies ++ replies;
       run = runs_behind s.first old new (start_of s.first store s.opened.opens) (begun s.first store) s.calls (calls_of lines) s.replies replies s.opened.opens.base s.run (run.safe refl);
-      calls_are = filter_map-append sessions.call_of s.front lines ∙ ap (λ (l : List Call). l ++ calls_of lines) s.calls_are
-          ∙ append_assoc (flat_map (λ (life : Life). life.calls) s.lives) s.calls (calls_of lines);
+      parts = parts_run s.front lines s.lives s.calls s.parts alone;
       printed_are = ap (λ (l : List (List ℕ)). l ++ answers_to lines replies) s.printed_are
           ∙ ap (λ (l : List (List ℕ)). answers_through s.front (lived ++ s.replies) ++ l) (through_calls lines replies alone)
           ∙ sym (through-append s.front lines (lived ++ s.replies) replies s.all) ∙ ap (answers_through (s.front ++ lines)) same;
@@ -195,8 +251,6 @@ again commands stop rest printed old new s stops synced end next waits ended dis
     let lived = flat_map (λ (l : Life). l.replies) s.lives in
     let replies : lived ++ s.replies ≡ flat_map (λ (l : Life). l.replies) lives ++ [] =
     ap (λ (l : List Reply). lived ++ l) (sym (append-nil s.replies)) ∙ sym (flat_map-append (λ (l : Life). l.replies) s.lives (life ∷ [])) ∙ sym (append-nil (flat_map (λ (l : Life). l.replies) lives)) in
-    let calls : flat_map (λ (l : Life). l.calls) s.lives ++ s.calls ≡ flat_map (λ (l : Life). l.calls) lives ++ [] =
-    ap (λ (l : List Call). flat_map (λ (l : Life). l.calls) s.lives ++ l) (sym (append-nil s.calls)) ∙ sym (flat_map-append (λ (l : Life). l.calls) s.lives (life ∷ [])) ∙ sym (append-nil (flat_map (λ (l : Life). l.calls) lives)) in
     let none : calls_of (s.front ++ stop ∷ []) ≡ calls_of s.front = filter_map-append sessions.call_of s.front (stop ∷ []) ∙ ap (λ (l : List Call). calls_of s.front ++ l) (no_call stop stops) ∙ append-nil (calls_of s.front) in
     record {
       front = s.front ++ stop ∷ [];
@@ -211,7 +265,7 @@ again commands stop rest printed old new s stops synced end next waits ended dis
       calls = [];
       replies = [];
       run = just_opened disk new next waits opened;
-      calls_are = none ∙ s.calls_are ∙ calls;
+      parts = parts_stop s.front stop s.lives life s.parts stops;
       printed_are = ap (λ (l : List (List ℕ)). l ++ codes "ok" ∷ []) s.printed_are
           ∙ ap (λ (l : List (List ℕ)). answers_through s.front (lived ++ s.replies) ++ l) (sym (ok_said stop stops))
           ∙ sym (through-append s.front (stop ∷ []) (lived ++ s.replies) [] s.all)
@@ -308,7 +362,7 @@ has_lived commands rest core printed session =
       replies = s.replies;
       run = s.run;
       device = lives_blame (state_in new_disk) (bare no_keyspaces) s.lives s.disk s.base s.pending s.first core s.calls s.replies (new_disk_tidy (state_in new_disk) (λ name. refl)) s.before s.opened s.run;
-      calls_are = s.calls_are;
+      calls_are = parts_are s.front s.lives s.calls s.parts;
       printed_are = s.printed_are;
       fronts = behind.0;
       left = behind.1;
