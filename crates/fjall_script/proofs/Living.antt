@@ -151,8 +151,8 @@ parts_stop front stop lives life p stops = record {
 parts_are : (front : List (Option Command)) (lives : List Life) (calls : List Call) → Parts front lives calls → map calls_of (slice_split is_stop front) ≡ map (λ (life : Life). life.calls) lives ++ calls ∷ []
 parts_are front lives calls p =
     let whole : slice_split is_stop front ≡ p.ended ++ p.running ∷ [] = ap (slice_split is_stop) (sym (append-nil front)) ∙ p.split []
-        ∙ ap (λ (l : List (Option Command)). p.ended ++ slice_split is_stop l) (append-nil p.running)
-        ∙ ap (λ (l : List (List (Option Command))). p.ended ++ l) (slice_split_none is_stop p.running p.alone) in
+    ∙ ap (λ (l : List (Option Command)). p.ended ++ slice_split is_stop l) (append-nil p.running)
+    ∙ ap (λ (l : List (List (Option Command))). p.ended ++ l) (slice_split_none is_stop p.running p.alone) in
     ap (map calls_of) whole ∙ map-append calls_of p.ended (p.running ∷ []) ∙ ap (λ (l : List (List Call)). l ++ calls_of p.running ∷ []) p.ended_are
     ∙ ap (λ (c : List Call). map (λ (l : Life). l.calls) lives ++ c ∷ []) p.running_are
 

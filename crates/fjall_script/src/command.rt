@@ -3,7 +3,7 @@
 use fjall_base::{Slice, UserKey, UserValue};
 
 /// What a line asks for.
-#[derive(Debug, Drop)]
+#[derive(Drop)]
 pub enum Command {
     /// `keyspace NAME`: the id of the keyspace of this name, which is made where none has it.
     Keyspace(Slice),
