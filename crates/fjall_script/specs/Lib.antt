@@ -3,5 +3,5 @@ pub mod Answers
 pub mod Machine
 pub mod Sessions
 pub mod Lived
-pub mod Runs
 pub mod Statuses
+pub mod Runs

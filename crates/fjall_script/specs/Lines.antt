@@ -53,6 +53,10 @@ pub record Spells (words : List (List ℕ)) (found : Option Command) : Type 0 wh
   pub spelled : IfSome found (λ command. words ≡ words_of command)
   pub all_found : (command : Command) → IsCommand command → words ≡ words_of command → found ≡ Some command
 
+-- whatever id and key two words spell, they are found
+abbrev pub FindsIdAndKey : List ℕ → List ℕ → Option (ℕ × List ℕ) → Type 0
+FindsIdAndKey id key found = (n : ℕ) (b : List ℕ) → n < 2 ^ 64 → IsBytes b → id ≡ decimal n → key ≡ hex_word b → found ≡ Some (n, b)
+
 -- the command that a line spells, or none where it spells none
 pub record Reads (line : List ℕ) (found : Option Command) : Type 0 where
   pub spelled : IfSome found (λ command. line ≡ spelling command)

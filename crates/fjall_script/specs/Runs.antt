@@ -1,5 +1,5 @@
 -- What the program writes for an input.
-use Rattle.std.specs.Prelude.{◌≡◌, ℕ, Bool, false, codes, List, [], ◌++◌, Option, Some, None, IfSome, IsTrue, Result, Err}
+use Rattle.std.specs.Prelude.{◌≡◌, ℕ, Bool, false, codes, List, [], ◌++◌, Option, Some, None, IfSome, IsTrue, Result, Err, map, String, string_bytes}
 use Rattle.std.specs.List.{AllZip, list_all}
 use Rattle.std.specs.Str.{bytes_eq}
 use Rattle.std.specs.Io.KnownBytes.{Appends, Keeps}
@@ -9,6 +9,7 @@ use Rattle.fjall_script.specs.declared.command.Command.{Command}
 use Rattle.fjall_script.specs.declared.command.Command.TheVariants.{Crash}
 use Rattle.fjall_script.specs.declared.run.Status.{Status}
 use Rattle.fjall_script.specs.declared.run.Status.TheVariants.{Failure}
+use Rattle.fjall_script.specs.Statuses.{status_code}
 use Rattle.fjall_script.specs.Lines.{lines_of, Reads}
 use Rattle.fjall_script.specs.Answers.{refusal_line, text_of}
 use Rattle.fjall_core.specs.Holding.{Held}
@@ -83,6 +84,23 @@ pub record ProgramFails (status : Status) (honest : Bool) (input old new errors 
   pub printed : IfSome input (λ text. FailsInput honest text old new error)
   pub line : status ≡ Failure → Appends errors told (refusal_line error)
 
+-- Where the input and the output are known, as a reader and a writer may say, the input was answered.
+abbrev pub AnswersKnown : {W : Type 0} → Bool → Option (List ℕ) → (W → Option (List ℕ)) → W → W → Type 0
+AnswersKnown honest input contents old new = IfSome input (λ text. AnswersInput honest text (contents old) (contents new))
+
+-- the same of an input that fails with this refusal
+abbrev pub FailsKnown : {W : Type 0} → Bool → Option (List ℕ) → (W → Option (List ℕ)) → W → W → Error → Type 0
+FailsKnown honest input contents old new error = IfSome input (λ text. FailsInput honest text (contents old) (contents new) error)
+
+-- at status 1 the program failed, as far as the input, the output and the errors are known
+abbrev pub IfFails : {W E : Type 0} → Status → Bool → Option (List ℕ) → (W → Option (List ℕ)) → W → W → (E → Option (List ℕ)) → E → E → Type 0
+IfFails status honest input contents old new heard_of errors told =
+    status_code status ≡ 1 → ProgramFails status honest input (contents old) (contents new) (heard_of errors) (heard_of told)
+
 -- the one word asks for an engine in memory; each other one is a folder's path
 abbrev pub is_memory : List (List ℕ) → Bool
 is_memory words = list_all (λ word. bytes_eq word (codes "memory")) words
+
+-- the arguments ask for an engine in memory
+abbrev pub in_memory : {Z : Type 0} → List (String Z) → Bool
+in_memory arguments = is_memory (map string_bytes arguments)

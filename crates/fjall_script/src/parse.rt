@@ -4,7 +4,7 @@ ghost use Rattle.std.specs.Prelude.{◌≡◌, ℕ, List, [], ◌∷◌, ◌<◌
 ghost use Rattle.std.specs.List.{list_any};
 ghost use Rattle.std.specs.Char.{is_ascii_uppercase};
 ghost use Rattle.hex.specs.Hex.{IsBytes};
-ghost use Rattle.fjall_script.specs.Lines.{hex_word, Reads, Spells};
+ghost use Rattle.fjall_script.specs.Lines.{FindsIdAndKey, hex_word, Reads, Spells};
 
 use crate::command::Command;
 use fjall_base::{Slice, UserKey};
@@ -53,7 +53,7 @@ pub fn bytes(alloc: Global, word: &str) -> Result<Option<Slice>, AllocError>
 // A keyspace's id and a key, where the words spell them.
 fn id_and_key(alloc: Global, id: &str, key: &str) -> Result<Option<(u64, UserKey)>, AllocError>
     ensures spelled { IfOk result (λ found. IfSome found (λ both. (id.now ≡ decimal both.0) × (key.now ≡ hex_word both.1))) }
-    ensures all_found { IfOk result (λ found. (n : ℕ) (b : List ℕ) → n < 2 ^ 64 → IsBytes b → id.now ≡ decimal n → key.now ≡ hex_word b → found ≡ Some (n, b)) }
+    ensures all_found { IfOk result (λ found. FindsIdAndKey id.now key.now found) }
 {
     let Some(number) = number(id) else {
         return Ok(None);

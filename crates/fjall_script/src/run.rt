@@ -1,10 +1,10 @@
 //! The program: all of an input is read, run and answered.
 
-ghost use Rattle.std.specs.Prelude.{◌≡◌, true, false, ◌≢◌, ◌↔◌, IfErr, IfSome, OnErr, OnOk, length, map, string_bytes};
+ghost use Rattle.std.specs.Prelude.{◌≡◌, true, false, ◌≢◌, ◌↔◌, IfErr, OnErr, OnOk, length};
 ghost use Rattle.std.specs.Io.KnownBytes.{Appends};
 ghost use Rattle.fjall_script.specs.Answers.{refusal_line};
 ghost use Rattle.std.specs.Process.{exit_status};
-ghost use Rattle.fjall_script.specs.Runs.{AnswersInput, AppendsFront, FailsInput, ProgramFails, is_memory};
+ghost use Rattle.fjall_script.specs.Runs.{AnswersKnown, AppendsFront, FailsKnown, IfFails, in_memory};
 ghost use Rattle.fjall_script.specs.Statuses.{status_code};
 
 use crate::answer::Refusal;
@@ -101,8 +101,8 @@ fn serve<P: Place, R: Read, W: Write>(
     input: &mut R,
     output: &mut W,
 ) -> Result<()>
-    ensures answered { OnOk result (IfSome (R.remaining input.old) (λ text. AnswersInput P.Disk.honest text (W.contents output.old) (W.contents output.new))) }
-    ensures failed { IfErr result (λ error. IfSome (R.remaining input.old) (λ text. FailsInput P.Disk.honest text (W.contents output.old) (W.contents output.new) error)) }
+    ensures answered { OnOk result (AnswersKnown P.Disk.honest (R.remaining input.old) W.contents output.old output.new) }
+    ensures failed { IfErr result (FailsKnown P.Disk.honest (R.remaining input.old) W.contents output.old output.new) }
 {
     let mut text = Vec::new(alloc);
     input.read_to_end(&mut text)?;
@@ -121,8 +121,8 @@ pub fn run_over<P: Place, R: Read, W: Write, E: Write>(
     output: &mut W,
     errors: &mut E,
 ) -> Status
-    ensures answered { result ≡ Status.Success → IfSome (R.remaining input.old) (λ text. AnswersInput P.Disk.honest text (W.contents output.old) (W.contents output.new)) }
-    ensures failed { status_code result ≡ 1 → ProgramFails result P.Disk.honest (R.remaining input.old) (W.contents output.old) (W.contents output.new) (E.contents errors.old) (E.contents errors.new) }
+    ensures answered { result ≡ Status.Success → AnswersKnown P.Disk.honest (R.remaining input.old) W.contents output.old output.new }
+    ensures failed { IfFails result P.Disk.honest (R.remaining input.old) W.contents output.old output.new E.contents errors.old errors.new }
     ensures quiet { result ≡ Status.Success → E.contents errors.new ≡ E.contents errors.old }
     ensures no_usage { result ≢ Status.Usage }
 {
@@ -143,8 +143,8 @@ pub fn run_memory<R: Read, W: Write, E: Write>(
     output: &mut W,
     errors: &mut E,
 ) -> Status
-    ensures answered { result ≡ Status.Success → IfSome (R.remaining input.old) (λ text. AnswersInput true text (W.contents output.old) (W.contents output.new)) }
-    ensures failed { status_code result ≡ 1 → ProgramFails result true (R.remaining input.old) (W.contents output.old) (W.contents output.new) (E.contents errors.old) (E.contents errors.new) }
+    ensures answered { result ≡ Status.Success → AnswersKnown true (R.remaining input.old) W.contents output.old output.new }
+    ensures failed { IfFails result true (R.remaining input.old) W.contents output.old output.new E.contents errors.old errors.new }
     ensures quiet { result ≡ Status.Success → E.contents errors.new ≡ E.contents errors.old }
     ensures no_usage { result ≢ Status.Usage }
 {
@@ -162,8 +162,8 @@ pub fn run_folder<R: Read, W: Write, E: Write>(
     output: &mut W,
     errors: &mut E,
 ) -> Status
-    ensures answered { result ≡ Status.Success → IfSome (R.remaining input.old) (λ text. AnswersInput false text (W.contents output.old) (W.contents output.new)) }
-    ensures failed { status_code result ≡ 1 → ProgramFails result false (R.remaining input.old) (W.contents output.old) (W.contents output.new) (E.contents errors.old) (E.contents errors.new) }
+    ensures answered { result ≡ Status.Success → AnswersKnown false (R.remaining input.old) W.contents output.old output.new }
+    ensures failed { IfFails result false (R.remaining input.old) W.contents output.old output.new E.contents errors.old errors.new }
     ensures quiet { result ≡ Status.Success → E.contents errors.new ≡ E.contents errors.old }
     ensures no_usage { result ≢ Status.Usage }
 {
@@ -188,8 +188,8 @@ pub fn run<R: Read, W: Write, E: Write>(
     errors: &mut E,
 ) -> Status
     ensures usage { (result ≡ Status.Usage) ↔ (length arguments.now ≢ 1) }
-    ensures answered { result ≡ Status.Success → IfSome (R.remaining input.old) (λ text. AnswersInput (is_memory (map string_bytes arguments.now)) text (W.contents output.old) (W.contents output.new)) }
-    ensures failed { status_code result ≡ 1 → ProgramFails result (is_memory (map string_bytes arguments.now)) (R.remaining input.old) (W.contents output.old) (W.contents output.new) (E.contents errors.old) (E.contents errors.new) }
+    ensures answered { result ≡ Status.Success → AnswersKnown (in_memory arguments.now) (R.remaining input.old) W.contents output.old output.new }
+    ensures failed { IfFails result (in_memory arguments.now) (R.remaining input.old) W.contents output.old output.new E.contents errors.old errors.new }
     ensures quiet { result ≡ Status.Success → E.contents errors.new ≡ E.contents errors.old }
 {
     match arguments {
