@@ -5,14 +5,14 @@ use std::rt::Clock;
 use std::time::{CpuClock, Duration, Instant};
 
 /// The time that a piece of work took, by the wall's clock and of the processor.
-#[derive(Clone, Copy, Debug, PartialEq, Eq)]
+#[derive(Clone, Copy)]
 pub struct Spent {
     pub wall: Duration,
     pub processor: Duration,
 }
 
 /// Runs since it was made.
-#[derive(Clone, Copy, Debug)]
+#[derive(Clone, Copy)]
 pub struct Stopwatch {
     wall: Instant,
     processor: Duration,

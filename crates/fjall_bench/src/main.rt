@@ -4,17 +4,17 @@
 
 mod clock;
 mod data;
-mod place;
 mod report;
 mod suite;
 mod tables;
 mod workload;
 
 use anyhow::{Context, Result, anyhow};
-use place::{Memory, Root};
+use fjall_script::{Folder, Memory};
+use std::alloc::Global;
 use std::env;
 use std::rt::Env;
-use suite::run;
+use suite::{DATABASES, run};
 
 // The place and the count that the arguments name.
 fn arguments<R: Env + AllocGlobal>(rt: &R) -> Result<(String, u64)> {
@@ -26,11 +26,44 @@ fn arguments<R: Env + AllocGlobal>(rt: &R) -> Result<(String, u64)> {
     Ok((place.clone()?, count))
 }
 
+// The path of a database below a folder.
+fn below(alloc: Global, folder: &str, name: &str) -> Result<String> {
+    Ok(format!(in alloc; "{folder}/{name}")?)
+}
+
+// The place of a path.
+fn at<'a>(rt: &'a HostRuntime, path: &'a String) -> Folder<'a> {
+    Folder {
+        rt,
+        alloc: rt.alloc(),
+        path: path.as_str(),
+    }
+}
+
+// Runs the workloads over databases in folders of their own below this one.
+fn run_below(rt: &HostRuntime, folder: &str, count: u64) -> Result<()> {
+    let alloc = rt.alloc();
+    let order = below(alloc, folder, "order")?;
+    let random = below(alloc, folder, "random")?;
+    let sync = below(alloc, folder, "sync")?;
+    let keyspaces = below(alloc, folder, "keyspaces")?;
+    let limits = below(alloc, folder, "limits")?;
+    let places = [
+        at(rt, &order),
+        at(rt, &random),
+        at(rt, &sync),
+        at(rt, &keyspaces),
+        at(rt, &limits),
+    ];
+    run(rt, alloc, &places, count)
+}
+
 fn main(rt: HostRuntime) -> Result<()> {
     let (place, count) = arguments(&rt)?;
     if place.as_str() == "memory" {
-        run(&rt, rt.alloc(), &Memory, count)
+        let alloc = rt.alloc();
+        run(&rt, alloc, &[Memory { alloc }; DATABASES], count)
     } else {
-        run(&rt, rt.alloc(), &Root { rt, path: place }, count)
+        run_below(&rt, place.as_str(), count)
     }
 }

@@ -7,7 +7,7 @@ use std::fmt;
 use std::time::Duration;
 
 /// The time that one workload took.
-#[derive(Clone, Copy, Debug, PartialEq, Eq)]
+#[derive(Clone, Copy)]
 pub struct Row {
     pub engine: &'static str,
     pub workload: &'static str,

@@ -2,7 +2,6 @@
 
 use crate::clock::{Spent, Stopwatch};
 use crate::data::{at_random, in_order};
-use crate::place::Place;
 use crate::report::Row;
 use crate::tables::{digest_blocks, look_up, opened, read_blocks, written};
 use crate::workload::{
@@ -11,6 +10,7 @@ use crate::workload::{
 use anyhow::{Result, bail};
 use fjall_base::Disk;
 use fjall_core::Core;
+use fjall_script::Place;
 use std::alloc::Global;
 use std::rt::Clock;
 use std::time::CpuClock;
@@ -29,37 +29,29 @@ const ITEMS: &str = "items";
 // So many keys are looked up in a table at most.
 const LOOK_UPS: usize = 20_000;
 
-/// Runs every workload with this count. What was done is told on standard output, the same in each run, and the
-/// table of times on standard error.
+/// So many of the workloads have a database.
+pub const DATABASES: usize = 5;
+
+/// Runs every workload with this count, each over a place of its own. What was done is told on standard output, the
+/// same in each run, and the table of times on standard error.
 pub fn run<R: Print + Eprint + Clock + CpuClock, P: Place>(
     rt: &R,
     alloc: Global,
-    place: &P,
+    places: &[P; DATABASES],
     count: u64,
 ) -> Result<()> {
+    let [order, random, sync, keyspaces, alone] = places;
     eprintln!(rt; "engine\tworkload\tcount\twall s\tprocessor s\toperations/s")?;
     let ascending = in_order(alloc, count)?;
-    fill_and_reopen(
-        rt,
-        alloc,
-        place.disk(alloc, "order")?,
-        "fill in order",
-        &ascending,
-    )?;
+    fill_and_reopen(rt, alloc, order.disk()?, "fill in order", &ascending)?;
     let shuffled = at_random(alloc, count)?;
-    fill_and_reopen(
-        rt,
-        alloc,
-        place.disk(alloc, "random")?,
-        "fill at random",
-        &shuffled,
-    )?;
+    fill_and_reopen(rt, alloc, random.disk()?, "fill at random", &shuffled)?;
     let few = in_order(alloc, count.min(SYNCED_WRITES))?;
-    sync_each(rt, alloc, place.disk(alloc, "sync")?, &few)?;
-    let keyspaces = (count / PAIRS_PER_KEYSPACE).min(KEYSPACES);
-    many_keyspaces(rt, alloc, place.disk(alloc, "keyspaces")?, keyspaces)?;
+    sync_each(rt, alloc, sync.disk()?, &few)?;
+    let many = (count / PAIRS_PER_KEYSPACE).min(KEYSPACES);
+    many_keyspaces(rt, alloc, keyspaces.disk()?, many)?;
     tables(rt, alloc, &shuffled)?;
-    limits(rt, place.disk(alloc, "limits")?, count)
+    limits(rt, alone.disk()?, count)
 }
 
 // Prints a row of the table.

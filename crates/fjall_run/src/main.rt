@@ -2,18 +2,11 @@
 //! prints a line for each. `fjall-run FOLDER` does so over a folder of files.
 #![tactic(auto)]
 
-mod answer;
-mod command;
-mod parse;
-mod place;
-mod run;
-mod script;
-mod session;
 #[cfg(test)]
 mod tests;
 
 use fjall_base::Error;
-use run::{fail, run, usage};
+use fjall_script::{fail, run, usage};
 use std::io::ErrorKind;
 use std::process::ExitCode;
 use std::rt::Env;

@@ -1,10 +1,8 @@
 //! What is told where the input, the output, the errors or the disk fail in mid-run, which no script can make them do.
 
-use crate::command::Command;
-use crate::place::{Memory, Place};
-use crate::run::{Status, run_memory, run_over};
 use fjall_base::Result as BaseResult;
 use fjall_memory::MemoryDisk;
+use fjall_script::{Command, Memory, Place, Status, run_memory, run_over};
 use std::alloc::Global;
 use std::io;
 use std::io::{Error, ErrorKind, Read, Write};

@@ -1,7 +1,0 @@
-pub mod Lines
-pub mod Answers
-pub mod Machine
-pub mod Sessions
-pub mod Lived
-pub mod Runs
-pub mod Statuses

@@ -1,0 +1,74 @@
+-- The calls before the first crash or reopening.
+use Rattle.std.proofs.Common.{◌≡◌, ℕ, zero, suc, ◌≤◌, Bool, true, false, List, [], ◌∷◌, ◌++◌, length, take, drop, Option, unwrap_or, refl, sym, ◌∙◌, arith, inl, inr, ◌⊎◌}
+use Rattle.std.specs.Prelude.{All}
+use Rattle.std.specs.List.{position, position_or_len}
+use Rattle.std.proofs.lemmas.Bool.{cases_lt}
+use Rattle.std.proofs.lemmas.List.{take-append-drop}
+use Rattle.std.proofs.lemmas.List.Elements.{All-nil, All-cons}
+use Rattle.fjall_state.specs.declared.call.Call.{Call}
+use Rattle.fjall_state.specs.declared.call.Reply.{Reply}
+use Rattle.fjall_script.specs.declared.command.Command.{Command}
+use Rattle.fjall_script.specs.Answers.{text_of}
+use Rattle.fjall_core.specs.Holding.{Held}
+use Rattle.fjall_script.specs.Machine.{RunsCalls}
+use Rattle.fjall_script.specs.Sessions.{answers_to, calls_of, is_stop, IsAtStop, RunsFront}
+
+either : (v : Bool) → (v ≡ true) ⊎ (v ≡ false)
+either true = inl refl
+either false = inr refl
+
+abbrev IsCall : Option Command → Type 0
+IsCall found = is_stop found ≡ false
+
+-- no crash or reopening stands before the first, and there the calls end
+front_at : (commands : List (Option Command)) (n : ℕ) → n ≡ position_or_len is_stop commands
+    → All IsCall (take n commands) × IsAtStop (drop n commands)
+front_at [] zero h = (All-nil IsCall, tt)
+front_at [] (suc n) h = absurd (omega arith)
+front_at (found ∷ rest) zero h =
+    elim (either (is_stop found)) [
+      | inl e ↦ (All-nil IsCall, e)
+      | inr e ↦ let at = rw e at h in absurd (omega arith)
+    ]
+front_at (found ∷ rest) (suc n) h =
+    elim (either (is_stop found)) [
+      | inl e ↦ let at = rw e at h in absurd (omega arith)
+      | inr e ↦
+          let at = rw e at h in
+          let ih = front_at rest n (omega arith) in
+          (All-cons IsCall found (take n rest) e ih.0, ih.1)
+    ]
+
+pos_bound : (commands : List (Option Command)) → position_or_len is_stop commands ≤ length commands
+pos_bound [] = omega arith
+pos_bound (found ∷ rest) =
+    let ih = pos_bound rest in
+    elim (either (is_stop found)) [
+      | inl e ↦ rw e (omega arith)
+      | inr e ↦ rw e (omega (arith, ih))
+    ]
+
+end_is : (commands : List (Option Command)) (stop : Option ℕ) → stop ≡ position is_stop commands
+    → unwrap_or stop (length commands) ≡ position_or_len is_stop commands
+end_is commands stop h =
+    let bound = pos_bound commands in
+    elim (cases_lt (position_or_len is_stop commands) (length commands)) [
+      | inl below ↦ grind (arith, h)
+      | inr past ↦ let last : length commands ≡ position_or_len is_stop commands = omega arith in grind (arith, h, last)
+    ]
+
+pub runs_front : (honest : Bool) (commands front rest : List (Option Command)) (stop : Option ℕ) (end : ℕ) (core after : Held) (calls : List Call) (replies shown : List Reply) (old new : List ℕ)
+    → stop ≡ position is_stop commands → end ≡ unwrap_or stop (length commands) → front ≡ take end commands → rest ≡ drop end commands
+    → calls ≡ calls_of front → RunsCalls honest core calls replies after → shown ≡ replies → new ≡ old ++ text_of (answers_to front shown)
+    → RunsFront honest commands rest core after old new
+runs_front honest commands front rest stop end core after calls replies shown old new found at before behind made runs same text =
+    let end' = at ∙ end_is commands stop found in
+    let parts = front_at commands end end' in record {
+      lines = front;
+      replies = replies;
+      split = rw (before, behind) (sym (take-append-drop end commands));
+      calls_alone = rw before parts.0;
+      stop = rw behind parts.1;
+      runs = rw made at runs;
+      text = rw same at text;
+    }

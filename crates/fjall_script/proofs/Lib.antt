@@ -1,0 +1,11 @@
+mod Bytes
+mod Spellings
+mod Cuts
+mod Fronts
+mod Passing
+mod Restarting
+mod Answered
+mod Living
+mod Serving
+mod Writing
+mod Printing

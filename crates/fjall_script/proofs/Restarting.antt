@@ -1,0 +1,63 @@
+-- A core that a session begins with.
+use Rattle.std.proofs.Common.{◌≡◌, Bool, true, false, IsTrue, [], Option, None, Result, Ok, Err, refl, subst, sym, inr}
+use Rattle.std.specs.Prelude.{IfErr, IfOk}
+use Rattle.fjall_base.specs.Disk.{Meaning, Missing, State, standing, state_in}
+use Rattle.fjall_base.specs.declared.error.Error.{Error}
+use Rattle.fjall_base.specs.declared.error.Error.TheVariants.{OutOfMemory}
+use Rattle.fjall_meta.specs.Keyspaces.{no_keyspaces}
+use Rattle.fjall_versions.specs.Replays.{bare}
+use Rattle.fjall_recovery.specs.Folders.{IsUnfinished}
+use Rattle.fjall_repair.specs.Making.{IsKept}
+use Rattle.fjall_repair.proofs.Standing.{kept_image, missing_stands, unfinished_of}
+use Rattle.fjall_repair.proofs.Begun.{settled_comes_back}
+use Rattle.fjall_core.specs.Holding.{Held}
+use Rattle.fjall_core.specs.Standing.{HoldsStore}
+use Rattle.fjall_script.specs.Machine.{Begins, IsNew, IsNoDisk, NotBegun, OpenedOn, RefusedOn}
+use Rattle.fjall_script.specs.declared.command.Command.{Command}
+use Rattle.fjall_script.specs.Sessions.{NotRestarted, OpensAgain}
+
+-- nothing stands anywhere
+abbrev bare_state : State
+bare_state name = record { now = Missing; older = [] }
+
+bare_kept : IsKept false bare_state
+bare_kept = record { now = λ name. missing_stands false name; older = λ name. tt }
+
+bare_unfinished : IsUnfinished (standing bare_state)
+bare_unfinished = unfinished_of (standing bare_state) (λ name. missing_stands false name)
+
+pub bare_holds : HoldsStore bare_state (bare no_keyspaces)
+bare_holds = (
+  None,
+  record { now = bare_unfinished; crash = λ image is. unfinished_of image (kept_image false bare_state image bare_kept is) },
+  settled_comes_back bare_state (λ name. refl) bare_unfinished,
+  refl,
+)
+
+-- a new disk holds the store without keyspaces
+new_holds : (disk : Meaning) → IsNew disk → HoldsStore (state_in disk) (bare no_keyspaces)
+new_holds disk new = subst (λ (d : Meaning). HoldsStore (state_in d) (bare no_keyspaces)) (sym new) bare_holds
+
+pub begun : (honest : Bool) (disk : Meaning) (r : Result Held Error) → (IsTrue honest → IsNew disk) → IfOk r (λ core. OpenedOn honest disk core) → IfOk r (λ core. Begins honest core)
+begun honest disk (Ok core) fresh opened = record {
+  disk = disk;
+  fresh = fresh;
+  opened = opened;
+  empty = λ h. opened.safe h (bare no_keyspaces) (new_holds disk (fresh h));
+}
+begun honest disk (Err error) fresh opened = tt
+
+-- the opening was refused
+pub not_begun : (honest : Bool) (disk : Meaning) (r : Result Held Error) → (IsTrue honest → IsNew disk) → IfErr r (λ error. RefusedOn honest disk error) → IfErr r (λ error. NotBegun honest error)
+not_begun honest disk (Ok core) fresh h = tt
+not_begun honest disk (Err error) fresh h = inr (disk, fresh, h)
+
+-- memory ran out before it
+pub no_disk : (honest : Bool) (error : Error) → error ≡ OutOfMemory → IsNoDisk honest error
+no_disk true error none = rw none tt
+no_disk false error none = rw none tt
+
+pub not_again : (honest : Bool) (stop : Option Command) (old : Held) (disk : Meaning) (r : Result Held Error) → OpensAgain honest stop old disk → IfErr r (λ error. RefusedOn honest disk error)
+    → IfErr r (λ error. NotRestarted honest stop old error)
+not_again honest stop old disk (Ok core) h refused = tt
+not_again honest stop old disk (Err error) h refused = inr (disk, h, refused)

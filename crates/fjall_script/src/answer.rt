@@ -1,0 +1,84 @@
+//! The text of an answer.
+
+ghost use Rattle.std.specs.Prelude.{◌≡◌, IfOk, Some, string_bytes};
+ghost use Rattle.fjall_script.specs.Lines.{hex_word};
+ghost use Rattle.fjall_script.specs.Answers.{pairs_text, refusal_text, reply_text};
+
+use crate::command::Command;
+use fjall_base::{Error, KvPair, Slice};
+use fjall_core::Reply;
+use std::alloc::{AllocError, Global};
+use std::fmt;
+
+/// What a line that is no command is answered.
+pub const BAD_LINE: &str = "error 0 BadLine";
+
+/// Bytes in lower-case hexadecimal, `-` for none.
+pub fn hex_word(alloc: Global, bytes: &Slice) -> Result<String, AllocError>
+    ensures { IfOk result (λ word. string_bytes word ≡ hex_word bytes.now) }
+{
+    if bytes.as_slice().is_empty() {
+        return String::from_str(alloc, "-");
+    }
+    hex::encode(alloc, bytes.as_slice())
+}
+
+/// A refusal as it is printed: its number and its name, as in `error 12 KeyEmpty`.
+#[derive(Clone, Copy)]
+pub struct Refusal(pub Error);
+
+impl fmt::Display for Refusal {
+    ghost output = { λ refusal. Some (refusal_text refusal.0) };
+
+    fn fmt<W: fmt::Write>(&self, f: &mut fmt::Formatter<W>) -> fmt::Result {
+        let number = self.0.number();
+        let name = self.0.name();
+        write!(f, "error {number} {name}")
+    }
+}
+
+// Pairs as they are printed, each behind a space.
+fn pairs_text(alloc: Global, pairs: &[KvPair]) -> Result<String, AllocError>
+    ensures { IfOk result (λ text. string_bytes text ≡ pairs_text pairs.now) }
+{
+    let mut text = String::from_str(alloc, "pairs")?;
+    for (key, value) in pairs {
+        text.push_str(" ")?;
+        text.push_str(hex_word(alloc, key)?.as_str())?;
+        text.push_str("=")?;
+        text.push_str(hex_word(alloc, value)?.as_str())?;
+    }
+    Ok(text)
+}
+
+/// What a command is answered, by the reply to its call.
+pub fn answer(alloc: Global, command: &Command, reply: &Reply) -> Result<String, AllocError>
+    ensures { IfOk result (λ text. string_bytes text ≡ reply_text command.now reply.now) }
+{
+    match reply {
+        Reply::Done => String::from_str(alloc, "ok"),
+        Reply::Value(None) => String::from_str(alloc, "none"),
+        Reply::Value(Some(value)) => {
+            let word = hex_word(alloc, value)?;
+            format!(in alloc; "value {word}")
+        }
+        Reply::Pairs(pairs) => match command {
+            Command::Len(_) => {
+                let count = pairs.len();
+                format!(in alloc; "count {count}")
+            }
+            _ => pairs_text(alloc, pairs.as_slice()),
+        },
+        Reply::Number(number) => match command {
+            Command::Keyspace(_) => format!(in alloc; "keyspace {number}"),
+            _ => format!(in alloc; "count {number}"),
+        },
+        Reply::Names(names) => {
+            let count = names.len();
+            format!(in alloc; "count {count}")
+        }
+        Reply::Flag(true) => String::from_str(alloc, "true"),
+        Reply::Flag(false) => String::from_str(alloc, "false"),
+        Reply::Refused(error) => Refusal(*error).to_string(alloc),
+    }
+}

@@ -1,0 +1,80 @@
+//! Where a session keeps its files: in memory, or in a folder.
+
+ghost use Rattle.std.specs.Prelude.{◌≡◌, IsTrue, IfErr, IfOk};
+ghost use Rattle.fjall_script.specs.Machine.{IsNew, IsNoDisk};
+ghost use Rattle.fjall_script.specs.Sessions.{Leaves};
+
+use crate::command::Command;
+use fjall_base::{Disk, Result};
+use fjall_folder::FolderDisk;
+use fjall_memory::MemoryDisk;
+use std::alloc::Global;
+
+/// Gives a session its disk, and gives it again after each crash and reopening.
+pub trait Place {
+    type Disk: Disk + Drop;
+
+    /// Whether a crash can be asked for.
+    fn hears_crashes(&self) -> bool
+        ensures { result ≡ Self.Disk.honest };
+
+    /// The disk at the beginning of a session. In memory it is empty.
+    fn disk(&self) -> Result<Self::Disk>
+        ensures ok { IsTrue Self.Disk.honest → IfOk result (λ disk. IsNew (Self.Disk.meaning disk)) }
+        ensures err { IfErr result (IsNoDisk Self.Disk.honest) };
+
+    /// The disk after a crash, or the same disk at a reopening.
+    fn restart(&self, disk: Self::Disk, stop: &Option<Command>) -> Result<Self::Disk>
+        ensures ok { IsTrue Self.Disk.honest → IfOk result (λ after. Leaves stop.now (Self.Disk.meaning disk) (Self.Disk.meaning after)) }
+        ensures err { IfErr result (IsNoDisk Self.Disk.honest) };
+}
+
+/// A disk in memory. A crash leaves so many unsynced bytes of each file.
+#[derive(Clone, Copy)]
+pub struct Memory {
+    pub alloc: Global,
+}
+
+impl Place for Memory {
+    type Disk = MemoryDisk;
+
+    fn hears_crashes(&self) -> bool {
+        true
+    }
+
+    fn disk(&self) -> Result<MemoryDisk> {
+        Ok(MemoryDisk::new(self.alloc))
+    }
+
+    fn restart(&self, disk: MemoryDisk, stop: &Option<Command>) -> Result<MemoryDisk> {
+        match stop {
+            Some(Command::Crash(keep)) => disk.crash(*keep as usize),
+            _ => Ok(disk),
+        }
+    }
+}
+
+/// A folder of the file system, which is let go of and taken again at each reopening.
+#[derive(Clone, Copy)]
+pub struct Folder<'a> {
+    pub rt: &'a HostRuntime,
+    pub alloc: Global,
+    pub path: &'a str,
+}
+
+impl Place for Folder<'_> {
+    type Disk = FolderDisk;
+
+    fn hears_crashes(&self) -> bool {
+        false
+    }
+
+    fn disk(&self) -> Result<FolderDisk> {
+        FolderDisk::open(self.rt, self.alloc, self.path)
+    }
+
+    fn restart(&self, disk: FolderDisk, _stop: &Option<Command>) -> Result<FolderDisk> {
+        drop(disk);
+        self.disk()
+    }
+}

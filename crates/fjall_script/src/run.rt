@@ -1,0 +1,200 @@
+//! The program: all of an input is read, run and answered.
+
+ghost use Rattle.std.specs.Prelude.{◌≡◌, true, false, ◌≢◌, ◌↔◌, IfErr, OnErr, OnOk, length};
+ghost use Rattle.std.specs.Io.KnownBytes.{Appends};
+ghost use Rattle.fjall_script.specs.Answers.{refusal_line};
+ghost use Rattle.std.specs.Process.{exit_status};
+ghost use Rattle.fjall_script.specs.Runs.{AnswersKnown, AppendsFront, FailsKnown, IfFails, in_memory};
+ghost use Rattle.fjall_script.specs.Statuses.{status_code};
+
+use crate::answer::Refusal;
+use crate::place::{Folder, Memory, Place};
+use crate::script::commands;
+use crate::session::run_session;
+use fjall_base::{Error, Result};
+use std::alloc::Global;
+use std::io;
+use std::io::{ErrorKind, Read, Write};
+use std::process::ExitCode;
+
+/// What wrong arguments are answered.
+pub const USAGE: &str = "usage: fjall-run memory|FOLDER";
+
+/// How the program ends.
+#[derive(Clone, Copy, Debug, PartialEq, Eq)]
+pub enum Status {
+    /// All lines were answered.
+    Success,
+    /// An opening, the closing, a list of calls, or the input or output failed, and this was told.
+    Failure,
+    /// The same, but it could not be told.
+    Untold,
+    /// The arguments are wrong.
+    Usage,
+}
+
+impl Status {
+    // The status that a process ends with.
+    fn code(self) -> u8
+        ensures { result ≡ status_code self }
+    {
+        match self {
+            Status::Success => 0,
+            Status::Failure | Status::Untold => 1,
+            Status::Usage => 2,
+        }
+    }
+}
+
+impl From<Status> for ExitCode {
+    ghost from_gives = { λ status code. exit_status code ≡ status_code status };
+
+    fn from(status: Status) -> ExitCode {
+        ExitCode::from(status.code())
+    }
+}
+
+// Writes a refusal's line.
+fn report<E: Write>(error: Error, errors: &mut E) -> io::Result<()>
+    ensures { OnOk result (Appends (E.contents errors.old) (E.contents errors.new) (refusal_line error)) }
+{
+    errors.writeln(Refusal(error))?;
+    errors.flush()
+}
+
+/// Tells of a refusal that ends the program.
+pub fn fail<E: Write>(error: Error, errors: &mut E) -> Status
+    ensures code { status_code result ≡ 1 }
+    ensures line { result ≡ Status.Failure → Appends (E.contents errors.old) (E.contents errors.new) (refusal_line error) }
+{
+    match report(error, errors) {
+        Ok(()) => Status::Failure,
+        Err(_) => Status::Untold,
+    }
+}
+
+// Writes all of a text. Where that fails, a beginning of it was written.
+fn write_text<W: Write>(text: &[u8], output: &mut W) -> io::Result<()>
+    ensures ok { OnOk result (Appends (W.contents output.old) (W.contents output.new) text.now) }
+    ensures err { OnErr result (AppendsFront (W.contents output.old) (W.contents output.new) text.now) }
+{
+    let mut rest = text;
+    for _ in 0..usize::MAX {
+        if rest.is_empty() {
+            return output.flush();
+        }
+        match output.write(rest) {
+            Ok(0) => break,
+            Ok(count) => rest = &rest[count..],
+            Err(error) if error.kind() == ErrorKind::Interrupted => {}
+            Err(error) => return Err(error),
+        }
+    }
+    Err(io::Error::from(ErrorKind::WriteZero))
+}
+
+// Reads all of an input, runs it, and writes the answers. Where the session is refused, the answers before that are
+// written first.
+fn serve<P: Place, R: Read, W: Write>(
+    alloc: Global,
+    place: &P,
+    input: &mut R,
+    output: &mut W,
+) -> Result<()>
+    ensures answered { OnOk result (AnswersKnown P.Disk.honest (R.remaining input.old) W.contents output.old output.new) }
+    ensures failed { IfErr result (FailsKnown P.Disk.honest (R.remaining input.old) W.contents output.old output.new) }
+{
+    let mut text = Vec::new(alloc);
+    input.read_to_end(&mut text)?;
+    let commands = commands(alloc, text.as_slice(), place.hears_crashes())?;
+    let mut answers = String::new(alloc);
+    let ended = run_session(alloc, place, commands.as_slice(), &mut answers);
+    write_text(answers.as_bytes(), output)?;
+    ended
+}
+
+// Runs the commands of an input over the engine of a place, and tells of a refusal.
+pub fn run_over<P: Place, R: Read, W: Write, E: Write>(
+    alloc: Global,
+    place: &P,
+    input: &mut R,
+    output: &mut W,
+    errors: &mut E,
+) -> Status
+    ensures answered { result ≡ Status.Success → AnswersKnown P.Disk.honest (R.remaining input.old) W.contents output.old output.new }
+    ensures failed { IfFails result P.Disk.honest (R.remaining input.old) W.contents output.old output.new E.contents errors.old errors.new }
+    ensures quiet { result ≡ Status.Success → E.contents errors.new ≡ E.contents errors.old }
+    ensures no_usage { result ≢ Status.Usage }
+{
+    match serve(alloc, place, input, output) {
+        Ok(()) => Status::Success,
+        Err(error) => fail(error, errors),
+    }
+}
+
+/// Runs the commands of an input over an engine in memory, and prints a line for each.
+///
+/// All of the input is read first. Where the session is refused (see [`run_session`]), the answers before that are
+/// printed; where the output fails, a beginning of the answers; where the input fails, none. Each time `errors` gets the
+/// refusal's line.
+pub fn run_memory<R: Read, W: Write, E: Write>(
+    alloc: Global,
+    input: &mut R,
+    output: &mut W,
+    errors: &mut E,
+) -> Status
+    ensures answered { result ≡ Status.Success → AnswersKnown true (R.remaining input.old) W.contents output.old output.new }
+    ensures failed { IfFails result true (R.remaining input.old) W.contents output.old output.new E.contents errors.old errors.new }
+    ensures quiet { result ≡ Status.Success → E.contents errors.new ≡ E.contents errors.old }
+    ensures no_usage { result ≢ Status.Usage }
+{
+    run_over(alloc, &Memory { alloc }, input, output, errors)
+}
+
+/// Runs the commands of an input over an engine in a folder, made where it is missing, as [`run_memory`] does. There a
+/// crash can't be asked for: its line is no command.
+///
+/// It is refused where the folder can't be made or is none (`Io`), and where it is open already (`Locked`).
+pub fn run_folder<R: Read, W: Write, E: Write>(
+    rt: &HostRuntime,
+    path: &str,
+    input: &mut R,
+    output: &mut W,
+    errors: &mut E,
+) -> Status
+    ensures answered { result ≡ Status.Success → AnswersKnown false (R.remaining input.old) W.contents output.old output.new }
+    ensures failed { IfFails result false (R.remaining input.old) W.contents output.old output.new E.contents errors.old errors.new }
+    ensures quiet { result ≡ Status.Success → E.contents errors.new ≡ E.contents errors.old }
+    ensures no_usage { result ≢ Status.Usage }
+{
+    let alloc = rt.alloc();
+    run_over(alloc, &Folder { rt, alloc, path }, input, output, errors)
+}
+
+/// Tells how the program is called.
+pub fn usage<E: Write>(errors: &mut E) -> Status
+    ensures { result ≡ Status.Usage }
+{
+    let _ = writeln!(errors, "{USAGE}");
+    Status::Usage
+}
+
+/// Runs the program on its arguments, the program's own name left out: `memory`, or a folder's path.
+pub fn run<R: Read, W: Write, E: Write>(
+    rt: &HostRuntime,
+    arguments: &[String],
+    input: &mut R,
+    output: &mut W,
+    errors: &mut E,
+) -> Status
+    ensures usage { (result ≡ Status.Usage) ↔ (length arguments.now ≢ 1) }
+    ensures answered { result ≡ Status.Success → AnswersKnown (in_memory arguments.now) (R.remaining input.old) W.contents output.old output.new }
+    ensures failed { IfFails result (in_memory arguments.now) (R.remaining input.old) W.contents output.old output.new E.contents errors.old errors.new }
+    ensures quiet { result ≡ Status.Success → E.contents errors.new ≡ E.contents errors.old }
+{
+    match arguments {
+        [place] if place.as_str() == "memory" => run_memory(rt.alloc(), input, output, errors),
+        [path] => run_folder(rt, path.as_str(), input, output, errors),
+        _ => usage(errors),
+    }
+}
