@@ -3,7 +3,7 @@
 ghost use Rattle.std.specs.Prelude.{◌≡◌, ◌↔◌, ℕ, ◌<◌, ◌^◌, IfErr, IfOk, IfSome, IsErr, IsOkUnless, Ok, Some, string_bytes};
 ghost use Rattle.fjall_files.specs.Names.{IsJournalName, IsMisnamed, IsNameOf, current_name, journal_name, keyspace_folder, name_in, table_name};
 
-use crate::number::number;
+use crate::number::parse_number;
 use fjall_base::{Error, JournalRecoveryError, Result};
 use std::alloc::Global;
 
@@ -55,7 +55,7 @@ pub fn parse_journal_name(name: &str) -> Result<Option<u64>>
     if stem.is_empty() || !extension.eq_ignore_ascii_case("jnl") {
         return Ok(None);
     }
-    match number(stem) {
+    match parse_number(stem) {
         Some(id) if extension == "jnl" => Ok(Some(id)),
         _ => Err(Error::JournalRecovery(JournalRecoveryError::InvalidFileName)),
     }
@@ -66,7 +66,7 @@ pub(crate) fn parse_keyspace_folder(name: &str) -> Option<u64>
     ensures spelled { IfSome result (IsNameOf keyspace_folder name.now) }
     ensures all_found { (id : ℕ) → IsNameOf keyspace_folder name.now id → result ≡ Some id }
 {
-    number(name.strip_prefix("keyspaces/")?)
+    parse_number(name.strip_prefix("keyspaces/")?)
 }
 
 /// The id in the name of a table in this folder.
@@ -75,5 +75,5 @@ pub(crate) fn parse_table_name(folder: &str, name: &str) -> Option<u64>
     ensures all_found { (id : ℕ) → IsNameOf (name_in folder.now) name.now id → result ≡ Some id }
 {
     let file = name.strip_prefix(folder)?.strip_prefix('/')?;
-    number(file.strip_suffix(".table")?)
+    parse_number(file.strip_suffix(".table")?)
 }

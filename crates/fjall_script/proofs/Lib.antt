@@ -1,4 +1,3 @@
-mod Numbers
 mod Bytes
 mod Spellings
 mod Cuts

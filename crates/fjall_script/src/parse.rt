@@ -8,21 +8,10 @@ ghost use Rattle.fjall_script.specs.Lines.{FindsIdAndKey, hex_word, Reads, Spell
 
 use crate::command::Command;
 use fjall_base::{Slice, UserKey};
+use fjall_files::parse_number;
 use hex::FromHexError;
 use std::alloc::{AllocError, Global};
 use std::str;
-
-/// The number that a word spells: decimal digits with no sign and no leading zero.
-pub fn number(word: &str) -> Option<u64>
-    ensures spelled { IfSome result (λ n. word.now ≡ decimal n) }
-    ensures all_found { (n : ℕ) → n < 2 ^ 64 → word.now ≡ decimal n → result ≡ Some n }
-{
-    let first = *word.as_bytes().first()?;
-    if first == b'+' || (first == b'0' && word.len() > 1) {
-        return None;
-    }
-    word.parse().ok()
-}
 
 fn has_upper_case(word: &str) -> bool
     ensures { result ≡ list_any is_ascii_uppercase word.now }
@@ -55,7 +44,7 @@ fn id_and_key(alloc: Global, id: &str, key: &str) -> Result<Option<(u64, UserKey
     ensures spelled { IfOk result (λ found. IfSome found (λ both. (id.now ≡ decimal both.0) × (key.now ≡ hex_word both.1))) }
     ensures all_found { IfOk result (λ found. FindsIdAndKey id.now key.now found) }
 {
-    let Some(number) = number(id) else {
+    let Some(number) = parse_number(id) else {
         return Ok(None);
     };
     let Some(key) = bytes(alloc, key)? else {
@@ -95,7 +84,7 @@ fn with_one(alloc: Global, word: &str, other: &str) -> Result<Option<Command>, A
         let name = Slice::new(alloc, other.as_bytes())?;
         return Ok(Some(Command::Keyspace(name)));
     }
-    let Some(number) = number(other) else {
+    let Some(number) = parse_number(other) else {
         return Ok(None);
     };
     Ok(match word {

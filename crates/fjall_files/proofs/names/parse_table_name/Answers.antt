@@ -7,4 +7,4 @@ returns-in_err-file-clause-all_found c id is =
 
 pub returns-clause-spelled : goal.returns-clause-spelled
 returns-clause-spelled c =
-    table_of c.args.folder.now c.args.name.now c.in_ok-strip_prefix.field-0.now c.in_ok-file.file.now c.in_ok-strip_suffix.field-0.now c.number.result c.in_ok-strip_prefix.ensures.cases c.in_ok-file.ensures.cases c.in_ok-strip_suffix.ensures.cases c.number.ensures.spelled
+    table_of c.args.folder.now c.args.name.now c.in_ok-strip_prefix.field-0.now c.in_ok-file.file.now c.in_ok-strip_suffix.field-0.now c.parse_number.result c.in_ok-strip_prefix.ensures.cases c.in_ok-file.ensures.cases c.in_ok-strip_suffix.ensures.cases c.parse_number.ensures.spelled

@@ -1,7 +1,7 @@
 use Rattle.std.proofs.Common.{◌∙◌, inl, inr, arith, rules, length, ◌<◌}
 use Rattle.fjall_files.proofs.Numbers.{spelled, all_found, no_empty_number, no_plus, no_zero}
-use Rattle.fjall_files.proofs.number.number.Goals as goal
-use Rattle.fjall_files.proofs.number.number.Goals.{then-first-eq43-via-then-first-eq43, then-first-eq43-via-else-first-eq43+then-word-gt1}
+use Rattle.fjall_files.proofs.number.parse_number.Goals as goal
+use Rattle.fjall_files.proofs.number.parse_number.Goals.{then-first-eq43-via-then-first-eq43, then-first-eq43-via-else-first-eq43+then-word-gt1}
 
 pub returns-clause-spelled : goal.returns-clause-spelled
 returns-clause-spelled c =
