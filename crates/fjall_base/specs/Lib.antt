@@ -7,4 +7,7 @@ pub mod Store
 pub mod Crash
 pub mod MemoryDisk
 pub mod Fields
+pub mod Check
+pub mod Limits
+pub mod Results
 pub mod Lists

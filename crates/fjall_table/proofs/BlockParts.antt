@@ -12,9 +12,9 @@ use Rattle.fjall_base.specs.Fields.{◌>>=◌, byte_at, number_at, bytes_at}
 use Rattle.fjall_table.specs.Reading.{frame_at}
 use Rattle.fjall_base.specs.Lists.{last_of}
 use Rattle.fjall_table.specs.Blocks.{Entry, type_byte, value_bytes, entry_text, IsEntry, payload_of, block_text, StandsBefore, IsBefore, IsOrdered, IsBlock, IsNoBlock, value_of, entry_of, entry_at}
-use Rattle.fjall_base.proofs.Codecs.{IsBytes, IsBytes-front, IsBytes-back, just, some_is, bind_some, pass_some, guard_some, picked, Found, IsCodec, step, one_text, byte_codec, u16_codec, u32_codec, u64_codec, bytes_codec}
+use Rattle.fjall_base.proofs.Codecs.{IsBytes, IsBytes-front, IsBytes-back, just, some_is, bind_some, pass_some, guard_some, picked, Found, IsCodec, step, one_text, byte_codec, u16_codec, u32_codec, u64_codec, bytes_codec, one_behind, each_more}
 use Rattle.fjall_table.proofs.Frames.{frame8}
-use Rattle.fjall_table.proofs.Lists.{Apart, one_behind, GoesOn, goes_on, each_more}
+use Rattle.fjall_table.proofs.Lists.{Apart, GoesOn, goes_on}
 
 -- ---- an entry
 

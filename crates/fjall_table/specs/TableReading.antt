@@ -8,7 +8,7 @@ use Rattle.fjall_base.specs.Pairs.{byte_order}
 use Rattle.fjall_table.specs.declared.footer.Footer.{Footer}
 use Rattle.fjall_table.specs.declared.index.BlockHandle.{BlockHandle}
 use Rattle.fjall_table.specs.declared.table_info.TableInfo.{TableInfo}
-use Rattle.fjall_table.specs.Frame.{check}
+use Rattle.fjall_base.specs.Check.{check}
 use Rattle.fjall_base.specs.Fields.{◌>>=◌, number_at, bytes_at}
 use Rattle.fjall_table.specs.Blocks.{Entry, block_text, IsBlock}
 use Rattle.fjall_table.specs.Tables.{Handle, first_key, index_text, footer_text, IsTable, IsIndex, HasIndex}

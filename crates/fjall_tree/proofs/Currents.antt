@@ -8,11 +8,11 @@ use Rattle.fjall_table.specs.Frame.{framed, NoFrame}
 use Rattle.fjall_table.specs.Reading.{frame_at}
 use Rattle.fjall_tree.specs.Records.{Fields, body, record_text, body_of, IsConsistent, IsRecord, IsRecords, IsNoBody, HasContradiction, Kept}
 use Rattle.fjall_base.specs.Lists.{last_of}
-use Rattle.fjall_base.proofs.Codecs.{IsBytes, IsBytes-back, some_is, one_text}
+use Rattle.fjall_base.proofs.Codecs.{IsBytes, IsBytes-back, some_is, one_text, first_of, one_behind, each_more}
 use Rattle.fjall_table.proofs.Frames.{frame4, length_framed}
 use Rattle.fjall_tree.proofs.Records.{length_body}
 use Rattle.fjall_tree.proofs.RecordCodecs.{body_again, body_takes}
-use Rattle.fjall_table.proofs.Lists.{Apart, NoItem, first_of, one_behind, same_lists, each_more}
+use Rattle.fjall_table.proofs.Lists.{Apart, NoItem, same_lists}
 
 -- ---- one body
 
