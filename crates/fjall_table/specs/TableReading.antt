@@ -78,6 +78,14 @@ pub record IsBlockFrom (key : List ℕ) (bytes : List ℕ) (vs : List Entry) : T
 abbrev pub IsNoBlockFrom : List ℕ → List ℕ → Type 0
 IsNoBlockFrom key bytes = (vs : List Entry) → IsBlockFrom key bytes vs → ⊥
 
+-- the block where a handle says has these entries, and begins with the handle's key
+abbrev pub IsBlockOf : List ℕ → List Entry → BlockHandle → Type 0
+IsBlockOf bytes vs h = IsBlockFrom h.first_key.now (part_at (handle_of h) bytes) vs
+
+-- no block that begins with the handle's key stands there
+abbrev pub IsNoBlockOf : List ℕ → BlockHandle → Type 0
+IsNoBlockOf bytes h = IsNoBlockFrom h.first_key.now (part_at (handle_of h) bytes)
+
 -- there are no entries of which the bytes are a table
 abbrev pub IsNoTable : List ℕ → Type 0
 IsNoTable bytes = (entries : List Entry) → IsTable bytes entries → ⊥

@@ -11,7 +11,7 @@ use fjall_base::{Error, Result, bytes_of, check_item, u8_of, u16_of, u32_of, u64
 use std::cmp::Ordering;
 
 /// What a change made of a key. Key and value are parts of the bytes that it was read from.
-#[derive(Clone, Copy, Debug)]
+#[derive(Clone, Copy)]
 pub struct TableEntry<'a> {
     /// It has 1 to 65,535 bytes.
     pub key: &'a [u8],

@@ -110,7 +110,8 @@ impl TableWriter {
         requires { Follows self.old (seen version.now) }
         ensures ok { OnOk result (self.new ≡ self.old ++ seen version.now ∷ []) }
         ensures err { OnErr result (self.new ≡ self.old) }
-        ensures refused { MatchOption (refusal (seen version.now)) (IsOkUnless result Error.OutOfMemory) (λ e. (result ≡ Err e) ⊎ (result ≡ Err Error.OutOfMemory)) }
+        ensures refused { MatchOption (refusal (seen version.now)) (IsOkUnless result Error.OutOfMemory)
+            (λ e. (result ≡ Err e) ⊎ (result ≡ Err Error.OutOfMemory)) }
     {
         make_room(&mut self.closed_blocks, &mut self.open_block)?;
         self.next_key.clear();
