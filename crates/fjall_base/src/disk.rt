@@ -81,7 +81,8 @@ pub trait Disk {
     /// It is a fault where the name is empty, where its folder isn't there, or where a folder has the
     /// name. A call that fails has done nothing.
     fn create(&mut self, name: &str) -> Result<()>
-        ensures ok { IsTrue honest → OnOk result (Took (meaning self.old) (meaning self.new) (making name.now (File [] []) (state_in (meaning self.old) name.now).now)) }
+        ensures ok { IsTrue honest
+            → OnOk result (Took (meaning self.old) (meaning self.new) (making name.now (File [] []) (state_in (meaning self.old) name.now).now)) }
         ensures file { IsTrue honest → OnOk result (IsFile (state_in (meaning self.new) name.now).now) }
         ensures named { IsTrue honest → OnOk result (name.now ≢ []) }
         ensures housed { IsTrue honest → OnOk result (HasFolder (state_in (meaning self.old)) name.now) }
@@ -149,7 +150,8 @@ pub trait Disk {
     /// It is a fault where the name is empty, where the folder that it is to be in isn't there, or
     /// where a file has the name. A call that fails has done nothing.
     fn make_folder(&mut self, name: &str) -> Result<()>
-        ensures ok { IsTrue honest → OnOk result (Took (meaning self.old) (meaning self.new) (making name.now Folder (state_in (meaning self.old) name.now).now)) }
+        ensures ok { IsTrue honest
+            → OnOk result (Took (meaning self.old) (meaning self.new) (making name.now Folder (state_in (meaning self.old) name.now).now)) }
         ensures folder { IsTrue honest → OnOk result ((state_in (meaning self.new) name.now).now ≡ Folder) }
         ensures named { IsTrue honest → OnOk result (name.now ≢ []) }
         ensures housed { IsTrue honest → OnOk result (HasFolder (state_in (meaning self.old)) name.now) }

@@ -42,7 +42,8 @@ pub fn u64_of(bytes: &[u8]) -> Option<(u64, &[u8])>
 }
 
 pub fn bytes_of(bytes: &[u8], len: usize) -> Option<(&[u8], &[u8])>
-    ensures { Shows (λ x. (x.0.now, x.1.now)) result (bytes_at len bytes.now) }
+    ensures gives { Shows (λ x. (x.0.now, x.1.now)) result (bytes_at len bytes.now) }
+    ensures len { IfSome result (λ x. length x.0.now ≡ len) }
 {
     if bytes.len() < len {
         return None;

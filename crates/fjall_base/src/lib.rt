@@ -2,13 +2,16 @@
 //! contracts, stores and commands.
 #![tactic(auto)]
 
+mod check;
 mod closed;
 mod disk;
 mod error;
 mod fields;
 mod laws;
+mod limits;
 mod slice;
 
+pub use check::checksum;
 pub use closed::ClosedDisk;
 pub use disk::{DirEntry, Disk};
 pub use error::{
@@ -16,4 +19,5 @@ pub use error::{
 };
 pub use fields::{bytes_of, u8_of, u16_of, u32_of, u64_of};
 pub use laws::{append_is_covered, cut_is_covered};
+pub use limits::check_item;
 pub use slice::{KvPair, Slice, UserKey, UserValue};

@@ -14,8 +14,9 @@ use Rattle.fjall_files.proofs.Parts.{in_region, left_at, region_sync}
 use Rattle.fjall_table.specs.declared.table_info.TableInfo.{TableInfo}
 use Rattle.fjall_tree.specs.Records.{Fields, IsRecord, IsRecords, body, record_text}
 use Rattle.fjall_base.specs.Lists.{last_of}
-use Rattle.fjall_tree.proofs.Currents.{cut_reads, last_behind}
-use Rattle.fjall_table.proofs.Lists.{each_more}
+use Rattle.fjall_base.proofs.Lists.{last_behind}
+use Rattle.fjall_tree.proofs.Currents.{cut_reads}
+use Rattle.fjall_base.proofs.Codecs.{each_more}
 use Rattle.fjall_files.specs.Names.{keyspace_folder, current_name, table_name}
 use Rattle.fjall_meta.specs.declared.entry.MetaEntry.{MetaEntry}
 use Rattle.fjall_meta.specs.Keyspaces.{Keyspaces, AreKeyspaces}

@@ -18,7 +18,7 @@ use Rattle.fjall_meta.specs.Keyspaces.{Keyspaces, AreKeyspaces, is_name}
 use Rattle.fjall_meta.specs.Entries.{entries_of}
 use Rattle.fjall_options.specs.declared.options.stored_option.StoredOption.{StoredOption}
 use Rattle.fjall_options.specs.Options.{config_key, is_value, name_key, option_name, stored_options, stored_value, stored_values, valid_value, value_of}
-use Rattle.fjall_options.specs.Reading.{◌>>=◌}
+use Rattle.fjall_base.specs.Results.{◌>>=◌}
 use Rattle.fjall_meta.specs.Reading.{IsReadingRefusal, first_fault, or_else, pairs_of, stored_keyspace, stored_name, valid_name}
 use Rattle.fjall_tree.proofs.Currents.{one_reading, texts_are_records}
 use Rattle.fjall_catalog.proofs.Naming.{bool_cases}

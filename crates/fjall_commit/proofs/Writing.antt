@@ -9,7 +9,7 @@ use Rattle.fjall_base.specs.declared.error.Error.{Error}
 use Rattle.fjall_journal.specs.declared.entry.ValueType.{ValueType}
 use Rattle.fjall_journal.specs.declared.persist_mode.PersistMode.TheVariants.{Buffer}
 use Rattle.fjall_journal.specs.Batches.{Written, IsWritten, batch_text, of_item}
-use Rattle.fjall_journal.specs.Spelling.{item_refusal}
+use Rattle.fjall_base.specs.Limits.{item_refusal}
 use Rattle.fjall_journal.specs.Writer.{Journal, after_write, appending, command_steps, counted, filled, goes_out, persist_steps, write_steps, written_out, PersistTook}
 use Rattle.fjall_files.specs.Names.{journal_name}
 use Rattle.fjall_recovery.specs.Places.{Journaling, texts_of}

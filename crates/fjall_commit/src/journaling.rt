@@ -3,7 +3,7 @@
 ghost use Rattle.std.specs.Prelude.{◌≡◌, ◌⊎◌, ◌++◌, [], ◌∷◌, false, true, length, IsTrue, OnOk, OnErr, IsErrOf, IsOk, IsOkUnless, None};
 ghost use Rattle.fjall_base.specs.Disk.{HasCause, LeavesOnly, Name, OnlyFaults, Took, TookPart, state_in};
 ghost use Rattle.fjall_journal.specs.Batches.{batch_text, of_item};
-ghost use Rattle.fjall_journal.specs.Spelling.{item_refusal};
+ghost use Rattle.fjall_base.specs.Limits.{item_refusal};
 ghost use Rattle.fjall_journal.specs.Writer.{PersistTook, after_command, command_steps, goes_out, persist_steps, written_out};
 ghost use Rattle.fjall_files.specs.Tidy.{StaysTidy};
 ghost use Rattle.fjall_recovery.specs.Halves.{is_of_keyspaces};

@@ -6,7 +6,7 @@ ghost use Rattle.fjall_base.specs.Crash.{IsHoused};
 ghost use Rattle.fjall_base.specs.Disk.{Meaning, standing, state_in};
 ghost use Rattle.fjall_base.specs.declared.error.Error.{Error};
 ghost use Rattle.fjall_base.specs.Store.{Store, Command};
-ghost use Rattle.fjall_journal.specs.Spelling.{item_refusal};
+ghost use Rattle.fjall_base.specs.Limits.{item_refusal};
 ghost use Rattle.fjall_journal.specs.Batches.{batch_text, of_item};
 ghost use Rattle.fjall_state.specs.Changes.{op_of, call_of};
 ghost use Rattle.fjall_state.specs.Histories.{number};

@@ -3,10 +3,10 @@
 use crate::database::{Database, add, closed, items, opened};
 use crate::script::Line;
 use crate::tape::Tape;
-use fjall_base::{CompressionType, Disk, Error, Refused, Result, Slice};
-use fjall_core::KeyRange;
-use fjall_journal::{Entry, ValueType, checksum};
+use fjall_base::{CompressionType, Disk, Error, Refused, Result, Slice, checksum};
 use fjall_memory::MemoryDisk;
+use fjall_core::KeyRange;
+use fjall_journal::{Entry, ValueType};
 use std::alloc::Global;
 use std::ops::Bound;
 

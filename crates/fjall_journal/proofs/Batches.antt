@@ -1,10 +1,7 @@
 -- A batch that is read is the one that stands there, and what stands there is read; so is each tail.
 use Rattle.std.proofs.Common.{◌≡◌, ℕ, zero, suc, ◌+◌, ◌-◌, ◌<◌, ◌*◌, List, [], ◌∷◌, ◌++◌, length, take, drop, map, Result, Ok, Err, refl, sym, ap, subst, ◌∙◌, append_assoc, arith, ◌⊎◌, inl, inr}
 use Rattle.std.specs.List.{flat_map, AllByRecursion}
-use Rattle.std.specs.Prelude.{slice_index}
-use Rattle.std.specs.Int.{w32, to_be_bytes}
-use Rattle.sha2.specs.Sha256.{sha256, digest_bytes, final_hash, initial_hash_256}
-use Rattle.std.proofs.lemmas.List.{take_at, drop_at, length-append, append-nil, map_push, length-take}
+use Rattle.std.proofs.lemmas.List.{take_at, drop_at, length-append, map_push}
 use Rattle.std.proofs.lemmas.List.Concat.{flat_map-cons}
 use Rattle.std.proofs.lemmas.Grind.{flat_map-append}
 use Rattle.fjall_journal.specs.declared.entry.Entry.{Entry}
@@ -14,10 +11,14 @@ use Rattle.fjall_journal.specs.declared.batch.Tail.{Tail}
 use Rattle.fjall_journal.specs.declared.batch.Tail.TheVariants.{Clean, Torn, Damaged}
 use Rattle.fjall_journal.specs.declared.batch.ReadBatchItem.{ReadBatchItem}
 use Rattle.fjall_journal.specs.Spelling.{spelling, IsEntry}
-use Rattle.fjall_journal.specs.Reading.{◌>>=◌}
-use Rattle.fjall_journal.specs.Batches.{check, Written, IsChange, begun, checked, batch_text, IsWritten, NoneAt, IsWhole, EndsEarly, GoesOn, HasOtherCheck, IsTail, Shown, items_of, clears_of, shown}
+use Rattle.fjall_base.specs.Results.{◌>>=◌}
+use Rattle.fjall_base.specs.Check.{check}
+use Rattle.fjall_base.proofs.Checks.{check_len}
+use Rattle.fjall_journal.specs.Batches.{Written, IsChange, begun, checked, batch_text, IsWritten, NoneAt, IsWhole, EndsEarly, GoesOn, HasOtherCheck, IsTail, Shown, items_of, clears_of, shown}
 use Rattle.fjall_journal.specs.Steps.{opening_at, changes_at, closing_at, some_batch_at, batch_at}
-use Rattle.fjall_journal.proofs.Fields.{IsBytes, bind_ok, Takes, Takes-then}
+use Rattle.fjall_base.proofs.Codecs.{IsBytes, one_behind, each_more}
+use Rattle.fjall_memory.proofs.Results.{bind_ok}
+use Rattle.fjall_journal.proofs.Fields.{Takes, Takes-then}
 use Rattle.fjall_journal.proofs.Entries.{bind_is, text_some}
 use Rattle.fjall_journal.proofs.Changes.{bind_err, opening_takes, opening_err, opening_again, changes_take, changes_err, changes_again, changes_early, closing_takes, closing_err, closing_again, closing_other, closing_another}
 
@@ -221,15 +222,6 @@ unfolding batch_at
 as_some [] h = absurd (omega arith)
 as_some (b ∷ bytes) h = refl
 
-digest_len : (h : List ℕ) (n : ℕ) → length (digest_bytes h n) ≡ 4 * n
-unfolding digest_bytes
-digest_len h zero = refl
-digest_len h (suc n) = omega (arith, length-append (digest_bytes h n) (to_be_bytes w32 (slice_index h n)), digest_len h n)
-
-check_len : (bytes : List ℕ) → IsEntry (End (check bytes))
-unfolding check sha256
-check_len bytes = omega (arith, length-take 8 (digest_bytes (final_hash initial_hash_256 bytes) 8), digest_len (final_hash initial_hash_256 bytes) 8)
-
 pub batch_some : (b : Written) → 0 < length (batch_text b)
 batch_some b =
     let s = text_some (Start (length b.changes) b.number) in
@@ -259,21 +251,11 @@ pub record ReadSoFar (text : List ℕ) (front : List Shown) (rest : List ℕ) : 
 pub nothing_read : (text : List ℕ) → ReadSoFar text [] text
 nothing_read text = record { batches = []; each = tt; parts = refl; shows = refl }
 
-pub each_more : (bs : List Written) (b : Written) → AllByRecursion IsWritten bs → IsWritten b → AllByRecursion IsWritten (bs ++ b ∷ [])
-each_more [] b each is = (is, tt)
-each_more (c ∷ bs) b each is = (each.0, each_more bs b each.1 is)
-
-pub texts_more : (bs : List Written) (b : Written) (rest : List ℕ) → flat_map batch_text bs ++ (batch_text b ++ rest) ≡ flat_map batch_text (bs ++ b ∷ []) ++ rest
-texts_more bs b rest =
-    let one : flat_map batch_text (b ∷ []) ≡ batch_text b = flat_map-cons batch_text b [] ∙ append-nil (batch_text b) in
-    let all : flat_map batch_text (bs ++ b ∷ []) ≡ flat_map batch_text bs ++ batch_text b = flat_map-append batch_text bs (b ∷ []) ∙ ap (λ (v : List ℕ). flat_map batch_text bs ++ v) one in
-    sym (append_assoc (flat_map batch_text bs) (batch_text b) rest) ∙ ap (λ (v : List ℕ). v ++ rest) (sym all)
-
 pub one_more_read : (text : List ℕ) (front : List Shown) (rest : List ℕ) (b : Written) (more : List ℕ) → ReadSoFar text front rest → IsWritten b → rest ≡ batch_text b ++ more → ReadSoFar text (front ++ shown b ∷ []) more
 one_more_read text front rest b more r is parts = record {
   batches = r.batches ++ b ∷ [];
-  each = each_more r.batches b r.each is;
-  parts = r.parts ∙ ap (λ (v : List ℕ). flat_map batch_text r.batches ++ v) parts ∙ texts_more r.batches b more;
+  each = each_more IsWritten r.batches b r.each is;
+  parts = r.parts ∙ ap (λ (v : List ℕ). flat_map batch_text r.batches ++ v) parts ∙ one_behind batch_text r.batches b more;
   shows = map_push shown r.batches b ∙ ap (λ (v : List Shown). v ++ shown b ∷ []) r.shows;
 }
 

@@ -12,7 +12,7 @@ use Rattle.fjall_journal.specs.declared.batch.Tail.TheVariants.{Clean, Torn, Dam
 use Rattle.fjall_journal.specs.Spelling.{spelling}
 use Rattle.fjall_journal.specs.Batches.{Written, begun, checked, batch_text, IsWritten, EndsEarly, GoesOn, HasOtherCheck, IsTail, Shown, shown, NoneAt, Kept}
 use Rattle.fjall_journal.specs.Steps.{batch_at}
-use Rattle.fjall_journal.proofs.Fields.{IsBytes}
+use Rattle.fjall_base.proofs.Codecs.{IsBytes}
 use Rattle.fjall_journal.proofs.Entries.{text_some}
 use Rattle.fjall_journal.proofs.Batches.{done_is, as_some, some_early, some_goes_on, some_other, batch_takes, batch_again, batch_some, tail_is}
 

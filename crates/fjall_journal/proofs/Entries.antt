@@ -16,10 +16,13 @@ use Rattle.fjall_journal.specs.declared.entry.ValueType.TheVariants.{Value, Tomb
 use Rattle.fjall_base.specs.declared.error.CompressionType.{CompressionType}
 use Rattle.fjall_base.specs.declared.error.CompressionType.TheVariants as compressions
 use Rattle.fjall_journal.specs.Spelling.{tag_byte, value_type_byte, compression_byte, trailer, item_header, spelling, IsEntry, IsSpelling, StandsFirst}
-use Rattle.fjall_journal.specs.Reading.{Fault, Invalid, NoTrailer, ◌>>=◌, byte_at, number_at, bytes_at, tag_of, value_type_of, compression_of, start_at, item_at, end_at, clear_at, behind, entry_at, Fails}
+use Rattle.fjall_journal.specs.Reading.{Fault, Invalid, NoTrailer, byte_at, number_at, bytes_at, tag_of, value_type_of, compression_of, start_at, item_at, end_at, clear_at, behind, entry_at, Fails}
 use Rattle.fjall_base.specs.declared.error.Error.{Error}
 use Rattle.fjall_base.specs.declared.error.Error.TheVariants as errors
-use Rattle.fjall_journal.proofs.Fields.{IsBytes, bind_ok, guard_ok, pass_ok, ok_is, Takes, Takes-then, byte_takes, wide2, wide4, wide8, number_takes, number_again, bytes_take, bytes_again}
+use Rattle.fjall_base.specs.Results.{◌>>=◌}
+use Rattle.fjall_base.proofs.Codecs.{IsBytes, wide2, wide4, wide8}
+use Rattle.fjall_memory.proofs.Results.{bind_ok}
+use Rattle.fjall_journal.proofs.Fields.{guard_ok, pass_ok, ok_is, Takes, Takes-then, byte_takes, number_takes, number_again, bytes_take, bytes_again}
 
 start_takes : (bytes : List ℕ) (x : Entry × List ℕ) → IsBytes bytes → start_at bytes ≡ Ok x → (text : List ℕ) × Takes bytes text x.1 × (1 ∷ text ≡ spelling x.0) × IsEntry x.0
 unfolding start_at spelling

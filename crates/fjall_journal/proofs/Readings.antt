@@ -11,7 +11,7 @@ use Rattle.fjall_journal.specs.declared.batch.Batch.{Batch}
 use Rattle.fjall_journal.specs.Batches.{Written, batch_text, IsWhole, IsTail, Shown, shown, view}
 use Rattle.fjall_journal.specs.Steps.{Reads, batch_at}
 use Rattle.fjall_journal.specs.Reader.{Reading, Leads, EndsAt, StopsHere, over_with, NextEnds, Next}
-use Rattle.fjall_journal.proofs.Fields.{IsBytes}
+use Rattle.fjall_base.proofs.Codecs.{IsBytes}
 use Rattle.fjall_journal.proofs.Batches.{batch_takes, tail_is, no_batch, batch_some, ReadSoFar, nothing_read, one_more_read, all_read}
 
 -- what a reading function gives is what the grammar says

@@ -8,9 +8,10 @@ use Rattle.std.proofs.Math.Seq.{take-append-add, drop-append-add}
 use Rattle.fjall_journal.specs.declared.entry.Entry.{Entry}
 use Rattle.fjall_journal.specs.declared.entry.Entry.TheVariants.{Start, Item, End, Clear}
 use Rattle.fjall_journal.specs.Spelling.{spelling, IsEntry}
-use Rattle.fjall_journal.specs.Batches.{Written, IsChange, checked, batch_text, IsWritten, NoneAt, IsWhole, check}
+use Rattle.fjall_journal.specs.Batches.{Written, IsChange, checked, batch_text, IsWritten, NoneAt, IsWhole}
+use Rattle.fjall_base.specs.Check.{check}
 use Rattle.fjall_journal.proofs.Entries.{one_spelling}
-use Rattle.fjall_journal.proofs.Batches.{each_more, texts_more}
+use Rattle.fjall_base.proofs.Codecs.{one_behind, each_more}
 use Rattle.fjall_journal.proofs.Cuts.{none_at_nil}
 
 -- the batches' text, and then no batch
@@ -33,8 +34,8 @@ whole_is text bs w = sym (take_all (length text) text (omega arith)) ∙ w.texts
 pub whole_grows : (text : List ℕ) (bs : List Written) (b : Written) → IsWhole text bs (length text) → IsWritten b → IsWhole (text ++ batch_text b) (bs ++ b ∷ []) (length (text ++ batch_text b))
 whole_grows text bs b w is =
     let more : flat_map batch_text (bs ++ b ∷ []) ≡ text ++ batch_text b =
-    sym (append-nil (flat_map batch_text (bs ++ b ∷ []))) ∙ sym (texts_more bs b []) ∙ ap (λ (v : List ℕ). flat_map batch_text bs ++ v) (append-nil (batch_text b)) ∙ ap (λ (v : List ℕ). v ++ batch_text b) (sym (whole_is text bs w)) in
-    subst (λ (v : List ℕ). IsWhole v (bs ++ b ∷ []) (length v)) more (texts_are_whole (bs ++ b ∷ []) (each_more bs b w.each is))
+    sym (append-nil (flat_map batch_text (bs ++ b ∷ []))) ∙ sym (one_behind batch_text bs b []) ∙ ap (λ (v : List ℕ). flat_map batch_text bs ++ v) (append-nil (batch_text b)) ∙ ap (λ (v : List ℕ). v ++ batch_text b) (sym (whole_is text bs w)) in
+    subst (λ (v : List ℕ). IsWhole v (bs ++ b ∷ []) (length v)) more (texts_are_whole (bs ++ b ∷ []) (each_more IsWritten bs b w.each is))
 
 -- batches before a whole text
 pub whole_behind : (first bs : List Written) (text : List ℕ) (end : ℕ) → AllByRecursion IsWritten first → IsWhole text bs end → IsWhole (flat_map batch_text first ++ text) (first ++ bs) (length (flat_map batch_text first) + end)

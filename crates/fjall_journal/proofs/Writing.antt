@@ -2,6 +2,8 @@
 use Rattle.std.proofs.Common.{◌≡◌, ◌≢◌, inl, inr, ℕ, ◌+◌, ◌^◌, ◌<◌, false, List, [], ◌∷◌, ◌++◌, length, Result, Ok, Err, OnOk, OnErr, refl, sym, ap, subst, ◌∙◌, append_assoc, arith}
 use Rattle.std.proofs.lemmas.List.{append-nil}
 use Rattle.fjall_base.specs.Disk.{Name, State, Meaning, Step, Sync, IsFile, change, after, state_in, Took, TookOrNot, TookPart}
+use Rattle.fjall_base.proofs.Moments.{after-append}
+use Rattle.fjall_memory.proofs.Results.{on_err}
 use Rattle.fjall_base.proofs.Served.{file_as_was, file_stays}
 use Rattle.fjall_journal.specs.Writer.{Journal, counted, written_out, appending, syncing, persist_steps, WriteTook, PersistTook, making_file, MakingTook}
 use Rattle.fjall_base.specs.Errors.{IsFault}
@@ -11,18 +13,6 @@ use Rattle.fjall_journal.specs.declared.persist_mode.PersistMode.{PersistMode}
 use Rattle.fjall_journal.specs.declared.persist_mode.PersistMode.TheVariants.{Buffer, SyncData, SyncAll}
 use Rattle.fjall_journal.specs.contracts.persist_mode.PersistMode.{the_type}
 use denote.Enum.Bare.{sameb}
-
-pub on_err : {T E : Type 0} (r : Result T E) (P : Type 0) → P → OnErr r P
-on_err (Ok v) P p = tt
-on_err (Err e) P p = p
-
-pub on_ok : {T E : Type 0} (r : Result T E) (P : Type 0) → P → OnOk r P
-on_ok (Ok v) P p = p
-on_ok (Err e) P p = tt
-
-after-append : (state : State) (xs ys : List Step) → after state (xs ++ ys) ≡ after (after state xs) ys
-after-append state [] ys = refl
-after-append state (x ∷ xs) ys = after-append (change x state) xs ys
 
 -- one list of steps after another
 pub took_then : (a b c : Meaning) (xs ys : List Step) → Took a b xs → Took b c ys → Took a c (xs ++ ys)

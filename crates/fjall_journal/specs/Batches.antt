@@ -1,7 +1,7 @@
 -- Batches: their texts, the whole ones at the front of a journal, and what stands behind these.
 use Rattle.std.specs.Prelude.{◌⊎◌, ◌≡◌, ◌≢◌, ℕ, ◌<◌, ◌≤◌, ◌^◌, List, [], ◌∷◌, ◌++◌, length, take, drop}
 use Rattle.std.specs.List.{flat_map, AllByRecursion}
-use Rattle.sha2.specs.Sha256.{sha256}
+use Rattle.fjall_base.specs.Check.{check}
 use Rattle.fjall_journal.specs.declared.entry.Entry.{Entry}
 use Rattle.fjall_journal.specs.declared.entry.Entry.TheVariants.{Start, Item, End, Clear}
 use Rattle.fjall_base.specs.declared.error.JournalRecoveryError.TheVariants.{InsufficientLength, TooManyItems, ChecksumMismatch, InvalidFileName}
@@ -12,10 +12,6 @@ use Rattle.fjall_journal.specs.declared.batch.Batch.{Batch}
 use Rattle.fjall_journal.specs.declared.entry.ValueType.{ValueType}
 use Rattle.fjall_base.specs.declared.error.CompressionType.TheVariants as compressions
 use Rattle.fjall_journal.specs.Spelling.{spelling, IsEntry}
-
--- the first eight bytes of SHA-256
-unfoldable pub check : List ℕ → List ℕ
-check bytes = take 8 (sha256 bytes)
 
 -- a batch as it was written: its number, and its items and clears in their order
 pub record Written : Type 0 where
@@ -56,6 +52,10 @@ pub record IsWhole (text : List ℕ) (batches : List Written) (end : ℕ) : Type
   pub texts : take end text ≡ flat_map batch_text batches
   pub each : AllByRecursion IsWritten batches
   pub last : NoneAt (drop end text)
+
+-- The text is that of these batches: they stand whole, up to its end.
+abbrev pub IsAll : List ℕ → List Written → Type 0
+IsAll text batches = IsWhole text batches (length text)
 
 -- An End comes before all of the changes.
 pub record EndsEarly (bytes : List ℕ) : Type 0 where
@@ -133,6 +133,9 @@ view b = record { number = b.seqno; items = b.items.items; clears = b.cleared_ke
 -- the batch of one item
 abbrev pub of_item : ℕ → List ℕ → List ℕ → ValueType → ℕ → Written
 of_item id key value kind number = record { number = number; changes = Item id key value kind compressions.None ∷ [] }
+
+abbrev pub item_text : ℕ → List ℕ → List ℕ → ValueType → ℕ → List ℕ
+item_text id key value kind number = batch_text (of_item id key value kind number)
 
 -- ---- a text that is cut
 

@@ -1,7 +1,6 @@
 -- Reading an entry from left to right, with the first fault that is met.
-use Rattle.std.specs.Prelude.{◌≡◌, ⊤, ℕ, List, [], ◌∷◌, length, take, drop, Result, Ok, Err, nat_lt, ◌==◌, if◌then◌else◌, codes, nat_eq}
+use Rattle.std.specs.Prelude.{◌≡◌, ⊤, ℕ, List, Option, Some, None, Result, Ok, Err, ◌==◌, if◌then◌else◌, codes, nat_eq}
 use Rattle.std.specs.List.{starts_with}
-use Rattle.byteorder.specs.Endian.{little_number}
 use Rattle.std.specs.declared.io.ErrorKind.TheVariants.{UnexpectedEof}
 use Rattle.fjall_base.specs.declared.error.Error.{Error}
 use Rattle.fjall_base.specs.declared.error.Error.TheVariants as errors
@@ -13,6 +12,8 @@ use Rattle.fjall_journal.specs.declared.entry.ValueType.{ValueType}
 use Rattle.fjall_journal.specs.declared.entry.ValueType.TheVariants.{Value, Tombstone, WeakTombstone, Indirection}
 use Rattle.fjall_base.specs.declared.error.CompressionType.{CompressionType}
 use Rattle.fjall_base.specs.declared.error.CompressionType.TheVariants as compressions
+use Rattle.fjall_base.specs.Fields as fields
+use Rattle.fjall_base.specs.Results.{◌>>=◌}
 use Rattle.fjall_journal.specs.Spelling.{trailer}
 
 -- why no entry stands at the front
@@ -23,11 +24,6 @@ pub data Fault : Type 0 where
   Invalid : List ℕ → ℕ → Fault
   -- an end isn't followed by the trailer
   NoTrailer : Fault
-
-infixl 10 ◌>>=◌
-abbrev pub ◌>>=◌ : {A B E : Type 0} → Result A E → (A → Result B E) → Result B E
-(Ok x) >>= f = f x
-(Err e) >>= f = Err e
 
 -- the error names the fault that reading met, or memory ran out
 abbrev pub Fails : {Y : Type 0} → Error → Result Y Fault → Type 0
@@ -42,16 +38,20 @@ abbrev pub Gives : {X Y : Type 0} → (X → Y) → Result X Error → Result Y 
 Gives view (Ok x) read = read ≡ Ok (view x)
 Gives view (Err e) read = Fails e read
 
+-- A field that isn't whole is short.
+abbrev pub whole : {A : Type 0} → Option A → Result A Fault
+whole (Some x) = Ok x
+whole None = Err Short
+
 -- A field is a value and the bytes after it.
 abbrev pub byte_at : List ℕ → Result (ℕ × List ℕ) Fault
-byte_at [] = Err Short
-byte_at (b ∷ rest) = Ok (b, rest)
+byte_at bytes = whole (fields.byte_at bytes)
 
 abbrev pub number_at : ℕ → List ℕ → Result (ℕ × List ℕ) Fault
-number_at n bytes = if nat_lt (length bytes) n then Err Short else Ok (little_number n bytes, drop n bytes)
+number_at n bytes = whole (fields.number_at n bytes)
 
 abbrev pub bytes_at : ℕ → List ℕ → Result (List ℕ × List ℕ) Fault
-bytes_at n bytes = if nat_lt (length bytes) n then Err Short else Ok (take n bytes, drop n bytes)
+bytes_at n bytes = whole (fields.bytes_at n bytes)
 
 -- what a byte means in its field
 abbrev pub tag_of : ℕ → Result Tag Fault

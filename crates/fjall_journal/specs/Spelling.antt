@@ -1,8 +1,8 @@
 -- The four entries of a journal, and how each is spelled in bytes. Numbers are little-endian.
-use Rattle.std.specs.Prelude.{◌≡◌, ℕ, ◌<◌, ◌^◌, List, [], ◌∷◌, ◌++◌, length, take, ◌≤◌, Option, Some, None, ◌==◌, nat_le, if◌then◌else◌}
+use Rattle.std.specs.Prelude.{◌≡◌, ℕ, ◌<◌, ◌^◌, List, [], ◌∷◌, ◌++◌, length, take, ◌≤◌, Option, None}
 use Rattle.byteorder.specs.Endian.{little_bytes}
 use Rattle.fjall_base.specs.declared.error.Error.{Error}
-use Rattle.fjall_base.specs.declared.error.Error.TheVariants.{KeyEmpty, KeyTooLong, ValueTooLong}
+use Rattle.fjall_base.specs.Limits.{item_refusal}
 use Rattle.fjall_journal.specs.declared.entry.Entry.{Entry}
 use Rattle.fjall_journal.specs.declared.entry.Entry.TheVariants.{Start, Item, End, Clear}
 use Rattle.fjall_journal.specs.declared.entry.Tag.{Tag}
@@ -59,13 +59,7 @@ IsSpelling bytes entry = IsEntry entry × (bytes ≡ spelling entry)
 abbrev pub StandsFirst : List ℕ → Entry → ℕ → Type 0
 StandsFirst bytes entry len = (len ≤ length bytes) × IsSpelling (take len bytes) entry
 
--- why an item has no spelling
-abbrev pub item_refusal : List ℕ → List ℕ → Option Error
-item_refusal key value =
-    if length key == 0 then Some KeyEmpty else (
-    if nat_le (2 ^ 16) (length key) then Some KeyTooLong else (
-    if nat_le (2 ^ 32) (length value) then Some ValueTooLong else None))
-
+-- why an entry has no spelling
 abbrev pub refusal : Entry → Option Error
 refusal (Start count number) = None
 refusal (Item id key value kind compression) = item_refusal key value

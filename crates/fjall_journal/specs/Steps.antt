@@ -9,8 +9,10 @@ use Rattle.fjall_journal.specs.declared.batch.Tail.TheVariants.{Clean, Torn, Dam
 use Rattle.fjall_journal.specs.declared.batch.Stop.{Stop}
 use Rattle.fjall_journal.specs.declared.batch.Stop.TheVariants as stops
 use Rattle.fjall_journal.specs.declared.batch.ReadBatchItem.{ReadBatchItem}
-use Rattle.fjall_journal.specs.Reading.{Fault, ◌>>=◌, entry_at}
-use Rattle.fjall_journal.specs.Batches.{check, Shown, items_of, clears_of}
+use Rattle.fjall_base.specs.Results.{◌>>=◌}
+use Rattle.fjall_journal.specs.Reading.{Fault, entry_at}
+use Rattle.fjall_base.specs.Check.{check}
+use Rattle.fjall_journal.specs.Batches.{Shown, items_of, clears_of}
 
 -- what a function answered, seen by view, is what reading gives, unless memory ran out
 abbrev pub StopsAt : {Y : Type 0} → Stop → Result Y Tail → Type 0

@@ -1,8 +1,9 @@
 -- The append side of a journal: what a writer holds, and what its calls make of it and of the disk.
-use Rattle.std.specs.Prelude.{◌≡◌, ◌≢◌, ◌⊎◌, ℕ, ◌+◌, ◌-◌, ◌^◌, min, Bool, not, ◌||◌, List, [], ◌∷◌, ◌++◌, length, nat_le, if◌then◌else◌}
-use Rattle.fjall_base.specs.Disk.{Name, Meaning, File, Step, Append, Sync, Took, TookPart, making, state_in}
+use Rattle.std.specs.Prelude.{◌≡◌, ◌≢◌, ◌⊎◌, ℕ, ◌+◌, ◌-◌, ◌^◌, ◌<◌, min, Bool, not, ◌||◌, List, [], ◌∷◌, ◌++◌, length, nat_le, if◌then◌else◌, Result, Err, MatchOption}
+use Rattle.fjall_base.specs.Disk.{Name, Meaning, File, IsFile, Step, Append, Sync, Took, TookPart, HasCause, making, state_in}
 use Rattle.fjall_base.specs.declared.error.Error.{Error}
 use Rattle.fjall_base.specs.declared.error.Error.TheVariants.{Io}
+use Rattle.fjall_base.specs.Limits.{item_refusal}
 use Rattle.fjall_journal.specs.declared.persist_mode.PersistMode.{PersistMode}
 use Rattle.fjall_journal.specs.declared.persist_mode.PersistMode.TheVariants.{Buffer, SyncData, SyncAll}
 
@@ -56,6 +57,14 @@ syncing name Buffer = []
 syncing name SyncData = Sync name ∷ []
 syncing name SyncAll = Sync name ∷ []
 
+-- the text waits in the buffer, which has less than 8,192 bytes with it
+abbrev pub Waits : Journal → List ℕ → Type 0
+Waits j text = length (j.buffer ++ text) < 8192
+
+-- a write of this text took of the disk what it does to it
+abbrev pub WroteText : Meaning → Meaning → Journal → List ℕ → Type 0
+WroteText old new j text = Took old new (write_steps j text)
+
 -- what a persist does to the disk
 abbrev pub persist_steps : Journal → PersistMode → List Step
 persist_steps j mode = appending j.name j.buffer ++ syncing j.name mode
@@ -65,6 +74,18 @@ abbrev pub WriteTook : Error → Meaning → Meaning → Name → List ℕ → T
 WriteTook (Io kind) old new name bytes = TookPart old new name bytes
 WriteTook error old new name bytes = Took old new []
 
+-- what a refused write of this text took of the disk
+abbrev pub WroteNone : Meaning → Meaning → Journal → List ℕ → Error → Type 0
+WroteNone old new j text error = WriteTook error old new j.name (j.buffer ++ text)
+
+-- Why a write is refused: a key or a value that no item can have, before all else, or a fault of the disk or want of memory.
+abbrev pub HasWriteCause : {T : Type 0} → List ℕ → List ℕ → Meaning → Meaning → Result T Error → Type 0
+HasWriteCause key value old new result = MatchOption (item_refusal key value) (HasCause old new result) (λ e. (result ≡ Err e) × (new ≡ old))
+
+-- a call on a file that is there is no misuse
+abbrev pub ServesFile : Meaning → Meaning → Name → Type 0
+ServesFile old new name = IsFile (state_in old name).now → new.misuses ≡ old.misuses
+
 -- A refused persist stopped at the append, and the journal is as it was, or at the sync behind a whole append.
 abbrev pub PersistTook : Journal → Journal → PersistMode → Meaning → Meaning → Type 0
 PersistTook j now mode old new = ((now ≡ j) × TookPart old new j.name j.buffer) ⊎ ((now ≡ written_out j) × (mode ≢ Buffer) × (Took old new (appending j.name j.buffer) ⊎ Took old new (persist_steps j mode)))
@@ -73,6 +94,10 @@ PersistTook j now mode old new = ((now ≡ j) × TookPart old new j.name j.buffe
 abbrev pub making_file : Meaning → Name → List Step
 making_file disk name = making name (File [] []) (state_in disk name).now
 
+-- and syncs it
+abbrev pub making_synced : Meaning → Name → List Step
+making_synced disk name = making_file disk name ++ Sync name ∷ []
+
 -- what the making of a file that failed took: nothing, the making, or the sync too
 abbrev pub MakingTook : Meaning → Meaning → Name → Type 0
-MakingTook old new name = Took old new [] ⊎ (Took old new (making_file old name) ⊎ Took old new (making_file old name ++ Sync name ∷ []))
+MakingTook old new name = Took old new [] ⊎ (Took old new (making_file old name) ⊎ Took old new (making_synced old name))

@@ -36,7 +36,7 @@ pub enum Tail {
 }
 
 /// Why no batch was read: memory ran out, or this stands there.
-#[derive(Debug, Drop)]
+#[derive(Drop)]
 pub(crate) enum Stop {
     Memory,
     Tail(Tail),

@@ -10,7 +10,7 @@ use fjall_base::{Error, Result};
 use std::alloc::Global;
 
 /// What a journal's text holds.
-#[derive(Debug, Drop)]
+#[derive(Drop)]
 pub struct Contents {
     /// The whole batches at its front, in order.
     pub batches: Vec<Batch>,

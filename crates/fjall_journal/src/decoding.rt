@@ -3,59 +3,15 @@
 ghost use Rattle.std.specs.Prelude.{◌≡◌, length, drop, ℕ, IfOk, Ok};
 ghost use Rattle.fjall_journal.specs.declared.entry.Entry.{Entry};
 ghost use Rattle.fjall_journal.specs.Spelling.{StandsFirst};
-ghost use Rattle.fjall_journal.specs.Reading.{Gives, byte_at, number_at, bytes_at, compression_of, start_at, item_at, end_at, clear_at, entry_at};
+ghost use Rattle.fjall_journal.specs.Reading.{Gives, compression_of, start_at, item_at, end_at, clear_at, entry_at};
 
 use crate::entry::{Entry, MAGIC_BYTES, Tag, ValueType};
-use byteorder::{ByteOrder, LittleEndian};
-use fjall_base::{CompressionType, Error, Result, Slice};
+use fjall_base::{CompressionType, Error, Result, Slice, bytes_of, u8_of, u16_of, u32_of, u64_of};
 use std::alloc::Global;
 use std::io::ErrorKind;
 
-fn u8_of(bytes: &[u8]) -> Result<(u8, &[u8])>
-    ensures { Gives (λ x. (x.0, x.1.now)) result (byte_at bytes.now) }
-{
-    match bytes {
-        [] => Err(Error::Io(ErrorKind::UnexpectedEof)),
-        [b, rest @ ..] => Ok((*b, rest)),
-    }
-}
-
-fn bytes_of(bytes: &[u8], len: usize) -> Result<(&[u8], &[u8])>
-    ensures gives { Gives (λ x. (x.0.now, x.1.now)) result (bytes_at len bytes.now) }
-    ensures len { IfOk result (λ x. length x.0.now ≡ len) }
-{
-    if bytes.len() < len {
-        return Err(Error::Io(ErrorKind::UnexpectedEof));
-    }
-    Ok(bytes.split_at(len))
-}
-
-fn u16_of(bytes: &[u8]) -> Result<(u16, &[u8])>
-    ensures { Gives (λ x. (x.0, x.1.now)) result (number_at 2 bytes.now) }
-{
-    if bytes.len() < 2 {
-        return Err(Error::Io(ErrorKind::UnexpectedEof));
-    }
-    Ok((LittleEndian::read_u16(bytes), &bytes[2..]))
-}
-
-fn u32_of(bytes: &[u8]) -> Result<(u32, &[u8])>
-    ensures { Gives (λ x. (x.0, x.1.now)) result (number_at 4 bytes.now) }
-{
-    if bytes.len() < 4 {
-        return Err(Error::Io(ErrorKind::UnexpectedEof));
-    }
-    Ok((LittleEndian::read_u32(bytes), &bytes[4..]))
-}
-
-fn u64_of(bytes: &[u8]) -> Result<(u64, &[u8])>
-    ensures { Gives (λ x. (x.0, x.1.now)) result (number_at 8 bytes.now) }
-{
-    if bytes.len() < 8 {
-        return Err(Error::Io(ErrorKind::UnexpectedEof));
-    }
-    Ok((LittleEndian::read_u64(bytes), &bytes[8..]))
-}
+// Bytes that end within a field.
+const SHORT: Error = Error::Io(ErrorKind::UnexpectedEof);
 
 fn compression_named(b: u8) -> Result<CompressionType>
     ensures { Gives (λ compression. compression) result (compression_of b) }
@@ -70,8 +26,8 @@ fn compression_named(b: u8) -> Result<CompressionType>
 fn start_of(bytes: &[u8]) -> Result<(Entry, &[u8])>
     ensures { Gives (λ x. (x.0, x.1.now)) result (start_at bytes.now) }
 {
-    let (item_count, rest) = u32_of(bytes)?;
-    let (seqno, rest) = u64_of(rest)?;
+    let (item_count, rest) = u32_of(bytes).ok_or(SHORT)?;
+    let (seqno, rest) = u64_of(rest).ok_or(SHORT)?;
     Ok((Entry::Start { item_count, seqno }, rest))
 }
 
@@ -79,22 +35,22 @@ fn start_of(bytes: &[u8]) -> Result<(Entry, &[u8])>
 fn item_of(alloc: Global, bytes: &[u8]) -> Result<(Entry, &[u8])>
     ensures { Gives (λ x. (x.0, x.1.now)) result (item_at bytes.now) }
 {
-    let (type_byte, rest) = u8_of(bytes)?;
+    let (type_byte, rest) = u8_of(bytes).ok_or(SHORT)?;
     let value_type = ValueType::try_from(type_byte)?;
-    let (compression_byte, rest) = u8_of(rest)?;
+    let (compression_byte, rest) = u8_of(rest).ok_or(SHORT)?;
     let compression = compression_named(compression_byte)?;
-    let (keyspace_id, rest) = u64_of(rest)?;
-    let (key_len, rest) = u16_of(rest)?;
-    let (value_len, rest) = u32_of(rest)?;
-    let (stored_len, rest) = u32_of(rest)?;
+    let (keyspace_id, rest) = u64_of(rest).ok_or(SHORT)?;
+    let (key_len, rest) = u16_of(rest).ok_or(SHORT)?;
+    let (value_len, rest) = u32_of(rest).ok_or(SHORT)?;
+    let (stored_len, rest) = u32_of(rest).ok_or(SHORT)?;
     if key_len == 0 {
         return Err(Error::InvalidTag(("KeyLength", 0)));
     }
     if stored_len != value_len {
         return Err(Error::InvalidTag(("ValueLength", 0)));
     }
-    let (key, rest) = bytes_of(rest, usize::from(key_len))?;
-    let (value, rest) = bytes_of(rest, value_len as usize)?;
+    let (key, rest) = bytes_of(rest, usize::from(key_len)).ok_or(SHORT)?;
+    let (value, rest) = bytes_of(rest, value_len as usize).ok_or(SHORT)?;
     let item = Entry::Item {
         keyspace_id,
         key: Slice::new(alloc, key)?,
@@ -109,8 +65,8 @@ fn item_of(alloc: Global, bytes: &[u8]) -> Result<(Entry, &[u8])>
 fn end_of(bytes: &[u8]) -> Result<(Entry, &[u8])>
     ensures { Gives (λ x. (x.0, x.1.now)) result (end_at bytes.now) }
 {
-    let (check, rest) = bytes_of(bytes, 8)?;
-    let (mark, rest) = bytes_of(rest, 4)?;
+    let (check, rest) = bytes_of(bytes, 8).ok_or(SHORT)?;
+    let (mark, rest) = bytes_of(rest, 4).ok_or(SHORT)?;
     if !mark.starts_with(&MAGIC_BYTES) {
         return Err(Error::InvalidTrailer);
     }
@@ -123,7 +79,7 @@ fn end_of(bytes: &[u8]) -> Result<(Entry, &[u8])>
 fn clear_of(bytes: &[u8]) -> Result<(Entry, &[u8])>
     ensures { Gives (λ x. (x.0, x.1.now)) result (clear_at bytes.now) }
 {
-    let (keyspace_id, rest) = u64_of(bytes)?;
+    let (keyspace_id, rest) = u64_of(bytes).ok_or(SHORT)?;
     Ok((Entry::Clear { keyspace_id }, rest))
 }
 
@@ -131,7 +87,7 @@ fn clear_of(bytes: &[u8]) -> Result<(Entry, &[u8])>
 pub(crate) fn entry_of(alloc: Global, bytes: &[u8]) -> Result<(Entry, &[u8])>
     ensures { Gives (λ x. (x.0, x.1.now)) result (entry_at bytes.now) }
 {
-    let (tag, rest) = u8_of(bytes)?;
+    let (tag, rest) = u8_of(bytes).ok_or(SHORT)?;
     match Tag::try_from(tag)? {
         Tag::Start => start_of(rest),
         Tag::Item => item_of(alloc, rest),

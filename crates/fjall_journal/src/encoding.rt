@@ -1,11 +1,12 @@
 //! An entry as bytes.
 
-ghost use Rattle.std.specs.Prelude.{◌≡◌, ◌++◌, OnOk, OnErr, IsOkUnless, MatchOption, Ok, Err};
-ghost use Rattle.fjall_journal.specs.Spelling.{item_header, spelling, refusal, item_refusal, IsEntry};
+ghost use Rattle.std.specs.Prelude.{◌≡◌, ◌++◌, OnOk, OnErr, IsOkUnless, MatchOption, Err};
+ghost use Rattle.fjall_base.specs.Limits.{item_refusal};
+ghost use Rattle.fjall_journal.specs.Spelling.{item_header, spelling, refusal, IsEntry};
 
 use crate::entry::{Entry, MAGIC_BYTES, Tag, ValueType};
 use byteorder::{ByteOrder, LittleEndian};
-use fjall_base::{CompressionType, Error, Result};
+use fjall_base::{CompressionType, Error, Result, check_item};
 
 fn header_of(
     value_type: ValueType,
@@ -25,23 +26,6 @@ fn header_of(
     LittleEndian::write_u32(&mut header[13..], value_len);
     LittleEndian::write_u32(&mut header[17..], value_len);
     header
-}
-
-/// Refuses a key or a value that no item can have: an empty key, a key of more than 65,535 bytes, a value of more
-/// than 4,294,967,295, and the first of these that holds.
-pub(crate) fn check_item(key: &[u8], value: &[u8]) -> Result<()>
-    ensures { MatchOption (item_refusal key.now value.now) (result ≡ Ok tt) (λ e. result ≡ Err e) }
-{
-    if key.is_empty() {
-        return Err(Error::KeyEmpty);
-    }
-    if key.len() > 65_535 {
-        return Err(Error::KeyTooLong);
-    }
-    if value.len() > 4_294_967_295 {
-        return Err(Error::ValueTooLong);
-    }
-    Ok(())
 }
 
 /// Adds the spelling of an item. An `Err` adds nothing.

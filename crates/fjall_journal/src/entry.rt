@@ -23,7 +23,7 @@ pub enum ValueType {
 }
 
 /// The byte that an entry begins with.
-#[derive(Clone, Copy, Debug, PartialEq, Eq)]
+#[derive(Clone, Copy, PartialEq, Eq)]
 pub enum Tag {
     Start = 1,
     Item = 2,
@@ -32,7 +32,7 @@ pub enum Tag {
 }
 
 /// An entry of a journal. A batch is a start, its items and clears, and an end.
-#[derive(Debug, Drop)]
+#[derive(Drop)]
 pub enum Entry {
     /// So many items and clears follow, all of this number.
     Start {

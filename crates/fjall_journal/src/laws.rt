@@ -5,7 +5,7 @@ ghost use Rattle.std.specs.List.{flat_map, AllByRecursion};
 ghost use Rattle.fjall_journal.specs.declared.entry.Entry.{Entry};
 ghost use Rattle.fjall_journal.specs.declared.batch.Tail.{Tail};
 ghost use Rattle.fjall_journal.specs.Spelling.{IsSpelling};
-ghost use Rattle.fjall_journal.specs.Batches.{Written, IsWritten, batch_text, IsWhole, IsTail, NoneAt, Kept};
+ghost use Rattle.fjall_journal.specs.Batches.{Written, IsWritten, batch_text, IsWhole, IsAll, IsTail, NoneAt, Kept};
 
 /// No spelling begins another, and none is of two entries.
 pub fn one_spelling()
@@ -24,17 +24,18 @@ pub fn one_reading()
 
 /// The text of batches is whole.
 pub fn texts_are_whole()
-    ensures { (bs : List Written) → AllByRecursion IsWritten bs → IsWhole (flat_map batch_text bs) bs (length (flat_map batch_text bs)) }
+    ensures { (bs : List Written) → AllByRecursion IsWritten bs → IsAll (flat_map batch_text bs) bs }
 {}
 
 /// A text that is whole to its end, and one more batch's text, is whole to its end with that batch more.
 pub fn whole_grows()
-    ensures { (text : List ℕ) (bs : List Written) (b : Written) → IsWhole text bs (length text) → IsWritten b → IsWhole (text ++ batch_text b) (bs ++ b ∷ []) (length (text ++ batch_text b)) }
+    ensures { (text : List ℕ) (bs : List Written) (b : Written) → IsAll text bs → IsWritten b → IsAll (text ++ batch_text b) (bs ++ b ∷ []) }
 {}
 
 /// A text that stands behind whole batches keeps its own.
 pub fn whole_behind()
-    ensures { (first bs : List Written) (text : List ℕ) (end : ℕ) → AllByRecursion IsWritten first → IsWhole text bs end → IsWhole (flat_map batch_text first ++ text) (first ++ bs) (length (flat_map batch_text first) + end) }
+    ensures { (first bs : List Written) (text : List ℕ) (end : ℕ) → AllByRecursion IsWritten first → IsWhole text bs end
+        → IsWhole (flat_map batch_text first ++ text) (first ++ bs) (length (flat_map batch_text first) + end) }
 {}
 
 /// A text of batches that is cut anywhere reads as the first of them, with a clean or a torn tail.

@@ -21,7 +21,6 @@ pub use entry::{Entry, Tag, ValueType};
 pub use laws::{
     cut_reads, one_reading, one_spelling, one_tail, texts_are_whole, whole_behind, whole_grows,
 };
-pub use parsing::checksum;
 pub use persist_mode::PersistMode;
 pub use recovery_mode::RecoveryMode;
 pub use writer::{JOURNAL_BUFFER_BYTES, Writer};

@@ -3,26 +3,15 @@
 ghost use Rattle.std.specs.Prelude.{◌≡◌, ◌++◌, ◌∷◌, [], length, ◌<◌, ◌≤◌, IfOk, IfErr, OnOk};
 ghost use Rattle.std.specs.Str.{bytes_eq};
 ghost use Rattle.fjall_journal.specs.Reading.{entry_at};
-ghost use Rattle.fjall_journal.specs.Batches.{check, items_of, clears_of, view};
+ghost use Rattle.fjall_journal.specs.Batches.{items_of, clears_of, view};
 ghost use Rattle.fjall_journal.specs.Reader.{Leads, StopsHere};
 ghost use Rattle.fjall_journal.specs.Steps.{Reads, or_torn, opening_at, change_at, changes_at, closing_at, batch_at};
 
 use crate::batch::{Batch, ReadBatchItem, Stop, Tail};
 use crate::decoding::entry_of;
 use crate::entry::Entry;
-use fjall_base::{Error, JournalRecoveryError, Result};
-use sha2::{Digest, Sha256};
+use fjall_base::{Error, JournalRecoveryError, Result, checksum};
 use std::alloc::{AllocError, Global};
-
-/// The first eight bytes of SHA-256.
-#[tactic(auto, unfolding(crate::specs::Batches::check))]
-pub fn checksum(bytes: &[u8]) -> [u8; 8]
-    ensures { result ≡ check bytes.now }
-{
-    let mut first = [0u8; 8];
-    first.copy_from_slice(&Sha256::digest(bytes)[..8]);
-    first
-}
 
 fn is_same(found: &[u8; 8], sum: &[u8; 8]) -> bool
     ensures { result ≡ bytes_eq found.now sum.now }

@@ -1,16 +1,15 @@
 //! The append side of a journal: batches go into a buffer, and the buffer to the end of a file.
 
 ghost use Rattle.std.specs.Prelude.{◌≡◌, ◌⊎◌, ◌+◌, ◌<◌, ◌++◌, [], ◌∷◌, length, take, OnOk, OnErr, IfOk, IfErr, IsOk, IsErrOf, IsOkUnless, IsTrue, MatchOption, None, Err};
-ghost use Rattle.fjall_base.specs.Disk.{CanCreate, IsFile, Sync, Took, TookPart, HasCause, OnlyFaults, state_in};
-ghost use Rattle.fjall_journal.specs.Spelling.{item_refusal};
-ghost use Rattle.fjall_journal.specs.Batches.{batch_text, of_item, IsWritten};
-ghost use Rattle.fjall_journal.specs.Writer.{counted, written_out, appending, after_write, write_steps, persist_steps, WriteTook, PersistTook, making_file, MakingTook};
+ghost use Rattle.fjall_base.specs.Disk.{CanCreate, Took, TookPart, HasCause, OnlyFaults, state_in};
+ghost use Rattle.fjall_base.specs.Limits.{item_refusal};
+ghost use Rattle.fjall_journal.specs.Batches.{of_item, item_text, IsWritten};
+ghost use Rattle.fjall_journal.specs.Writer.{counted, written_out, appending, after_write, persist_steps, Waits, WroteText, WroteNone, HasWriteCause, ServesFile, PersistTook, making_synced, MakingTook};
 
-use crate::encoding::{check_item, put_end, put_start, serialize_marker_item};
+use crate::encoding::{put_end, put_start, serialize_marker_item};
 use crate::entry::ValueType;
-use crate::parsing::checksum;
 use crate::persist_mode::PersistMode;
-use fjall_base::{CompressionType, Disk, Error, Result};
+use fjall_base::{CompressionType, Disk, Error, Result, check_item, checksum};
 use std::alloc::Global;
 use std::marker::Model;
 
@@ -45,7 +44,7 @@ fn put_item_batch(
     value_type: ValueType,
     seqno: u64,
 ) -> Result<()>
-    ensures ok { OnOk result (out.new.items ≡ out.old.items ++ batch_text (of_item keyspace_id key.now value.now value_type seqno)) }
+    ensures ok { OnOk result (out.new.items ≡ out.old.items ++ item_text keyspace_id key.now value.now value_type seqno) }
     ensures fits { OnOk result (IsWritten (of_item keyspace_id key.now value.now value_type seqno)) }
     ensures kept { take (length out.old.items) out.new.items ≡ out.old.items }
     ensures only { MatchOption (item_refusal key.now value.now) (IsOkUnless result Error.OutOfMemory) (λ e. result ≡ Err e) }
@@ -74,9 +73,9 @@ fn put_batch(
     value_type: ValueType,
     seqno: u64,
 ) -> Result<usize>
-    ensures ok { OnOk result (out.new.items ≡ out.old.items ++ batch_text (of_item keyspace_id key.now value.now value_type seqno)) }
+    ensures ok { OnOk result (out.new.items ≡ out.old.items ++ item_text keyspace_id key.now value.now value_type seqno) }
     ensures fits { OnOk result (IsWritten (of_item keyspace_id key.now value.now value_type seqno)) }
-    ensures count { IfOk result (λ n. n ≡ length (batch_text (of_item keyspace_id key.now value.now value_type seqno))) }
+    ensures count { IfOk result (λ n. n ≡ length (item_text keyspace_id key.now value.now value_type seqno)) }
     ensures err { OnErr result (out.new.items ≡ out.old.items) }
     ensures only { MatchOption (item_refusal key.now value.now) (IsOkUnless result Error.OutOfMemory) (λ e. result ≡ Err e) }
 {
@@ -93,7 +92,7 @@ impl Writer {
     /// before the disk is.
     pub fn create_new<D: Disk>(alloc: Global, disk: &mut D, name: &str) -> Result<Writer>
         ensures ok { IfOk result (λ w. w ≡ record { name = name.now; buffer = []; len = 0 }) }
-        ensures took { IsTrue D.honest → OnOk result (Took (D.meaning disk.old) (D.meaning disk.new) (making_file (D.meaning disk.old) name.now ++ Sync name.now ∷ [])) }
+        ensures took { IsTrue D.honest → OnOk result (Took (D.meaning disk.old) (D.meaning disk.new) (making_synced (D.meaning disk.old) name.now)) }
         ensures part { IsTrue D.honest → OnErr result (MakingTook (D.meaning disk.old) (D.meaning disk.new) name.now) }
         ensures served { IsTrue D.honest → CanCreate (state_in (D.meaning disk.old)) name.now → (D.meaning disk.new).misuses ≡ (D.meaning disk.old).misuses }
         ensures cause { HasCause (D.meaning disk.old) (D.meaning disk.new) result }
@@ -136,7 +135,7 @@ impl Writer {
         ensures took { IsTrue D.honest → OnOk result (Took (D.meaning disk.old) (D.meaning disk.new) (appending self.old.name self.old.buffer)) }
         ensures part { IsTrue D.honest → OnErr result (TookPart (D.meaning disk.old) (D.meaning disk.new) self.old.name self.old.buffer) }
         ensures succeeds { self.old.buffer ≡ [] → IsOk result }
-        ensures served { IsTrue D.honest → IsFile (state_in (D.meaning disk.old) self.old.name).now → (D.meaning disk.new).misuses ≡ (D.meaning disk.old).misuses }
+        ensures served { IsTrue D.honest → ServesFile (D.meaning disk.old) (D.meaning disk.new) self.old.name }
         ensures cause { OnlyFaults (D.meaning disk.old) (D.meaning disk.new) result }
     {
         if self.buffer.is_empty() {
@@ -159,18 +158,21 @@ impl Writer {
         value_type: ValueType,
         seqno: u64,
     ) -> Result<usize>
-        ensures ok { OnOk result (self.new ≡ after_write self.old (batch_text (of_item keyspace_id key.now value.now value_type seqno))) }
+        ensures ok { OnOk result (self.new ≡ after_write self.old (item_text keyspace_id key.now value.now value_type seqno)) }
         ensures fits { OnOk result (IsWritten (of_item keyspace_id key.now value.now value_type seqno)) }
-        ensures count { IfOk result (λ n. n ≡ length (batch_text (of_item keyspace_id key.now value.now value_type seqno))) }
+        ensures count { IfOk result (λ n. n ≡ length (item_text keyspace_id key.now value.now value_type seqno)) }
         ensures unchanged { OnErr result (self.new ≡ self.old) }
-        ensures took { IsTrue D.honest → OnOk result (Took (D.meaning disk.old) (D.meaning disk.new) (write_steps self.old (batch_text (of_item keyspace_id key.now value.now value_type seqno)))) }
-        ensures part { IsTrue D.honest → IfErr result (λ e. WriteTook e (D.meaning disk.old) (D.meaning disk.new) self.old.name (self.old.buffer ++ batch_text (of_item keyspace_id key.now value.now value_type seqno))) }
+        ensures took { IsTrue D.honest
+            → OnOk result (WroteText (D.meaning disk.old) (D.meaning disk.new) self.old (item_text keyspace_id key.now value.now value_type seqno)) }
+        ensures part { IsTrue D.honest
+            → IfErr result (WroteNone (D.meaning disk.old) (D.meaning disk.new) self.old (item_text keyspace_id key.now value.now value_type seqno)) }
         ensures untouched { IsErrOf result Error.OutOfMemory → D.meaning disk.new ≡ D.meaning disk.old }
-        ensures served { IsTrue D.honest → IsFile (state_in (D.meaning disk.old) self.old.name).now → (D.meaning disk.new).misuses ≡ (D.meaning disk.old).misuses }
-        ensures cause { MatchOption (item_refusal key.now value.now) (HasCause (D.meaning disk.old) (D.meaning disk.new) result) (λ e. (result ≡ Err e) × (D.meaning disk.new ≡ D.meaning disk.old)) }
+        ensures served { IsTrue D.honest → ServesFile (D.meaning disk.old) (D.meaning disk.new) self.old.name }
+        ensures cause { HasWriteCause key.now value.now (D.meaning disk.old) (D.meaning disk.new) result }
         // Below 8,192 bytes nothing goes to the disk, and no fault can come.
-        ensures waits { length (self.old.buffer ++ batch_text (of_item keyspace_id key.now value.now value_type seqno)) < 8192 → D.meaning disk.new ≡ D.meaning disk.old }
-        ensures faultless { length (self.old.buffer ++ batch_text (of_item keyspace_id key.now value.now value_type seqno)) < 8192 → item_refusal key.now value.now ≡ None → IsOkUnless result Error.OutOfMemory }
+        ensures waits { Waits self.old (item_text keyspace_id key.now value.now value_type seqno) → D.meaning disk.new ≡ D.meaning disk.old }
+        ensures faultless { Waits self.old (item_text keyspace_id key.now value.now value_type seqno)
+            → item_refusal key.now value.now ≡ None → IsOkUnless result Error.OutOfMemory }
     {
         let before = self.buffer.len();
         let count = put_batch(&mut self.buffer, keyspace_id, key, value, value_type, seqno)?;
@@ -190,7 +192,7 @@ impl Writer {
         ensures took { IsTrue D.honest → OnOk result (Took (D.meaning disk.old) (D.meaning disk.new) (persist_steps self.old mode)) }
         ensures left { IsTrue D.honest → OnErr result (PersistTook self.old self.new mode (D.meaning disk.old) (D.meaning disk.new)) }
         ensures succeeds { mode ≡ PersistMode.Buffer → self.old.buffer ≡ [] → IsOk result }
-        ensures served { IsTrue D.honest → IsFile (state_in (D.meaning disk.old) self.old.name).now → (D.meaning disk.new).misuses ≡ (D.meaning disk.old).misuses }
+        ensures served { IsTrue D.honest → ServesFile (D.meaning disk.old) (D.meaning disk.new) self.old.name }
         ensures cause { OnlyFaults (D.meaning disk.old) (D.meaning disk.new) result }
     {
         self.write_out(disk)?;

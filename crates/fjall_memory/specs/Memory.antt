@@ -1,5 +1,8 @@
 -- What a disk in memory stands for.
-use Rattle.std.specs.Prelude.{◌≡◌, ℕ, List, map, string_bytes}
+use Rattle.std.specs.Prelude.{◌≡◌, ◌⊎◌, ℕ, List, map, string_bytes}
+use Rattle.std.specs.declared.io.ErrorKind.TheVariants.{NotFound}
+use Rattle.fjall_base.specs.declared.error.Error.{Error}
+use Rattle.fjall_base.specs.declared.error.Error.TheVariants.{Io, OutOfMemory}
 use Rattle.fjall_base.specs.Disk.{Name, placed, Entry, Missing, File, Folder, Place, State, Step, Put, Append, Sync, Loosen, Cut, SyncFolder, appended, all_synced, cut_to, IsFile, IsLong}
 use Rattle.fjall_memory.specs.declared.node.Node.{Node}
 use Rattle.fjall_memory.specs.declared.node.Node as node
@@ -55,3 +58,7 @@ abbrev pub IsKind : Kind → Entry → Type 0
 IsKind kind.TheVariants.Missing entry = entry ≡ Missing
 IsKind kind.TheVariants.File entry = (synced : List ℕ) × (unsynced : List ℕ) × (entry ≡ File synced unsynced)
 IsKind kind.TheVariants.Folder entry = entry ≡ Folder
+
+-- a change of a file is refused since memory ran out, or since it can't be made of what stands there
+abbrev pub IsRefusedUnless : Type 0 → Error → Type 0
+IsRefusedUnless Possible error = (error ≡ OutOfMemory) ⊎ ((error ≡ Io NotFound) × (Possible → ⊥))

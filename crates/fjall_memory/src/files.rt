@@ -2,7 +2,7 @@
 
 ghost use Rattle.std.specs.Prelude.{◌≡◌, ◌≢◌, ◌↔◌, ◌⊎◌, [], ◌∷◌, IfOk, IfErr, IsOkUnless, OnOk, OnErr, IsTrue};
 ghost use Rattle.fjall_base.specs.Disk.{Took, Append, Sync, Loosen, Cut, Put, SyncFolder, HasFolder, IsThere, standing, put, Reads, IsFile, IsLong, IsNoFile, IsNoFolder, IsEmpty, CanCreate, CanMakeFolder, CanRemoveFolder};
-ghost use Rattle.fjall_memory.specs.Memory.{entry_of, IsKind, state_of};
+ghost use Rattle.fjall_memory.specs.Memory.{entry_of, IsKind, IsRefusedUnless, state_of};
 ghost use Rattle.fjall_base.specs.Crash.{IsHoused};
 
 use crate::node::{
@@ -127,7 +127,7 @@ impl Files {
         ensures ok { OnOk result (Took (meaning_of self.old 0) (meaning_of self.new 0) (Append name.now bytes.now ∷ [])) }
         ensures file { OnOk result (IsFile (state_of self.old.names.items name.now).now) }
         ensures err { OnErr result (Took (meaning_of self.old 0) (meaning_of self.new 0) []) }
-        ensures cause { IfErr result (λ e. (e ≡ Error.OutOfMemory) ⊎ ((e ≡ Error.Io ErrorKind.NotFound) × ¬ IsFile (state_of self.old.names.items name.now).now)) }
+        ensures cause { IfErr result (IsRefusedUnless (IsFile (state_of self.old.names.items name.now).now)) }
     {
         let text = String::from_str(self.alloc, name)?;
         let added = Vec::from_slice(self.alloc, bytes)?;
@@ -144,7 +144,7 @@ impl Files {
         ensures ok { OnOk result (Took (meaning_of self.old 0) (meaning_of self.new 0) (Sync name.now ∷ [])) }
         ensures file { OnOk result (IsFile (state_of self.old.names.items name.now).now) }
         ensures err { OnErr result (Took (meaning_of self.old 0) (meaning_of self.new 0) []) }
-        ensures cause { IfErr result (λ e. (e ≡ Error.OutOfMemory) ⊎ ((e ≡ Error.Io ErrorKind.NotFound) × ¬ IsFile (state_of self.old.names.items name.now).now)) }
+        ensures cause { IfErr result (IsRefusedUnless (IsFile (state_of self.old.names.items name.now).now)) }
     {
         let text = String::from_str(self.alloc, name)?;
         self.log.reserve(1)?;
@@ -160,7 +160,7 @@ impl Files {
         ensures ok { OnOk result (Took (meaning_of self.old 0) (meaning_of self.new 0) (Loosen name.now len ∷ Cut name.now len ∷ [])) }
         ensures long { OnOk result (IsLong len (state_of self.old.names.items name.now).now) }
         ensures err { OnErr result (Took (meaning_of self.old 0) (meaning_of self.new 0) []) }
-        ensures cause { IfErr result (λ e. (e ≡ Error.OutOfMemory) ⊎ ((e ≡ Error.Io ErrorKind.NotFound) × ¬ IsLong len (state_of self.old.names.items name.now).now)) }
+        ensures cause { IfErr result (IsRefusedUnless (IsLong len (state_of self.old.names.items name.now).now)) }
     {
         let text = String::from_str(self.alloc, name)?;
         let again = String::from_str(self.alloc, name)?;

@@ -381,8 +381,10 @@ fn crash_named(named: &mut Named, keep: usize) -> Result<(), AllocError>
 
 // Whether something stands in the folder at that name.
 fn stands_in(names: &[Named], named: &Named, folder: &str) -> bool
-    ensures yes { OnTrue result ((folder_of (string_bytes named.entry.now.name) ≡ folder.now) × ((state_of names.now (string_bytes named.entry.now.name)).now ≢ Missing)) }
-    ensures no { OnFalse result (folder_of (string_bytes named.entry.now.name) ≡ folder.now → (state_of names.now (string_bytes named.entry.now.name)).now ≡ Missing) }
+    ensures yes { OnTrue result ((folder_of (string_bytes named.entry.now.name) ≡ folder.now)
+        × ((state_of names.now (string_bytes named.entry.now.name)).now ≢ Missing)) }
+    ensures no { OnFalse result (folder_of (string_bytes named.entry.now.name) ≡ folder.now
+        → (state_of names.now (string_bytes named.entry.now.name)).now ≡ Missing) }
 {
     if !is_in(named.name.as_str(), folder) {
         return false;
@@ -437,7 +439,9 @@ fn list_name(
     ensures each { OnOk result (All (IsListed (state_of names.now) folder.now) listed.new.items) }
     ensures once { OnOk result (AllPairs (λ first later. string_bytes first.name ≢ string_bytes later.name) listed.new.items) }
     ensures more { OnOk result ((more : List DirEntry) × (listed.new.items ≡ listed.old.items ++ more)) }
-    ensures it { OnOk result (folder_of (string_bytes named.entry.now.name) ≡ folder.now → (state_of names.now (string_bytes named.entry.now.name)).now ≢ Missing → Any (λ entry. string_bytes entry.name ≡ string_bytes named.entry.now.name) listed.new.items) }
+    ensures it { OnOk result (folder_of (string_bytes named.entry.now.name) ≡ folder.now
+        → (state_of names.now (string_bytes named.entry.now.name)).now ≢ Missing
+        → Any (λ entry. string_bytes entry.name ≡ string_bytes named.entry.now.name) listed.new.items) }
 {
     let name = named.name.as_str();
     if !is_in(name, folder) {

@@ -13,6 +13,7 @@ use Rattle.fjall_meta.specs.declared.entry.MetaEntry.{MetaEntry}
 use Rattle.fjall_meta.specs.Entries.{options_by_name, option_entry, option_entries, name_entry, entries_of}
 use Rattle.fjall_meta.specs.Keyspaces.{Keyspaces, AreKeyspaces}
 use Rattle.fjall_meta.specs.Reading.{key_id}
+use Rattle.fjall_options.proofs.StoredPairs.{all_values}
 use Rattle.fjall_meta.proofs.Keys.{id_of_name_key}
 
 -- every option is among those by name
@@ -22,21 +23,6 @@ is_by_name o = (position_or_len (λ p. place p == place o) options_by_name, lit<
 
 pub entry_by_name : (k : LivingKeyspace) (o : StoredOption) (e : MetaEntry) → get_or (map (option_entry k) options_by_name) (is_by_name o).0 e ≡ option_entry k o
 entry_by_name k o e = get_or-map (option_entry k) options_by_name (is_by_name o).0 o e (is_by_name o).1 ∙ ap (λ p. option_entry k p) (is_by_name o).2
-
--- the elements from a place on
-abbrev from : ℕ → ℕ → List (List ℕ) → List (List ℕ)
-from i zero xs = []
-from i (suc n) xs = get_or xs i [] ∷ from (i + 1) n xs
-
-from_is : (i n : ℕ) (xs : List (List ℕ)) → length xs ≡ i + n → from i n xs ≡ drop i xs
-from_is i zero xs len = sym (drop_all i xs (omega (arith, len)))
-from_is i (suc n) xs len =
-    let lt : i < length xs = omega (arith, len) in
-    rw (from_is (i + 1) n xs (omega (arith, len)), add-one, drop-cons xs i [] lt) refl
-
--- options are their values in the options' order
-pub all_values : (options : List (List ℕ)) → length options ≡ 20 → map (λ o. value_at o options) stored_options ≡ options
-all_values options len = from_is 0 20 options len
 
 same_map : {X Y : Type 0} (f g : X → Y) (xs : List X) → ((x : X) → f x ≡ g x) → map f xs ≡ map g xs
 same_map f g [] h = refl

@@ -5,7 +5,8 @@ use Rattle.std.proofs.lemmas.List.Elements.{All-weaker}
 use Rattle.std.proofs.lemmas.List.Kept.{AllPairs-from_increasing}
 use Rattle.fjall_base.specs.declared.error.Error.{Error}
 use Rattle.fjall_base.specs.declared.error.Error.TheVariants as errors
-use Rattle.fjall_options.specs.Reading.{◌>>=◌}
+use Rattle.fjall_base.specs.Results.{◌>>=◌}
+use Rattle.fjall_memory.proofs.Results.{bind_ok}
 use Rattle.fjall_options.specs.Options.{AreOptions, stored_options, stored_values}
 use Rattle.fjall_options.proofs.StoredPairs.{read_options}
 use Rattle.fjall_meta.specs.declared.living.LivingKeyspace.{LivingKeyspace}
@@ -35,10 +36,6 @@ in_order found entries living ids same = λ i j d below within.
     let first = get_or-map (λ (k : LivingKeyspace). k.id) living i d d.id (omega arith) in
     let second = get_or-map (λ (k : LivingKeyspace). k.id) living j d d.id within in
     omega (arith, step, first, second)
-
-bind_ok : {A B E : Type 0} (r : Result A E) (f : A → Result B E) (y : B) → (r >>= f) ≡ Ok y → (x : A) × (r ≡ Ok x) × (f x ≡ Ok y)
-bind_ok (Ok x) f y e = (x, refl, e)
-bind_ok (Err d) f y e = absurd cc
 
 ok_same : {A E : Type 0} (x y : A) → ◌≡◌ {A = Result A E} (Ok x) (Ok y) → x ≡ y
 ok_same x y h = cc

@@ -6,7 +6,7 @@ use Rattle.fjall_base.specs.declared.error.Error.TheVariants as errors
 use Rattle.fjall_base.specs.declared.error.StorageError.{StorageError}
 use Rattle.fjall_base.specs.declared.error.StorageError.TheVariants.{OptionInvalid}
 use Rattle.fjall_options.specs.Options.{Refuses}
-use Rattle.fjall_options.specs.Reading.{◌>>=◌}
+use Rattle.fjall_base.specs.Results.{◌>>=◌}
 use Rattle.fjall_meta.specs.declared.entry.MetaEntry.{MetaEntry}
 use Rattle.fjall_meta.specs.Reading.{AreIds, pairs_of, stored_keyspace, first_fault, IsFirstFault, IsReadingRefusal}
 

@@ -1,6 +1,7 @@
 -- What the pairs say of a keyspace, its own pairs say alone.
 use Rattle.std.proofs.Common.{◌≡◌, ℕ, ◌+◌, ◌<◌, ◌^◌, Bool, true, false, cond, List, [], ◌∷◌, ◌++◌, length, get_or, take, refl, sym, ap, ◌∙◌, Option, None, Some, inl, inr, ◌⊎◌, eqb}
 use Rattle.std.proofs.lemmas.Slice.Eq.{bytes_eq-Decides}
+use Rattle.std.proofs.lemmas.Bool.{cases_Bool}
 use Rattle.std.proofs.lemmas.Bool.Decides.{Decides-eqb}
 use Rattle.std.proofs.lemmas.List.{append-nil}
 use Rattle.std.proofs.lemmas.List.Elements.{filter_more}
@@ -14,22 +15,18 @@ use Rattle.fjall_meta.proofs.Keys.{id_of_config_key, id_of_name_key}
 abbrev Pairs : Type 0
 Pairs = List (List ℕ × List ℕ)
 
-pub cases : (b : Bool) → (b ≡ true) ⊎ (b ≡ false)
-cases true = inl refl
-cases false = inr refl
-
 itself : (id : ℕ) (found : Option ℕ) → found ≡ Some id → is_that id found ≡ true
 itself id found h = rw h ((Decides-eqb id id).1 refl)
 
 -- the first value of a key that has this id
 pub own_value : (id : ℕ) (key : List ℕ) (entries : List MetaEntry) → key_id key ≡ Some id → value_of key (pairs_of (own_entries id entries)) ≡ value_of key (pairs_of entries)
 own_value id key [] h = refl
-own_value id key (e ∷ entries) h = elim (cases (bytes_eq e.key key)) [
+own_value id key (e ∷ entries) h = elim (cases_Bool (bytes_eq e.key key)) [
   | inl is ↦
       let same : e.key ≡ key = (bytes_eq-Decides e.key key).0 is in
       let own : is_that id (key_id e.key) ≡ true = itself id (key_id e.key) (ap (λ (k : List ℕ). key_id k) same ∙ h) in
       rw (own, is) refl
-  | inr other ↦ elim (cases (is_that id (key_id e.key))) [
+  | inr other ↦ elim (cases_Bool (is_that id (key_id e.key))) [
     | inl own ↦ rw (own, other) (own_value id key entries h)
     | inr apart ↦ rw (apart, other) (own_value id key entries h)
   ]

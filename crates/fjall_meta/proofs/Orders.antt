@@ -1,7 +1,7 @@
 -- The order of the meta keyspace's keys.
 use Rattle.std.proofs.Common.{◌≡◌, ℕ, zero, suc, ◌+◌, ◌*◌, ◌%◌, ◌^◌, ◌<◌, ◌≤◌, ◌&&◌, Bool, true, false, List, [], ◌∷◌, ◌++◌, map, get_or, All, AllPairs, refl, sym, ap, ◌∙◌, arith, inl, inr, ◌⊎◌}
 use Rattle.std.proofs.Math.Nat.{mul-le-mul_right, mod-eq_of_lt, mod-lt, one-le-pow}
-use Rattle.std.proofs.lemmas.Bool.{cases_lt}
+use Rattle.std.proofs.lemmas.Bool.{cases_lt, and_parts}
 use Rattle.std.proofs.lemmas.List.Elements.{All-nil, All-cons, All-head, All-tail, All-append, All-map, All-weaker}
 use Rattle.std.proofs.lemmas.Bool.Decides.{nat_tests}
 use Rattle.std.specs.Int.{byte_at, bytes_high_first}
@@ -100,10 +100,6 @@ abbrev are_by_name : List StoredOption → Bool
 are_by_name [] = true
 are_by_name (o ∷ os) = is_before_all o os && are_by_name os
 
-both : (a b : Bool) → (a && b) ≡ true → (a ≡ true) × (b ≡ true)
-both true b e = (refl, e)
-both false b e = absurd cc
-
 lower : (o : Ordering) → is_lt o ≡ true → o ≡ Less
 lower Less e = refl
 lower Equal e = absurd cc
@@ -112,14 +108,14 @@ lower Greater e = absurd cc
 below_each : (k : LivingKeyspace) (o : StoredOption) (os : List StoredOption) → is_before_all o os ≡ true → All (λ p. Before (option_entry k o) (option_entry k p)) os
 below_each k o [] e = All-nil (λ p. Before (option_entry k o) (option_entry k p))
 below_each k o (p ∷ ps) e =
-    let parts = both (is_lt (byte_order (option_name o) (option_name p))) (is_before_all o ps) e in
+    let parts = and_parts (is_lt (byte_order (option_name o) (option_name p))) (is_before_all o ps) e in
     let first : Before (option_entry k o) (option_entry k p) = names_in_key_rise k.id (option_name o) (option_name p) (lower (byte_order (option_name o) (option_name p)) parts.0) in
     All-cons (λ q. Before (option_entry k o) (option_entry k q)) p ps first (below_each k o ps parts.1)
 
 by_name_rise : (k : LivingKeyspace) (os : List StoredOption) → are_by_name os ≡ true → Rises (λ o p. Before (option_entry k o) (option_entry k p)) os
 by_name_rise k [] e = tt
 by_name_rise k (o ∷ os) e =
-    let parts = both (is_before_all o os) (are_by_name os) e in
+    let parts = and_parts (is_before_all o os) (are_by_name os) e in
     (below_each k o os parts.0, by_name_rise k os parts.1)
 
 -- the options of a keyspace

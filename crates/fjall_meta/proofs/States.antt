@@ -1,6 +1,6 @@
 -- The entries of keyspaces store these keyspaces, and no others.
 use Rattle.std.proofs.Common.{◌≡◌, ℕ, zero, suc, ◌+◌, ◌<◌, ◌^◌, Bool, true, false, List, [], ◌∷◌, ◌++◌, length, get_or, filter_map, map, All, AllPairs, refl, sym, ap, ◌∙◌, subst, append_assoc, arith, Option, Some, None, Result, Ok, inl, inr, ◌⊎◌}
-use Rattle.std.proofs.lemmas.Bool.{cases_lt}
+use Rattle.std.proofs.lemmas.Bool.{cases_lt, cases_Bool}
 use Rattle.std.proofs.lemmas.Bool.Decides.{Decides-eqb}
 use Rattle.std.proofs.lemmas.Cmp.{nat_list_cmp_total}
 use Rattle.std.proofs.lemmas.List.{get_or-map, get_or_append_left, get_or-append-add, get_or_default, length-append, length-map}
@@ -18,8 +18,9 @@ use Rattle.fjall_meta.specs.declared.entry.MetaEntry.{MetaEntry}
 use Rattle.fjall_meta.specs.Entries.{options_by_name, option_entry, option_entries, name_entry, entries_of}
 use Rattle.fjall_meta.specs.Keyspaces.{Keyspaces, AreKeyspaces, is_name}
 use Rattle.fjall_meta.specs.Reading.{key_id, is_that, own_entries, number_in, pairs_of, stored_keyspace, first_fault, AreIds, IsStored}
-use Rattle.fjall_meta.proofs.Alike.{is_by_name, entry_by_name, all_values, low_ids, many_options, same_parts}
-use Rattle.fjall_meta.proofs.Grouping.{cases, own_value}
+use Rattle.fjall_options.proofs.StoredPairs.{all_values}
+use Rattle.fjall_meta.proofs.Alike.{is_by_name, entry_by_name, low_ids, many_options, same_parts}
+use Rattle.fjall_meta.proofs.Grouping.{own_value}
 use Rattle.fjall_meta.proofs.Keys.{id_of_config_key, id_of_name_key}
 use Rattle.fjall_meta.proofs.Orders.{entries_ascend}
 use Rattle.fjall_meta.proofs.Rising.{Rises, from_pairs, mapped}
@@ -30,7 +31,7 @@ not_below_itself : (key : List ℕ) → byte_order key key ≡ Less → ⊥
 not_below_itself key h = let other = nat_list_cmp_total.antisymm key key in absurd cc
 
 below_differs : (a b : List ℕ) → byte_order a b ≡ Less → bytes_eq a b ≡ false
-below_differs a b h = elim (cases (bytes_eq a b)) [
+below_differs a b h = elim (cases_Bool (bytes_eq a b)) [
   | inl is ↦
       let same : a ≡ b = (bytes_eq-Decides a b).0 is in
       absurd (not_below_itself b (subst (λ (k : List ℕ). byte_order k b ≡ Less) same h))

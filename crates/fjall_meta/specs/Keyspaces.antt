@@ -46,6 +46,15 @@ with_keyspace name options number s = record {
   next = s.next + 1;
 }
 
+-- what the creation of a keyspace made of lawful ones is these again
+abbrev pub TakesBack : Keyspaces → Keyspaces → Type 0
+TakesBack old new = (s : Keyspaces) (name : List ℕ) (options : List (List ℕ)) (number : ℕ) → AreKeyspaces s → old ≡ with_keyspace name options number s → new ≡ s
+
+-- what is found are these keyspaces with this next id; nothing is found where they aren't lawful
+abbrev pub AreRestored : List LivingKeyspace → ℕ → Option Keyspaces → Type 0
+AreRestored living next None = AreKeyspaces (record { living = living; next = next }) → ⊥
+AreRestored living next (Some found) = found ≡ record { living = living; next = next }
+
 -- a name that none has yet gets the next id, while there is one
 abbrev pub new_keyspace : List ℕ → List (List ℕ) → ℕ → Keyspaces → Result (ℕ × Keyspaces) Error
 new_keyspace name options number s = if s.next == 2 ^ 64 - 1 then Err NumbersUsedUp else Ok (s.next, with_keyspace name options number s)

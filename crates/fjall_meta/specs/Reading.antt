@@ -1,5 +1,5 @@
 -- What pairs of the meta keyspace say of the keyspaces that they store.
-use Rattle.std.specs.Prelude.{◌≡◌, ⊤, ℕ, ◌==◌, ◌&&◌, ◌||◌, nat_le, Bool, false, if◌then◌else◌, List, [], ◌∷◌, length, map, filter_map, drop, slice_index, filter, Contains, ◌↔◌, Option, Some, None, unwrap_or, Result, Ok, Err}
+use Rattle.std.specs.Prelude.{◌≡◌, ⊤, ℕ, ◌==◌, ◌&&◌, ◌||◌, nat_le, Bool, false, if◌then◌else◌, List, [], ◌∷◌, length, map, filter_map, drop, slice_index, filter, Contains, ◌↔◌, Option, Some, None, unwrap_or, Result, Ok, Err, MatchResult}
 use Rattle.std.specs.List.Sorted.{IsStrictlyIncreasing}
 use Rattle.std.specs.BTreeMap.{BTreeMap, get}
 use Rattle.std.specs.Option.{option_map_or}
@@ -11,10 +11,11 @@ use Rattle.fjall_base.specs.declared.error.Error.TheVariants as errors
 use Rattle.fjall_base.specs.declared.error.StorageError.{StorageError}
 use Rattle.fjall_base.specs.declared.error.StorageError.TheVariants.{OptionMissing, OptionInvalid}
 use Rattle.fjall_options.specs.Options.{name_key, value_of, stored_options, stored_values}
-use Rattle.fjall_options.specs.Reading.{◌>>=◌}
+use Rattle.fjall_base.specs.Results.{◌>>=◌}
 use Rattle.fjall_meta.specs.declared.entry.MetaEntry.{MetaEntry}
 use Rattle.fjall_meta.specs.declared.living.LivingKeyspace.{LivingKeyspace}
-use Rattle.fjall_meta.specs.Keyspaces.{is_name}
+use Rattle.fjall_meta.specs.Keyspaces.{Keyspaces, AreKeyspaces, is_name}
+use Rattle.fjall_meta.specs.Entries.{entries_of}
 
 -- the id in a key: eight bytes, the highest first, behind an 'n' or a 'c'
 abbrev pub key_id : List ℕ → Option ℕ
@@ -64,6 +65,10 @@ abbrev pub IsReadingRefusal : List MetaEntry → Error → Type 0
 IsReadingRefusal entries errors.OutOfMemory = ⊤
 IsReadingRefusal entries (errors.Storage cause) = (ids : List ℕ) × AreIds ids entries × (cause ≡ unwrap_or (first_fault ids (pairs_of entries)) OptionInvalid)
 IsReadingRefusal entries error = ⊥
+
+-- Lawful keyspaces that have these entries and this next id are what is read, while memory lasts.
+abbrev pub ReadsBack : List MetaEntry → ℕ → Result Keyspaces Error → Type 0
+ReadsBack entries next read = (s : Keyspaces) → AreKeyspaces s → s.next ≡ next → entries_of s.living ≡ entries → MatchResult read (λ m. m ≡ s) (λ e. e ≡ errors.OutOfMemory)
 
 -- ---- the pairs of one keyspace
 

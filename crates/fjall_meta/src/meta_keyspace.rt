@@ -5,7 +5,7 @@ ghost use Rattle.fjall_base.specs.Pairs.{byte_order};
 ghost use Rattle.fjall_base.specs.declared.error.Error.TheVariants.{OutOfMemory};
 ghost use Rattle.fjall_options.specs.Options.{value_at, AreOptions};
 ghost use Rattle.std.specs.Option.{option_map, option_copied};
-ghost use Rattle.fjall_meta.specs.Keyspaces.{AreKeyspaces, is_name, no_keyspaces, keyspace_at, id_of, creation, IsCreationRefusal, Keyspaces, with_keyspace, without_keyspace};
+ghost use Rattle.fjall_meta.specs.Keyspaces.{AreKeyspaces, AreRestored, TakesBack, is_name, no_keyspaces, keyspace_at, id_of, creation, IsCreationRefusal, Keyspaces, with_keyspace, without_keyspace};
 ghost use Rattle.fjall_meta.specs.Entries.{entries_of, IsAscending};
 
 use crate::entry::{MetaEntry, put_all_names, put_all_options, value_of};
@@ -211,7 +211,7 @@ impl MetaKeyspace {
     /// Takes the keyspace that was made last back, where its creation was the last change: its id is free
     /// again.
     pub fn take_back(&mut self)
-        ensures { (s : Keyspaces) (name : List ℕ) (options : List (List ℕ)) (number : ℕ) → AreKeyspaces s → self.old ≡ with_keyspace name options number s → self.new ≡ s }
+        ensures { TakesBack self.old self.new }
     {
         if let Some(keyspace) = self.living.pop() {
             self.next = keyspace.id;
@@ -295,7 +295,7 @@ impl MetaKeyspace {
         requires ascending { AllPairs (λ j k. j.id < k.id) living.items }
         requires names { All (λ k. is_name k.name ≡ true) living.items }
         requires options { All (λ k. AreOptions k.options) living.items }
-        ensures ok { IfOk result (λ found. MatchOption found (AreKeyspaces (record { living = living.items; next = next_id }) → ⊥) (λ m. m ≡ record { living = living.items; next = next_id })) }
+        ensures ok { IfOk result (AreRestored living.items next_id) }
         ensures only { IfErr result (λ e. e ≡ OutOfMemory) }
     {
         if next_id == 0 || !are_given(&living, next_id) {

@@ -3,7 +3,7 @@
 ghost use Rattle.std.specs.Prelude.{◌≡◌, ◌↔◌, ℕ, ◌==◌, if◌then◌else◌, ◌∷◌, [], ◌++◌, map, filter_map, All, IsTrue, IfOk, IfErr, OnOk, MatchOption, MatchResult, None, Some, Ok};
 ghost use Rattle.fjall_base.specs.declared.error.Error.TheVariants.{OutOfMemory};
 ghost use Rattle.fjall_options.specs.Options.{Reads, Refuses, value_of};
-ghost use Rattle.fjall_meta.specs.Reading.{key_id, AreIds, pairs_of, stored_name, stored_keyspace, first_fault, IsFirstFault, IsReadingRefusal, own_entries, number_in, entries_at, IsStored};
+ghost use Rattle.fjall_meta.specs.Reading.{key_id, AreIds, pairs_of, stored_name, stored_keyspace, first_fault, IsFirstFault, IsReadingRefusal, ReadsBack, own_entries, number_in, entries_at, IsStored};
 ghost use Rattle.fjall_meta.specs.Keyspaces.{Keyspaces, AreKeyspaces};
 ghost use Rattle.fjall_meta.specs.Entries.{entries_of};
 
@@ -206,7 +206,7 @@ impl MetaKeyspace {
         ensures ok { IfOk result (λ keyspaces. entries_of keyspaces.living ≡ entries.now) }
         ensures next { IfOk result (λ keyspaces. keyspaces.next ≡ next_id) }
         ensures lawful { IfOk result AreKeyspaces }
-        ensures whole { (s : Keyspaces) → AreKeyspaces s → s.next ≡ next_id → entries_of s.living ≡ entries.now → MatchResult result (λ m. m ≡ s) (λ e. e ≡ OutOfMemory) }
+        ensures whole { ReadsBack entries.now next_id result }
         ensures cause { IfErr result (IsReadingRefusal entries.now) }
     {
         let ids = ids_of(alloc, entries)?;

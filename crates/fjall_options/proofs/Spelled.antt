@@ -3,10 +3,11 @@ use Rattle.std.proofs.Common.{◌≡◌, ℕ, suc, ◌-◌, ◌+◌, ◌≤◌, 
 use Rattle.std.proofs.lemmas.List.{append-nil}
 use Rattle.std.specs.List.{flat_map, AllByRecursion}
 use Rattle.std.proofs.lemmas.Bool.{ne_eqb}
-use Rattle.std.proofs.Math.Seq.{take-suc, take-length}
+use Rattle.std.proofs.Math.Seq.{take-suc}
 use Rattle.fjall_base.specs.declared.error.Error.{Error}
 use Rattle.fjall_base.specs.declared.error.Error.TheVariants as errors
-use Rattle.fjall_options.specs.Reading.{Fault, Fails, Reader, ◌>>=◌}
+use Rattle.fjall_base.specs.Results.{◌>>=◌}
+use Rattle.fjall_options.specs.Reading.{Fault, Fails, Reader}
 use Rattle.fjall_options.specs.Policies.{entries_at, policy_at, policy_bytes}
 
 -- the entry is read from where it is spelled, whatever stands behind it
@@ -15,10 +16,6 @@ pub record IsReadBack {T : Type 0} (entry_at : Reader T) (spelled : T → List �
 
 abbrev pub AreReadBack : {T : Type 0} → Reader T → (T → List ℕ) → List T → Type 0
 AreReadBack entry_at spelled xs = AllByRecursion (IsReadBack entry_at spelled) xs
-
-pub one_more_back : {T : Type 0} (entry_at : Reader T) (spelled : T → List ℕ) (xs : List T) (x : T) → AreReadBack entry_at spelled xs → IsReadBack entry_at spelled x → AreReadBack entry_at spelled (xs ++ x ∷ [])
-one_more_back entry_at spelled [] x all one = (one, tt)
-one_more_back entry_at spelled (y ∷ ys) x all one = (all.0, one_more_back entry_at spelled ys x all.1 one)
 
 -- what was spelled one after the other is read so
 pub entries_back : {T : Type 0} (entry_at : Reader T) (spelled : T → List ℕ) (xs : List T) (rest : List ℕ) → AreReadBack entry_at spelled xs
@@ -37,9 +34,6 @@ policy_back entry_at spelled (x ∷ xs) rest some all =
 -- the entries before a place, and the one there
 pub taken : {T : Type 0} (xs : List T) (i : ℕ) (x : T) → i < length xs → x ≡ get_or xs i x → take (i + 1) xs ≡ take i xs ++ x ∷ []
 taken xs i x lt is = rw add-one (take-suc xs i x lt ∙ ap (λ v. take i xs ++ v ∷ []) (sym is))
-
-pub taken_all : {T : Type 0} (xs : List T) (i : ℕ) → i ≤ length xs → length xs ≤ i → take i xs ≡ xs
-taken_all xs i le ge = let e : i ≡ length xs = omega arith in rw e (take-length xs)
 
 -- ---- a loop that reads
 

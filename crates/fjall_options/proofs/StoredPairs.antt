@@ -1,8 +1,9 @@
 -- Options that are stored as pairs, and read from them.
 use Rattle.std.proofs.Common.{◌≡◌, ℕ, zero, suc, ◌+◌, ◌<◌, ◌≤◌, Bool, true, false, ◌&&◌, not, cond, List, [], ◌∷◌, ◌++◌, length, get_or, take, drop, map, refl, sym, ap, ◌∙◌, append_assoc, arith, add-one, Option, None, Some, Result, Ok, Err, inl, inr, ◌⊎◌}
 use Rattle.std.proofs.Math.Seq.{drop-cons, take-suc}
-use Rattle.std.proofs.lemmas.List.{append-nil, drop_at, map-append, drop_all}
+use Rattle.std.proofs.lemmas.List.{append-nil, drop_at, map-append, drop_all, take_all}
 use Rattle.std.proofs.lemmas.Slice.Eq.{bytes_eq-Decides}
+use Rattle.std.proofs.lemmas.Bool.{cases_Bool, and_parts}
 use Rattle.std.specs.List.{slice_get, AllByRecursion}
 use Rattle.std.specs.Str.{bytes_eq}
 use Rattle.byteorder.specs.Endian.{big_bytes}
@@ -12,19 +13,15 @@ use Rattle.fjall_base.specs.declared.error.StorageError.{StorageError}
 use Rattle.fjall_base.specs.declared.error.StorageError.TheVariants.{OptionInvalid}
 use Rattle.fjall_options.specs.declared.options.stored_option.StoredOption.{StoredOption}
 use Rattle.fjall_options.specs.declared.options.stored_option.StoredOption.TheVariants.{CompactionStrategy}
-use Rattle.fjall_options.specs.Reading.{◌>>=◌}
+use Rattle.fjall_base.specs.Results.{◌>>=◌}
+use Rattle.fjall_memory.proofs.Results.{bind_ok}
 use Rattle.fjall_options.specs.Options.{stored_options, place, option_name, is_value, value_at, AreOptions, config_key, config_pair, config_pairs, value_of, valid_value, stored_value, stored_values, Refuses}
 use Rattle.fjall_options.proofs.OptionTables.{placed}
-use Rattle.fjall_options.proofs.Spelled.{taken_all}
 
 -- ---- keys
 
 abbrev Pair : Type 0
 Pair = List ℕ × List ℕ
-
-cases : (b : Bool) → (b ≡ true) ⊎ (b ≡ false)
-cases true = inl refl
-cases false = inr refl
 
 same_key : (key : List ℕ) → bytes_eq key key ≡ true
 same_key key = (bytes_eq-Decides key key).1 refl
@@ -33,7 +30,7 @@ same_key key = (bytes_eq-Decides key key).1 refl
 other_key : (id : ℕ) (a b : List ℕ) → bytes_eq a b ≡ false → bytes_eq (config_key id a) (config_key id b) ≡ false
 other_key id a b differ =
     let front : List ℕ = 0x63 ∷ big_bytes 8 id in
-    elim (cases (bytes_eq (config_key id a) (config_key id b))) [
+    elim (cases_Bool (bytes_eq (config_key id a) (config_key id b))) [
       | inl is ↦
           let keys : front ++ a ≡ front ++ b = (bytes_eq-Decides (config_key id a) (config_key id b)).0 is in
           let names : a ≡ b = sym (drop_at front a (length front) refl) ∙ ap (λ (k : List ℕ). drop (length front) k) keys ∙ drop_at front b (length front) refl in
@@ -41,10 +38,6 @@ other_key id a b differ =
           absurd (cc (test, differ))
       | inr other ↦ other
     ]
-
-both : (a b : Bool) → (a && b) ≡ true → (a ≡ true) × (b ≡ true)
-both true b e = (refl, e)
-both false b e = absurd cc
 
 abbrev is_fresh : StoredOption → List StoredOption → Bool
 is_fresh option [] = true
@@ -66,14 +59,14 @@ Holds id options pairs those = AllByRecursion (λ o. value_of (config_key id (op
 holds_behind : (id : ℕ) (options : List (List ℕ)) (first : StoredOption) (pairs : List Pair) (those : List StoredOption) → is_fresh first those ≡ true → Holds id options pairs those → Holds id options (config_pair id options first ∷ pairs) those
 holds_behind id options first pairs [] fresh holds = tt
 holds_behind id options first pairs (o ∷ those) fresh holds =
-    let parts = both (not (bytes_eq (option_name first) (option_name o))) (is_fresh first those) fresh in
+    let parts = and_parts (not (bytes_eq (option_name first) (option_name o))) (is_fresh first those) fresh in
     let no = other_key id (option_name first) (option_name o) (not_true (bytes_eq (option_name first) (option_name o)) parts.0) in
     (rw no holds.0, holds_behind id options first pairs those parts.1 holds.1)
 
 holds_all : (id : ℕ) (options : List (List ℕ)) (those : List StoredOption) → are_distinct those ≡ true → Holds id options (map (config_pair id options) those) those
 holds_all id options [] distinct = tt
 holds_all id options (o ∷ those) distinct =
-    let parts = both (is_fresh o those) (are_distinct those) distinct in
+    let parts = and_parts (is_fresh o those) (are_distinct those) distinct in
     (rw (same_key (config_key id (option_name o))) refl, holds_behind id options o (map (config_pair id options) those) those parts.0 (holds_all id options those parts.1))
 
 read_all : (id : ℕ) (options : List (List ℕ)) (pairs : List Pair) (those : List StoredOption) → AreOptions options → Holds id options pairs those → stored_values id pairs those ≡ Ok (map (λ o. value_at o options) those)
@@ -92,19 +85,16 @@ from_is i (suc n) xs len =
     let lt : i < length xs = omega (arith, len) in
     rw (from_is (i + 1) n xs (omega (arith, len)), add-one, drop-cons xs i [] lt) refl
 
-listed : (options : List (List ℕ)) → length options ≡ 20 → map (λ o. value_at o options) stored_options ≡ options
-listed options len = from_is 0 20 options len
+-- options are their values in the options' order
+pub all_values : (options : List (List ℕ)) → length options ≡ 20 → map (λ o. value_at o options) stored_options ≡ options
+all_values options len = from_is 0 20 options len
 
 pub read_back : (id : ℕ) (options : List (List ℕ)) → AreOptions options → stored_values id (config_pairs id options) stored_options ≡ Ok options
 unfolding config_pairs
 read_back id options all =
-    read_all id options (config_pairs id options) stored_options all (holds_all id options stored_options refl) ∙ ap (λ (vs : List (List ℕ)). Ok vs) (listed options all.complete)
+    read_all id options (config_pairs id options) stored_options all (holds_all id options stored_options refl) ∙ ap (λ (vs : List (List ℕ)). Ok vs) (all_values options all.complete)
 
 -- ---- what is read are options
-
-bind_ok : {A B E : Type 0} (r : Result A E) (f : A → Result B E) (y : B) → (r >>= f) ≡ Ok y → (x : A) × (r ≡ Ok x) × (f x ≡ Ok y)
-bind_ok (Ok x) f y e = (x, refl, e)
-bind_ok (Err d) f y e = absurd cc
 
 valid_if : (b : Bool) (w v : List ℕ) → cond b (Ok w) (Err OptionInvalid) ≡ Ok v → (b ≡ true) × (w ≡ v)
 valid_if true w v e = (refl, cc)
@@ -182,4 +172,4 @@ one_more f i lt =
     ap (λ (os : List StoredOption). map f os) next ∙ map-append f (take i stored_options) (item i ∷ [])
 
 pub all_done : {X : Type 0} (f : StoredOption → X) (i : ℕ) → i ≤ 20 → 20 ≤ i → map f (take i stored_options) ≡ map f stored_options
-all_done f i le ge = ap (λ (os : List StoredOption). map f os) (taken_all stored_options i le ge)
+all_done f i le ge = ap (λ (os : List StoredOption). map f os) (take_all i stored_options ge)

@@ -11,7 +11,8 @@ use Rattle.fjall_options.specs.declared.options.stored_option.StoredOption.TheVa
 use Rattle.fjall_options.specs.declared.options.option_value.OptionValue.{OptionValue}
 use Rattle.fjall_options.specs.declared.options.option_value.OptionValue.TheVariants as values
 use Rattle.fjall_options.specs.declared.options.effective.EffectiveSettings.{EffectiveSettings}
-use Rattle.fjall_options.specs.Reading.{◌>>=◌, byte_at, number_at}
+use Rattle.fjall_base.specs.Results.{◌>>=◌}
+use Rattle.fjall_options.specs.Reading.{byte_at, number_at}
 use Rattle.fjall_options.specs.Policies.{policy_bytes, number_bytes, policy_at, flag_at, compression_at, filter_at}
 
 -- ---- the table

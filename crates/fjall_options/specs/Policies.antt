@@ -8,7 +8,8 @@ use Rattle.fjall_options.specs.declared.options.filter.BloomConstructionPolicy.{
 use Rattle.fjall_options.specs.declared.options.filter.BloomConstructionPolicy.TheVariants.{BitsPerKey, FalsePositiveRate}
 use Rattle.fjall_options.specs.declared.options.filter.FilterPolicyEntry.{FilterPolicyEntry}
 use Rattle.fjall_options.specs.declared.options.filter.FilterPolicyEntry.TheVariants as filters
-use Rattle.fjall_options.specs.Reading.{Fault, Invalid, Reader, ◌>>=◌, byte_at, number_at}
+use Rattle.fjall_base.specs.Results.{◌>>=◌}
+use Rattle.fjall_options.specs.Reading.{Fault, Invalid, Reader, byte_at, number_at}
 
 -- ---- a policy
 

@@ -1,19 +1,14 @@
 -- Reading bytes from left to right, with the first fault that is met.
-use Rattle.std.specs.Prelude.{◌≡◌, ⊤, ℕ, List, [], ◌∷◌, length, drop, Result, Ok, Err, nat_lt, if◌then◌else◌}
-use Rattle.byteorder.specs.Endian.{little_number}
+use Rattle.std.specs.Prelude.{◌≡◌, ⊤, ℕ, List, Option, Some, None, Result, Ok, Err}
 use Rattle.std.specs.declared.io.ErrorKind.TheVariants.{UnexpectedEof}
 use Rattle.fjall_base.specs.declared.error.Error.{Error}
 use Rattle.fjall_base.specs.declared.error.Error.TheVariants as errors
+use Rattle.fjall_base.specs.Fields as fields
 
 -- Why bytes can't be read: they end within a field, or a byte of the named field means nothing.
 pub data Fault : Type 0 where
   Short : Fault
   Invalid : List ℕ → ℕ → Fault
-
-infixl 10 ◌>>=◌
-abbrev pub ◌>>=◌ : {A B E : Type 0} → Result A E → (A → Result B E) → Result B E
-(Ok x) >>= f = f x
-(Err e) >>= f = Err e
 
 -- The error names the fault that reading met, or memory ran out.
 abbrev pub Fails : {Y : Type 0} → Error → Result Y Fault → Type 0
@@ -35,10 +30,14 @@ Read T = Result T Fault
 abbrev pub Reader : Type 0 → Type 0
 Reader T = List ℕ → Result (T × List ℕ) Fault
 
+-- A field that isn't whole is short.
+abbrev pub whole : {A : Type 0} → Option A → Read A
+whole (Some x) = Ok x
+whole None = Err Short
+
 abbrev pub byte_at : Reader ℕ
-byte_at [] = Err Short
-byte_at (b ∷ rest) = Ok (b, rest)
+byte_at bytes = whole (fields.byte_at bytes)
 
 -- a number of four bytes, the lowest first
 abbrev pub number_at : Reader ℕ
-number_at bytes = if nat_lt (length bytes) 4 then Err Short else Ok (little_number 4 bytes, drop 4 bytes)
+number_at bytes = whole (fields.number_at 4 bytes)

@@ -11,10 +11,11 @@ use Rattle.fjall_table.specs.Frame.{framed}
 use Rattle.fjall_base.specs.Fields.{◌>>=◌, byte_at, number_at, bytes_at}
 use Rattle.fjall_table.specs.Reading.{frame_at}
 use Rattle.fjall_base.specs.Lists.{last_of}
+use Rattle.fjall_base.proofs.Lists.{last_behind}
 use Rattle.fjall_table.specs.Blocks.{Entry, type_byte, value_bytes, entry_text, IsEntry, payload_of, block_text, StandsBefore, IsBefore, IsOrdered, IsBlock, IsNoBlock, value_of, entry_of, entry_at}
-use Rattle.fjall_base.proofs.Codecs.{IsBytes, IsBytes-front, IsBytes-back, just, some_is, bind_some, pass_some, guard_some, picked, Found, IsCodec, step, one_text, byte_codec, u16_codec, u32_codec, u64_codec, bytes_codec}
+use Rattle.fjall_base.proofs.Codecs.{IsBytes, IsBytes-front, IsBytes-back, just, some_is, bind_some, pass_some, guard_some, picked, Found, IsCodec, step, one_text, byte_codec, u16_codec, u32_codec, u64_codec, bytes_codec, one_behind, each_more}
 use Rattle.fjall_table.proofs.Frames.{frame8}
-use Rattle.fjall_table.proofs.Lists.{Apart, one_behind, GoesOn, goes_on, each_more}
+use Rattle.fjall_table.proofs.Lists.{Apart, GoesOn, goes_on}
 
 -- ---- an entry
 
@@ -141,11 +142,6 @@ ordered_at (w ∷ []) more v up = up.0
 ordered_at (w ∷ x ∷ vs) more v up = ordered_at (x ∷ vs) more v up.1
 
 -- ---- what was read so far
-
-pub last_behind : {A : Type 0} (xs : List A) (a : A) → last_of (xs ++ a ∷ []) ≡ Some a
-last_behind [] a = refl
-last_behind (b ∷ []) a = refl
-last_behind (b ∷ d ∷ xs) a = last_behind (d ∷ xs) a
 
 pub record Part (payload : List ℕ) (vs : List Entry) (last : Option Entry) (rest : List ℕ) : Type 0 where
   pub last_is : last ≡ last_of vs

@@ -2,15 +2,16 @@
 use Rattle.std.proofs.Common.{◌≡◌, ℕ, ◌^◌, ◌<◌, Bool, true, false, cond, ◌&&◌, List, [], ◌∷◌, ◌++◌, length, take, Option, Some, None, refl, sym, ap, subst, ◌∙◌, append_assoc}
 use Rattle.std.specs.Str.{bytes_eq}
 use Rattle.std.proofs.lemmas.Slice.Eq.{bytes_eq-Decides}
+use Rattle.std.proofs.lemmas.Bool.{and_parts}
 use Rattle.std.proofs.lemmas.List.{take_at, append-nil, nil_from_length}
 use Rattle.byteorder.specs.Endian.{little_bytes}
 use Rattle.fjall_table.specs.declared.footer.Footer.{Footer}
-use Rattle.fjall_table.specs.Frame.{check}
+use Rattle.fjall_base.specs.Check.{check}
 use Rattle.fjall_base.specs.Fields.{◌>>=◌, number_at, bytes_at}
 use Rattle.fjall_table.specs.Tables.{footer_text}
 use Rattle.fjall_table.specs.TableReading.{IsNoFooter, footer_at}
 use Rattle.fjall_base.proofs.Codecs.{IsBytes, some_is, pass_some, Found, IsCodec, step, u64_codec, bytes_codec}
-use Rattle.fjall_table.proofs.Frames.{check_len}
+use Rattle.fjall_base.proofs.Checks.{check_len}
 
 pub record Room (f : Footer) : Type 0 where
   pub offset : f.index_offset < 2 ^ 64
@@ -28,10 +29,6 @@ head offset len count = 70 ∷ 74 ∷ 84 ∷ 1 ∷ little_bytes 8 offset ++ (lit
 
 pub head_len : (offset len count : ℕ) → length (head offset len count) ≡ 28
 head_len offset len count = refl
-
-both : (a b : Bool) → (a && b) ≡ true → (a ≡ true) × (b ≡ true)
-both true b e = (refl, e)
-both false b e = absurd cc
 
 regroup : (a b c sum rest : List ℕ) → ((magic ++ (a ++ (b ++ c))) ++ sum) ++ rest ≡ magic ++ (a ++ (b ++ (c ++ (sum ++ rest))))
 regroup a b c sum rest = simp append_assoc
@@ -56,7 +53,7 @@ last_fields : (bytes m r0 r1 r2 r3 r4 sum : List ℕ) (offset len count : ℕ) (
 unfolding footer_text
 last_fields bytes m r0 r1 r2 r3 r4 sum offset len count f rest e0 e1 f1 e2 f2 e3 f3 e4 fits e =
     let p = pass_some (bytes_eq m magic && bytes_eq sum (check (take 28 bytes))) (Some (record { index_offset = offset; index_len = len; entry_count = count }, r4)) (f, rest) e in
-    let q = both (bytes_eq m magic) (bytes_eq sum (check (take 28 bytes))) p.0 in
+    let q = and_parts (bytes_eq m magic) (bytes_eq sum (check (take 28 bytes))) p.0 in
     let line = joined bytes m (little_bytes 8 offset) (little_bytes 8 len) (little_bytes 8 count) sum r0 r1 r2 r3 r4 e0 e1 e2 e3 e4 ((bytes_eq-Decides m magic).0 q.0) in
     let of : take 28 bytes ≡ head offset len count = ap (take 28) line ∙ front offset len count sum r4 in
     let is : sum ≡ check (head offset len count) = (bytes_eq-Decides sum (check (take 28 bytes))).0 q.1 ∙ ap check of in

@@ -1,25 +1,15 @@
 -- A frame is read as it was written.
-use Rattle.std.proofs.Common.{◌≡◌, ℕ, zero, suc, ◌+◌, ◌*◌, ◌^◌, ◌<◌, true, cond, List, ◌++◌, length, take, Some, None, refl, sym, ap, subst, ◌∙◌, append_assoc, arith}
+use Rattle.std.proofs.Common.{◌≡◌, ℕ, ◌+◌, ◌^◌, ◌<◌, true, cond, List, ◌++◌, length, take, Some, None, refl, sym, ap, subst, ◌∙◌, append_assoc, arith}
 use Rattle.std.specs.Str.{bytes_eq}
-use Rattle.std.specs.Prelude.{slice_index}
-use Rattle.std.specs.Int.{w32, to_be_bytes}
 use Rattle.std.proofs.lemmas.Slice.Eq.{bytes_eq-Decides}
-use Rattle.std.proofs.lemmas.List.{take_at, length-append, length-take}
+use Rattle.std.proofs.lemmas.List.{take_at, length-append}
 use Rattle.byteorder.specs.Endian.{little_bytes}
-use Rattle.sha2.specs.Sha256.{sha256, digest_bytes, final_hash, initial_hash_256}
-use Rattle.fjall_table.specs.Frame.{check, headed, framed}
+use Rattle.fjall_base.specs.Check.{check}
+use Rattle.fjall_base.proofs.Checks.{check_len}
+use Rattle.fjall_table.specs.Frame.{headed, framed}
 use Rattle.fjall_base.specs.Fields.{◌>>=◌, number_at, bytes_at}
 use Rattle.fjall_table.specs.Reading.{frame_at}
 use Rattle.fjall_base.proofs.Codecs.{IsBytes, some_is, pass_some, Found, IsCodec, step, IsWide, wide4, wide8, number_codec, bytes_codec, length-little}
-
-digest_len : (h : List ℕ) (n : ℕ) → length (digest_bytes h n) ≡ 4 * n
-unfolding digest_bytes
-digest_len h zero = refl
-digest_len h (suc n) = omega (arith, length-append (digest_bytes h n) (to_be_bytes w32 (slice_index h n)), digest_len h n)
-
-pub check_len : (bytes : List ℕ) → length (check bytes) ≡ 8
-unfolding check sha256
-check_len bytes = omega (arith, length-take 8 (digest_bytes (final_hash initial_hash_256 bytes) 8), digest_len (final_hash initial_hash_256 bytes) 8)
 
 -- how long a frame is
 pub length_framed : (width : ℕ) (payload : List ℕ) → length (framed width payload) ≡ width + length payload + 8

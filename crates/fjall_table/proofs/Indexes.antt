@@ -12,9 +12,9 @@ use Rattle.fjall_base.specs.Fields.{◌>>=◌, number_at, bytes_at}
 use Rattle.fjall_table.specs.Reading.{frame_at}
 use Rattle.fjall_table.specs.Tables.{Handle, handle_text, index_text, Cover, Ascend, IsIndex}
 use Rattle.fjall_table.specs.TableReading.{handle_at, IsHandle, Follows, IsNoIndex}
-use Rattle.fjall_base.proofs.Codecs.{IsBytes, some_is, Found, IsCodec, step, one_text, u16_codec, u64_codec, bytes_codec, length-little}
+use Rattle.fjall_base.proofs.Codecs.{IsBytes, some_is, Found, IsCodec, step, one_text, u16_codec, u64_codec, bytes_codec, length-little, first_of, one_behind, each_more}
 use Rattle.fjall_table.proofs.Frames.{frame8, length_framed}
-use Rattle.fjall_table.proofs.Lists.{Apart, first_of, one_behind, GoesOn, goes_on, each_more}
+use Rattle.fjall_table.proofs.Lists.{Apart, GoesOn, goes_on}
 use Rattle.fjall_table.proofs.BlockParts.{Whole, whole_takes}
 
 -- ---- a handle

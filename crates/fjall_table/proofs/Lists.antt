@@ -3,6 +3,7 @@ use Rattle.std.proofs.Common.{◌≡◌, ℕ, ◌<◌, List, [], ◌∷◌, ◌+
 use Rattle.std.specs.List.{flat_map, AllByRecursion}
 use Rattle.std.proofs.lemmas.List.{length-append}
 use Rattle.std.proofs.lemmas.List.Concat.{flat_map-cons}
+use Rattle.fjall_base.proofs.Codecs.{first_of}
 
 -- no text begins another, and each has a byte
 pub record Apart {A : Type 0} (text : A → List ℕ) (Is : A → Type 0) : Type 0 where
@@ -12,13 +13,6 @@ pub record Apart {A : Type 0} (text : A → List ℕ) (Is : A → Type 0) : Type
 -- no item stands at the front
 abbrev pub NoItem : {A : Type 0} → (A → List ℕ) → (A → Type 0) → List ℕ → Type 0
 NoItem {A} text Is bytes = (a : A) (more : List ℕ) → Is a → bytes ≡ text a ++ more → ⊥
-
-pub first_of : {A : Type 0} (f : A → List ℕ) (a : A) (others : List A) (x : List ℕ) → flat_map f (a ∷ others) ++ x ≡ f a ++ (flat_map f others ++ x)
-first_of f a others x = ap (λ (v : List ℕ). v ++ x) (flat_map-cons f a others) ∙ append_assoc (f a) (flat_map f others) x
-
-pub one_behind : {A : Type 0} (f : A → List ℕ) (front : List A) (a : A) (rest : List ℕ) → flat_map f front ++ (f a ++ rest) ≡ flat_map f (front ++ a ∷ []) ++ rest
-one_behind f [] a rest = sym (first_of f a [] rest)
-one_behind f (b ∷ front) a rest = first_of f b front (f a ++ rest) ∙ ap (λ (v : List ℕ). f b ++ v) (one_behind f front a rest) ∙ sym (first_of f b (front ++ a ∷ []) rest)
 
 pub same_lists : {A : Type 0} (text : A → List ℕ) (Is : A → Type 0) → Apart text Is → (xs ys : List A) (x y : List ℕ) → AllByRecursion Is xs → AllByRecursion Is ys → NoItem text Is x → NoItem text Is y
     → flat_map text xs ++ x ≡ flat_map text ys ++ y → (xs ≡ ys) × (x ≡ y)
@@ -51,7 +45,3 @@ goes_on {A} text Is apart (a ∷ front) (b ∷ all) rest ef ea e =
     let first = apart.one a b (flat_map text front ++ rest) (flat_map text all) ef.0 ea.0 (sym (first_of text a front rest) ∙ e ∙ flat_map-cons text b all) in
     let g = goes_on text Is apart front all rest ef.1 ea.1 first.1 in
     record { more = g.more; parts = ap (λ (v : A). v ∷ all) (sym first.0) ∙ ap (λ (v : List A). a ∷ v) g.parts; each = g.each; text_is = g.text_is }
-
-pub each_more : {A : Type 0} (Is : A → Type 0) (xs : List A) (a : A) → AllByRecursion Is xs → Is a → AllByRecursion Is (xs ++ a ∷ [])
-each_more Is [] a each is = (is, tt)
-each_more Is (b ∷ xs) a each is = (each.0, each_more Is xs a each.1 is)

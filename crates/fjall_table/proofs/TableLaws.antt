@@ -8,13 +8,14 @@ use Rattle.std.proofs.lemmas.Cmp.{nat_list_cmp_total}
 use Rattle.std.proofs.lemmas.List.{length-append, append-nil, take_at, drop_at}
 use Rattle.byteorder.specs.Endian.{little_bytes}
 use Rattle.fjall_base.specs.Pairs.{byte_order}
-use Rattle.fjall_table.specs.Frame.{check}
+use Rattle.fjall_base.specs.Check.{check}
 use Rattle.fjall_base.specs.Fields.{number_at}
 use Rattle.fjall_table.specs.Blocks.{Entry, IsEntry, payload_of, block_text, StandsBefore, IsBefore, IsOrdered, IsBlock}
 use Rattle.fjall_table.specs.Tables.{Handle, first_key, entries_of, handles_of, data_text, index_text, footer_text, end_text, table_text, AreFull, AreBlocks, IsTable, Cover, Ascend, IsIndex, HasIndex}
 use Rattle.fjall_table.specs.Writing.{block_at, IsWritten}
 use Rattle.fjall_base.proofs.Codecs.{some_is, one_text, u64_codec, length-little}
-use Rattle.fjall_table.proofs.Frames.{check_len, length_framed}
+use Rattle.fjall_base.proofs.Checks.{check_len}
+use Rattle.fjall_table.proofs.Frames.{length_framed}
 use Rattle.fjall_table.proofs.Lists.{Apart, NoItem, same_lists}
 use Rattle.fjall_table.proofs.TableWriting.{block_again, block_some, entries_within, ordered_back}
 

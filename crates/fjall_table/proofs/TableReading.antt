@@ -8,13 +8,15 @@ use Rattle.fjall_base.specs.declared.error.StorageError.TheVariants.{TableDamage
 use Rattle.fjall_table.specs.declared.index.BlockHandle.{BlockHandle}
 use Rattle.fjall_table.specs.declared.table_entry.TableEntry.{TableEntry}
 use Rattle.fjall_table.specs.declared.footer.Footer.{Footer}
-use Rattle.fjall_table.specs.Frame.{check, framed}
+use Rattle.fjall_base.specs.Check.{check}
+use Rattle.fjall_table.specs.Frame.{framed}
 use Rattle.fjall_table.specs.Reading.{DamagedWhere, frame_at}
 use Rattle.fjall_table.specs.Blocks.{Entry, seen, entry_text, IsEntry, payload_of, block_text, IsBlock, IsNoBlock}
 use Rattle.fjall_table.specs.Tables.{Handle, first_key, index_text, footer_text, end_text, IsIndex, HasIndex}
 use Rattle.fjall_table.specs.TableReading.{handle_of, footer_at, IsNoFooter, IsNoIndex, IsNoBlockFrom}
 use Rattle.fjall_base.proofs.Codecs.{just, some_is, one_text}
-use Rattle.fjall_table.proofs.Frames.{frame8, length_framed, check_len}
+use Rattle.fjall_base.proofs.Checks.{check_len}
+use Rattle.fjall_table.proofs.Frames.{frame8, length_framed}
 use Rattle.fjall_table.proofs.Footers as Footers
 use Rattle.fjall_table.proofs.Footers.{footer_codec, head, head_len, text}
 use Rattle.fjall_table.proofs.Lists.{Apart, NoItem, same_lists}

@@ -9,9 +9,8 @@ use Rattle.fjall_base.specs.Lists.{last_of}
 use Rattle.fjall_table.specs.Blocks.{Entry, seen, payload_of, block_text, IsBefore, IsOrdered, IsBlock}
 use Rattle.fjall_table.specs.Tables.{Handle, first_key, entries_of, handles_of, data_text, end_text, AreFull, IsTable, Cover, HasIndex}
 use Rattle.fjall_table.specs.TableReading.{part_at, IsBlockFrom, IsNoTable}
-use Rattle.fjall_base.proofs.Codecs.{just, some_is}
+use Rattle.fjall_base.proofs.Codecs.{just, some_is, each_more}
 use Rattle.fjall_table.proofs.Frames.{length_framed}
-use Rattle.fjall_table.proofs.Lists.{each_more}
 use Rattle.fjall_table.proofs.BlockParts.{ordered_at}
 use Rattle.fjall_table.proofs.Indexes.{cover_at, one_end}
 use Rattle.fjall_table.proofs.TableBlocks.{IsOf, blocks_in, handles_are, handles_len, stands_at, read_is, table_has, one_index, more_taken, drop_got, cover_blocks, entries_joined}

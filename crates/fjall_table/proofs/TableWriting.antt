@@ -10,10 +10,10 @@ use Rattle.fjall_table.specs.Blocks.{Entry, entry_text, entry_at, IsEntry, paylo
 use Rattle.fjall_base.specs.Lists.{last_of}
 use Rattle.fjall_table.specs.Tables.{Handle, first_key, entries_of, handle_text, handles_of, data_text, index_text, footer_text, AreFull, IsTable}
 use Rattle.fjall_table.specs.Writing.{items_in, entries_in, block_at, blocks_in, IsOpen, IsWritten, AreClosed, HaveReached, Follows, IsLast, IsSoFar}
-use Rattle.fjall_base.proofs.Codecs.{some_is}
+use Rattle.fjall_base.proofs.Codecs.{some_is, each_more}
 use Rattle.fjall_table.proofs.Frames.{frame8, length_framed}
-use Rattle.fjall_table.proofs.Lists.{each_more}
-use Rattle.fjall_table.proofs.BlockParts.{entry_codec, entries_apart, begins, shorter, ordered_more, last_behind}
+use Rattle.fjall_base.proofs.Lists.{last_behind}
+use Rattle.fjall_table.proofs.BlockParts.{entry_codec, entries_apart, begins, shorter, ordered_more}
 
 -- ---- items in bytes
 

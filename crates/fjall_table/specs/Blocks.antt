@@ -1,5 +1,5 @@
 -- Versions of keys, and the data blocks of a table.
-use Rattle.std.specs.Prelude.{◌≡◌, ℕ, ◌<◌, ◌^◌, List, [], ◌∷◌, ◌++◌, length, Option, Some, None, ◌==◌, nat_le, if◌then◌else◌}
+use Rattle.std.specs.Prelude.{◌≡◌, ℕ, ◌<◌, ◌^◌, List, [], ◌∷◌, ◌++◌, length, Option, Some, None, ◌==◌, if◌then◌else◌}
 use Rattle.std.specs.Option.{option_map}
 use Rattle.std.specs.List.{flat_map, AllByRecursion}
 use Rattle.std.specs.declared.cmp.Ordering.{Ordering}
@@ -7,7 +7,7 @@ use Rattle.std.specs.declared.cmp.Ordering.TheVariants.{Less, Equal, Greater}
 use Rattle.byteorder.specs.Endian.{little_bytes}
 use Rattle.fjall_base.specs.Pairs.{byte_order}
 use Rattle.fjall_base.specs.declared.error.Error.{Error}
-use Rattle.fjall_base.specs.declared.error.Error.TheVariants.{KeyEmpty, KeyTooLong, ValueTooLong}
+use Rattle.fjall_base.specs.Limits.{item_refusal}
 use Rattle.fjall_table.specs.declared.table_entry.TableEntry.{TableEntry}
 use Rattle.fjall_table.specs.Frame.{framed}
 use Rattle.fjall_base.specs.Fields.{◌>>=◌, byte_at, number_at, bytes_at}
@@ -47,12 +47,9 @@ pub record IsEntry (v : Entry) : Type 0 where
   pub number : v.number < 2 ^ 64
   pub value : length (value_bytes v.value) < 2 ^ 32
 
--- why a version has no text
-abbrev pub refusal : List ℕ → List ℕ → Option Error
-refusal key value =
-    if length key == 0 then Some KeyEmpty else (
-    if nat_le (2 ^ 16) (length key) then Some KeyTooLong else (
-    if nat_le (2 ^ 32) (length value) then Some ValueTooLong else None))
+-- why an entry has no text
+abbrev pub refusal : Entry → Option Error
+refusal v = item_refusal v.key (value_bytes v.value)
 
 -- ---- a block
 

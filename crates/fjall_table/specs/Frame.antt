@@ -1,11 +1,7 @@
--- The check of some bytes, and the frame that carries a payload with its length and its check.
-use Rattle.std.specs.Prelude.{◌≡◌, ℕ, ◌<◌, ◌^◌, List, ◌++◌, length, take}
-use Rattle.sha2.specs.Sha256.{sha256}
+-- The frame that carries a payload with its length and its check.
+use Rattle.std.specs.Prelude.{◌≡◌, ℕ, ◌<◌, ◌^◌, List, ◌++◌, length}
 use Rattle.byteorder.specs.Endian.{little_bytes}
-
--- the first eight bytes of SHA-256
-unfoldable pub check : List ℕ → List ℕ
-check bytes = take 8 (sha256 bytes)
+use Rattle.fjall_base.specs.Check.{check}
 
 -- bytes, and then their check
 abbrev pub with_check : List ℕ → List ℕ

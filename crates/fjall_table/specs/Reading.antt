@@ -5,7 +5,7 @@ use Rattle.fjall_base.specs.declared.error.Error.{Error}
 use Rattle.fjall_base.specs.declared.error.Error.TheVariants.{OutOfMemory, Storage}
 use Rattle.fjall_base.specs.declared.error.StorageError.{StorageError}
 use Rattle.fjall_base.specs.Fields.{◌>>=◌, number_at, bytes_at}
-use Rattle.fjall_table.specs.Frame.{check}
+use Rattle.fjall_base.specs.Check.{check}
 
 -- memory ran out, or the bytes are read as nothing, which is this damage
 abbrev pub Fails : {Y : Type 0} → StorageError → Error → Option Y → Type 0

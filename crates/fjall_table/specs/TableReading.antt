@@ -8,7 +8,7 @@ use Rattle.fjall_base.specs.Pairs.{byte_order}
 use Rattle.fjall_table.specs.declared.footer.Footer.{Footer}
 use Rattle.fjall_table.specs.declared.index.BlockHandle.{BlockHandle}
 use Rattle.fjall_table.specs.declared.table_info.TableInfo.{TableInfo}
-use Rattle.fjall_table.specs.Frame.{check}
+use Rattle.fjall_base.specs.Check.{check}
 use Rattle.fjall_base.specs.Fields.{◌>>=◌, number_at, bytes_at}
 use Rattle.fjall_table.specs.Blocks.{Entry, block_text, IsBlock}
 use Rattle.fjall_table.specs.Tables.{Handle, first_key, index_text, footer_text, IsTable, IsIndex, HasIndex}
@@ -77,6 +77,14 @@ pub record IsBlockFrom (key : List ℕ) (bytes : List ℕ) (vs : List Entry) : T
 -- no block that begins with this key has these bytes
 abbrev pub IsNoBlockFrom : List ℕ → List ℕ → Type 0
 IsNoBlockFrom key bytes = (vs : List Entry) → IsBlockFrom key bytes vs → ⊥
+
+-- the block where a handle says has these entries, and begins with the handle's key
+abbrev pub IsBlockOf : List ℕ → List Entry → BlockHandle → Type 0
+IsBlockOf bytes vs h = IsBlockFrom h.first_key.now (part_at (handle_of h) bytes) vs
+
+-- no block that begins with the handle's key stands there
+abbrev pub IsNoBlockOf : List ℕ → BlockHandle → Type 0
+IsNoBlockOf bytes h = IsNoBlockFrom h.first_key.now (part_at (handle_of h) bytes)
 
 -- there are no entries of which the bytes are a table
 abbrev pub IsNoTable : List ℕ → Type 0

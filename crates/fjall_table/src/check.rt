@@ -2,20 +2,9 @@
 
 ghost use Rattle.std.specs.Prelude.{◌≡◌, ◌≤◌, ◌++◌, length, drop, OnOk, OnErr, IsOkUnless};
 ghost use Rattle.std.specs.Str.{bytes_eq};
-ghost use Rattle.fjall_table.specs.Frame.{check};
+ghost use Rattle.fjall_base.specs.Check.{check};
 
-use fjall_base::{Error, Result};
-use sha2::{Digest, Sha256};
-
-/// The first eight bytes of SHA-256.
-#[tactic(auto, unfolding(crate::specs::Frame::check))]
-pub(crate) fn checksum(bytes: &[u8]) -> [u8; 8]
-    ensures { result ≡ check bytes.now }
-{
-    let mut first = [0u8; 8];
-    first.copy_from_slice(&Sha256::digest(bytes)[..8]);
-    first
-}
+use fjall_base::{Error, Result, checksum};
 
 /// Whether these eight bytes are the check of the others.
 pub(crate) fn is_check(found: &[u8], bytes: &[u8]) -> bool

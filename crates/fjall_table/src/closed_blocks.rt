@@ -4,12 +4,11 @@ ghost use Rattle.std.specs.Prelude.{◌≡◌, ◌*◌, ◌≤◌, ◌<◌, ◌^
 ghost use Rattle.fjall_table.specs.Blocks.{IsOrdered};
 ghost use Rattle.fjall_table.specs.Tables.{entries_of, handle_text, footer_text, AreFull, IsTable};
 
-use crate::check::checksum;
 use crate::footer::FOOTER_START;
 use crate::frame::put_frame;
 use crate::open_block::OpenBlock;
 use byteorder::{ByteOrder, LittleEndian};
-use fjall_base::{Error, Result};
+use fjall_base::{Error, Result, checksum};
 use std::alloc::Global;
 use std::marker::Model;
 

@@ -5,8 +5,8 @@ ghost use Rattle.fjall_table.specs.Frame.{framed};
 ghost use Rattle.fjall_base.specs.Fields.{Shows, number_at};
 ghost use Rattle.fjall_table.specs.Reading.{frame_at};
 
-use crate::check::{checksum, is_check};
-use fjall_base::{Error, Result, bytes_of, u32_of, u64_of};
+use crate::check::is_check;
+use fjall_base::{Error, Result, bytes_of, checksum, u32_of, u64_of};
 
 /// A length of that many bytes, four or eight.
 fn len_of(bytes: &[u8], width: usize) -> Option<(usize, &[u8])>

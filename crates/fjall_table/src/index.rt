@@ -20,7 +20,7 @@ use std::ops::Range;
 const DAMAGED: Error = Error::Storage(StorageError::TableDamaged);
 
 /// Where a data block stands, and the key of its first entry, which is a part of the bytes that it was read from.
-#[derive(Clone, Copy, Debug)]
+#[derive(Clone, Copy)]
 pub struct BlockHandle<'a> {
     /// In bytes from the start of the file.
     pub offset: u64,
@@ -74,7 +74,7 @@ impl<'a> BlockHandle<'a> {
 }
 
 /// The handles of all blocks, in the order of the file.
-#[derive(Debug, Drop)]
+#[derive(Drop)]
 pub struct Index<'a> {
     pub(crate) handles: Vec<BlockHandle<'a>>,
     pub(crate) data_len: u64,

@@ -16,10 +16,12 @@ pub fn one_text_of_entries()
 
 /// No block's text begins another's.
 pub fn blocks_stand_apart()
-    ensures { (vs ws : List Entry) (x y : List ℕ) → IsBlock vs → IsBlock ws → length (payload_of vs) < 2 ^ 64 → length (payload_of ws) < 2 ^ 64 → block_text vs ++ x ≡ block_text ws ++ y → (vs ≡ ws) × (x ≡ y) }
+    ensures { (vs ws : List Entry) (x y : List ℕ) → IsBlock vs → IsBlock ws → length (payload_of vs) < 2 ^ 64 → length (payload_of ws) < 2 ^ 64
+        → block_text vs ++ x ≡ block_text ws ++ y → (vs ≡ ws) × (x ≡ y) }
 {}
 
 /// A table ends with the index over its blocks, and a footer that tells how many entries it has.
 pub fn tables_have_an_index()
-    ensures { (bytes : List ℕ) (es : List Entry) → IsTable bytes es → (blocks : List (List Entry)) × AreBlocks blocks × (entries_of blocks ≡ es) × HasIndex bytes (handles_of 0 blocks) (length es) }
+    ensures { (bytes : List ℕ) (es : List Entry) → IsTable bytes es
+        → (blocks : List (List Entry)) × AreBlocks blocks × (entries_of blocks ≡ es) × HasIndex bytes (handles_of 0 blocks) (length es) }
 {}

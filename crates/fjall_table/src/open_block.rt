@@ -1,7 +1,7 @@
 //! The data block that a writer of tables adds to.
 
 ghost use Rattle.std.specs.Prelude.{◌≡◌, ◌*◌, ◌≤◌, ◌<◌, ◌^◌, ◌++◌, ◌↔◌, [], ◌∷◌, length, OnOk, OnErr, IsTrue, IsOkUnless, MatchOption};
-ghost use Rattle.fjall_table.specs.Blocks.{seen, value_bytes, payload_of, refusal};
+ghost use Rattle.fjall_table.specs.Blocks.{seen, payload_of, refusal};
 ghost use Rattle.fjall_table.specs.Tables.{first_key};
 ghost use Rattle.fjall_table.specs.Writing.{IsOpen};
 
@@ -83,7 +83,7 @@ impl OpenBlock {
         requires { length (payload_of self.old) < 4096 }
         ensures ok { OnOk result (self.new ≡ self.old ++ seen version.now ∷ []) }
         ensures err { OnErr result (self.new ≡ self.old) }
-        ensures refused { MatchOption (refusal (seen version.now).key (value_bytes (seen version.now).value)) (IsOkUnless result Error.OutOfMemory) (λ e. result ≡ Err e) }
+        ensures refused { MatchOption (refusal (seen version.now)) (IsOkUnless result Error.OutOfMemory) (λ e. result ≡ Err e) }
     {
         version.encode_into(&mut self.payload)?;
         self.entry_count += 1;

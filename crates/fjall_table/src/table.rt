@@ -5,7 +5,7 @@ ghost use Rattle.fjall_base.specs.declared.error.StorageError.TheVariants.{Table
 ghost use Rattle.fjall_table.specs.Reading.{DamagedWhere};
 ghost use Rattle.fjall_table.specs.Blocks.{Entry, seen, IsOrdered};
 ghost use Rattle.fjall_table.specs.Tables.{end_text, IsTable, HasIndex, versions_at};
-ghost use Rattle.fjall_table.specs.TableReading.{handle_of, part_at, HasNoIndex, IsBlockFrom, IsNoBlockFrom, IsNoTable};
+ghost use Rattle.fjall_table.specs.TableReading.{handle_of, part_at, HasNoIndex, IsBlockOf, IsNoBlockOf, IsNoTable};
 
 use crate::block::BLOCK_BYTES;
 use crate::footer::{FOOTER_LEN, Footer};
@@ -34,7 +34,7 @@ fn goes_on(versions: &[TableEntry<'_>], block: &[TableEntry<'_>]) -> bool
 }
 
 /// A table over the bytes of its file. Its index is read; its blocks are read when they are asked for.
-#[derive(Debug, Drop)]
+#[derive(Drop)]
 pub struct Table<'a> {
     pub(crate) alloc: Global,
     pub(crate) bytes: &'a [u8],
@@ -88,8 +88,8 @@ impl<'a> Table<'a> {
     /// `Storage(TableDamaged)`.
     pub fn block(&self, at: usize) -> Result<Vec<TableEntry<'a>>>
         requires { at < length self.now.index.handles.items }
-        ensures block { IfOk result (λ vs. IfSome (slice_get self.now.index.handles.items at) (λ h. IsBlockFrom h.first_key.now (part_at (handle_of h) self.now.bytes.now) (map seen vs.items))) }
-        ensures damaged { IfErr result (DamagedWhere TableDamaged (IfSome (slice_get self.now.index.handles.items at) (λ h. IsNoBlockFrom h.first_key.now (part_at (handle_of h) self.now.bytes.now)))) }
+        ensures block { IfOk result (λ vs. IfSome (slice_get self.now.index.handles.items at) (IsBlockOf self.now.bytes.now (map seen vs.items))) }
+        ensures damaged { IfErr result (DamagedWhere TableDamaged (IfSome (slice_get self.now.index.handles.items at) (IsNoBlockOf self.now.bytes.now))) }
     {
         let handle = self.index.handles[at];
         let (_, rest) = self.bytes.split_at(handle.offset as usize);

@@ -3,14 +3,15 @@
 ghost use Rattle.std.specs.Prelude.{◌≡◌, ◌≤◌, ◌<◌, ◌++◌, ◌↔◌, ◌^◌, length, take, Ok, Err, OnOk, OnErr, IsTrue, IsOkUnless, MatchOption};
 ghost use Rattle.std.specs.Option.{option_map};
 ghost use Rattle.fjall_base.specs.Fields.{Shows};
-ghost use Rattle.fjall_table.specs.Blocks.{seen, value_bytes, entry_header, entry_text, IsEntry, IsBefore, refusal, value_of, entry_at};
+ghost use Rattle.fjall_base.specs.Limits.{item_refusal};
+ghost use Rattle.fjall_table.specs.Blocks.{seen, entry_header, entry_text, IsEntry, IsBefore, refusal, value_of, entry_at};
 
 use byteorder::{ByteOrder, LittleEndian};
-use fjall_base::{Error, Result, bytes_of, u8_of, u16_of, u32_of, u64_of};
+use fjall_base::{Error, Result, bytes_of, check_item, u8_of, u16_of, u32_of, u64_of};
 use std::cmp::Ordering;
 
 /// What a change made of a key. Key and value are parts of the bytes that it was read from.
-#[derive(Clone, Copy, Debug)]
+#[derive(Clone, Copy)]
 pub struct TableEntry<'a> {
     /// It has 1 to 65,535 bytes.
     pub key: &'a [u8],
@@ -31,28 +32,13 @@ fn header_of(key_len: u16, kind: u8, number: u64, value_len: u32) -> [u8; 15]
     header
 }
 
-fn check_entry(key: &[u8], value: &[u8]) -> Result<()>
-    ensures { MatchOption (refusal key.now value.now) (result ≡ Ok tt) (λ e. result ≡ Err e) }
-{
-    if key.is_empty() {
-        return Err(Error::KeyEmpty);
-    }
-    if key.len() > 65_535 {
-        return Err(Error::KeyTooLong);
-    }
-    if value.len() > 4_294_967_295 {
-        return Err(Error::ValueTooLong);
-    }
-    Ok(())
-}
-
 fn put_entry(out: &mut Vec<u8>, key: &[u8], kind: u8, number: u64, value: &[u8]) -> Result<()>
     ensures ok { OnOk result (out.new.items ≡ out.old.items ++ (entry_header (length key.now) kind number (length value.now) ++ (key.now ++ value.now))) }
     ensures fits { OnOk result ((0 < length key.now) × (length key.now < 2 ^ 16) × (number < 2 ^ 64) × (length value.now < 2 ^ 32)) }
     ensures err { OnErr result (out.new.items ≡ out.old.items) }
-    ensures refused { MatchOption (refusal key.now value.now) (IsOkUnless result Error.OutOfMemory) (λ e. result ≡ Err e) }
+    ensures refused { MatchOption (item_refusal key.now value.now) (IsOkUnless result Error.OutOfMemory) (λ e. result ≡ Err e) }
 {
-    check_entry(key, value)?;
+    check_item(key, value)?;
     let header = header_of(key.len() as u16, kind, number, value.len() as u32);
     out.reserve(15 + key.len() + value.len())?;
     out.extend_from_slice(&header)?;
@@ -103,11 +89,11 @@ impl<'a> TableEntry<'a> {
 
     /// Refuses what has no text.
     pub(crate) fn check(&self) -> Result<()>
-        ensures { MatchOption (refusal (seen self.now).key (value_bytes (seen self.now).value)) (result ≡ Ok tt) (λ e. result ≡ Err e) }
+        ensures { MatchOption (refusal (seen self.now)) (result ≡ Ok tt) (λ e. result ≡ Err e) }
     {
         match self.value {
-            Some(value) => check_entry(self.key, value),
-            None => check_entry(self.key, &[]),
+            Some(value) => check_item(self.key, value),
+            None => check_item(self.key, &[]),
         }
     }
 
@@ -118,7 +104,7 @@ impl<'a> TableEntry<'a> {
         ensures ok { OnOk result (out.new.items ≡ out.old.items ++ entry_text (seen self.now)) }
         ensures fits { OnOk result (IsEntry (seen self.now)) }
         ensures err { OnErr result (out.new.items ≡ out.old.items) }
-        ensures refused { MatchOption (refusal (seen self.now).key (value_bytes (seen self.now).value)) (IsOkUnless result Error.OutOfMemory) (λ e. result ≡ Err e) }
+        ensures refused { MatchOption (refusal (seen self.now)) (IsOkUnless result Error.OutOfMemory) (λ e. result ≡ Err e) }
     {
         match self.value {
             Some(value) => put_entry(out, self.key, 0, self.number, value),

@@ -1,7 +1,7 @@
 //! The bytes of a table, from its versions in order.
 
 ghost use Rattle.std.specs.Prelude.{◌≡◌, ◌⊎◌, ◌≤◌, ◌<◌, ◌++◌, ◌↔◌, [], ◌∷◌, length, IfOk, IfSome, IfNone, OnOk, OnErr, Err, IsTrue, IsOkUnless, MatchOption};
-ghost use Rattle.fjall_table.specs.Blocks.{seen, value_bytes, payload_of, IsOrdered, refusal};
+ghost use Rattle.fjall_table.specs.Blocks.{seen, payload_of, IsOrdered, refusal};
 ghost use Rattle.fjall_table.specs.Tables.{entries_of, AreFull, IsTable};
 ghost use Rattle.fjall_table.specs.Writing.{Follows, HaveReached};
 
@@ -110,7 +110,8 @@ impl TableWriter {
         requires { Follows self.old (seen version.now) }
         ensures ok { OnOk result (self.new ≡ self.old ++ seen version.now ∷ []) }
         ensures err { OnErr result (self.new ≡ self.old) }
-        ensures refused { MatchOption (refusal (seen version.now).key (value_bytes (seen version.now).value)) (IsOkUnless result Error.OutOfMemory) (λ e. (result ≡ Err e) ⊎ (result ≡ Err Error.OutOfMemory)) }
+        ensures refused { MatchOption (refusal (seen version.now)) (IsOkUnless result Error.OutOfMemory)
+            (λ e. (result ≡ Err e) ⊎ (result ≡ Err Error.OutOfMemory)) }
     {
         make_room(&mut self.closed_blocks, &mut self.open_block)?;
         self.next_key.clear();
@@ -127,9 +128,9 @@ impl TableWriter {
     pub fn write(&mut self, version: &TableEntry<'_>) -> Result<()>
         ensures ok { OnOk result (self.new ≡ self.old ++ seen version.now ∷ []) }
         ensures err { OnErr result (self.new ≡ self.old) }
-        ensures fields { IfSome (refusal (seen version.now).key (value_bytes (seen version.now).value)) (λ e. result ≡ Err e) }
-        ensures order { IfNone (refusal (seen version.now).key (value_bytes (seen version.now).value)) ((Follows self.old (seen version.now) → ⊥) → result ≡ Err Error.KeyOrder) }
-        ensures only { IfNone (refusal (seen version.now).key (value_bytes (seen version.now).value)) (Follows self.old (seen version.now) → IsOkUnless result Error.OutOfMemory) }
+        ensures fields { IfSome (refusal (seen version.now)) (λ e. result ≡ Err e) }
+        ensures order { IfNone (refusal (seen version.now)) ((Follows self.old (seen version.now) → ⊥) → result ≡ Err Error.KeyOrder) }
+        ensures only { IfNone (refusal (seen version.now)) (Follows self.old (seen version.now) → IsOkUnless result Error.OutOfMemory) }
     {
         version.check()?;
         if !self.is_followed_by(version) {

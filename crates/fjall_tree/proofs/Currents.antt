@@ -8,11 +8,12 @@ use Rattle.fjall_table.specs.Frame.{framed, NoFrame}
 use Rattle.fjall_table.specs.Reading.{frame_at}
 use Rattle.fjall_tree.specs.Records.{Fields, body, record_text, body_of, IsConsistent, IsRecord, IsRecords, IsNoBody, HasContradiction, Kept}
 use Rattle.fjall_base.specs.Lists.{last_of}
-use Rattle.fjall_base.proofs.Codecs.{IsBytes, IsBytes-back, some_is, one_text}
+use Rattle.fjall_base.proofs.Lists.{last_behind}
+use Rattle.fjall_base.proofs.Codecs.{IsBytes, IsBytes-back, some_is, one_text, first_of, one_behind, each_more}
 use Rattle.fjall_table.proofs.Frames.{frame4, length_framed}
 use Rattle.fjall_tree.proofs.Records.{length_body}
 use Rattle.fjall_tree.proofs.RecordCodecs.{body_again, body_takes}
-use Rattle.fjall_table.proofs.Lists.{Apart, NoItem, first_of, one_behind, same_lists, each_more}
+use Rattle.fjall_table.proofs.Lists.{Apart, NoItem, same_lists}
 
 -- ---- one body
 
@@ -62,11 +63,6 @@ pub record SoFar (text : List ℕ) (last : Option Fields) (rest : List ℕ) : Ty
 
 pub nothing_read : (text : List ℕ) → SoFar text None text
 nothing_read text = record { records = []; each = tt; parts = refl; last_is = refl }
-
-pub last_behind : {A : Type 0} (xs : List A) (a : A) → last_of (xs ++ a ∷ []) ≡ Some a
-last_behind [] a = refl
-last_behind (b ∷ []) a = refl
-last_behind (b ∷ d ∷ xs) a = last_behind (d ∷ xs) a
 
 pub rest_fits : (text : List ℕ) (last : Option Fields) (rest : List ℕ) → IsBytes text → SoFar text last rest → IsBytes rest
 rest_fits text last rest fits so_far = IsBytes-back (flat_map record_text so_far.records) rest (subst IsBytes so_far.parts fits)

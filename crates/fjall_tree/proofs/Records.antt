@@ -4,7 +4,8 @@ use Rattle.std.specs.List.{flat_map}
 use Rattle.std.proofs.lemmas.List.{length-append, drop_at}
 use Rattle.std.proofs.lemmas.List.Concat.{flat_map-cons}
 use Rattle.byteorder.specs.Endian.{little_bytes}
-use Rattle.fjall_table.specs.Frame.{check, with_check, headed}
+use Rattle.fjall_base.specs.Check.{check}
+use Rattle.fjall_table.specs.Frame.{with_check, headed}
 use Rattle.fjall_table.specs.declared.table_info.TableInfo.{TableInfo}
 use Rattle.fjall_tree.specs.Records.{Fields, optional_text, table_line, numbers_text, body}
 use Rattle.fjall_base.proofs.Codecs.{length-little}

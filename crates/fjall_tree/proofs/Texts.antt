@@ -5,6 +5,7 @@ use Rattle.std.proofs.lemmas.List.{take_at, append-nil, take_all, take-append-dr
 use Rattle.std.proofs.lemmas.List.Concat.{flat_map-cons}
 use Rattle.std.proofs.lemmas.Grind.{flat_map-append}
 use Rattle.std.proofs.Math.Seq.{take-suc}
+use Rattle.fjall_base.proofs.Codecs.{each_more}
 
 -- what stands before what was added
 pub kept_front : (old more now : List ℕ) → now ≡ old ++ more → take (length old) now ≡ old
@@ -30,10 +31,6 @@ pub all_now : {A : Type 0} (f : A → List ℕ) (xs : List A) (i : ℕ) (old out
 all_now f xs i old out le so_far = so_far ∙ ap (λ v. old ++ flat_map f v) (take_all i xs le)
 
 -- ---- what holds of each
-
-pub each_more : {A : Type 0} (P : A → Type 0) (xs : List A) (x : A) → AllByRecursion P xs → P x → AllByRecursion P (xs ++ x ∷ [])
-each_more P [] x each h = (h, tt)
-each_more P (y ∷ xs) x each h = (each.0, each_more P xs x each.1 h)
 
 pub each_taken : {A : Type 0} (P : A → Type 0) (xs : List A) (i : ℕ) (d : A) → i < length xs → AllByRecursion P (take i xs) → P (get_or xs i d) → AllByRecursion P (take (i + 1) xs)
 each_taken P xs i d lt each h = subst (λ ys. AllByRecursion P ys) (sym (ap (λ (n : ℕ). take n xs) (add-one i) ∙ take-suc xs i d lt)) (each_more P (take i xs) (get_or xs i d) each h)

@@ -14,7 +14,7 @@ use fjall_table::frame_of;
 use std::alloc::Global;
 
 /// What a `current` holds.
-#[derive(Debug, Drop)]
+#[derive(Drop)]
 pub struct Current {
     /// The last whole record, which counts.
     pub record: Option<Record>,

@@ -7,7 +7,8 @@ ghost use Rattle.fjall_tree.specs.Records.{Fields, IsRecord, IsRecords, HasContr
 
 /// A file holds one list of records, with one end.
 pub fn one_list_of_records()
-    ensures { (bytes : List ℕ) (rs others : List Fields) (end other : ℕ) → IsRecords bytes rs end → IsRecords bytes others other → (rs ≡ others) × (end ≡ other) }
+    ensures { (bytes : List ℕ) (rs others : List Fields) (end other : ℕ) → IsRecords bytes rs end → IsRecords bytes others other
+        → (rs ≡ others) × (end ≡ other) }
 {}
 
 /// A file with a contradiction behind its records holds no list of records.
@@ -22,7 +23,8 @@ pub fn texts_are_records()
 
 /// A record appended behind whole records is the last.
 pub fn records_grow()
-    ensures { (bytes : List ℕ) (rs : List Fields) (r : Fields) → IsRecords bytes rs (length bytes) → IsRecord r → IsRecords (bytes ++ record_text r) (rs ++ r ∷ []) (length (bytes ++ record_text r)) × (last_of (rs ++ r ∷ []) ≡ Some r) }
+    ensures { (bytes : List ℕ) (rs : List Fields) (r : Fields) → IsRecords bytes rs (length bytes) → IsRecord r
+        → IsRecords (bytes ++ record_text r) (rs ++ r ∷ []) (length (bytes ++ record_text r)) × (last_of (rs ++ r ∷ []) ≡ Some r) }
 {}
 
 /// Records cut anywhere read as the first of them.

@@ -25,7 +25,7 @@ use Rattle.fjall_versions.proofs.Newest.{pairs_newest}
 
 -- ---- a tree map as a finite map
 
-both : (a b : Bool) → T a → T b → T (a && b)
+pub both : (a b : Bool) → T a → T b → T (a && b)
 both true b p q = q
 both false b p q = p
 

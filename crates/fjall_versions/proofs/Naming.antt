@@ -21,6 +21,7 @@ use Rattle.fjall_meta.proofs.Rising.{Rises, from_pairs}
 use Rattle.fjall_versions.specs.declared.version.Version.{Version}
 use Rattle.fjall_versions.specs.Replays.{option_pairs, by_id, bare, counts}
 use Rattle.fjall_versions.specs.Versions.{store_of, version_of, versions_in, cleared, versions_after, versions_behind}
+use Rattle.fjall_versions.proofs.Gathering.{both}
 use Rattle.fjall_versions.proofs.Slots.{SameButMaps, same_id, same_maps, writes_maps}
 use Rattle.fjall_versions.proofs.Living.{get_by_id, counts_of}
 use Rattle.fjall_versions.proofs.Keeping.{lives}
@@ -38,10 +39,6 @@ pub settings : (s : Keyspaces) (versions : List Version) (id : ℕ) → get (sto
 settings s versions id = ap (λ o. get o id) (rest_is_bare s versions).1 ∙ get_by_id (λ k. option_pairs k.options) s.living id
 
 -- ---- in the ids' order
-
-both : (a b : Bool) → T a → T b → T (a && b)
-both true b p q = q
-both false b p q = p
 
 below : {X : Type 0} (has : LivingKeyspace → X) (id : ℕ) (living : List LivingKeyspace) → All (λ k. id < k.id) living → T (below_all nat_cmp id (map (λ (k : LivingKeyspace). (k.id, has k)) living))
 below has id [] above = tt

@@ -1,5 +1,6 @@
 -- What batches command of a store is what their versions make of it.
 use Rattle.std.proofs.Common.{◌≡◌, ℕ, ◌==◌, ◌||◌, ◌&&◌, Bool, true, false, cond, not, List, [], ◌∷◌, ◌++◌, map, filter, Option, Some, refl, sym, ◌∙◌, ap, arith}
+use Rattle.std.proofs.lemmas.Bool.{and_parts}
 use Rattle.std.proofs.lemmas.Bool.Decides.{nat_tests}
 use Rattle.std.proofs.lemmas.List.{map-append, append-nil}
 use Rattle.std.proofs.lemmas.Grind.{flat_map-append}
@@ -40,10 +41,6 @@ clears_at (id ∷ ids) t q =
 pub among : (p : ℕ → Bool) (ids : List ℕ) (q : ℕ) → list_any (λ id. id == q) (filter p ids) ≡ (p q && list_any (λ id. id == q) ids)
 among p ids q = any-filter_same (λ id. id == q) p (p q) (λ k e. ap p (grind (arith, nat_tests))) ids
 
-both_true : (a b : Bool) → (a && b) ≡ true → a ≡ true
-both_true true b e = refl
-both_true false b e = e
-
 cleared_slot : (b : Bool) (before nothing : Option Pairs) → (b ≡ true → nothing ≡ Some empty) → cond b (Some empty) before ≡ cond (not b) before nothing
 cleared_slot true before nothing there = sym (there refl)
 cleared_slot false before nothing there = refl
@@ -57,7 +54,7 @@ clears_make s versions batch =
     let after = writes_maps left (bare s) in
     same_store (fold (store_of s versions) (map Clear ids)) (store_of s left) (from.0 ∙ before.0 ∙ sym after.0)
     (λ q. clears_at ids (store_of s versions) q ∙ ap (λ slot. cond (list_any (λ id. id == q) ids) (Some empty) slot) (slot_at versions (bare s) q)
-    ∙ cleared_slot (list_any (λ id. id == q) ids) (slot_after (get (bare s).maps q) q versions) (get (bare s).maps q) (λ e. counted_map s batch.number q (both_true _ _ (sym (among (counts s batch.number) batch.clears q) ∙ e)))
+    ∙ cleared_slot (list_any (λ id. id == q) ids) (slot_after (get (bare s).maps q) q versions) (get (bare s).maps q) (λ e. counted_map s batch.number q ((and_parts _ _ (sym (among (counts s batch.number) batch.clears q) ∙ e)).0))
     ∙ sym (slot_at left (bare s) q ∙ slot-filter versions (λ id. not (list_any (λ k. k == id) ids)) (get (bare s).maps q) q))
     (from.1 ∙ before.1 ∙ sym after.1) (from.2 ∙ before.2 ∙ sym after.2)
 

@@ -1,5 +1,5 @@
 -- The versions that batches make of keyspaces, and what they say.
-use Rattle.std.specs.Prelude.{ℕ, ◌==◌, ◌&&◌, not, if◌then◌else◌, List, [], ◌∷◌, ◌++◌, map, filter, Option, None}
+use Rattle.std.specs.Prelude.{ℕ, ◌<◌, ◌==◌, ◌&&◌, not, if◌then◌else◌, List, [], ◌∷◌, ◌++◌, map, filter, All, Option, None}
 use Rattle.std.specs.List.{list_any}
 use Rattle.std.specs.Str.{bytes_eq}
 use Rattle.std.specs.FinMap.{empty}
@@ -38,6 +38,14 @@ newest_after found (version ∷ versions) id key = newest_after (if (id == versi
 -- the value that the newest version of a keyspace's key gave it
 abbrev pub newest : List Version → ℕ → Bytes → Option Bytes
 newest versions id key = newest_after None versions id key
+
+-- the value of a key after a version, which had this one before it
+abbrev pub value_after : Version → Bytes → Option Bytes → Option Bytes
+value_after version key before = if bytes_eq key version.key then version.value else before
+
+-- each version is of a keyspace whose id was given out
+abbrev pub AreGiven : Keyspaces → List Version → Type 0
+AreGiven s versions = All (λ v. v.keyspace_id < s.next) versions
 
 -- ---- what batches make
 

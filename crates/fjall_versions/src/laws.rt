@@ -10,7 +10,7 @@ ghost use Rattle.fjall_journal.specs.declared.entry.ValueType.{ValueType};
 ghost use Rattle.fjall_meta.specs.Keyspaces.{AreKeyspaces, Keyspaces, id_of, keyspace_at, with_keyspace, without_keyspace};
 ghost use Rattle.fjall_versions.specs.declared.version.Version.{Version};
 ghost use Rattle.fjall_versions.specs.Replays.{bare, commands_of, counts, first_fault, journal_commands, least_after, option_pairs, store_in, value_of};
-ghost use Rattle.fjall_versions.specs.Versions.{command_of, newest, pairs_in, store_of, versions_behind};
+ghost use Rattle.fjall_versions.specs.Versions.{AreGiven, command_of, newest, pairs_in, store_of, versions_behind};
 
 /// The versions that batches make stand for the store that the batches stand for.
 pub fn replay_makes_the_store()
@@ -19,7 +19,8 @@ pub fn replay_makes_the_store()
 
 /// One version more is one command more.
 pub fn one_more_version()
-    ensures { (s : Keyspaces) (versions : List Version) (version : Version) → store_of s (versions ++ version ∷ []) ≡ apply (store_of s versions) (command_of version) }
+    ensures { (s : Keyspaces) (versions : List Version) (version : Version)
+        → store_of s (versions ++ version ∷ []) ≡ apply (store_of s versions) (command_of version) }
 {}
 
 /// What versions make of a keyspace is its map in the store that they stand for.
@@ -35,8 +36,10 @@ pub fn a_key_reads()
 /// Batches behind others, as those of the next journal, are looked at and replayed from where the others end.
 pub fn batches_follow_one_another()
     ensures least { (least : ℕ) (front behind : List Shown) → least_after least (front ++ behind) ≡ least_after (least_after least front) behind }
-    ensures faults { (least : ℕ) (front behind : List Shown) → first_fault least (front ++ behind) ≡ option_or (first_fault least front) (first_fault (least_after least front) behind) }
-    ensures versions { (s : Keyspaces) (versions : List Version) (front behind : List Shown) → versions_behind s versions (front ++ behind) ≡ versions_behind s (versions_behind s versions front) behind }
+    ensures faults { (least : ℕ) (front behind : List Shown)
+        → first_fault least (front ++ behind) ≡ option_or (first_fault least front) (first_fault (least_after least front) behind) }
+    ensures versions { (s : Keyspaces) (versions : List Version) (front behind : List Shown)
+        → versions_behind s versions (front ++ behind) ≡ versions_behind s (versions_behind s versions front) behind }
     ensures stores { (s : Keyspaces) (front behind : List Shown) → store_in s (front ++ behind) ≡ fold (store_in s front) (journal_commands s behind) }
 {}
 
@@ -54,16 +57,19 @@ pub fn one_item_is_a_write()
 /// A keyspace more, made under a greater number than those of the batches, is a creation: none of what the
 /// batches and the versions before it say is of its id.
 pub fn creation_is_a_command()
-    ensures batches { (name : List ℕ) (options : List (List ℕ)) (number : ℕ) (s : Keyspaces) → AreKeyspaces s → (batches : List Shown) → All (λ b. b.number < number) batches
+    ensures batches { (name : List ℕ) (options : List (List ℕ)) (number : ℕ) (s : Keyspaces) → AreKeyspaces s → (batches : List Shown)
+        → All (λ b. b.number < number) batches
         → store_in (with_keyspace name options number s) batches ≡ apply (store_in s batches) (Create name (option_pairs options)) }
-    ensures versions { (name : List ℕ) (options : List (List ℕ)) (number : ℕ) (s : Keyspaces) → AreKeyspaces s → (versions : List Version) → All (λ v. v.keyspace_id < s.next) versions
+    ensures versions { (name : List ℕ) (options : List (List ℕ)) (number : ℕ) (s : Keyspaces) → AreKeyspaces s → (versions : List Version) → AreGiven s versions
         → store_of (with_keyspace name options number s) versions ≡ apply (store_of s versions) (Create name (option_pairs options)) }
 {}
 
 /// A keyspace less is a deletion, what deleted keyspaces hold aside.
 pub fn deletion_is_a_command()
-    ensures batches { (id : ℕ) (s : Keyspaces) (batches : List Shown) → store_in (without_keyspace id s) batches ≡ kept (apply (store_in s batches) (Delete id)) }
-    ensures versions { (id : ℕ) (s : Keyspaces) (versions : List Version) → kept (store_of (without_keyspace id s) versions) ≡ kept (apply (store_of s versions) (Delete id)) }
+    ensures batches { (id : ℕ) (s : Keyspaces) (batches : List Shown)
+        → store_in (without_keyspace id s) batches ≡ kept (apply (store_in s batches) (Delete id)) }
+    ensures versions { (id : ℕ) (s : Keyspaces) (versions : List Version)
+        → kept (store_of (without_keyspace id s) versions) ≡ kept (apply (store_of s versions) (Delete id)) }
 {}
 
 /// The store of batches holds nothing of deleted keyspaces.
@@ -90,8 +96,10 @@ pub fn versions_change_maps_alone()
 /// the id that the keyspaces resolve it to.
 pub fn the_living_have_names()
     ensures living { (s : Keyspaces) (versions : List Version) (id : ℕ) → contains_key (store_of s versions).names id ≡ is_some (keyspace_at id s.living) }
-    ensures settings { (s : Keyspaces) (versions : List Version) (id : ℕ) → get (store_of s versions).options id ≡ option_map (λ k. option_pairs k.options) (keyspace_at id s.living) }
-    ensures resolved { (s : Keyspaces) → AreKeyspaces s → (versions : List Version) (id : ℕ) (name : Bytes) → (id_of name s.living ≡ Some id) ↔ (get (store_of s versions).names id ≡ Some name) }
+    ensures settings { (s : Keyspaces) (versions : List Version) (id : ℕ)
+        → get (store_of s versions).options id ≡ option_map (λ k. option_pairs k.options) (keyspace_at id s.living) }
+    ensures resolved { (s : Keyspaces) → AreKeyspaces s → (versions : List Version) (id : ℕ) (name : Bytes)
+        → (id_of name s.living ≡ Some id) ↔ (get (store_of s versions).names id ≡ Some name) }
 {}
 
 /// The names of a store by id are those of the living keyspaces in their order.
@@ -102,5 +110,6 @@ pub fn names_stand_in_order()
 
 /// What batches make is of keyspaces whose ids were given out.
 pub fn replayed_ids_were_given()
-    ensures { (s : Keyspaces) → AreKeyspaces s → (batches : List Shown) (versions : List Version) → All (λ v. v.keyspace_id < s.next) versions → All (λ v. v.keyspace_id < s.next) (versions_behind s versions batches) }
+    ensures { (s : Keyspaces) → AreKeyspaces s → (batches : List Shown) (versions : List Version) → AreGiven s versions
+        → AreGiven s (versions_behind s versions batches) }
 {}

@@ -1,11 +1,10 @@
 //! Pages: pairs of a keyspace in the order of their keys.
 
-ghost use Rattle.std.specs.Prelude.{◌≡◌, cond, IfOk, OnOk, IsOkUnless};
-ghost use Rattle.std.specs.Str.{bytes_eq};
+ghost use Rattle.std.specs.Prelude.{◌≡◌, IfOk, OnOk, IsOkUnless};
 ghost use Rattle.std.specs.BTreeMap.{get, IsOrdered};
 ghost use Rattle.std.specs.BTreeMap.Range.{range_contains};
 ghost use Rattle.fjall_base.specs.Pairs.{Bytes, byte_order, pairs_between, page};
-ghost use Rattle.fjall_versions.specs.Versions.{pairs_in};
+ghost use Rattle.fjall_versions.specs.Versions.{pairs_in, value_after};
 
 use crate::version::Version;
 use fjall_base::{Error, KvPair, Result, UserKey, UserValue};
@@ -37,7 +36,7 @@ fn alter(
     pairs: &mut BTreeMap<UserKey, UserValue>,
     version: &Version,
 ) -> std::result::Result<(), AllocError>
-    ensures ok { OnOk result ((key : Bytes) → get byte_order pairs.new key ≡ cond (bytes_eq key version.now.key) version.now.value (get byte_order pairs.old key)) }
+    ensures ok { OnOk result ((key : Bytes) → get byte_order pairs.new key ≡ value_after version.now key (get byte_order pairs.old key)) }
     ensures ordered { OnOk result (IsOrdered byte_order pairs.new) }
 {
     match &version.value {

@@ -6,8 +6,11 @@ ghost use Rattle.fjall_options.specs.Policies.{number_bytes, interval_bytes, fla
 
 use crate::options::filter::{BloomConstructionPolicy, FilterPolicyEntry};
 use byteorder::{ByteOrder, LittleEndian};
-use fjall_base::{CompressionType, Error, Result};
+use fjall_base::{CompressionType, Error, Result, u8_of, u32_of};
 use std::io::ErrorKind;
+
+// Bytes that end within a field.
+const SHORT: Error = Error::Io(ErrorKind::UnexpectedEof);
 
 /// What a policy says of one level.
 pub trait PolicyEntry: Copy {
@@ -30,15 +33,6 @@ pub trait PolicyEntry: Copy {
         ensures { Gives (λ x. (x.0, x.1.now)) result (entry_at bytes.now) };
 }
 
-fn byte_of(bytes: &[u8]) -> Result<(u8, &[u8])>
-    ensures { Gives (λ x. (x.0, x.1.now)) result (byte_at bytes.now) }
-{
-    match bytes {
-        [] => Err(Error::Io(ErrorKind::UnexpectedEof)),
-        [b, rest @ ..] => Ok((*b, rest)),
-    }
-}
-
 /// A size in bytes, or a ratio in millionths.
 impl PolicyEntry for u32 {
     ghost spelled = { number_bytes };
@@ -53,10 +47,7 @@ impl PolicyEntry for u32 {
     }
 
     fn decode_from(bytes: &[u8]) -> Result<(u32, &[u8])> {
-        if bytes.len() < 4 {
-            return Err(Error::Io(ErrorKind::UnexpectedEof));
-        }
-        Ok((LittleEndian::read_u32(bytes), &bytes[4..]))
+        u32_of(bytes).ok_or(SHORT)
     }
 }
 
@@ -72,7 +63,7 @@ impl PolicyEntry for u8 {
     }
 
     fn decode_from(bytes: &[u8]) -> Result<(u8, &[u8])> {
-        byte_of(bytes)
+        u8_of(bytes).ok_or(SHORT)
     }
 }
 
@@ -88,7 +79,7 @@ impl PolicyEntry for bool {
     }
 
     fn decode_from(bytes: &[u8]) -> Result<(bool, &[u8])> {
-        let (flag, rest) = byte_of(bytes)?;
+        let (flag, rest) = u8_of(bytes).ok_or(SHORT)?;
         Ok((flag == 1, rest))
     }
 }
@@ -105,7 +96,7 @@ impl PolicyEntry for CompressionType {
     }
 
     fn decode_from(bytes: &[u8]) -> Result<(CompressionType, &[u8])> {
-        let (kind, rest) = byte_of(bytes)?;
+        let (kind, rest) = u8_of(bytes).ok_or(SHORT)?;
         match kind {
             0 => Ok((CompressionType::None, rest)),
             _ => Err(Error::InvalidTag(("CompressionType", kind))),
@@ -135,7 +126,7 @@ impl PolicyEntry for FilterPolicyEntry {
     }
 
     fn decode_from(bytes: &[u8]) -> Result<(FilterPolicyEntry, &[u8])> {
-        let (tag, rest) = byte_of(bytes)?;
+        let (tag, rest) = u8_of(bytes).ok_or(SHORT)?;
         match tag {
             0 => Ok((FilterPolicyEntry::None, rest)),
             1 => {
@@ -150,7 +141,7 @@ impl PolicyEntry for FilterPolicyEntry {
 fn bloom_of(bytes: &[u8]) -> Result<(BloomConstructionPolicy, &[u8])>
     ensures { Gives (λ x. (x.0, x.1.now)) result (bloom_at bytes.now) }
 {
-    let (kind, rest) = byte_of(bytes)?;
+    let (kind, rest) = u8_of(bytes).ok_or(SHORT)?;
     match kind {
         0 => {
             let (bits, rest) = u32::decode_from(rest)?;

@@ -10,7 +10,7 @@ use std::alloc::Global;
 use std::marker::Model;
 
 /// Merges by levels, the one strategy that there is.
-#[derive(Debug, Drop)]
+#[derive(Drop)]
 pub struct Leveled {
     pub(crate) l0_threshold: u8,
     pub(crate) target_size: u64,

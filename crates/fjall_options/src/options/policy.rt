@@ -20,7 +20,7 @@ use std::slice;
 ///
 /// Policies whose entries are spelled alike are one type. A policy keeps its bytes beside its entries, so
 /// that options take one without taking memory. How each kind is spelled stands on the formats page.
-#[derive(Debug, Drop)]
+#[derive(Drop)]
 pub struct Policy<T: PolicyEntry> {
     entries: Vec<T>,
     bytes: Slice,
