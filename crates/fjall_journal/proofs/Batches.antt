@@ -17,7 +17,7 @@ use Rattle.fjall_base.proofs.Checks.{check_len}
 use Rattle.fjall_journal.specs.Batches.{Written, IsChange, begun, checked, batch_text, IsWritten, NoneAt, IsWhole, EndsEarly, GoesOn, HasOtherCheck, IsTail, Shown, items_of, clears_of, shown}
 use Rattle.fjall_journal.specs.Steps.{opening_at, changes_at, closing_at, some_batch_at, batch_at}
 use Rattle.fjall_base.proofs.Codecs.{IsBytes, one_behind, each_more}
-use Rattle.fjall_memory.proofs.Results.{bind_ok}
+use Rattle.fjall_base.proofs.Results.{bind_ok}
 use Rattle.fjall_journal.proofs.Fields.{Takes, Takes-then}
 use Rattle.fjall_journal.proofs.Entries.{bind_is, text_some}
 use Rattle.fjall_journal.proofs.Changes.{bind_err, opening_takes, opening_err, opening_again, changes_take, changes_err, changes_again, changes_early, closing_takes, closing_err, closing_again, closing_other, closing_another}

@@ -16,7 +16,7 @@ use Rattle.fjall_journal.specs.Reading.{Fault, entry_at}
 use Rattle.fjall_journal.specs.Batches.{IsChange, items_of, clears_of}
 use Rattle.fjall_journal.specs.Steps.{or_torn, as_start, as_change, as_end, opening_at, change_at, changes_at, closing_at}
 use Rattle.fjall_base.proofs.Codecs.{IsBytes}
-use Rattle.fjall_memory.proofs.Results.{bind_ok}
+use Rattle.fjall_base.proofs.Results.{bind_ok}
 use Rattle.fjall_journal.proofs.Fields.{Takes, Takes-then}
 use Rattle.fjall_journal.proofs.Entries.{entry_takes, entry_again, bind_is}
 

@@ -21,7 +21,7 @@ use Rattle.fjall_base.specs.declared.error.Error.{Error}
 use Rattle.fjall_base.specs.declared.error.Error.TheVariants as errors
 use Rattle.fjall_base.specs.Results.{◌>>=◌}
 use Rattle.fjall_base.proofs.Codecs.{IsBytes, wide2, wide4, wide8}
-use Rattle.fjall_memory.proofs.Results.{bind_ok}
+use Rattle.fjall_base.proofs.Results.{bind_ok}
 use Rattle.fjall_journal.proofs.Fields.{guard_ok, pass_ok, ok_is, Takes, Takes-then, byte_takes, number_takes, number_again, bytes_take, bytes_again}
 
 start_takes : (bytes : List ℕ) (x : Entry × List ℕ) → IsBytes bytes → start_at bytes ≡ Ok x → (text : List ℕ) × Takes bytes text x.1 × (1 ∷ text ≡ spelling x.0) × IsEntry x.0

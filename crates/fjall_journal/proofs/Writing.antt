@@ -3,7 +3,7 @@ use Rattle.std.proofs.Common.{◌≡◌, ◌≢◌, inl, inr, ℕ, ◌+◌, ◌^
 use Rattle.std.proofs.lemmas.List.{append-nil}
 use Rattle.fjall_base.specs.Disk.{Name, State, Meaning, Step, Sync, IsFile, change, after, state_in, Took, TookOrNot, TookPart}
 use Rattle.fjall_base.proofs.Moments.{after-append}
-use Rattle.fjall_memory.proofs.Results.{on_err}
+use Rattle.fjall_base.proofs.Results.{on_err}
 use Rattle.fjall_base.proofs.Served.{file_as_was, file_stays}
 use Rattle.fjall_journal.specs.Writer.{Journal, counted, written_out, appending, syncing, persist_steps, WriteTook, PersistTook, making_file, MakingTook}
 use Rattle.fjall_base.specs.Errors.{IsFault}

@@ -4,4 +4,3 @@ mod Cuts
 mod Crashed
 mod Housed
 mod Listed
-mod Results

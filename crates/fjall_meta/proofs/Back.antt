@@ -6,7 +6,7 @@ use Rattle.std.proofs.lemmas.List.Kept.{AllPairs-from_increasing}
 use Rattle.fjall_base.specs.declared.error.Error.{Error}
 use Rattle.fjall_base.specs.declared.error.Error.TheVariants as errors
 use Rattle.fjall_base.specs.Results.{◌>>=◌}
-use Rattle.fjall_memory.proofs.Results.{bind_ok}
+use Rattle.fjall_base.proofs.Results.{bind_ok}
 use Rattle.fjall_options.specs.Options.{AreOptions, stored_options, stored_values}
 use Rattle.fjall_options.proofs.StoredPairs.{read_options}
 use Rattle.fjall_meta.specs.declared.living.LivingKeyspace.{LivingKeyspace}

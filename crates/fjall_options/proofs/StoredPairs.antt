@@ -14,7 +14,7 @@ use Rattle.fjall_base.specs.declared.error.StorageError.TheVariants.{OptionInval
 use Rattle.fjall_options.specs.declared.options.stored_option.StoredOption.{StoredOption}
 use Rattle.fjall_options.specs.declared.options.stored_option.StoredOption.TheVariants.{CompactionStrategy}
 use Rattle.fjall_base.specs.Results.{◌>>=◌}
-use Rattle.fjall_memory.proofs.Results.{bind_ok}
+use Rattle.fjall_base.proofs.Results.{bind_ok}
 use Rattle.fjall_options.specs.Options.{stored_options, place, option_name, is_value, value_at, AreOptions, config_key, config_pair, config_pairs, value_of, valid_value, stored_value, stored_values, Refuses}
 use Rattle.fjall_options.proofs.OptionTables.{placed}
 

@@ -1,7 +1,7 @@
 use Rattle.std.proofs.Common.{◌≡◌, ◌↔◌, IsTrue, true, false, ◌∙◌, refl, sym, ap, subst, rules}
 use Rattle.fjall_base.specs.Disk.{Place}
 use Rattle.fjall_memory.specs.Memory.{entry_of, place_of, changed, Fits}
-use Rattle.fjall_memory.proofs.Results.{on_err}
+use Rattle.fjall_base.proofs.Results.{on_err}
 use Rattle.fjall_memory.proofs.Names.{alter_names, same_names, found_at, none_at, never_fits}
 use Rattle.fjall_memory.proofs.node.alter_at.Goals as goal
 

@@ -1,7 +1,7 @@
 use Rattle.std.proofs.Common.{refl, ap, [], ◌∷◌, map, rules, string_bytes, ◌∙◌}
 use Rattle.std.proofs.lemmas.List.{map-append}
 use Rattle.fjall_memory.specs.Memory.{entry_of}
-use Rattle.fjall_memory.proofs.Results.{on_err}
+use Rattle.fjall_base.proofs.Results.{on_err}
 use Rattle.fjall_memory.proofs.Names.{put_names, put_new, same_names}
 use Rattle.fjall_memory.proofs.node.put_at.Goals as goal
 

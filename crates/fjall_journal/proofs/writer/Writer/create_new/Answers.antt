@@ -1,7 +1,7 @@
 use Rattle.std.proofs.Common.{[], ◌∷◌}
 use Rattle.fjall_base.specs.Disk.{Sync}
 use Rattle.fjall_journal.specs.Writer.{MakingTook, making_file}
-use Rattle.fjall_memory.proofs.Results.{on_err}
+use Rattle.fjall_base.proofs.Results.{on_err}
 use Rattle.fjall_journal.proofs.Writing.{making_left, took_then}
 use Rattle.fjall_journal.proofs.writer.Writer.create_new.Goals as goal
 

@@ -1,7 +1,7 @@
 use Rattle.std.proofs.Common.{ap, ◌∙◌, sym, subst, ℕ, List}
 use Rattle.fjall_base.specs.Disk.{IsFile, state_in}
 use Rattle.fjall_journal.specs.Writer.{Journal, PersistTook}
-use Rattle.fjall_memory.proofs.Results.{on_err}
+use Rattle.fjall_base.proofs.Results.{on_err}
 use Rattle.fjall_journal.proofs.Writing.{not_buffer, out_stays, persist_done, persist_left}
 use Rattle.fjall_journal.proofs.writer.Writer.persist.Goals as goal
 

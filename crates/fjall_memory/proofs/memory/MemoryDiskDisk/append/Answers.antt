@@ -1,5 +1,5 @@
 use Rattle.std.proofs.Common.{inl, inr}
-use Rattle.fjall_memory.proofs.Results.{ok_or_err}
+use Rattle.fjall_base.proofs.Results.{ok_or_err}
 use Rattle.fjall_memory.proofs.memory.MemoryDiskDisk.append.Goals as goal
 
 pub returns-then-strikes-clause-err : goal.returns-then-strikes-clause-err

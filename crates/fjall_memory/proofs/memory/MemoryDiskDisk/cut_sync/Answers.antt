@@ -1,4 +1,4 @@
-use Rattle.fjall_memory.proofs.Results.{ok_at}
+use Rattle.fjall_base.proofs.Results.{ok_at}
 use Rattle.fjall_memory.proofs.memory.MemoryDiskDisk.cut_sync.Goals as goal
 
 pub returns-clause-ok : goal.returns-clause-ok

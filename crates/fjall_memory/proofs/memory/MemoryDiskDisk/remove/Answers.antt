@@ -1,7 +1,7 @@
 use Rattle.std.proofs.Common.{◌≡◌, sym, ◌∙◌}
 use Rattle.fjall_base.specs.Disk.{Missing, File, Folder}
 use Rattle.fjall_memory.proofs.Housed.{housed_removed}
-use Rattle.fjall_memory.proofs.Results.{ok_at, took_removing}
+use Rattle.fjall_base.proofs.Results.{ok_at, took_removing}
 use Rattle.fjall_memory.proofs.memory.MemoryDiskDisk.remove.Goals as goal
 
 pub put-requires-clause-housed : goal.put-requires-clause-housed

@@ -4,7 +4,7 @@ use Rattle.fjall_base.specs.Disk.{Missing, Folder, IsEmpty}
 use Rattle.fjall_memory.specs.Memory.{state_of}
 use Rattle.fjall_memory.specs.declared.node.Named.{Named}
 use Rattle.fjall_memory.proofs.Housed.{housed_removed}
-use Rattle.fjall_memory.proofs.Results.{ok_at, took_removing}
+use Rattle.fjall_base.proofs.Results.{ok_at, took_removing}
 use Rattle.fjall_memory.proofs.memory.MemoryDiskDisk.remove_folder.Goals as goal
 
 pub put-requires-clause-housed : goal.put-requires-clause-housed
