@@ -7,8 +7,8 @@ use Rattle.fjall_base.specs.declared.error.Error.{Error}
 use Rattle.fjall_base.specs.declared.error.Error.TheVariants.{Io, OutOfMemory}
 use Rattle.fjall_script.specs.declared.command.Command.{Command}
 use Rattle.fjall_script.specs.declared.command.Command.TheVariants.{Crash}
-use Rattle.fjall_script.specs.declared.run.Status.{Status}
-use Rattle.fjall_script.specs.declared.run.Status.TheVariants.{Failure}
+use Rattle.fjall_script.specs.declared.program.Status.{Status}
+use Rattle.fjall_script.specs.declared.program.Status.TheVariants.{Failure}
 use Rattle.fjall_script.specs.Statuses.{status_code}
 use Rattle.fjall_script.specs.Lines.{lines_of, Reads}
 use Rattle.fjall_script.specs.Answers.{refusal_line, text_of}

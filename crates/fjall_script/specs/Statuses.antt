@@ -1,7 +1,7 @@
 -- How the program ends, as a number.
 use Rattle.std.specs.Prelude.{ℕ}
-use Rattle.fjall_script.specs.declared.run.Status.{Status}
-use Rattle.fjall_script.specs.declared.run.Status.TheVariants.{Success, Failure, Untold, Usage}
+use Rattle.fjall_script.specs.declared.program.Status.{Status}
+use Rattle.fjall_script.specs.declared.program.Status.TheVariants.{Success, Failure, Untold, Usage}
 
 -- the status that a process ends with
 abbrev pub status_code : Status → ℕ

@@ -5,10 +5,10 @@ mod answer;
 mod command;
 mod parse;
 mod place;
-mod run;
+mod program;
 mod script;
 mod session;
 
 pub use command::Command;
 pub use place::{Folder, Memory, Place};
-pub use run::{Status, fail, run, run_folder, run_memory, run_over, usage};
+pub use program::{Status, fail, run, run_folder, run_memory, run_over, usage};

@@ -5,7 +5,7 @@ use Rattle.fjall_script.specs.Runs.{Hears}
 use Rattle.std.specs.Prelude.{string_bytes}
 use Rattle.std.proofs.lemmas.Result.{err_from_is_err_and}
 use Rattle.fjall_script.proofs.Serving.{all_written, io_is, memory_is, not_read, not_written, ran, until_written}
-use Rattle.fjall_script.proofs.run.serve.Goals as goal
+use Rattle.fjall_script.proofs.program.serve.Goals as goal
 
 pub returns-in_err-read_to_end-clause-failed : goal.returns-in_err-read_to_end-clause-failed
 returns-in_err-read_to_end-clause-failed g c =

@@ -2,8 +2,8 @@ use Rattle.std.proofs.Common.{◌≡◌, ap, ◌∙◌, refl}
 use Rattle.std.proofs.lemmas.List.{take_rest}
 use Rattle.fjall_script.proofs.Bytes.{is_empty_is}
 use Rattle.fjall_script.proofs.Writing.{on_err, on_ok, wrote_all, wrote_front, wrote_more, wrote_none, wrote_same}
-use Rattle.fjall_script.proofs.run.write_text.Goals as goal
-use Rattle.fjall_script.proofs.run.write_text.Goals.{in-Ok, in-Err, else-loop-test, then-loop-test+else-is_empty+in-Ok-eq0}
+use Rattle.fjall_script.proofs.program.write_text.Goals as goal
+use Rattle.fjall_script.proofs.program.write_text.Goals.{in-Ok, in-Err, else-loop-test, then-loop-test+else-is_empty+in-Ok-eq0}
 
 pub loop-init : goal.loop-init
 loop-init g c = wrote_none _ _

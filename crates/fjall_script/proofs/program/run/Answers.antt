@@ -2,7 +2,7 @@ use Rattle.std.proofs.Common.{◌≡◌, sym, ◌∙◌, length, arith, Bool, su
 use Rattle.std.specs.Prelude.{IfSome, string_bytes}
 use Rattle.fjall_script.specs.Runs.{AnswersInput}
 use Rattle.fjall_script.proofs.Serving.{is_place}
-use Rattle.fjall_script.proofs.run.run.Goals as goal
+use Rattle.fjall_script.proofs.program.run.Goals as goal
 
 pub returns-in-len1-clause-answered : goal.returns-in-len1-clause-answered
 returns-in-len1-clause-answered g c done =

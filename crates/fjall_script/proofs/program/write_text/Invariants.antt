@@ -1,5 +1,5 @@
 use Rattle.fjall_script.proofs.Writing.{Wrote}
-use Rattle.fjall_script.proofs.run.write_text.Given as goal
+use Rattle.fjall_script.proofs.program.write_text.Given as goal
 
 -- what was written, and what is left
 abbrev pub invariant-loop : goal.invariant-loop
