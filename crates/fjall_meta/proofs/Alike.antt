@@ -7,10 +7,10 @@ use Rattle.std.specs.List.{flat_map, Contains, position_or_len}
 use Rattle.std.specs.Bool.{◌==◌}
 use Rattle.fjall_options.specs.declared.options.stored_option.StoredOption.{StoredOption}
 use Rattle.fjall_options.specs.declared.options.stored_option.StoredOption.TheVariants.{CompactionStrategy}
-use Rattle.fjall_options.specs.Options.{stored_options, place, value_at, AreOptions, name_key}
+use Rattle.fjall_options.specs.Options.{options_by_name, stored_options, place, value_at, AreOptions, name_key}
 use Rattle.fjall_meta.specs.declared.living.LivingKeyspace.{LivingKeyspace}
 use Rattle.fjall_meta.specs.declared.entry.MetaEntry.{MetaEntry}
-use Rattle.fjall_meta.specs.Entries.{options_by_name, option_entry, option_entries, name_entry, entries_of}
+use Rattle.fjall_meta.specs.Entries.{option_entry, option_entries, name_entry, entries_of}
 use Rattle.fjall_meta.specs.Keyspaces.{Keyspaces, AreKeyspaces}
 use Rattle.fjall_meta.specs.Reading.{key_id}
 use Rattle.fjall_options.proofs.StoredPairs.{all_values}

@@ -6,8 +6,7 @@ use denote.Enum.Declared.{tag_of}
 use Rattle.fjall_options.specs.contracts.options.stored_option.StoredOption.{the_type}
 use Rattle.fjall_options.specs.declared.options.stored_option.StoredOption.{StoredOption}
 use Rattle.fjall_options.specs.declared.options.stored_option.StoredOption.TheVariants.{CompactionStrategy, DataBlockCompressionPolicy, DataBlockHashRatioPolicy, DataBlockRestartIntervalPolicy, DataBlockSizePolicy, ExpectPointReadHits, FilterBlockPartitioningPolicy, FilterBlockPinningPolicy, FilterPolicy, IndexBlockCompressionPolicy, IndexBlockPartitioningPolicy, IndexBlockPinningPolicy, IndexBlockRestartIntervalPolicy, LevelCount, ManualJournalPersist, MaxMemtableSize, Version, LeveledL0Threshold, LeveledTargetSize, LeveledLevelRatioPolicy}
-use Rattle.fjall_options.specs.Options.{place, config_pair, config_pairs}
-use Rattle.fjall_meta.specs.Entries.{options_by_name}
+use Rattle.fjall_options.specs.Options.{options_by_name, place, config_pair, config_pairs}
 
 abbrev Pair : Type 0
 Pair = List ℕ × List ℕ
@@ -66,12 +65,3 @@ pairs_count id options = refl
 -- the option that a loop is at
 abbrev pub item : ℕ → StoredOption
 item i = get_or options_by_name i CompactionStrategy
-
--- what each option gives, one option more
-pub one_more : {X : Type 0} (f : StoredOption → X) (i : ℕ) → i < 20 → map f (take (i + 1) options_by_name) ≡ map f (take i options_by_name) ++ f (item i) ∷ []
-one_more f i lt =
-    let next : take (i + 1) options_by_name ≡ take i options_by_name ++ item i ∷ [] = ap (λ (n : ℕ). take n options_by_name) (add-one i) ∙ take-suc options_by_name i CompactionStrategy lt in
-    ap (λ (os : List StoredOption). map f os) next ∙ map-append f (take i options_by_name) (item i ∷ [])
-
-pub all_done : {X : Type 0} (f : StoredOption → X) (i : ℕ) → 20 ≤ i → map f (take i options_by_name) ≡ map f options_by_name
-all_done f i ge = ap (λ (os : List StoredOption). map f os) (take_all i options_by_name ge)

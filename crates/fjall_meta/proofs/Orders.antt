@@ -12,10 +12,10 @@ use Rattle.std.specs.declared.cmp.Ordering.TheVariants.{Less, Equal, Greater}
 use Rattle.byteorder.specs.Numbers.{big_from-cons, big_from-bytes}
 use Rattle.fjall_base.specs.Pairs.{byte_order}
 use Rattle.fjall_options.specs.declared.options.stored_option.StoredOption.{StoredOption}
-use Rattle.fjall_options.specs.Options.{name_key, config_key, option_name}
+use Rattle.fjall_options.specs.Options.{options_by_name, name_key, config_key, option_name}
 use Rattle.fjall_meta.specs.declared.living.LivingKeyspace.{LivingKeyspace}
 use Rattle.fjall_meta.specs.declared.entry.MetaEntry.{MetaEntry}
-use Rattle.fjall_meta.specs.Entries.{options_by_name, option_entry, option_entries, name_entry, entries_of, IsAscending}
+use Rattle.fjall_meta.specs.Entries.{option_entry, option_entries, name_entry, entries_of, IsAscending}
 use Rattle.fjall_meta.proofs.Rising.{Rises, pairs_from, from_pairs, joined, mapped, weaker}
 
 -- ---- numbers and bytes

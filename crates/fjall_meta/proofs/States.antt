@@ -12,10 +12,10 @@ use Rattle.std.specs.Str.{bytes_eq}
 use Rattle.std.specs.declared.cmp.Ordering.TheVariants.{Less}
 use Rattle.fjall_base.specs.Pairs.{byte_order}
 use Rattle.fjall_options.specs.declared.options.stored_option.StoredOption.{StoredOption}
-use Rattle.fjall_options.specs.Options.{name_key, config_key, option_name, value_of, value_at, AreOptions, stored_options, stored_values}
+use Rattle.fjall_options.specs.Options.{options_by_name, name_key, config_key, option_name, value_of, value_at, AreOptions, stored_options, stored_values}
 use Rattle.fjall_meta.specs.declared.living.LivingKeyspace.{LivingKeyspace}
 use Rattle.fjall_meta.specs.declared.entry.MetaEntry.{MetaEntry}
-use Rattle.fjall_meta.specs.Entries.{options_by_name, option_entry, option_entries, name_entry, entries_of}
+use Rattle.fjall_meta.specs.Entries.{option_entry, option_entries, name_entry, entries_of}
 use Rattle.fjall_meta.specs.Keyspaces.{Keyspaces, AreKeyspaces, is_name}
 use Rattle.fjall_meta.specs.Reading.{key_id, is_that, own_entries, number_in, pairs_of, stored_keyspace, first_fault, AreIds, IsStored}
 use Rattle.fjall_options.proofs.StoredPairs.{all_values}

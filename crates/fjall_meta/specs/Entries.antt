@@ -4,35 +4,9 @@ use Rattle.std.specs.List.{flat_map}
 use Rattle.std.specs.declared.cmp.Ordering.TheVariants.{Less}
 use Rattle.fjall_base.specs.Pairs.{byte_order}
 use Rattle.fjall_options.specs.declared.options.stored_option.StoredOption.{StoredOption}
-use Rattle.fjall_options.specs.declared.options.stored_option.StoredOption.TheVariants.{CompactionStrategy, DataBlockCompressionPolicy, DataBlockHashRatioPolicy, DataBlockRestartIntervalPolicy, DataBlockSizePolicy, ExpectPointReadHits, FilterBlockPartitioningPolicy, FilterBlockPinningPolicy, FilterPolicy, IndexBlockCompressionPolicy, IndexBlockPartitioningPolicy, IndexBlockPinningPolicy, IndexBlockRestartIntervalPolicy, LevelCount, ManualJournalPersist, MaxMemtableSize, Version, LeveledL0Threshold, LeveledTargetSize, LeveledLevelRatioPolicy}
-use Rattle.fjall_options.specs.Options.{name_key, config_key, option_name, value_at}
+use Rattle.fjall_options.specs.Options.{name_key, config_key, option_name, options_by_name, value_at}
 use Rattle.fjall_meta.specs.declared.living.LivingKeyspace.{LivingKeyspace}
 use Rattle.fjall_meta.specs.declared.entry.MetaEntry.{MetaEntry}
-
--- all options by name ascending, which is the order of their keys
-abbrev pub options_by_name : List StoredOption
-options_by_name =
-    CompactionStrategy ∷
-    DataBlockCompressionPolicy ∷
-    DataBlockHashRatioPolicy ∷
-    DataBlockRestartIntervalPolicy ∷
-    DataBlockSizePolicy ∷
-    ExpectPointReadHits ∷
-    FilterBlockPartitioningPolicy ∷
-    FilterBlockPinningPolicy ∷
-    FilterPolicy ∷
-    IndexBlockCompressionPolicy ∷
-    IndexBlockPartitioningPolicy ∷
-    IndexBlockPinningPolicy ∷
-    IndexBlockRestartIntervalPolicy ∷
-    LevelCount ∷
-    LeveledL0Threshold ∷
-    LeveledLevelRatioPolicy ∷
-    LeveledTargetSize ∷
-    ManualJournalPersist ∷
-    MaxMemtableSize ∷
-    Version ∷
-    []
 
 -- the pair that stores an option of a keyspace
 abbrev pub option_entry : LivingKeyspace → StoredOption → MetaEntry

@@ -8,7 +8,7 @@ ghost use Rattle.fjall_meta.specs.Entries.{option_entry, option_entries, name_en
 
 use crate::living::LivingKeyspace;
 use fjall_base::{KvPair, Result, UserKey, UserValue};
-use fjall_options::{StoredOption, encode_name_key};
+use fjall_options::{OPTIONS_BY_NAME, StoredOption, encode_name_key};
 use std::alloc::Global;
 
 /// A pair of the meta keyspace.
@@ -21,30 +21,6 @@ pub struct MetaEntry {
     /// The number of the change that wrote it, which is the creation of its keyspace.
     pub number: u64,
 }
-
-/// All options by name ascending, which is the order of their keys.
-const OPTIONS_BY_NAME: [StoredOption; 20] = [
-    StoredOption::CompactionStrategy,
-    StoredOption::DataBlockCompressionPolicy,
-    StoredOption::DataBlockHashRatioPolicy,
-    StoredOption::DataBlockRestartIntervalPolicy,
-    StoredOption::DataBlockSizePolicy,
-    StoredOption::ExpectPointReadHits,
-    StoredOption::FilterBlockPartitioningPolicy,
-    StoredOption::FilterBlockPinningPolicy,
-    StoredOption::FilterPolicy,
-    StoredOption::IndexBlockCompressionPolicy,
-    StoredOption::IndexBlockPartitioningPolicy,
-    StoredOption::IndexBlockPinningPolicy,
-    StoredOption::IndexBlockRestartIntervalPolicy,
-    StoredOption::LevelCount,
-    StoredOption::LeveledL0Threshold,
-    StoredOption::LeveledLevelRatioPolicy,
-    StoredOption::LeveledTargetSize,
-    StoredOption::ManualJournalPersist,
-    StoredOption::MaxMemtableSize,
-    StoredOption::Version,
-];
 
 /// The pair of an option out of those of all options, in the options' order.
 fn pair_of(pairs: &[KvPair], option: StoredOption) -> &KvPair

@@ -166,10 +166,11 @@ all_read id pairs front i total ge so_far =
     sym so_far ∙ rw (none, append-nil front) refl
 
 -- what each option gives, one option more
-pub one_more : {X : Type 0} (f : StoredOption → X) (i : ℕ) → i < 20 → map f (take (i + 1) stored_options) ≡ map f (take i stored_options) ++ f (item i) ∷ []
-one_more f i lt =
-    let next : take (i + 1) stored_options ≡ take i stored_options ++ item i ∷ [] = ap (λ (n : ℕ). take n stored_options) (add-one i) ∙ take-suc stored_options i CompactionStrategy lt in
-    ap (λ (os : List StoredOption). map f os) next ∙ map-append f (take i stored_options) (item i ∷ [])
+pub one_more : {X : Type 0} (f : StoredOption → X) (options : List StoredOption) (i : ℕ) → i < length options → map f (take (i + 1) options) ≡ map f (take i options) ++ f (get_or options i CompactionStrategy) ∷ []
+one_more f options i lt =
+    let option = get_or options i CompactionStrategy in
+    let next : take (i + 1) options ≡ take i options ++ option ∷ [] = ap (λ (n : ℕ). take n options) (add-one i) ∙ take-suc options i CompactionStrategy lt in
+    ap (λ (os : List StoredOption). map f os) next ∙ map-append f (take i options) (option ∷ [])
 
-pub all_done : {X : Type 0} (f : StoredOption → X) (i : ℕ) → i ≤ 20 → 20 ≤ i → map f (take i stored_options) ≡ map f stored_options
-all_done f i le ge = ap (λ (os : List StoredOption). map f os) (take_all i stored_options ge)
+pub all_done : {X : Type 0} (f : StoredOption → X) (options : List StoredOption) (i : ℕ) → length options ≤ i → map f (take i options) ≡ map f options
+all_done f options i ge = ap (λ (os : List StoredOption). map f os) (take_all i options ge)

@@ -17,9 +17,9 @@ use Rattle.fjall_options.specs.Policies.{policy_bytes, number_bytes, policy_at, 
 
 -- ---- the table
 
--- all options, in the order in which they are stored and read
-abbrev pub stored_options : List StoredOption
-stored_options =
+-- the options that come first in both orders
+abbrev first_options : List StoredOption
+first_options =
     CompactionStrategy ∷
     DataBlockCompressionPolicy ∷
     DataBlockHashRatioPolicy ∷
@@ -34,15 +34,17 @@ stored_options =
     IndexBlockPinningPolicy ∷
     IndexBlockRestartIntervalPolicy ∷
     LevelCount ∷
-    ManualJournalPersist ∷
-    MaxMemtableSize ∷
-    Version ∷
-    LeveledL0Threshold ∷
-    LeveledTargetSize ∷
-    LeveledLevelRatioPolicy ∷
     []
 
--- the place of an option in that order, from 0
+-- all options, in the order in which they are stored and read
+abbrev pub stored_options : List StoredOption
+stored_options = first_options ++ ManualJournalPersist ∷ MaxMemtableSize ∷ Version ∷ LeveledL0Threshold ∷ LeveledTargetSize ∷ LeveledLevelRatioPolicy ∷ []
+
+-- all options by name ascending, which is the order of their keys
+abbrev pub options_by_name : List StoredOption
+options_by_name = first_options ++ LeveledL0Threshold ∷ LeveledLevelRatioPolicy ∷ LeveledTargetSize ∷ ManualJournalPersist ∷ MaxMemtableSize ∷ Version ∷ []
+
+-- the place of an option in the order in which it is stored, from 0
 abbrev pub place : StoredOption → ℕ
 place CompactionStrategy = 0
 place DataBlockCompressionPolicy = 1

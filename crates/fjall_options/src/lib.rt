@@ -6,6 +6,6 @@ mod options;
 pub use options::{
     BlockSizePolicy, BloomConstructionPolicy, CompressionPolicy, DecodeConfig, EffectiveSettings,
     EncodeConfig, FilterPolicy, FilterPolicyEntry, HashRatioPolicy, KeyspaceCreateOptions, Leveled,
-    Levelled, PartitioningPolicy, PinningPolicy, Policy, PolicyEntry, RestartIntervalPolicy,
-    STORED_OPTIONS, StoredOption, encode_config_key, encode_name_key,
+    Levelled, OPTIONS_BY_NAME, PartitioningPolicy, PinningPolicy, Policy, PolicyEntry,
+    RestartIntervalPolicy, STORED_OPTIONS, StoredOption, encode_config_key, encode_name_key,
 };

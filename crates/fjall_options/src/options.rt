@@ -22,4 +22,4 @@ pub use policy::{
     BlockSizePolicy, CompressionPolicy, FilterPolicy, HashRatioPolicy, PartitioningPolicy,
     PinningPolicy, Policy, RestartIntervalPolicy,
 };
-pub use stored_option::{STORED_OPTIONS, StoredOption};
+pub use stored_option::{OPTIONS_BY_NAME, STORED_OPTIONS, StoredOption};

@@ -24,19 +24,23 @@ pub fn facts_agree()
 
 /// A refusal that is due, or want of memory where none is, is a step of the machine that changes nothing.
 pub fn a_refusal_is_a_step()
-    ensures due { (m : Remembered) (table : ℕ) (s : State) → StandsFor m table s → (call : Call) (error : Error) → due_in (facts_of m table) call ≡ Some error → Step s call (Refused error) s }
-    ensures memory { (m : Remembered) (table : ℕ) (s : State) → StandsFor m table s → (call : Call) (error : Error) → TakesMemory call → IsDueOrMemory (due_in (facts_of m table) call) error → Step s call (Refused error) s }
+    ensures due { (m : Remembered) (table : ℕ) (s : State) → StandsFor m table s → (call : Call) (error : Error) → due_in (facts_of m table) call ≡ Some error
+        → Step s call (Refused error) s }
+    ensures memory { (m : Remembered) (table : ℕ) (s : State) → StandsFor m table s → (call : Call) (error : Error) → TakesMemory call
+        → IsDueOrMemory (due_in (facts_of m table) call) error → Step s call (Refused error) s }
 {}
 
 /// One version more is an accepted write.
 pub fn a_write_stands()
-    ensures { (m : Remembered) (table : ℕ) (s : State) → StandsFor m table s → (id : ℕ) (key : Bytes) (o : Op) → is_living (store_of m.keyspaces m.versions) id ≡ true
+    ensures { (m : Remembered) (table : ℕ) (s : State) → StandsFor m table s → (id : ℕ) (key : Bytes) (o : Op)
+        → is_living (store_of m.keyspaces m.versions) id ≡ true
         → StandsFor (with_version (version_of m.next id key o) m) table (accepted s id key o) }
 {}
 
 /// A keyspace more is a creation.
 pub fn a_creation_stands()
-    ensures { (m : Remembered) (table : ℕ) (s : State) → StandsFor m table s → (name : Bytes) (options : List Bytes) → is_name name ≡ true → has_name (store_of m.keyspaces m.versions) name ≡ false
+    ensures { (m : Remembered) (table : ℕ) (s : State) → StandsFor m table s → (name : Bytes) (options : List Bytes) → is_name name ≡ true
+        → has_name (store_of m.keyspaces m.versions) name ≡ false
         → AreOptions options → m.keyspaces.next ≢ 2 ^ 64 - 1 → StandsFor (with_creation name options m) (table + 1) (created s name options) }
 {}
 
@@ -48,7 +52,8 @@ pub fn a_deletion_stands()
 
 /// A handle more is counted.
 pub fn a_retained_stands()
-    ensures { (m : Remembered) (table : ℕ) (s : State) → StandsFor m table s → (id : ℕ) → StandsFor (retained id m) table (record s { handles = one_more s.handles id }) }
+    ensures { (m : Remembered) (table : ℕ) (s : State) → StandsFor m table s → (id : ℕ)
+        → StandsFor (retained id m) table (record s { handles = one_more s.handles id }) }
 {}
 
 /// A handle less is counted. With the last one of a deleted keyspace goes what no read finds any more.
@@ -58,13 +63,15 @@ pub fn a_release_stands()
 
 /// After a fault what is held stands for poisoned states, whatever their parts are.
 pub fn a_fault_stands()
-    ensures stands { (m : Remembered) (table : ℕ) (s : State) → StandsFor m table s → (parts : Parts) → StandsFor (poisoned m) parts.table (record s { poisoned = true; parts = parts }) }
+    ensures stands { (m : Remembered) (table : ℕ) (s : State) → StandsFor m table s → (parts : Parts)
+        → StandsFor (poisoned m) parts.table (record s { poisoned = true; parts = parts }) }
     ensures poisoned { (s : State) (parts : Parts) → IsPoisoned s (record s { poisoned = true; parts = parts }) }
 {}
 
 /// How many bytes the journal has is nothing that memory tells of.
 pub fn other_parts_stand()
-    ensures { (m : Remembered) (table : ℕ) (s : State) → StandsFor m table s → (parts : Parts) → parts.table ≡ table → StandsFor m table (record s { parts = parts }) }
+    ensures { (m : Remembered) (table : ℕ) (s : State) → StandsFor m table s → (parts : Parts) → parts.table ≡ table
+        → StandsFor m table (record s { parts = parts }) }
 {}
 
 /// Where no refusal of a read is due, versions tell what the present has.
@@ -79,15 +86,19 @@ pub fn reads_agree()
 pub fn names_agree()
     ensures listed { (m : Remembered) (table : ℕ) (s : State) → StandsFor m table s → values (present s).names ≡ map (λ k. k.name) m.keyspaces.living }
     ensures counted { (m : Remembered) (table : ℕ) (s : State) → StandsFor m table s → len (present s).names ≡ length m.keyspaces.living }
-    ensures named { (m : Remembered) (table : ℕ) (s : State) → StandsFor m table s → (name : Bytes) → has_name (present s) name ≡ is_some (id_of name m.keyspaces.living) }
-    ensures resolved { (m : Remembered) (table : ℕ) (s : State) → StandsFor m table s → (id : ℕ) (name : Bytes) → (get (present s).names id ≡ Some name) ↔ (id_of name m.keyspaces.living ≡ Some id) }
-    ensures living { (m : Remembered) (table : ℕ) (s : State) → StandsFor m table s → (id : ℕ) → is_living (present s) id ≡ is_living (store_of m.keyspaces m.versions) id }
+    ensures named { (m : Remembered) (table : ℕ) (s : State) → StandsFor m table s → (name : Bytes)
+        → has_name (present s) name ≡ is_some (id_of name m.keyspaces.living) }
+    ensures resolved { (m : Remembered) (table : ℕ) (s : State) → StandsFor m table s → (id : ℕ) (name : Bytes)
+        → (get (present s).names id ≡ Some name) ↔ (id_of name m.keyspaces.living ≡ Some id) }
+    ensures living { (m : Remembered) (table : ℕ) (s : State) → StandsFor m table s → (id : ℕ)
+        → is_living (present s) id ≡ is_living (store_of m.keyspaces m.versions) id }
     ensures next { (m : Remembered) (table : ℕ) (s : State) → StandsFor m table s → (present s).next ≡ m.keyspaces.next }
 {}
 
 /// A keyspace of the present persists by hand where the one that is held does.
 pub fn options_agree()
-    ensures { (m : Remembered) (table : ℕ) (s : State) → StandsFor m table s → (id : ℕ) → persists_by_hand (present s) id ≡ persists_by_hand (store_of m.keyspaces m.versions) id }
+    ensures { (m : Remembered) (table : ℕ) (s : State) → StandsFor m table s → (id : ℕ)
+        → persists_by_hand (present s) id ≡ persists_by_hand (store_of m.keyspaces m.versions) id }
 {}
 
 /// What was just opened stands for the state just opened.

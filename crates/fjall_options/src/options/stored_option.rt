@@ -61,6 +61,30 @@ pub const STORED_OPTIONS: [StoredOption; 20] = [
     StoredOption::LeveledLevelRatioPolicy,
 ];
 
+/// All options by name ascending, which is the order of their keys.
+pub const OPTIONS_BY_NAME: [StoredOption; 20] = [
+    StoredOption::CompactionStrategy,
+    StoredOption::DataBlockCompressionPolicy,
+    StoredOption::DataBlockHashRatioPolicy,
+    StoredOption::DataBlockRestartIntervalPolicy,
+    StoredOption::DataBlockSizePolicy,
+    StoredOption::ExpectPointReadHits,
+    StoredOption::FilterBlockPartitioningPolicy,
+    StoredOption::FilterBlockPinningPolicy,
+    StoredOption::FilterPolicy,
+    StoredOption::IndexBlockCompressionPolicy,
+    StoredOption::IndexBlockPartitioningPolicy,
+    StoredOption::IndexBlockPinningPolicy,
+    StoredOption::IndexBlockRestartIntervalPolicy,
+    StoredOption::LevelCount,
+    StoredOption::LeveledL0Threshold,
+    StoredOption::LeveledLevelRatioPolicy,
+    StoredOption::LeveledTargetSize,
+    StoredOption::ManualJournalPersist,
+    StoredOption::MaxMemtableSize,
+    StoredOption::Version,
+];
+
 impl StoredOption {
     /// The option's place in their order, from 0.
     pub(crate) fn place(self) -> usize

@@ -1,7 +1,8 @@
 use Rattle.std.proofs.Common.{◌≡◌, ◌∙◌, ◌++◌, ◌∷◌, [], List, map, take, sym, ap, append_assoc}
-use Rattle.fjall_options.specs.Options.{config_pair}
-use Rattle.fjall_meta.specs.Entries.{option_entry, option_entries, options_by_name}
-use Rattle.fjall_meta.proofs.Options.{pairs_count, pair_at, item, one_more, all_done}
+use Rattle.fjall_options.specs.Options.{options_by_name, config_pair}
+use Rattle.fjall_meta.specs.Entries.{option_entry, option_entries}
+use Rattle.fjall_options.proofs.StoredPairs.{one_more, all_done}
+use Rattle.fjall_meta.proofs.Options.{pairs_count, pair_at, item}
 use Rattle.fjall_meta.proofs.entry.put_options.Goals as goal
 
 pub pair_of-pair-requires : goal.pair_of-pair-requires
@@ -15,10 +16,10 @@ loop-option-preserved c =
     let key : c.in_ok-clone.field-0 ≡ c.pair_of-pair.result.now.0 = sym h.3 ∙ h.4 ∙ h.2 in
     let value : c.in_ok-clone-2.field-0 ≡ c.pair_of-pair.result.now.1 = sym i.3 ∙ i.4 ∙ i.2 in
     let found : c.pair_of-pair.result.now ≡ config_pair k.id k.options (item c.loop-option.option-index) = c.pair_of-pair.ensures ∙ rw (c.deref.ensures.value, c.in_ok-pairs.ensures.ok) (pair_at k.id k.options (item c.loop-option.option-index) c.pair_of-pair.result.now) in
-    let next = one_more (option_entry k) c.loop-option.option-index c.loop-option-test.true in
+    let next = one_more (option_entry k) options_by_name c.loop-option.option-index c.loop-option-test.true in
     rw (c.in_ok-push.ensures.items, next, c.loop-option.invariant, key, value, found) (append_assoc c.args.entries.now.items (map (option_entry k) (take c.loop-option.option-index options_by_name)) (option_entry k (item c.loop-option.option-index) ∷ []))
 
 pub returns-clause-ok : goal.returns-clause-ok
 unfolding option_entries
 returns-clause-ok c =
-    rw (c.loop-option.invariant) (ap (λ (es : List _). c.args.entries.now.items ++ es) (all_done (option_entry c.args.keyspace.now) c.loop-option.option-index c.loop-option-test.false))
+    rw (c.loop-option.invariant) (ap (λ (es : List _). c.args.entries.now.items ++ es) (all_done (option_entry c.args.keyspace.now) options_by_name c.loop-option.option-index c.loop-option-test.false))

@@ -1,5 +1,6 @@
 use Rattle.std.proofs.Common.{◌≡◌, ◌++◌, map, take}
-use Rattle.fjall_meta.specs.Entries.{option_entry, options_by_name}
+use Rattle.fjall_options.specs.Options.{options_by_name}
+use Rattle.fjall_meta.specs.Entries.{option_entry}
 use Rattle.fjall_meta.proofs.entry.put_options.Given as goal
 
 abbrev pub invariant-loop-option : goal.invariant-loop-option
