@@ -1,5 +1,5 @@
 -- The catalog: tree 0 on disk, whose last record and table say which keyspaces live.
-use Rattle.std.specs.Prelude.{◌≡◌, ℕ, ◌<◌, ◌≤◌, ◌^◌, ◌||◌, Bool, List, [], ◌∷◌, ◌++◌, length, map, codes, Option, Some, None, IfSome}
+use Rattle.std.specs.Prelude.{◌≡◌, ◌↔◌, ℕ, ◌<◌, ◌≤◌, ◌^◌, ◌||◌, Bool, IsTrue, List, [], ◌∷◌, ◌++◌, length, map, codes, Option, Some, None, IfSome}
 use Rattle.std.specs.Str.{bytes_eq}
 use Rattle.std.specs.List.{flat_map, AllByRecursion}
 use Rattle.fjall_base.specs.Disk.{Name, Entry, File, Missing, Folder, Place, State, Image, IsFile}
@@ -89,6 +89,12 @@ pub record Says (image : Image) (records : List Fields) (last : Catalog) (s : Ke
   pub entries : HoldsEntries image last.table (entries_of s.living)
   pub next : s.next ≡ last.next_keyspace_id
   pub are : AreKeyspaces s
+
+-- Tree 0's whole records end there, and it is told whether bytes stand behind them.
+pub record HasEnd (image : Image) (end : ℕ) (is_torn : Bool) : Type 0 where
+  pub records : List Fields
+  pub whole : IsRecords (records_in image) records end
+  pub torn : IsTrue is_torn ↔ (end < length (records_in image))
 
 -- ---- on a disk
 

@@ -8,7 +8,7 @@ ghost use Rattle.fjall_files.specs.Names.{keyspace_folder};
 ghost use Rattle.fjall_tree.specs.Records.{Fields, view};
 ghost use Rattle.fjall_meta.specs.Keyspaces.{Keyspaces};
 ghost use Rattle.fjall_catalog.specs.declared.catalog.Catalog.{Catalog};
-ghost use Rattle.fjall_catalog.specs.Catalog.{Says, fields};
+ghost use Rattle.fjall_catalog.specs.Catalog.{HasEnd, Says, fields};
 ghost use Rattle.fjall_recovery.specs.Folders.{AreMade, Contents, IsFinished, IsSound, ReadsFolder, Shows, StandsFor, marker_bytes, number_of, past, past_record, past_records};
 ghost use Rattle.fjall_recovery.specs.Journals.{AreJournalIds};
 ghost use Rattle.fjall_recovery.specs.Naming.{AreFolderIds};
@@ -85,6 +85,7 @@ fn are_made(last: &Catalog, living: &[LivingKeyspace]) -> bool
 /// Reads tree 0, where it has its folder. Each keyspace must be made under a number that its last record knows.
 fn read_tree<D: Disk>(alloc: Global, disk: &mut D, folder_ids: &[u64]) -> Result<LoadedCatalog>
     ensures says { IsTrue D.honest → IfOk result (λ found. (records : List Fields) × Says (standing (state_in (D.meaning disk.old))) records found.catalog found.keyspaces) }
+    ensures end { IsTrue D.honest → IfOk result (λ found. HasEnd (standing (state_in (D.meaning disk.old))) found.end found.is_torn) }
     ensures made { IfOk result (λ found. AreMade found.catalog found.keyspaces) }
     ensures folder { IsTrue D.honest → AreFolderIds (standing (state_in (D.meaning disk.old))) folder_ids.now → OnOk result (standing (state_in (D.meaning disk.old)) (keyspace_folder 0) ≡ Folder) }
     ensures same { IsTrue D.honest → Took (D.meaning disk.old) (D.meaning disk.new) [] }

@@ -5,6 +5,7 @@ use Rattle.fjall_base.specs.Disk.{Name, Entry, Missing, File, Place, State, Imag
 use Rattle.fjall_tree.specs.Records.{Fields, IsRecords}
 use Rattle.fjall_base.specs.Lists.{last_of}
 use Rattle.fjall_files.specs.Names.{journal_name, keyspace_folder, current_name}
+use Rattle.fjall_catalog.specs.declared.reading.LoadedCatalog.{LoadedCatalog}
 use Rattle.fjall_recovery.specs.declared.folder.Finished.{Finished}
 use Rattle.fjall_recovery.specs.declared.homes.Home.{Home}
 use Rattle.fjall_recovery.specs.Folders.{Contents, IsSound}
@@ -44,6 +45,10 @@ whole_names ids = codes "version" ∷ map journal_name (sealed_of ids)
 -- the end of a keyspace's records as they were read
 abbrev pub home_end : Home → End
 home_end h = record { name = current_name h.id; cut = nat_lt h.end h.len; len = h.end }
+
+-- the end of tree 0's records as they were read
+abbrev pub tree_end : LoadedCatalog → End
+tree_end c = record { name = current_name 0; cut = c.is_torn; len = c.end }
 
 -- the files that are ended: the active journal, and the records of tree 0 and of these keyspaces
 abbrev pub ended_names : ℕ → List ℕ → List Name

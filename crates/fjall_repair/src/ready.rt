@@ -156,7 +156,7 @@ fn database_of(alloc: Global, found: Finished, active: &str) -> Result<Opened>
 
 /// Gets ready to mend the folder that was read.
 pub(crate) fn ready_to_mend<D: Disk>(alloc: Global, disk: &mut D, found: Finished) -> Result<ToMend>
-    ensures mending { IsTrue D.honest → IfOk result (λ r. IsMendingOf (standing (state_in (D.meaning disk.old))) found r.mending) }
+    ensures mending { (image : Image) → IsFinished image found → IfOk result (λ r. IsMendingOf image found r.mending) }
     ensures sweep { IsTrue D.honest → IfOk result (λ r. IsPlan (option_map (λ table. table.id) found.catalog.catalog.table) found.catalog.keyspaces.living r.sweep) }
     ensures finds { IsTrue D.honest → IfOk result (λ r. FindsAll (state_in (D.meaning disk.old)) (option_map (λ table. table.id) found.catalog.catalog.table) found.catalog.keyspaces.living found.folder_ids.items r.sweep) }
     ensures opened { IfOk result (λ r. Takes r.opened (string_bytes r.mending.active) found.journals.end found.catalog.catalog found.catalog.keyspaces (map view found.journals.batches.items)) }
@@ -172,7 +172,7 @@ pub(crate) fn ready_to_mend<D: Disk>(alloc: Global, disk: &mut D, found: Finishe
     let named = named_table(&found.catalog.catalog);
     let living = found.catalog.keyspaces.living();
     let sweep = plan_sweep(alloc, disk, named, living, &found.folder_ids)?;
-    let mending = plan_mending(alloc, disk, &found)?;
+    let mending = plan_mending(alloc, &found)?;
     Ok(ToMend {
         opened: database_of(alloc, found, mending.active.as_str())?,
         mending,

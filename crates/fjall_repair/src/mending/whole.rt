@@ -1,8 +1,8 @@
 //! A folder mended: a crash at any moment of it leaves the same store.
 
-ghost use Rattle.std.specs.Prelude.{◌≡◌, ℕ, List, IfOk, IsTrue, OnOk, [], Some, string_bytes, ◌<◌, ◌^◌, Contains, map};
+ghost use Rattle.std.specs.Prelude.{◌≡◌, ℕ, List, IfOk, IsOkUnless, IsTrue, OnOk, [], Some, string_bytes, ◌<◌, ◌^◌, Contains, map};
 ghost use Rattle.fjall_base.specs.Store.{Command, Store};
-ghost use Rattle.fjall_base.specs.Disk.{HasCause, Image, LeavesOnly, OnlyFaults, Took, standing, state_in};
+ghost use Rattle.fjall_base.specs.Disk.{Image, LeavesOnly, OnlyFaults, standing, state_in};
 ghost use Rattle.fjall_files.specs.Names.{current_name, table_name};
 ghost use Rattle.fjall_files.specs.Tidy.{IsTidy, StaysTidy};
 ghost use Rattle.fjall_recovery.specs.declared.folder.Finished.{Finished};
@@ -11,23 +11,18 @@ ghost use Rattle.fjall_recovery.specs.Amid.{HoldsAmid, StandsAmid};
 ghost use Rattle.fjall_recovery.specs.Held.{Holds};
 ghost use Rattle.fjall_repair.specs.Mended.{IsMended, IsMendingOf};
 
-use crate::mending::plan::{MendPlan, plan_of, read_tree_end};
+use crate::mending::plan::{MendPlan, plan_of};
 use crate::mending::steps::carry_out;
-use fjall_base::{Disk, Result};
+use fjall_base::{Disk, Error, Result};
 use fjall_recovery::Finished;
 use std::alloc::Global;
 
-/// Finds out what is to be done to a folder that was read, and gets all memory for it. Nothing of the disk changes.
-///
-/// Refusals: `OutOfMemory`, and `Io` for a fault of the disk.
-pub fn plan_mending<D: Disk>(alloc: Global, disk: &mut D, found: &Finished) -> Result<MendPlan>
-    ensures plan { IsTrue D.honest → IfOk result (IsMendingOf (standing (state_in (D.meaning disk.old))) found.now) }
-    ensures same { IsTrue D.honest → Took (D.meaning disk.old) (D.meaning disk.new) [] }
-    ensures served { IsTrue D.honest → (D.meaning disk.new).misuses ≡ (D.meaning disk.old).misuses }
-    ensures cause { HasCause (D.meaning disk.old) (D.meaning disk.new) result }
+/// Finds out what is to be done to a folder that was read, and gets all memory for it. It refuses with `OutOfMemory` alone.
+pub fn plan_mending(alloc: Global, found: &Finished) -> Result<MendPlan>
+    ensures plan { (image : Image) → IsFinished image found.now → IfOk result (IsMendingOf image found.now) }
+    ensures only { IsOkUnless result Error.OutOfMemory }
 {
-    let tree = read_tree_end(alloc, disk)?;
-    plan_of(alloc, found, tree)
+    plan_of(alloc, found)
 }
 
 /// Mends a folder by the plan that was made of it, so that all that counts lies whole and synced.
