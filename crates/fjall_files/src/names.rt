@@ -1,6 +1,6 @@
 //! The names of journals, keyspaces and tables.
 
-ghost use Rattle.std.specs.Prelude.{◌≡◌, ◌↔◌, ℕ, ◌<◌, ◌^◌, IfErr, IfOk, IfSome, IsErr, IsOkUnless, Ok, Some, string_bytes};
+ghost use Rattle.std.specs.Prelude.{◌≡◌, ◌↔◌, ℕ, ◌<◌, IfOk, IfSome, IsErr, IsOkUnless, Ok, Some, string_bytes};
 ghost use Rattle.fjall_files.specs.Names.{IsJournalName, IsMisnamed, IsNameOf, current_name, journal_name, keyspace_folder, name_in, table_name};
 
 use crate::number::number;
