@@ -13,9 +13,8 @@ ghost use Rattle.fjall_files.specs.Calls.{seen, AllServed};
 
 use crate::catalog::{Catalog, catalog_of};
 use crate::table::decode_entries;
-use crate::writing::CURRENT;
 use fjall_base::{Disk, Error, Result, StorageError};
-use fjall_files::table_name;
+use fjall_files::{TREE_RECORDS, table_name};
 use fjall_meta::{MetaEntry, MetaKeyspace};
 use fjall_table::TableInfo;
 use fjall_tree::{Current, read_current};
@@ -109,7 +108,7 @@ pub fn read_catalog<D: Disk>(alloc: Global, disk: &mut D) -> Result<LoadedCatalo
     ensures fault { IfErr result (IsFaultIfIo (D.meaning disk.old).faults (D.meaning disk.new).faults) }
     ensures listed { IfErr result IsCatalogRefusal }
 {
-    let Some(bytes) = disk.read(alloc, CURRENT)? else {
+    let Some(bytes) = disk.read(alloc, TREE_RECORDS)? else {
         return Err(Error::Storage(StorageError::RecordDamaged));
     };
     let Last {

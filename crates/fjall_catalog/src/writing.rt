@@ -14,13 +14,7 @@ ghost use Rattle.fjall_catalog.specs.Updates.{IsTableGone, IsUpdate, IsWritten, 
 use crate::catalog::Catalog;
 use crate::update::Update;
 use fjall_base::{Disk, Result};
-use fjall_files::make_file;
-
-/// The folder of tree 0.
-const FOLDER: &str = "keyspaces/0";
-
-/// The file of its records.
-pub(crate) const CURRENT: &str = "keyspaces/0/current";
+use fjall_files::{TREE_FOLDER, TREE_RECORDS, make_file};
 
 /// Writes the new table of a change, and syncs it and its name; nothing where no keyspace lives. The old catalog still
 /// counts.
@@ -45,7 +39,7 @@ pub fn write_table<D: Disk>(disk: &mut D, update: &Update) -> Result<()>
         return Ok(());
     };
     make_file(disk, table.name.as_str(), &table.bytes)?;
-    disk.sync_folder(FOLDER)
+    disk.sync_folder(TREE_FOLDER)
 }
 
 /// Appends the record of a change whose table is written, and syncs it: from then on the new catalog counts.
@@ -65,8 +59,8 @@ pub fn commit<D: Disk>(disk: &mut D, update: &Update) -> Result<()>
     ensures cause { OnlyFaults (D.meaning disk.old) (D.meaning disk.new) result }
     ensures kinds { IsTrue D.honest → StaysTidy (D.meaning disk.old) (D.meaning disk.new) }
 {
-    disk.append(CURRENT, &update.record_text)?;
-    disk.sync(CURRENT)
+    disk.append(TREE_RECORDS, &update.record_text)?;
+    disk.sync(TREE_RECORDS)
 }
 
 /// Removes the table of the catalog before a change that counts, where it had one. A crash may bring its file back until

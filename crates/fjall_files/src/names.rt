@@ -7,6 +7,18 @@ use crate::number::number;
 use fjall_base::{Error, JournalRecoveryError, Result};
 use std::alloc::Global;
 
+/// The marker of a folder.
+pub const MARKER_FILE: &str = "version";
+
+/// The folder of all keyspaces.
+pub const KEYSPACES_FOLDER: &str = "keyspaces";
+
+/// The folder of tree 0, which says which keyspaces live.
+pub const TREE_FOLDER: &str = "keyspaces/0";
+
+/// The file of tree 0's records.
+pub const TREE_RECORDS: &str = "keyspaces/0/current";
+
 /// The name of a journal's file: its id and `.jnl`, as `12.jnl`.
 pub fn journal_name(alloc: Global, id: u64) -> Result<String>
     ensures name { IfOk result (λ name. string_bytes name ≡ journal_name id) }

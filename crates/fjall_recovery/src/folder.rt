@@ -21,7 +21,7 @@ use crate::listing::{list_journals, list_keyspaces};
 use crate::unfinished::check_unfinished;
 use fjall_base::{Disk, Error, Result, StorageError};
 use fjall_catalog::{Catalog, LoadedCatalog, read_catalog};
-use fjall_files::{Marker, read_marker};
+use fjall_files::{MARKER_FILE, Marker, read_marker};
 use fjall_meta::LivingKeyspace;
 use std::alloc::Global;
 
@@ -148,7 +148,7 @@ fn read_version<D: Disk>(alloc: Global, disk: &mut D) -> Result<Marker>
     ensures cause { IsTrue D.honest → IfErr result (IsDue (λ error. marker_tells (marker_bytes (seen (D.meaning disk.old))) ≡ Err error)) }
     ensures listed { IfErr result IsOpeningRefusal }
 {
-    match disk.read(alloc, "version")? {
+    match disk.read(alloc, MARKER_FILE)? {
         Some(bytes) => read_marker(Some(bytes.as_slice())),
         None => read_marker(None),
     }

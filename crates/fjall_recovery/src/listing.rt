@@ -10,7 +10,7 @@ ghost use Rattle.fjall_recovery.specs.Refusals.{HasRisen, IsDue, IsOpeningRefusa
 ghost use Rattle.fjall_files.specs.Calls.{seen, AllServed};
 
 use fjall_base::{Disk, Error, JournalRecoveryError, Result};
-use fjall_files::{journals, keyspaces};
+use fjall_files::{KEYSPACES_FOLDER, journals, keyspaces};
 use std::alloc::Global;
 
 /// The ids of the journals in the root, ascending. A file that is named nearly like one is `InvalidFileName`.
@@ -41,6 +41,6 @@ pub(crate) fn list_keyspaces<D: Disk>(alloc: Global, disk: &mut D) -> Result<Vec
     ensures cause { IsTrue D.honest → IfErr result (IsDue (λ error. (error ≡ Error.Unrecoverable) × (KeyspacesAreNamed (seen (D.meaning disk.old)) → ⊥))) }
     ensures listed { IfErr result IsOpeningRefusal }
 {
-    let listed = disk.list(alloc, "keyspaces")?;
+    let listed = disk.list(alloc, KEYSPACES_FOLDER)?;
     keyspaces(alloc, &listed)
 }

@@ -24,7 +24,7 @@ use crate::plan::{SweepPlan, plan_sweep};
 use crate::{BeginPlan, MendPlan, plan_beginning, plan_mending};
 use fjall_base::{Disk, Error, Result};
 use fjall_catalog::Catalog;
-use fjall_files::{journal_name, keyspaces};
+use fjall_files::{KEYSPACES_FOLDER, journal_name, keyspaces};
 use fjall_journal::{Batch, Writer};
 use fjall_meta::MetaKeyspace;
 use fjall_recovery::Finished;
@@ -63,7 +63,7 @@ fn list_folders<D: Disk>(alloc: Global, disk: &mut D) -> Result<Vec<u64>>
     ensures only { IsTrue D.honest → KeyspacesAreNamed (seen (D.meaning disk.old)) → IfErr result (IsDue (λ error. ⊥)) }
     ensures listed { IfErr result IsOpeningRefusal }
 {
-    let listed = disk.list(alloc, "keyspaces")?;
+    let listed = disk.list(alloc, KEYSPACES_FOLDER)?;
     keyspaces(alloc, &listed)
 }
 

@@ -15,8 +15,9 @@ ghost use Rattle.fjall_repair.specs.Making.{IsKept, KeepsHomes, KeepsTables, Com
 ghost use Rattle.fjall_repair.specs.Plans.{AwaitsMarker, FindsAt};
 
 use crate::beginning::file::complete_file;
-use crate::beginning::plan::{FileState, MARKER};
+use crate::beginning::plan::FileState;
 use fjall_base::{Disk, Result};
+use fjall_files::MARKER_FILE;
 
 /// Writes the marker, of which this was found, where nothing else is to be done.
 pub(crate) fn mark<D: Disk>(disk: &mut D, found: FileState, header: &[u8]) -> Result<()>
@@ -41,6 +42,6 @@ pub(crate) fn mark<D: Disk>(disk: &mut D, found: FileState, header: &[u8]) -> Re
     ensures journal { IsTrue D.honest → (sealed : List ℕ) (active : ℕ) → AwaitsMarker (state_in (D.meaning disk.old)) sealed active
         → (active < 2 ^ 64) × IsFile (seen (D.meaning disk.new) (journal_name active)) }
 {
-    complete_file(disk, MARKER, found, header)?;
+    complete_file(disk, MARKER_FILE, found, header)?;
     disk.sync_folder("")
 }

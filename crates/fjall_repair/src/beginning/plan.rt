@@ -12,14 +12,10 @@ ghost use Rattle.fjall_recovery.specs.Refusals.{HasRisen, IsDue, IsOpeningRefusa
 ghost use Rattle.fjall_repair.specs.Begun.{IsActive};
 ghost use Rattle.fjall_repair.specs.Plans.{AreToBe, IsFound, IsPlan};
 
-use crate::beginning::tree::CURRENT;
 use fjall_base::{Disk, Error, Result};
 use fjall_catalog::first_record;
-use fjall_files::{journal_name, journals, write_file_header};
+use fjall_files::{MARKER_FILE, TREE_RECORDS, journal_name, journals, write_file_header};
 use std::alloc::Global;
-
-/// The file of the marker.
-pub(crate) const MARKER: &str = "version";
 
 /// What a file has of the bytes that it is to hold.
 #[derive(Clone, Copy, Debug, PartialEq, Eq)]
@@ -158,9 +154,9 @@ pub fn plan_beginning<D: Disk>(alloc: Global, disk: &mut D) -> Result<BeginPlan>
     let ids = journal_ids(alloc, disk)?;
     let journals = journal_names(alloc, &ids)?;
     let first = first_record(alloc)?;
-    let records = find(alloc, disk, CURRENT, &first)?;
+    let records = find(alloc, disk, TREE_RECORDS, &first)?;
     let header = header(alloc)?;
-    let marker = find(alloc, disk, MARKER, &header)?;
+    let marker = find(alloc, disk, MARKER_FILE, &header)?;
     Ok(BeginPlan {
         journals,
         active: last_id(&ids),

@@ -13,15 +13,7 @@ ghost use Rattle.fjall_repair.specs.Plans.{HasFirstTree, first_text, FindsFirst}
 use crate::beginning::file::complete_file;
 use crate::beginning::plan::FileState;
 use fjall_base::{Disk, Result};
-
-/// The folder of all keyspaces.
-const KEYSPACES: &str = "keyspaces";
-
-/// The folder of tree 0.
-const FOLDER: &str = "keyspaces/0";
-
-/// The file of its records.
-pub(crate) const CURRENT: &str = "keyspaces/0/current";
+use fjall_files::{KEYSPACES_FOLDER, TREE_FOLDER, TREE_RECORDS};
 
 /// Makes the folder of all keyspaces, and in it that of tree 0, where they aren't there.
 fn make_folders<D: Disk>(disk: &mut D) -> Result<()>
@@ -35,8 +27,8 @@ fn make_folders<D: Disk>(disk: &mut D) -> Result<()>
     ensures homes { IsTrue D.honest → KeepsHomes (state_in (D.meaning disk.old)) (state_in (D.meaning disk.new)) }
     ensures served { IsTrue D.honest → IsTidy (state_in (D.meaning disk.old)) → AllServed (D.meaning disk.old) (D.meaning disk.new) }
 {
-    disk.make_folder(KEYSPACES)?;
-    disk.make_folder(FOLDER)
+    disk.make_folder(KEYSPACES_FOLDER)?;
+    disk.make_folder(TREE_FOLDER)
 }
 
 /// Syncs the names in both folders.
@@ -52,8 +44,8 @@ fn sync_folders<D: Disk>(disk: &mut D) -> Result<()>
     ensures served { IsTrue D.honest → (state_in (D.meaning disk.old) (codes "keyspaces")).now ≡ Folder
         → (state_in (D.meaning disk.old) (keyspace_folder 0)).now ≡ Folder → AllServed (D.meaning disk.old) (D.meaning disk.new) }
 {
-    disk.sync_folder(FOLDER)?;
-    disk.sync_folder(KEYSPACES)
+    disk.sync_folder(TREE_FOLDER)?;
+    disk.sync_folder(KEYSPACES_FOLDER)
 }
 
 /// Makes tree 0 with its first record, of which this was found: all of it is safe then, but the name of `keyspaces`.
@@ -70,6 +62,6 @@ pub(crate) fn make_tree<D: Disk>(disk: &mut D, found: FileState, text: &[u8]) ->
         → AllServed (D.meaning disk.old) (D.meaning disk.new) }
 {
     make_folders(disk)?;
-    complete_file(disk, CURRENT, found, text)?;
+    complete_file(disk, TREE_RECORDS, found, text)?;
     sync_folders(disk)
 }

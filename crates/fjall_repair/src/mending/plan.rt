@@ -5,7 +5,7 @@ ghost use Rattle.fjall_repair.specs.Steps.{IsPlanOf, active_of, end_of, folder_n
 
 use fjall_base::{Error, Result};
 use fjall_catalog::LoadedCatalog;
-use fjall_files::{current_name, journal_name, keyspace_folder};
+use fjall_files::{KEYSPACES_FOLDER, MARKER_FILE, current_name, journal_name, keyspace_folder};
 use fjall_recovery::{Finished, Home};
 use std::alloc::Global;
 
@@ -49,7 +49,7 @@ fn folders_of(alloc: Global, homes: &[Home]) -> Result<Vec<String>>
     ensures only { IsOkUnless result Error.OutOfMemory }
 {
     let mut folders = Vec::new(alloc);
-    folders.push(String::from_str(alloc, "keyspaces")?)?;
+    folders.push(String::from_str(alloc, KEYSPACES_FOLDER)?)?;
     folders.push(keyspace_folder(alloc, 0)?)?;
     for home in homes {
         folders.push(keyspace_folder(alloc, home.id)?)?;
@@ -63,7 +63,7 @@ fn whole_files(alloc: Global, ids: &[u64]) -> Result<Vec<String>>
     ensures only { IsOkUnless result Error.OutOfMemory }
 {
     let mut files = Vec::new(alloc);
-    files.push(String::from_str(alloc, "version")?)?;
+    files.push(String::from_str(alloc, MARKER_FILE)?)?;
     if let [sealed @ .., _] = ids {
         for id in sealed {
             files.push(journal_name(alloc, *id)?)?;
