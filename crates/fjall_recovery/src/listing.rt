@@ -31,7 +31,7 @@ pub(crate) fn list_journals<D: Disk>(alloc: Global, disk: &mut D) -> Result<Vec<
 }
 
 /// The ids of the keyspaces that have a folder, ascending. A folder that isn't named by an id is `Unrecoverable`.
-pub(crate) fn list_keyspaces<D: Disk>(alloc: Global, disk: &mut D) -> Result<Vec<u64>>
+pub fn list_keyspaces<D: Disk>(alloc: Global, disk: &mut D) -> Result<Vec<u64>>
     ensures ids { IsTrue D.honest → IfOk result (λ ids. AreFolderIds (seen (D.meaning disk.old)) ids.items) }
     ensures named { IsTrue D.honest → OnOk result (KeyspacesAreNamed (seen (D.meaning disk.old))) }
     ensures same { IsTrue D.honest → Took (D.meaning disk.old) (D.meaning disk.new) [] }

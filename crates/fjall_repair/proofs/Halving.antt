@@ -10,34 +10,13 @@ use Rattle.fjall_files.specs.Names.{journal_name, keyspace_folder, current_name,
 use Rattle.fjall_meta.specs.declared.entry.MetaEntry.{MetaEntry}
 use Rattle.fjall_meta.specs.declared.living.LivingKeyspace.{LivingKeyspace}
 use Rattle.fjall_meta.specs.Entries.{entries_of}
-use Rattle.fjall_catalog.specs.Catalog.{HoldsEntries, IsTableOf, Says}
+use Rattle.fjall_catalog.specs.Catalog.{HoldsEntries, IsTableOf}
 use Rattle.fjall_catalog.specs.Catalog as catalog
-use Rattle.fjall_recovery.specs.Folders.{Contents, IsSound, file_bytes}
+use Rattle.fjall_recovery.specs.Folders.{file_bytes}
 use Rattle.fjall_recovery.specs.Homes.{HasLast, HaveHomes, records_text}
 use Rattle.fjall_recovery.specs.Journals.{Journal, ReadsAs, AreRead, journal_text, text_in}
 use Rattle.fjall_recovery.specs.Halves.{HasRoot, HasTree, Tree}
-
-abbrev pub tree_of : Contents → Tree
-tree_of c = record { last = c.last; keyspaces = c.keyspaces; homes = c.homes }
-
-pub root_of : (image : Image) (c : Contents) → IsSound image c → HasRoot image c.journals
-root_of image c sound = record { marker = sound.marker; named = sound.journals_named; holds = sound.journals }
-
-pub tree_in : (image : Image) (c : Contents) → IsSound image c → HasTree image (tree_of c)
-tree_in image c sound = record { named = sound.keyspaces_named; folder = sound.folder; records = sound.records; catalog = sound.catalog; made = sound.made; homes = sound.homes }
-
-pub sound_of : (image : Image) (c : Contents) → HasRoot image c.journals → HasTree image (tree_of c) → IsSound image c
-sound_of image c root tree = record {
-  marker = root.marker;
-  journals_named = root.named;
-  journals = root.holds;
-  keyspaces_named = tree.named;
-  folder = tree.folder;
-  records = tree.records;
-  catalog = tree.catalog;
-  made = tree.made;
-  homes = tree.homes;
-}
+pub use Rattle.fjall_recovery.proofs.Holding.{tree_of, root_of, tree_in, made as sound_of}
 
 -- ---- kinds of entries
 

@@ -10,7 +10,7 @@ ghost use Rattle.fjall_files.specs.Calls.{seen, AllServed};
 ghost use Rattle.fjall_files.specs.Names.{journal_name};
 ghost use Rattle.fjall_versions.specs.Versions.{versions_behind};
 ghost use Rattle.fjall_recovery.specs.Folders.{IsFinished, IsUnfinished, past_records};
-ghost use Rattle.fjall_recovery.specs.Naming.{AreFolderIds, KeyspacesAreNamed};
+ghost use Rattle.fjall_recovery.specs.Naming.{AreFolderIds};
 ghost use Rattle.fjall_recovery.specs.Refusals.{HasRisen, IsDue, IsOpeningRefusal};
 ghost use Rattle.fjall_repair.specs.Readings.{IsSweepOf, FindsUnnamed, TakesRead};
 ghost use Rattle.fjall_repair.specs.Plans.{IsPlan as IsMakingOf};
@@ -24,10 +24,10 @@ use crate::plan::{SweepPlan, plan_sweep};
 use crate::{BeginPlan, MendPlan, plan_beginning, plan_mending};
 use fjall_base::{Disk, Error, Result};
 use fjall_catalog::Catalog;
-use fjall_files::{KEYSPACES_FOLDER, journal_name, keyspaces};
+use fjall_files::journal_name;
 use fjall_journal::{Batch, Writer};
 use fjall_meta::MetaKeyspace;
-use fjall_recovery::Finished;
+use fjall_recovery::{Finished, list_keyspaces};
 use fjall_versions::{Version, replay};
 use std::alloc::Global;
 
@@ -51,20 +51,6 @@ pub(crate) struct ToMend {
     pub mending: MendPlan,
     /// What is removed.
     pub sweep: SweepPlan,
-}
-
-/// The ids of the folders of keyspaces, where each folder in `keyspaces` is named by an id.
-fn list_folders<D: Disk>(alloc: Global, disk: &mut D) -> Result<Vec<u64>>
-    ensures ids { IsTrue D.honest → IfOk result (λ ids. AreFolderIds (seen (D.meaning disk.old)) ids.items) }
-    ensures same { IsTrue D.honest → Took (D.meaning disk.old) (D.meaning disk.new) [] }
-    ensures served { IsTrue D.honest → AllServed (D.meaning disk.old) (D.meaning disk.new) }
-    ensures later { (D.meaning disk.old).faults ≤ (D.meaning disk.new).faults }
-    ensures risen { IfErr result (HasRisen (D.meaning disk.old).faults (D.meaning disk.new).faults) }
-    ensures only { IsTrue D.honest → KeyspacesAreNamed (seen (D.meaning disk.old)) → IfErr result (IsDue (λ error. ⊥)) }
-    ensures listed { IfErr result IsOpeningRefusal }
-{
-    let listed = disk.list(alloc, KEYSPACES_FOLDER)?;
-    keyspaces(alloc, &listed)
 }
 
 /// What a database without keyspaces opens as.
@@ -100,7 +86,7 @@ pub(crate) fn ready_to_begin<D: Disk>(alloc: Global, disk: &mut D) -> Result<ToB
     ensures due { IsTrue D.honest → IsUnfinished (seen (D.meaning disk.old)) → IfErr result (IsDue (λ error. ⊥)) }
     ensures listed { IfErr result IsOpeningRefusal }
 {
-    let ids = list_folders(alloc, disk)?;
+    let ids = list_keyspaces(alloc, disk)?;
     let sweep = plan_sweep(alloc, disk, None, &[], &ids)?;
     let making = plan_beginning(alloc, disk)?;
     Ok(ToBegin {
