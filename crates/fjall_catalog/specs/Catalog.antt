@@ -8,6 +8,7 @@ use Rattle.fjall_table.specs.declared.level.Level.TheVariants.{L1}
 use Rattle.fjall_table.specs.declared.table_info.TableInfo.{TableInfo}
 use Rattle.fjall_tree.specs.Records.{Fields, IsRecord, IsRecords, record_text}
 use Rattle.fjall_base.specs.Lists.{last_of}
+use Rattle.fjall_files.specs.Texts.{text_in}
 use Rattle.fjall_table.specs.Blocks as blocks
 use Rattle.fjall_table.specs.Tables.{IsTable}
 use Rattle.fjall_files.specs.Names.{keyspace_folder, current_name, table_name}
@@ -60,11 +61,6 @@ pub record IsTableOf (t : TableInfo) (bytes : List ℕ) (entries : List MetaEntr
   pub count : t.entry_count ≡ length entries
 
 -- ---- in an image
-
--- the bytes of an entry's file, none where there is no file
-abbrev pub text_in : Entry → List ℕ
-text_in (File synced unsynced) = synced ++ unsynced
-text_in entry = []
 
 -- the bytes of tree 0's records
 abbrev pub records_in : Image → List ℕ

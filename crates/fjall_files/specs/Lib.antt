@@ -6,3 +6,4 @@ pub mod Tidy
 pub mod Regions
 pub mod Trims
 pub mod Calls
+pub mod Texts

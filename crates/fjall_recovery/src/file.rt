@@ -2,7 +2,7 @@
 
 ghost use Rattle.std.specs.Prelude.{◌≡◌, [], IsTrue, IfOk};
 ghost use Rattle.fjall_base.specs.Disk.{HasCause, Took};
-ghost use Rattle.fjall_recovery.specs.Journals.{text_in};
+ghost use Rattle.fjall_files.specs.Texts.{text_in};
 ghost use Rattle.fjall_files.specs.Calls.{seen, AllServed};
 
 use fjall_base::{Disk, Result};

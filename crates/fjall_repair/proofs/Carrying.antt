@@ -9,11 +9,12 @@ use Rattle.fjall_base.specs.Disk.{Name, Entry, Missing, File, Folder, Place, Sta
 use Rattle.fjall_base.proofs.Moments.{at_end, runs_on, weaken}
 use Rattle.fjall_tree.specs.Records.{Fields, IsRecords}
 use Rattle.fjall_base.specs.Lists.{last_of}
+use Rattle.fjall_files.specs.Texts.{text_in}
 use Rattle.fjall_tree.proofs.Currents as Currents
 use Rattle.fjall_files.proofs.Tidying.{there_or_not}
 use Rattle.fjall_files.specs.Names.{journal_name, keyspace_folder, current_name}
 use Rattle.fjall_recovery.specs.Folders.{Contents, IsSound, StandsFor, store_of}
-use Rattle.fjall_recovery.specs.Journals.{Journal, text_in}
+use Rattle.fjall_recovery.specs.Journals.{Journal}
 use Rattle.fjall_recovery.specs.Held.{Holds}
 use Rattle.fjall_recovery.specs.Places.{texts_of}
 use Rattle.fjall_repair.specs.declared.mending.plan.FileEnd.{FileEnd}

@@ -5,6 +5,7 @@ use Rattle.fjall_journal.specs.declared.batch.Tail.TheVariants.{Clean, Torn}
 use Rattle.fjall_table.specs.declared.table_info.TableInfo.{TableInfo}
 use Rattle.fjall_tree.specs.Records.{Fields, IsRecords}
 use Rattle.fjall_base.specs.Lists.{last_of}
+use Rattle.fjall_files.specs.Texts.{text_in}
 use Rattle.fjall_files.specs.Marker.{marker_tells}
 use Rattle.fjall_files.specs.Names.{journal_name, keyspace_folder, current_name, table_name}
 use Rattle.fjall_meta.specs.declared.entry.MetaEntry.{MetaEntry}
@@ -14,7 +15,7 @@ use Rattle.fjall_catalog.specs.Catalog.{HoldsEntries, IsTableOf}
 use Rattle.fjall_catalog.specs.Catalog as catalog
 use Rattle.fjall_recovery.specs.Folders.{file_bytes}
 use Rattle.fjall_recovery.specs.Homes.{HasLast, HaveHomes, records_text}
-use Rattle.fjall_recovery.specs.Journals.{Journal, ReadsAs, AreRead, journal_text, text_in}
+use Rattle.fjall_recovery.specs.Journals.{Journal, ReadsAs, AreRead, journal_text}
 use Rattle.fjall_recovery.specs.Halves.{HasRoot, HasTree, Tree}
 pub use Rattle.fjall_recovery.proofs.Holding.{tree_of, root_of, tree_in, made as sound_of}
 
@@ -25,12 +26,6 @@ file_is e d is file = subst IsFile is file
 
 pub no_folder : (e : Entry) → IsFile e → e ≡ Folder → ⊥
 no_folder e file is = subst IsFile is file
-
--- the two words for the bytes of an entry
-pub same_text : (e : Entry) → catalog.text_in e ≡ text_in e
-same_text Missing = refl
-same_text (File synced unsynced) = refl
-same_text Folder = refl
 
 module _ (image other : Image) where
   -- ---- a root in which all stands alike but files that are gone
@@ -68,7 +63,7 @@ module _ (image other : Image) where
   entries_along None entries tables none = none
   entries_along (Some t) entries tables holds = record {
     file = file_is _ _ (sym (tables t.id)) holds.file;
-    is = subst (λ text. IsTableOf t text entries) (ap catalog.text_in (sym (tables t.id))) holds.is;
+    is = subst (λ text. IsTableOf t text entries) (ap text_in (sym (tables t.id))) holds.is;
   }
 
   pub homes_along : (living : List LivingKeyspace) (homes : List Fields) → ((id : ℕ) → image (keyspace_folder id) ≡ Folder → other (keyspace_folder id) ≡ Folder)
@@ -104,5 +99,5 @@ module _ (image other : Image) where
       → ((id : ℕ) → other (current_name id) ≡ image (current_name id)) → ((n : ℕ) → other (table_name 0 n) ≡ image (table_name 0 n)) → HasTree image t → HasTree other t
   tree_along t back stays currents tables tree =
       tree_with t tree back stays (file_is _ _ (sym (currents 0)) tree.catalog.file) tree.records tree.catalog.end
-      (subst (λ text. IsRecords text tree.records tree.catalog.end) (ap catalog.text_in (sym (currents 0))) tree.catalog.whole) tree.catalog.last_is tables
+      (subst (λ text. IsRecords text tree.records tree.catalog.end) (ap text_in (sym (currents 0))) tree.catalog.whole) tree.catalog.last_is tables
       (λ id last has. subst (λ text. HasLast text last) (ap text_in (sym (currents id))) has)

@@ -16,7 +16,7 @@ use Rattle.fjall_recovery.specs.declared.folder.Finished.{Finished}
 use Rattle.fjall_recovery.specs.declared.homes.Home.{Home}
 use Rattle.fjall_recovery.specs.Folders.{Contents, IsFinished, IsSound, Shows}
 use Rattle.fjall_recovery.specs.Homes.{AreHomesRead}
-use Rattle.fjall_recovery.specs.Journals.{Journal, AreJournalIds, EndsAt, HoldsJournals, journal_text, tail_of, text_in}
+use Rattle.fjall_recovery.specs.Journals.{Journal, AreJournalIds, EndsAt, HoldsJournals, journal_text, tail_of}
 use Rattle.fjall_recovery.proofs.Alone.{one_list_of_journals}
 use Rattle.fjall_recovery.specs.Places.{texts_of}
 use Rattle.fjall_repair.specs.declared.mending.plan.FileEnd.{FileEnd}
@@ -26,8 +26,8 @@ use Rattle.fjall_repair.specs.Mended.{IsMendingOf}
 use Rattle.fjall_base.specs.declared.error.Error.{Error}
 use Rattle.fjall_catalog.specs.Catalog.{records_in}
 use Rattle.std.specs.Prelude.{◌↔◌, ◌<◌, IfOk, IsTrue, Result, Ok, Err}
+use Rattle.fjall_files.specs.Texts.{text_in}
 use Rattle.fjall_repair.proofs.Naming.{journal_current}
-use Rattle.fjall_repair.proofs.Halving.{same_text}
 use Rattle.fjall_repair.proofs.Cutting.{whole_length}
 use Rattle.fjall_repair.proofs.MendOpened.{active_there, ids_of}
 use Rattle.fjall_repair.proofs.Rested.{active_parted, last_parted, parted}
@@ -115,7 +115,7 @@ module _ (image made : Image) (active : Name) (is : IsOpened image made active) 
 
     tree_right : (c d : Contents) (e : End) → IsSound image d → IsTreeEnd image e → IsRightEnd made c e
     tree_right c d e sound tree =
-        let whole = subst (λ t. IsRecords t sound.records sound.catalog.end) (same_text (image (current_name 0))) sound.catalog.whole in
+        let whole = sound.catalog.whole in
         records_right c 0 e sound.records tree.named sound.catalog.file (subst (λ n. IsRecords (text_in (image (current_name 0))) sound.records n) (tree.is sound.records sound.catalog.end whole) whole) tree.uncut
 
     not_less : (n m : ℕ) → nat_lt n m ≡ false → m ≤ n
@@ -187,8 +187,8 @@ not_torn torn end len not is = grind (arith, nat_tests)
 tree_ends : (image : Image) (f : Finished) → IsFinished image f → IsTreeEnd image (tree_end f.catalog)
 tree_ends image f read = record {
   named = refl;
-  is = λ records end whole. (one_reading (records_in image) records read.end.records end f.catalog.end (subst (λ t. IsRecords t records end) (sym (same_text (image (current_name 0)))) whole) read.end.whole).1;
-  uncut = λ not. subst (λ (t : List ℕ). length t ≤ f.catalog.end) (same_text (image (current_name 0))) (not_torn f.catalog.is_torn f.catalog.end (length (records_in image)) not read.end.torn);
+  is = λ records end whole. (one_reading (records_in image) records read.end.records end f.catalog.end whole read.end.whole).1;
+  uncut = λ not. not_torn f.catalog.is_torn f.catalog.end (length (records_in image)) not read.end.torn;
 }
 
 -- so a plan for the folder that was read is one of the image

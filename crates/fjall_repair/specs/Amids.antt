@@ -2,8 +2,8 @@
 use Rattle.std.specs.Prelude.{◌≡◌, ℕ, List, [], take}
 use Rattle.fjall_base.specs.Store.{Store, Command, fold, kept}
 use Rattle.fjall_base.specs.Disk.{Name, State, Image, IsFile, IsImage, folder_of}
+use Rattle.fjall_files.specs.Texts.{text_in}
 use Rattle.fjall_recovery.specs.Folders.{Contents, IsSound, store_of}
-use Rattle.fjall_recovery.specs.Journals.{text_in}
 use Rattle.fjall_recovery.specs.Amid.{IsBeginning}
 
 -- The image is a sound folder that stands for the base and a beginning of the pending commands. Each file whose name is synced

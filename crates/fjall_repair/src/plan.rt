@@ -2,7 +2,7 @@
 
 ghost use Rattle.std.specs.List.{list_any};
 ghost use Rattle.std.specs.Prelude.{◌≡◌, ◌==◌, ◌↔◌, ◌⊎◌, ◌≤◌, ◌<◌, ◌^◌, [], All, IfErr, IfOk, IsOkUnless, IsTrue, None, map, string_bytes};
-ghost use Rattle.fjall_base.specs.Disk.{Took, folder_of, state_in};
+ghost use Rattle.fjall_base.specs.Disk.{Lists, Took, folder_of, state_in};
 ghost use Rattle.fjall_recovery.specs.Refusals.{HasRisen, IsDue};
 ghost use Rattle.fjall_files.specs.Calls.{AllServed};
 ghost use Rattle.fjall_files.specs.Names.{keyspace_folder as folder_at};
@@ -67,6 +67,30 @@ fn names_of(alloc: Global, listed: Vec<DirEntry>) -> Result<Vec<String>>
     Ok(names.collect(alloc)?)
 }
 
+/// A keyspace's folder.
+#[derive(Drop)]
+struct ListedFolder {
+    name: String,
+    /// What stands in it.
+    entries: Vec<DirEntry>,
+}
+
+/// Lists the folder of the keyspace of this id.
+fn list_folder<D: Disk>(alloc: Global, disk: &mut D, id: u64) -> Result<ListedFolder>
+    ensures name { IfOk result (λ l. string_bytes l.name ≡ folder_at id) }
+    ensures found { IsTrue D.honest → IfOk result (λ l. Lists (state_in (D.meaning disk.old)) (folder_at id) l.entries.items) }
+    ensures fits { id < 2 ^ 64 }
+    ensures same { IsTrue D.honest → Took (D.meaning disk.old) (D.meaning disk.new) [] }
+    ensures served { IsTrue D.honest → AllServed (D.meaning disk.old) (D.meaning disk.new) }
+    ensures later { (D.meaning disk.old).faults ≤ (D.meaning disk.new).faults }
+    ensures risen { IfErr result (HasRisen (D.meaning disk.old).faults (D.meaning disk.new).faults) }
+    ensures only { IfErr result (IsDue (λ error. ⊥)) }
+{
+    let name = keyspace_folder(alloc, id)?;
+    let entries = disk.list(alloc, name.as_str())?;
+    Ok(ListedFolder { name, entries })
+}
+
 /// The names of the tables that stand in the folder of this id, but that of the one that is named.
 fn list_tables<D: Disk>(
     alloc: Global,
@@ -82,9 +106,8 @@ fn list_tables<D: Disk>(
     ensures risen { IfErr result (HasRisen (D.meaning disk.old).faults (D.meaning disk.new).faults) }
     ensures only { IfErr result (IsDue (λ error. ⊥)) }
 {
-    let folder = keyspace_folder(alloc, id)?;
-    let listed = disk.list(alloc, folder.as_str())?;
-    let files = as_files(alloc, listed)?;
+    let folder = list_folder(alloc, disk, id)?;
+    let files = as_files(alloc, folder.entries)?;
     let ids = tables(alloc, id, &files)?;
     other_names(alloc, id, named, &ids)
 }
@@ -138,10 +161,12 @@ fn list_home<D: Disk>(alloc: Global, disk: &mut D, id: u64) -> Result<UnnamedHom
     ensures risen { IfErr result (HasRisen (D.meaning disk.old).faults (D.meaning disk.new).faults) }
     ensures only { IfErr result (IsDue (λ error. ⊥)) }
 {
-    let folder = keyspace_folder(alloc, id)?;
-    let listed = disk.list(alloc, folder.as_str())?;
-    let files = names_of(alloc, listed)?;
-    Ok(UnnamedHome { folder, files })
+    let folder = list_folder(alloc, disk, id)?;
+    let files = names_of(alloc, folder.entries)?;
+    Ok(UnnamedHome {
+        folder: folder.name,
+        files,
+    })
 }
 
 /// The folders of these ids but tree 0's and those of the keyspaces that live.

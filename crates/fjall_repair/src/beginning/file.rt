@@ -2,9 +2,9 @@
 
 ghost use Rattle.std.specs.Prelude.{◌≡◌, ◌≢◌, [], Bool, IsTrue, OnOk, ◌⊎◌, ◌∷◌, ◌++◌};
 ghost use Rattle.fjall_base.specs.Disk.{CanCreate, File, IsFile, OnlyFaults, state_in};
+ghost use Rattle.fjall_files.specs.Texts.{text_in};
 ghost use Rattle.fjall_files.specs.Calls.{seen, AllServed};
 ghost use Rattle.fjall_files.specs.Tidy.{FitsAt, StaysTidy};
-ghost use Rattle.fjall_recovery.specs.Journals.{text_in};
 ghost use Rattle.fjall_repair.specs.Plans.{FindsAt, IsFilled};
 ghost use Rattle.fjall_repair.specs.Making.{CanHold, GoesOn, StaysAt};
 

@@ -3,10 +3,11 @@
 ghost use Rattle.std.specs.Prelude.{◌≡◌, ◌≢◌, ◌≤◌, ◌∷◌, ◌++◌, ℕ, [], IfErr, IfOk, IsOkUnless, IsTrue, List, map, string_bytes};
 ghost use Rattle.fjall_base.specs.Disk.{HasCause, Took};
 ghost use Rattle.fjall_base.specs.declared.error.FormatVersion.TheVariants.{V3};
+ghost use Rattle.fjall_files.specs.Texts.{text_in};
 ghost use Rattle.fjall_files.specs.Calls.{seen, AllServed};
 ghost use Rattle.fjall_files.specs.Marker.{header as header_of};
 ghost use Rattle.fjall_files.specs.Names.{journal_name as name_of_journal};
-ghost use Rattle.fjall_recovery.specs.Journals.{AreJournalIds, text_in};
+ghost use Rattle.fjall_recovery.specs.Journals.{AreJournalIds};
 ghost use Rattle.fjall_recovery.specs.Naming.{JournalsAreNamed};
 ghost use Rattle.fjall_recovery.specs.Refusals.{HasRisen, IsDue, IsOpeningRefusal};
 ghost use Rattle.fjall_repair.specs.Begun.{IsActive};
