@@ -17,12 +17,13 @@ use Rattle.fjall_base.specs.Lists.{last_of}
 use Rattle.fjall_base.proofs.Lists.{last_behind}
 use Rattle.fjall_tree.proofs.Currents.{cut_reads}
 use Rattle.fjall_base.proofs.Codecs.{each_more}
+use Rattle.fjall_files.specs.Texts.{text_in}
 use Rattle.fjall_files.specs.Names.{keyspace_folder, current_name, table_name}
 use Rattle.fjall_meta.specs.declared.entry.MetaEntry.{MetaEntry}
 use Rattle.fjall_meta.specs.Keyspaces.{Keyspaces, AreKeyspaces}
 use Rattle.fjall_meta.specs.Entries.{entries_of}
 use Rattle.fjall_catalog.specs.declared.catalog.Catalog.{Catalog}
-use Rattle.fjall_catalog.specs.Catalog.{fields, text_in, records_in, HoldsEntries, Says, only, AreSafe, Rests, IsReady}
+use Rattle.fjall_catalog.specs.Catalog.{fields, records_in, HoldsEntries, Says, only, AreSafe, Rests, IsReady}
 use Rattle.fjall_catalog.specs.Updates.{IsWritten, SaysEither}
 use Rattle.fjall_catalog.proofs.Naming.{current_zero, folder_zero, folder_of-current, no_current}
 use Rattle.fjall_catalog.proofs.Resting.{folder_left, entries_left, last_record, table_id}

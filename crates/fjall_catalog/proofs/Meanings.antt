@@ -8,6 +8,7 @@ use Rattle.fjall_table.specs.declared.table_info.TableInfo.{TableInfo}
 use Rattle.fjall_table.specs.Blocks as blocks
 use Rattle.fjall_tree.specs.Records.{Fields, IsRecords}
 use Rattle.fjall_base.specs.Lists.{last_of}
+use Rattle.fjall_files.specs.Texts.{text_in}
 use Rattle.fjall_tree.proofs.Currents.{one_reading}
 use Rattle.fjall_table.proofs.TableLaws.{one_list_of_entries}
 use Rattle.fjall_files.specs.Names.{keyspace_folder, current_name, table_name}
@@ -16,7 +17,7 @@ use Rattle.fjall_meta.specs.Keyspaces.{Keyspaces}
 use Rattle.fjall_meta.specs.Entries.{entries_of}
 use Rattle.fjall_meta.proofs.Alike.{one_list}
 use Rattle.fjall_catalog.specs.declared.catalog.Catalog.{Catalog}
-use Rattle.fjall_catalog.specs.Catalog.{fields, text_in, records_in, table_entry, IsTableOf, HoldsEntries, Says, Rests, is_counted}
+use Rattle.fjall_catalog.specs.Catalog.{fields, records_in, table_entry, IsTableOf, HoldsEntries, Says, Rests, is_counted}
 use Rattle.fjall_catalog.proofs.Naming.{some_folder, folder_of-current, table_under}
 use Rattle.fjall_catalog.proofs.Resting.{says_in}
 use Rattle.fjall_catalog.proofs.Shapes.{fields_one}

@@ -1,15 +1,13 @@
 -- The names that the catalog rests on.
-use Rattle.std.proofs.Common.{◌≡◌, ◌≢◌, ◌⊎◌, inl, inr, ℕ, ◌<◌, ◌^◌, Bool, true, false, ◌||◌, ◌==◌, List, [], ◌++◌, get_or, codes, decimal, refl, sym, ◌∙◌, ap, arith, append_assoc}
+use Rattle.std.proofs.Common.{◌≡◌, ◌≢◌, ◌⊎◌, inl, inr, ℕ, ◌<◌, ◌^◌, Bool, true, false, ◌||◌, ◌==◌, List, [], ◌++◌, codes, decimal, refl, sym, ◌∙◌, ap, arith}
 use Rattle.std.specs.List.{list_any}
-use Rattle.std.proofs.lemmas.List.{append_cancel_right, get_or_default}
-use Rattle.std.proofs.lemmas.List.Folds.{list_any-append, list_any_none}
-use Rattle.std.proofs.lemmas.Bool.Decides.{nat_tests}
-use Rattle.std.proofs.lemmas.Fmt.{decimal_digit, decimal_injective, digits_decimal}
-use Rattle.std.specs.Str.Parse.{AllDigits, digits_value}
-use Rattle.std.proofs.lemmas.Str.Parse.{IsNumeralModel, numerals_by_value, tells_digits, not_in_digits}
+use Rattle.std.proofs.lemmas.List.{append_cancel_right}
+use Rattle.std.proofs.lemmas.List.Folds.{list_any-append}
+use Rattle.std.proofs.lemmas.Fmt.{decimal_digit, decimal_injective}
 use Rattle.fjall_base.specs.Disk.{Name, folder_of}
-use Rattle.fjall_files.specs.Regions.{join, is_under}
-use Rattle.fjall_files.proofs.Under.{IsPlain, folder_of-join, folder_is_shorter, join_name, shorter_out, under_inner, under_join}
+use Rattle.fjall_files.specs.Regions.{is_under}
+use Rattle.fjall_files.proofs.Under.{folder_is_shorter, join_name, shorter_out, under_inner, under_join}
+use Rattle.fjall_files.proofs.Fitting.{table_parts, folder_of-table as folder_of-any_table}
 use Rattle.fjall_files.specs.Names.{keyspace_folder, current_name, table_name}
 
 pub bool_cases : (b : Bool) → (b ≡ true) ⊎ (b ≡ false)
@@ -36,30 +34,12 @@ folder_of-current = ap (λ (n : Name). folder_of n) current_zero ∙ sym folder_
 abbrev file_of : ℕ → Name
 file_of n = decimal n ++ codes ".table"
 
-table_parts : (n : ℕ) → table_name 0 n ≡ join (keyspace_folder 0) (file_of n)
-table_parts n = append_assoc (keyspace_folder 0 ++ codes "/") (decimal n) (codes ".table") ∙ append_assoc (keyspace_folder 0) (codes "/") (file_of n)
-
-own : IsNumeralModel (AllDigits 10) (digits_value 10)
-own = numerals_by_value (AllDigits 10) tells_digits
-
-abbrev slash : ℕ → Bool
-slash b = b == 47
-
-plain_decimal : (n : ℕ) → n < 2 ^ 64 → list_any slash (decimal n) ≡ false
-plain_decimal n small = list_any_none slash (decimal n) (λ k d lt.
-    let other : get_or (decimal n) k 0 ≢ 47 = not_in_digits own (decimal n) 47 (digits_decimal own n small) (λ range. omega (arith, range)) k lt in
-    let same : get_or (decimal n) k d ≡ get_or (decimal n) k 0 = get_or_default (decimal n) k d 0 lt in
-    rw same (grind (arith, nat_tests)))
-
-plain_table : (n : ℕ) → n < 2 ^ 64 → IsPlain (file_of n)
-plain_table n small = list_any-append slash (decimal n) (codes ".table") ∙ ap (λ (b : Bool). b || list_any slash (codes ".table")) (plain_decimal n small)
-
 pub folder_of-table : (n : ℕ) → n < 2 ^ 64 → folder_of (table_name 0 n) ≡ keyspace_folder 0
-folder_of-table n small = ap (λ (m : Name). folder_of m) (table_parts n) ∙ folder_of-join (keyspace_folder 0) (file_of n) (plain_table n small)
+folder_of-table n small = folder_of-any_table 0 n small
 
 pub tables_apart : (n m : ℕ) → n < 2 ^ 64 → m < 2 ^ 64 → table_name 0 n ≡ table_name 0 m → n ≡ m
 tables_apart n m small small' e =
-    let files = join_name (keyspace_folder 0) (file_of n) (file_of m) (sym (table_parts n) ∙ e ∙ table_parts m) in
+    let files = join_name (keyspace_folder 0) (file_of n) (file_of m) (sym (table_parts 0 n) ∙ e ∙ table_parts 0 m) in
     decimal_injective n m small small' (append_cancel_right (decimal n) (decimal m) (codes ".table") files)
 
 abbrev dot : ℕ → Bool
@@ -71,7 +51,7 @@ or_true false = refl
 
 pub no_current : (n : ℕ) → table_name 0 n ≡ current_name 0 → ⊥
 no_current n e =
-    let files : file_of n ≡ codes "current" = join_name (keyspace_folder 0) (file_of n) (codes "current") (sym (table_parts n) ∙ e) in
+    let files : file_of n ≡ codes "current" = join_name (keyspace_folder 0) (file_of n) (codes "current") (sym (table_parts 0 n) ∙ e) in
     let some : list_any dot (file_of n) ≡ true = list_any-append dot (decimal n) (codes ".table") ∙ or_true (list_any dot (decimal n)) in
     let no : true ≡ false = sym some ∙ ap (λ (l : List ℕ). list_any dot l) files in
     cc
@@ -93,4 +73,4 @@ pub current_under : is_under (keyspace_folder 0) (codes "keyspaces/0/current") �
 current_under = ap (λ (f : Name). is_under f (codes "keyspaces/0/current")) folder_zero
 
 pub table_under : (n : ℕ) → is_under (keyspace_folder 0) (table_name 0 n) ≡ true
-table_under n = ap (λ (q : Name). is_under (keyspace_folder 0) q) (table_parts n) ∙ under_join (keyspace_folder 0) (file_of n)
+table_under n = ap (λ (q : Name). is_under (keyspace_folder 0) q) (table_parts 0 n) ∙ under_join (keyspace_folder 0) (file_of n)

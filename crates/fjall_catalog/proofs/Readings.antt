@@ -12,6 +12,7 @@ use Rattle.fjall_table.specs.declared.table_info.TableInfo.{TableInfo}
 use Rattle.fjall_table.specs.Reading.{DamagedWhere}
 use Rattle.fjall_tree.specs.Records.{Fields}
 use Rattle.fjall_base.specs.Lists.{last_of}
+use Rattle.fjall_files.specs.Texts.{text_in}
 use Rattle.fjall_files.specs.Names.{current_name, table_name}
 use Rattle.fjall_meta.specs.declared.entry.MetaEntry.{MetaEntry}
 use Rattle.fjall_meta.specs.Keyspaces.{Keyspaces, AreKeyspaces, is_name}
@@ -24,7 +25,7 @@ use Rattle.fjall_tree.proofs.Currents.{one_reading, texts_are_records}
 use Rattle.fjall_catalog.proofs.Naming.{bool_cases}
 use Rattle.fjall_catalog.proofs.Meanings.{held_one, last_one}
 use Rattle.fjall_catalog.specs.declared.catalog.Catalog.{Catalog}
-use Rattle.fjall_catalog.specs.Catalog.{fields, text_in, records_in, IsAtLevel1, IsTableOf, HoldsEntries, Says}
+use Rattle.fjall_catalog.specs.Catalog.{fields, records_in, IsAtLevel1, IsTableOf, HoldsEntries, Says}
 use Rattle.fjall_catalog.specs.Refusals.{HasLast, HasNoLast, IsDamage, IsTableRefused, IsRefusal, IsFaultIfIo}
 
 -- ---- a file

@@ -9,13 +9,14 @@ use Rattle.fjall_files.proofs.Parts.{left_at}
 use Rattle.fjall_table.specs.declared.table_info.TableInfo.{TableInfo}
 use Rattle.fjall_tree.specs.Records.{Fields, HasRoom, IsRecord, IsRecords, record_text}
 use Rattle.fjall_base.specs.Lists.{last_of}
+use Rattle.fjall_files.specs.Texts.{text_in}
 use Rattle.fjall_tree.proofs.Currents.{texts_are_records}
 use Rattle.fjall_files.specs.Names.{keyspace_folder, current_name, table_name}
 use Rattle.fjall_meta.specs.declared.entry.MetaEntry.{MetaEntry}
 use Rattle.fjall_meta.specs.Keyspaces.{Keyspaces}
 use Rattle.fjall_meta.specs.Entries.{entries_of}
 use Rattle.fjall_catalog.specs.declared.catalog.Catalog.{Catalog}
-use Rattle.fjall_catalog.specs.Catalog.{fields, listed, text_in, records_in, IsTableOf, HoldsEntries, Says, only, AreSafe, Rests}
+use Rattle.fjall_catalog.specs.Catalog.{fields, listed, records_in, IsTableOf, HoldsEntries, Says, only, AreSafe, Rests}
 use Rattle.fjall_catalog.proofs.Naming.{folder_of-folder, folder_of-current, folder_of-table}
 
 -- ---- the last record

@@ -1,5 +1,5 @@
 -- The catalog: tree 0 on disk, whose last record and table say which keyspaces live.
-use Rattle.std.specs.Prelude.{◌≡◌, ℕ, ◌<◌, ◌≤◌, ◌^◌, ◌||◌, Bool, List, [], ◌∷◌, ◌++◌, length, map, codes, Option, Some, None, IfSome}
+use Rattle.std.specs.Prelude.{◌≡◌, ◌↔◌, ℕ, ◌<◌, ◌≤◌, ◌^◌, ◌||◌, Bool, IsTrue, List, [], ◌∷◌, ◌++◌, length, map, codes, Option, Some, None, IfSome}
 use Rattle.std.specs.Str.{bytes_eq}
 use Rattle.std.specs.List.{flat_map, AllByRecursion}
 use Rattle.fjall_base.specs.Disk.{Name, Entry, File, Missing, Folder, Place, State, Image, IsFile}
@@ -8,6 +8,7 @@ use Rattle.fjall_table.specs.declared.level.Level.TheVariants.{L1}
 use Rattle.fjall_table.specs.declared.table_info.TableInfo.{TableInfo}
 use Rattle.fjall_tree.specs.Records.{Fields, IsRecord, IsRecords, record_text}
 use Rattle.fjall_base.specs.Lists.{last_of}
+use Rattle.fjall_files.specs.Texts.{text_in}
 use Rattle.fjall_table.specs.Blocks as blocks
 use Rattle.fjall_table.specs.Tables.{IsTable}
 use Rattle.fjall_files.specs.Names.{keyspace_folder, current_name, table_name}
@@ -61,11 +62,6 @@ pub record IsTableOf (t : TableInfo) (bytes : List ℕ) (entries : List MetaEntr
 
 -- ---- in an image
 
--- the bytes of an entry's file, none where there is no file
-abbrev pub text_in : Entry → List ℕ
-text_in (File synced unsynced) = synced ++ unsynced
-text_in entry = []
-
 -- the bytes of tree 0's records
 abbrev pub records_in : Image → List ℕ
 records_in image = text_in (image (current_name 0))
@@ -89,6 +85,12 @@ pub record Says (image : Image) (records : List Fields) (last : Catalog) (s : Ke
   pub entries : HoldsEntries image last.table (entries_of s.living)
   pub next : s.next ≡ last.next_keyspace_id
   pub are : AreKeyspaces s
+
+-- Tree 0's whole records end there, and it is told whether bytes stand behind them.
+pub record HasEnd (image : Image) (end : ℕ) (is_torn : Bool) : Type 0 where
+  pub records : List Fields
+  pub whole : IsRecords (records_in image) records end
+  pub torn : IsTrue is_torn ↔ (end < length (records_in image))
 
 -- ---- on a disk
 

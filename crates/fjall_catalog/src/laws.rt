@@ -7,27 +7,31 @@ ghost use Rattle.fjall_tree.specs.Records.{Fields, IsRecord};
 ghost use Rattle.fjall_files.specs.Names.{keyspace_folder};
 ghost use Rattle.fjall_meta.specs.Keyspaces.{Keyspaces};
 ghost use Rattle.fjall_catalog.specs.declared.catalog.Catalog.{Catalog};
-ghost use Rattle.fjall_catalog.specs.Catalog.{Says, Rests, IsReady, fields, is_counted};
+ghost use Rattle.fjall_catalog.specs.Catalog.{Says, Rests, fields, is_counted};
 
 /// Whatever a crash leaves of a catalog that rests says it.
 pub fn crashes_say_the_catalog()
-    ensures { (state : State) (image : Image) (records : List Fields) (last : Catalog) (s : Keyspaces) → Rests state records last s → IsImage state image → Says image records last s }
+    ensures { (state : State) (image : Image) (records : List Fields) (last : Catalog) (s : Keyspaces) → Rests state records last s
+        → IsImage state image → Says image records last s }
 {}
 
 /// So does whatever a crash leaves in a region of the names that has those that the catalog rests on.
 pub fn regions_say_the_catalog()
-    ensures { (region : Name → Bool) (state : State) (image : Image) (records : List Fields) (last : Catalog) (s : Keyspaces) → ((q : Name) → is_counted q ≡ true → region q ≡ true)
+    ensures { (region : Name → Bool) (state : State) (image : Image) (records : List Fields) (last : Catalog) (s : Keyspaces)
+        → ((q : Name) → is_counted q ≡ true → region q ≡ true)
         → Rests state records last s → IsImageIn Survives region state image → Says image records last s }
 {}
 
 /// Two images that agree in the folder of tree 0 say the same.
 pub fn says_alike()
-    ensures { (image other : Image) (records : List Fields) (last : Catalog) (s : Keyspaces) → ((q : Name) → is_under (keyspace_folder 0) q ≡ true → other q ≡ image q) → Says image records last s → Says other records last s }
+    ensures { (image other : Image) (records : List Fields) (last : Catalog) (s : Keyspaces)
+        → ((q : Name) → is_under (keyspace_folder 0) q ≡ true → other q ≡ image q) → Says image records last s → Says other records last s }
 {}
 
 /// An image says one thing.
 pub fn one_catalog()
-    ensures { (image : Image) (records others : List Fields) (last other : Catalog) (s t : Keyspaces) → Says image records last s → Says image others other t → (records ≡ others) × (last ≡ other) × (s ≡ t) }
+    ensures { (image : Image) (records others : List Fields) (last other : Catalog) (s t : Keyspaces) → Says image records last s
+        → Says image others other t → (records ≡ others) × (last ≡ other) × (s ≡ t) }
 {}
 
 /// The last record of a catalog that rests is a record.

@@ -1,20 +1,20 @@
 //! The catalog as it stands on the disk.
 
-ghost use Rattle.std.specs.Prelude.{◌≡◌, ◌<◌, ◌≤◌, ◌↔◌, [], ℕ, List, IfOk, IfErr, IsTrue, MatchResult, length};
+ghost use Rattle.std.specs.Prelude.{◌≡◌, ◌<◌, ◌≤◌, ◌↔◌, [], List, IfOk, IfErr, IsTrue, MatchResult, length};
 ghost use Rattle.fjall_base.specs.declared.error.StorageError.TheVariants.{RecordDamaged};
 ghost use Rattle.fjall_base.specs.Errors.{IsFaultOrMemory};
-ghost use Rattle.fjall_base.specs.Disk.{Took, standing, state_in};
+ghost use Rattle.fjall_base.specs.Disk.{Took};
 ghost use Rattle.fjall_table.specs.Reading.{DamagedWhere};
 ghost use Rattle.fjall_tree.specs.Records.{Fields, IsRecords};
 ghost use Rattle.fjall_meta.specs.Keyspaces.{Keyspaces};
 ghost use Rattle.fjall_catalog.specs.Catalog.{records_in, HoldsEntries, Says, IsAtLevel1};
 ghost use Rattle.fjall_catalog.specs.Refusals.{HasLast, HasNoLast, IsRefusal, IsTableRefused, IsFaultIfIo, IsCatalogRefusal};
+ghost use Rattle.fjall_files.specs.Calls.{seen, AllServed};
 
 use crate::catalog::{Catalog, catalog_of};
 use crate::table::decode_entries;
-use crate::writing::CURRENT;
 use fjall_base::{Disk, Error, Result, StorageError};
-use fjall_files::table_name;
+use fjall_files::{TREE_RECORDS, table_name};
 use fjall_meta::{MetaEntry, MetaKeyspace};
 use fjall_table::TableInfo;
 use fjall_tree::{Current, read_current};
@@ -66,10 +66,11 @@ fn read_entries<D: Disk>(
     table: Option<TableInfo>,
 ) -> Result<Vec<MetaEntry>>
     requires { IsAtLevel1 table }
-    ensures ok { IsTrue D.honest → IfOk result (λ entries. HoldsEntries (standing (state_in (D.meaning disk.old))) table entries.items) }
+    ensures ok { IsTrue D.honest → IfOk result (λ entries. HoldsEntries (seen (D.meaning disk.old)) table entries.items) }
     ensures same { IsTrue D.honest → Took (D.meaning disk.old) (D.meaning disk.new) [] }
-    ensures served { IsTrue D.honest → (D.meaning disk.new).misuses ≡ (D.meaning disk.old).misuses }
-    ensures refused { IsTrue D.honest → IfErr result (IsTableRefused (standing (state_in (D.meaning disk.old))) table (D.meaning disk.old).faults (D.meaning disk.new).faults) }
+    ensures served { IsTrue D.honest → AllServed (D.meaning disk.old) (D.meaning disk.new) }
+    ensures refused { IsTrue D.honest
+        → IfErr result (IsTableRefused (seen (D.meaning disk.old)) table (D.meaning disk.old).faults (D.meaning disk.new).faults) }
     ensures later { (D.meaning disk.old).faults ≤ (D.meaning disk.new).faults }
     ensures fault { IfErr result (IsFaultIfIo (D.meaning disk.old).faults (D.meaning disk.new).faults) }
     ensures listed { IfErr result IsCatalogRefusal }
@@ -93,20 +94,21 @@ fn read_entries<D: Disk>(
 /// `Storage(OptionInvalid)` as `MetaKeyspace::from_entries`; with `OutOfMemory`; and with `Io` for a fault of the disk.
 pub fn read_catalog<D: Disk>(alloc: Global, disk: &mut D) -> Result<LoadedCatalog>
     // What it answers is what the disk says.
-    ensures says { IsTrue D.honest → IfOk result (λ found. (records : List Fields) × Says (standing (state_in (D.meaning disk.old))) records found.catalog found.keyspaces) }
+    ensures says { IsTrue D.honest → IfOk result (λ found. (records : List Fields) × Says (seen (D.meaning disk.old)) records found.catalog found.keyspaces) }
     // What the disk says is answered, unless the disk fails or memory runs out.
-    ensures all { IsTrue D.honest → (records : List Fields) (last : Catalog) (s : Keyspaces) → Says (standing (state_in (D.meaning disk.old))) records last s
-        → MatchResult result (λ found. (found.catalog ≡ last) × (found.keyspaces ≡ s)) (IsFaultOrMemory (D.meaning disk.old).faults (D.meaning disk.new).faults) }
-    ensures end { IsTrue D.honest → IfOk result (λ found. (records : List Fields) × IsRecords (records_in (standing (state_in (D.meaning disk.old)))) records found.end) }
-    ensures torn { IsTrue D.honest → IfOk result (λ found. IsTrue found.is_torn ↔ (found.end < length (records_in (standing (state_in (D.meaning disk.old)))))) }
+    ensures all { IsTrue D.honest → (records : List Fields) (last : Catalog) (s : Keyspaces) → Says (seen (D.meaning disk.old)) records last s
+        → MatchResult result (λ found. (found.catalog ≡ last) × (found.keyspaces ≡ s))
+        (IsFaultOrMemory (D.meaning disk.old).faults (D.meaning disk.new).faults) }
+    ensures end { IsTrue D.honest → IfOk result (λ found. (records : List Fields) × IsRecords (records_in (seen (D.meaning disk.old))) records found.end) }
+    ensures torn { IsTrue D.honest → IfOk result (λ found. IsTrue found.is_torn ↔ (found.end < length (records_in (seen (D.meaning disk.old))))) }
     ensures same { IsTrue D.honest → Took (D.meaning disk.old) (D.meaning disk.new) [] }
-    ensures served { IsTrue D.honest → (D.meaning disk.new).misuses ≡ (D.meaning disk.old).misuses }
-    ensures refused { IsTrue D.honest → IfErr result (IsRefusal (standing (state_in (D.meaning disk.old))) (D.meaning disk.old).faults (D.meaning disk.new).faults) }
+    ensures served { IsTrue D.honest → AllServed (D.meaning disk.old) (D.meaning disk.new) }
+    ensures refused { IsTrue D.honest → IfErr result (IsRefusal (seen (D.meaning disk.old)) (D.meaning disk.old).faults (D.meaning disk.new).faults) }
     ensures later { (D.meaning disk.old).faults ≤ (D.meaning disk.new).faults }
     ensures fault { IfErr result (IsFaultIfIo (D.meaning disk.old).faults (D.meaning disk.new).faults) }
     ensures listed { IfErr result IsCatalogRefusal }
 {
-    let Some(bytes) = disk.read(alloc, CURRENT)? else {
+    let Some(bytes) = disk.read(alloc, TREE_RECORDS)? else {
         return Err(Error::Storage(StorageError::RecordDamaged));
     };
     let Last {

@@ -1,6 +1,6 @@
 //! The pairs of the meta keyspace as a table, and back.
 
-ghost use Rattle.std.specs.Prelude.{◌≡◌, ◌<◌, ◌≤◌, ◌^◌, ◌++◌, [], ◌∷◌, List, All, Any, map, length, IfOk, IfErr, OnOk, MatchOption};
+ghost use Rattle.std.specs.Prelude.{◌≡◌, ◌<◌, ◌++◌, [], ◌∷◌, List, All, map, IfOk, IfErr, OnOk, MatchOption};
 ghost use Rattle.fjall_base.specs.declared.error.StorageError.TheVariants.{TableDamaged};
 ghost use Rattle.fjall_table.specs.declared.level.Level.TheVariants.{L1};
 ghost use Rattle.fjall_table.specs.Reading.{DamagedWhere};

@@ -1,11 +1,10 @@
 //! What a change of the keyspaces writes to the catalog, all of it in memory before the disk is changed.
 
-ghost use Rattle.std.specs.Prelude.{◌≡◌, ◌<◌, ◌^◌, ◌+◌, [], IfOk, IfErr, IsOkUnless, MatchOption, All, length, string_bytes};
+ghost use Rattle.std.specs.Prelude.{◌≡◌, ◌<◌, ◌+◌, [], IfOk, IfErr, IsOkUnless, MatchOption, All, string_bytes};
 ghost use Rattle.std.specs.Option.{option_map};
 ghost use Rattle.fjall_files.specs.Names.{table_name};
 ghost use Rattle.fjall_meta.specs.Keyspaces.{Keyspaces, without_keyspace};
 ghost use Rattle.fjall_meta.specs.Entries.{IsAscending, entries_of};
-ghost use Rattle.fjall_catalog.specs.Catalog.{IsTableOf};
 ghost use Rattle.fjall_catalog.specs.Updates.{HasKey, IsTableWritten, IsTableRefusal, IsUpdate, IsPreparingRefusal};
 
 use crate::catalog::Catalog;

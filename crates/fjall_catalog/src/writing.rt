@@ -1,7 +1,8 @@
 //! A change of the catalog on the disk: the new table, the record that makes it count, and the removal of the old table.
 
-ghost use Rattle.std.specs.Prelude.{◌≡◌, ◌++◌, ◌∷◌, [], ℕ, List, IfSome, OnOk, IsTrue};
+ghost use Rattle.std.specs.Prelude.{◌++◌, ◌∷◌, [], ℕ, List, IfSome, OnOk, IsTrue};
 ghost use Rattle.fjall_base.specs.Disk.{IsNoFolder, LeavesOnly, Name, OnlyFaults, state_in};
+ghost use Rattle.fjall_files.specs.Calls.{AllServed};
 ghost use Rattle.fjall_files.specs.Regions.{Within};
 ghost use Rattle.fjall_tree.specs.Records.{Fields, IsRecord};
 ghost use Rattle.fjall_files.specs.Names.{keyspace_folder, table_name};
@@ -13,69 +14,75 @@ ghost use Rattle.fjall_catalog.specs.Updates.{IsTableGone, IsUpdate, IsWritten, 
 use crate::catalog::Catalog;
 use crate::update::Update;
 use fjall_base::{Disk, Result};
-use fjall_files::make_file;
-
-/// The folder of tree 0.
-const FOLDER: &str = "keyspaces/0";
-
-/// The file of its records.
-pub(crate) const CURRENT: &str = "keyspaces/0/current";
+use fjall_files::{TREE_FOLDER, TREE_RECORDS, make_file};
 
 /// Writes the new table of a change, and syncs it and its name; nothing where no keyspace lives. The old catalog still
 /// counts.
 pub fn write_table<D: Disk>(disk: &mut D, update: &Update) -> Result<()>
-    ensures within { IsTrue D.honest → (old : Catalog) (t : Keyspaces) (number : ℕ) → IsUpdate old t number update.now → Within (keyspace_folder 0) (D.meaning disk.old) (D.meaning disk.new) }
+    ensures within { IsTrue D.honest → (old : Catalog) (t : Keyspaces) (number : ℕ) → IsUpdate old t number update.now
+        → Within (keyspace_folder 0) (D.meaning disk.old) (D.meaning disk.new) }
     // A crash at any moment of the call leaves what the old catalog says.
-    ensures any_moment { IsTrue D.honest → (records : List Fields) (old : Catalog) (s t : Keyspaces) (number : ℕ) → IsReady (state_in (D.meaning disk.old)) records old s → IsUpdate old t number update.now
+    ensures any_moment { IsTrue D.honest → (records : List Fields) (old : Catalog) (s t : Keyspaces) (number : ℕ)
+        → IsReady (state_in (D.meaning disk.old)) records old s → IsUpdate old t number update.now
         → LeavesOnly (D.meaning disk.old) (D.meaning disk.new) (λ image. Says image records old s) }
-    ensures ok { IsTrue D.honest → (records : List Fields) (old : Catalog) (s t : Keyspaces) (number : ℕ) → IsReady (state_in (D.meaning disk.old)) records old s → IsUpdate old t number update.now
+    ensures ok { IsTrue D.honest → (records : List Fields) (old : Catalog) (s t : Keyspaces) (number : ℕ)
+        → IsReady (state_in (D.meaning disk.old)) records old s → IsUpdate old t number update.now
         → OnOk result (IsWritten (state_in (D.meaning disk.new)) records old s update.now.catalog t) }
-    ensures served { IsTrue D.honest → (records : List Fields) (old : Catalog) (s t : Keyspaces) (number : ℕ) → IsReady (state_in (D.meaning disk.old)) records old s → IsUpdate old t number update.now
-        → (D.meaning disk.new).misuses ≡ (D.meaning disk.old).misuses }
+    ensures served { IsTrue D.honest → (records : List Fields) (old : Catalog) (s t : Keyspaces) (number : ℕ)
+        → IsReady (state_in (D.meaning disk.old)) records old s → IsUpdate old t number update.now
+        → AllServed (D.meaning disk.old) (D.meaning disk.new) }
     ensures cause { OnlyFaults (D.meaning disk.old) (D.meaning disk.new) result }
-    ensures kinds { IsTrue D.honest → (old : Catalog) (t : Keyspaces) (number : ℕ) → IsUpdate old t number update.now → StaysTidy (D.meaning disk.old) (D.meaning disk.new) }
+    ensures kinds { IsTrue D.honest → (old : Catalog) (t : Keyspaces) (number : ℕ) → IsUpdate old t number update.now
+        → StaysTidy (D.meaning disk.old) (D.meaning disk.new) }
 {
     let Some(table) = &update.table else {
         return Ok(());
     };
     make_file(disk, table.name.as_str(), &table.bytes)?;
-    disk.sync_folder(FOLDER)
+    disk.sync_folder(TREE_FOLDER)
 }
 
 /// Appends the record of a change whose table is written, and syncs it: from then on the new catalog counts.
 pub fn commit<D: Disk>(disk: &mut D, update: &Update) -> Result<()>
     ensures within { IsTrue D.honest → Within (keyspace_folder 0) (D.meaning disk.old) (D.meaning disk.new) }
     // A crash at any moment of the call leaves what the old catalog says or what the new one says.
-    ensures any_moment { IsTrue D.honest → (records : List Fields) (old : Catalog) (s t : Keyspaces) (number : ℕ) → AreKeyspaces t → IsUpdate old t number update.now
+    ensures any_moment { IsTrue D.honest → (records : List Fields) (old : Catalog) (s t : Keyspaces) (number : ℕ) → AreKeyspaces t
+        → IsUpdate old t number update.now
         → IsWritten (state_in (D.meaning disk.old)) records old s update.now.catalog t
         → LeavesOnly (D.meaning disk.old) (D.meaning disk.new) (SaysEither records old s update.now.catalog t) }
     ensures ok { IsTrue D.honest → (records : List Fields) (old : Catalog) (s t : Keyspaces) (number : ℕ) → AreKeyspaces t → IsUpdate old t number update.now
         → IsWritten (state_in (D.meaning disk.old)) records old s update.now.catalog t
         → OnOk result (IsReady (state_in (D.meaning disk.new)) (records ++ fields update.now.catalog ∷ []) update.now.catalog t) }
     ensures no_folder { IsTrue D.honest → (q : Name) → IsNoFolder (state_in (D.meaning disk.old) q).now → IsNoFolder (state_in (D.meaning disk.new) q).now }
-    ensures served { IsTrue D.honest → (records : List Fields) (old next : Catalog) (s t : Keyspaces) → IsWritten (state_in (D.meaning disk.old)) records old s next t → (D.meaning disk.new).misuses ≡ (D.meaning disk.old).misuses }
+    ensures served { IsTrue D.honest → (records : List Fields) (old next : Catalog) (s t : Keyspaces)
+        → IsWritten (state_in (D.meaning disk.old)) records old s next t → AllServed (D.meaning disk.old) (D.meaning disk.new) }
     ensures cause { OnlyFaults (D.meaning disk.old) (D.meaning disk.new) result }
     ensures kinds { IsTrue D.honest → StaysTidy (D.meaning disk.old) (D.meaning disk.new) }
 {
-    disk.append(CURRENT, &update.record_text)?;
-    disk.sync(CURRENT)
+    disk.append(TREE_RECORDS, &update.record_text)?;
+    disk.sync(TREE_RECORDS)
 }
 
 /// Removes the table of the catalog before a change that counts, where it had one. A crash may bring its file back until
 /// tree 0's folder is synced; it means nothing.
 pub fn remove_old<D: Disk>(disk: &mut D, update: &Update) -> Result<()>
-    ensures within { IsTrue D.honest → (old : Catalog) (t : Keyspaces) (number : ℕ) → IsUpdate old t number update.now → Within (keyspace_folder 0) (D.meaning disk.old) (D.meaning disk.new) }
+    ensures within { IsTrue D.honest → (old : Catalog) (t : Keyspaces) (number : ℕ) → IsUpdate old t number update.now
+        → Within (keyspace_folder 0) (D.meaning disk.old) (D.meaning disk.new) }
     // A crash at any moment of the call leaves what the new catalog says.
-    ensures any_moment { IsTrue D.honest → (records : List Fields) (old : Catalog) (t : Keyspaces) (number : ℕ) → IsUpdate old t number update.now → IsRecord (fields old)
+    ensures any_moment { IsTrue D.honest → (records : List Fields) (old : Catalog) (t : Keyspaces) (number : ℕ) → IsUpdate old t number update.now
+        → IsRecord (fields old)
         → IsReady (state_in (D.meaning disk.old)) records update.now.catalog t
         → LeavesOnly (D.meaning disk.old) (D.meaning disk.new) (λ image. Says image records update.now.catalog t) }
     // It stays ready, also where the call fails.
-    ensures ready { IsTrue D.honest → (records : List Fields) (old : Catalog) (t : Keyspaces) (number : ℕ) → IsUpdate old t number update.now → IsRecord (fields old)
+    ensures ready { IsTrue D.honest → (records : List Fields) (old : Catalog) (t : Keyspaces) (number : ℕ) → IsUpdate old t number update.now
+        → IsRecord (fields old)
         → IsReady (state_in (D.meaning disk.old)) records update.now.catalog t → IsReady (state_in (D.meaning disk.new)) records update.now.catalog t }
-    ensures served { IsTrue D.honest → (old : Catalog) (t : Keyspaces) (number : ℕ) → IsUpdate old t number update.now → IfSome old.table (λ table. IsNoFolder (state_in (D.meaning disk.old) (table_name 0 table.id)).now)
-        → (D.meaning disk.new).misuses ≡ (D.meaning disk.old).misuses }
+    ensures served { IsTrue D.honest → (old : Catalog) (t : Keyspaces) (number : ℕ) → IsUpdate old t number update.now
+        → IfSome old.table (λ table. IsNoFolder (state_in (D.meaning disk.old) (table_name 0 table.id)).now)
+        → AllServed (D.meaning disk.old) (D.meaning disk.new) }
     ensures cause { OnlyFaults (D.meaning disk.old) (D.meaning disk.new) result }
-    ensures gone { IsTrue D.honest → (old : Catalog) (t : Keyspaces) (number : ℕ) → IsUpdate old t number update.now → OnOk result (IsTableGone (state_in (D.meaning disk.new)) old) }
+    ensures gone { IsTrue D.honest → (old : Catalog) (t : Keyspaces) (number : ℕ) → IsUpdate old t number update.now
+        → OnOk result (IsTableGone (state_in (D.meaning disk.new)) old) }
     ensures kinds { IsTrue D.honest → StaysTidy (D.meaning disk.old) (D.meaning disk.new) }
 {
     let Some(name) = &update.old_table else {

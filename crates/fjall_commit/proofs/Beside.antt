@@ -7,6 +7,7 @@ use Rattle.std.proofs.lemmas.List.Elements.{All-head, All-tail}
 use Rattle.std.proofs.lemmas.Slice.Eq.{bytes_eq-Decides}
 use Rattle.fjall_base.specs.Disk.{Name, Entry, Missing, File, Folder, Place, State, Image, IsNoFolder, SomeSurvives, Survives, folder_of, settle}
 use Rattle.fjall_base.proofs.States.{settle-in, settle-out, survives_whole}
+use Rattle.fjall_files.specs.Texts.{text_in}
 use Rattle.fjall_files.specs.Regions.{IsImageIn, is_under}
 use Rattle.fjall_files.proofs.Changes.{SameOutside}
 use Rattle.fjall_files.proofs.Parts.{left_at}
@@ -18,7 +19,6 @@ use Rattle.fjall_catalog.specs.Catalog.{Says, only}
 use Rattle.fjall_catalog.proofs.Naming.{bool_cases}
 use Rattle.fjall_recovery.specs.Folders.{AreMade}
 use Rattle.fjall_recovery.specs.Homes.{HasHome, HasLast, HaveHomes, records_text}
-use Rattle.fjall_recovery.specs.Journals.{text_in}
 use Rattle.fjall_recovery.specs.Naming.{KeyspacesAreNamed}
 use Rattle.fjall_recovery.proofs.Listed.{in_keyspaces}
 use Rattle.fjall_recovery.specs.Halves.{HasTree, Tree}

@@ -18,12 +18,9 @@ ghost use Rattle.fjall_commit.specs.Removals.{IsUnused};
 use crate::change::change_tree;
 use fjall_base::{Disk, Result};
 use fjall_catalog::{Catalog, Update, first_record_of, prepare};
-use fjall_files::{current_name, keyspace_folder, make_file};
+use fjall_files::{KEYSPACES_FOLDER, current_name, keyspace_folder, make_file};
 use fjall_meta::MetaKeyspace;
 use std::alloc::Global;
-
-/// The folder of all keyspaces.
-pub(crate) const KEYSPACES: &str = "keyspaces";
 
 /// All that the creation of a keyspace writes.
 #[derive(Debug, Drop)]
@@ -100,7 +97,7 @@ fn build_home<D: Disk>(disk: &mut D, creation: &Creation) -> Result<()>
         &creation.record_text,
     )?;
     disk.sync_folder(folder)?;
-    disk.sync_folder(KEYSPACES)
+    disk.sync_folder(KEYSPACES_FOLDER)
 }
 
 /// Makes a keyspace: its folder and its first record, and then the change of the catalog that makes it count. It takes no

@@ -11,9 +11,8 @@ ghost use Rattle.fjall_recovery.specs.Halves.{HasTree, Tree};
 ghost use Rattle.fjall_recovery.specs.Places.{LiesInTree};
 ghost use Rattle.fjall_commit.specs.Removals.{IsRemoval, IsRemoved, IsUnused};
 
-use crate::creation::KEYSPACES;
 use fjall_base::{Disk, Error, Result};
-use fjall_files::{current_name, keyspace_folder};
+use fjall_files::{KEYSPACES_FOLDER, current_name, keyspace_folder};
 use std::alloc::Global;
 
 /// What is removed of a deleted keyspace.
@@ -77,5 +76,5 @@ pub fn remove_keyspace<D: Disk>(disk: &mut D, removal: &Removal) -> Result<()>
 {
     remove_files(disk, &removal.files)?;
     disk.remove_folder(removal.folder.as_str())?;
-    disk.sync_folder(KEYSPACES)
+    disk.sync_folder(KEYSPACES_FOLDER)
 }

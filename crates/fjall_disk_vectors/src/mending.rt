@@ -15,7 +15,7 @@ use std::alloc::Global;
 /// Reads the folder and mends it, and answers whether this is the file of its active journal.
 pub fn mend_folder(alloc: Global, disk: &mut MemoryDisk, journal: &str) -> Result<bool> {
     let found = read_folder(alloc, disk)?.ok_or(Error::Unrecoverable)?;
-    let plan = plan_mending(alloc, disk, &found)?;
+    let plan = plan_mending(alloc, &found)?;
     mend(disk, &plan)?;
     Ok(plan.active.as_str() == journal)
 }

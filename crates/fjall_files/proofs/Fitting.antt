@@ -44,7 +44,8 @@ folder_of-folder id small = folder_of-join (codes "keyspaces") (decimal id) (pla
 pub folder_of-current : (id : ℕ) → folder_of (current_name id) ≡ keyspace_folder id
 folder_of-current id = folder_of-join (keyspace_folder id) (codes "current") refl
 
-table_parts : (id n : ℕ) → table_name id n ≡ join (keyspace_folder id) (decimal n ++ codes ".table")
+-- a table's name is its file's in the folder of its keyspace
+pub table_parts : (id n : ℕ) → table_name id n ≡ join (keyspace_folder id) (decimal n ++ codes ".table")
 table_parts id n = append_assoc (keyspace_folder id ++ codes "/") (decimal n) (codes ".table") ∙ append_assoc (keyspace_folder id) (codes "/") (decimal n ++ codes ".table")
 
 pub folder_of-table : (id n : ℕ) → n < 2 ^ 64 → folder_of (table_name id n) ≡ keyspace_folder id

@@ -15,6 +15,7 @@ use Rattle.fjall_base.proofs.Moments.{started, perhaps_on}
 use Rattle.fjall_files.specs.Regions.{IsImageIn}
 use Rattle.fjall_files.specs.Trims.{IsTrimmed, ended_place}
 use Rattle.fjall_files.proofs.Comparisons.{bool_cases, same}
+use Rattle.fjall_files.proofs.Tidying.{there_or_not}
 use Rattle.fjall_files.proofs.Parts.{in_region, region_sync, region_put_back}
 
 -- ---- whole images are images in the region of all names
@@ -38,16 +39,6 @@ pub untrimmed : (state : State) (name : Name) (len : ℕ) (image : Image) → Is
 untrimmed state name len image is = record { whole = image; is = is; elsewhere = λ q not. refl; here = inl refl }
 
 -- ---- a file that is loosened
-
--- a folder is there, or not
-there_or_not : (image : Image) (folder : Name) → IsThere image folder ⊎ (IsThere image folder → ⊥)
-there_or_not image [] = inl (inl refl)
-there_or_not image (c ∷ cs) = by (image (c ∷ cs)) refl
-  where
-    by : (entry : Entry) → image (c ∷ cs) ≡ entry → IsThere image (c ∷ cs) ⊎ (IsThere image (c ∷ cs) → ⊥)
-    by Missing is = inr (λ there. ⊎_elim (λ e. let no : ⊥ = cc in no) (λ e. let no : Missing ≡ Folder = sym is ∙ e in cc) there)
-    by (File synced unsynced) is = inr (λ there. ⊎_elim (λ e. let no : ⊥ = cc in no) (λ e. let no : File synced unsynced ≡ Folder = sym is ∙ e in cc) there)
-    by Folder is = inl (inr is)
 
 -- of a loosened file a crash leaves its first bytes and more of them, or what it left of it before
 left_loosened : (len : ℕ) (entry left : Entry) → Survives (loosened len entry) left

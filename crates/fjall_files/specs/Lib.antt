@@ -5,3 +5,5 @@ pub mod Sought
 pub mod Tidy
 pub mod Regions
 pub mod Trims
+pub mod Calls
+pub mod Texts

@@ -2,6 +2,7 @@
 
 ghost use Rattle.std.specs.Prelude.{◌≡◌, ◌≢◌, ◌∷◌, [], true, map, All, IsTrue, OnOk, string_bytes};
 ghost use Rattle.fjall_base.specs.Disk.{Name, Append, Sync, File, Folder, Missing, OnlyFaults, Took, CanCreate, CanMakeFolder, IsFile, IsNoFolder, folder_of, state_in};
+ghost use Rattle.fjall_files.specs.Calls.{AllServed};
 ghost use Rattle.fjall_files.specs.Tidy.{FitsAt, StaysTidy};
 ghost use Rattle.fjall_files.specs.Regions.{HoldsOnly, IsMade, IsSafe, Within, is_under};
 
@@ -13,7 +14,7 @@ use fjall_base::{Disk, Result};
 pub fn append_synced<D: Disk>(disk: &mut D, file: &str, bytes: &[u8]) -> Result<()>
     ensures took { IsTrue D.honest → OnOk result (Took (D.meaning disk.old) (D.meaning disk.new) (Append file.now bytes.now ∷ Sync file.now ∷ [])) }
     ensures within { IsTrue D.honest → (folder : Name) → is_under folder file.now ≡ true → Within folder (D.meaning disk.old) (D.meaning disk.new) }
-    ensures served { IsTrue D.honest → IsFile (state_in (D.meaning disk.old) file.now).now → (D.meaning disk.new).misuses ≡ (D.meaning disk.old).misuses }
+    ensures served { IsTrue D.honest → IsFile (state_in (D.meaning disk.old) file.now).now → AllServed (D.meaning disk.old) (D.meaning disk.new) }
     ensures cause { OnlyFaults (D.meaning disk.old) (D.meaning disk.new) result }
     ensures kinds { IsTrue D.honest → StaysTidy (D.meaning disk.old) (D.meaning disk.new) }
 {
@@ -23,9 +24,10 @@ pub fn append_synced<D: Disk>(disk: &mut D, file: &str, bytes: &[u8]) -> Result<
 
 /// Makes a file of these bytes where none is, and syncs it; its name is not yet safe.
 pub fn make_file<D: Disk>(disk: &mut D, file: &str, bytes: &[u8]) -> Result<()>
-    ensures made { IsTrue D.honest → (state_in (D.meaning disk.old) file.now).now ≡ Missing → OnOk result ((state_in (D.meaning disk.new) file.now).now ≡ File bytes.now []) }
+    ensures made { IsTrue D.honest → (state_in (D.meaning disk.old) file.now).now ≡ Missing
+        → OnOk result ((state_in (D.meaning disk.new) file.now).now ≡ File bytes.now []) }
     ensures within { IsTrue D.honest → (folder : Name) → is_under folder file.now ≡ true → Within folder (D.meaning disk.old) (D.meaning disk.new) }
-    ensures served { IsTrue D.honest → CanCreate (state_in (D.meaning disk.old)) file.now → (D.meaning disk.new).misuses ≡ (D.meaning disk.old).misuses }
+    ensures served { IsTrue D.honest → CanCreate (state_in (D.meaning disk.old)) file.now → AllServed (D.meaning disk.old) (D.meaning disk.new) }
     ensures cause { OnlyFaults (D.meaning disk.old) (D.meaning disk.new) result }
     ensures kinds { IsTrue D.honest → FitsAt file.now (File [] []) → StaysTidy (D.meaning disk.old) (D.meaning disk.new) }
 {
@@ -38,9 +40,11 @@ pub fn make_file<D: Disk>(disk: &mut D, file: &str, bytes: &[u8]) -> Result<()>
 /// What a call that fails has done lies in that folder.
 pub fn make_home<D: Disk>(disk: &mut D, folder: &str, file: &str, bytes: &[u8]) -> Result<()>
     requires inside { folder_of file.now ≡ folder.now }
-    ensures made { IsTrue D.honest → (state_in (D.meaning disk.old) file.now).now ≡ Missing → OnOk result (IsMade (state_in (D.meaning disk.new)) folder.now file.now bytes.now) }
+    ensures made { IsTrue D.honest → (state_in (D.meaning disk.old) file.now).now ≡ Missing
+        → OnOk result (IsMade (state_in (D.meaning disk.new)) folder.now file.now bytes.now) }
     ensures within { IsTrue D.honest → Within folder.now (D.meaning disk.old) (D.meaning disk.new) }
-    ensures served { IsTrue D.honest → CanMakeFolder (state_in (D.meaning disk.old)) folder.now → IsNoFolder (state_in (D.meaning disk.old) file.now).now → (D.meaning disk.new).misuses ≡ (D.meaning disk.old).misuses }
+    ensures served { IsTrue D.honest → CanMakeFolder (state_in (D.meaning disk.old)) folder.now
+        → IsNoFolder (state_in (D.meaning disk.old) file.now).now → AllServed (D.meaning disk.old) (D.meaning disk.new) }
     ensures cause { OnlyFaults (D.meaning disk.old) (D.meaning disk.new) result }
     ensures kinds { IsTrue D.honest → FitsAt folder.now Folder → FitsAt file.now (File [] []) → StaysTidy (D.meaning disk.old) (D.meaning disk.new) }
 {
@@ -53,9 +57,10 @@ pub fn make_home<D: Disk>(disk: &mut D, folder: &str, file: &str, bytes: &[u8]) 
 /// What a call that fails has done lies in that folder.
 pub fn put_file<D: Disk>(disk: &mut D, folder: &str, file: &str, bytes: &[u8]) -> Result<()>
     requires inside { folder_of file.now ≡ folder.now }
-    ensures safe { IsTrue D.honest → (state_in (D.meaning disk.old) file.now).now ≡ Missing → OnOk result (IsSafe (state_in (D.meaning disk.new)) file.now bytes.now) }
+    ensures safe { IsTrue D.honest → (state_in (D.meaning disk.old) file.now).now ≡ Missing
+        → OnOk result (IsSafe (state_in (D.meaning disk.new)) file.now bytes.now) }
     ensures within { IsTrue D.honest → folder.now ≢ [] → Within folder.now (D.meaning disk.old) (D.meaning disk.new) }
-    ensures served { IsTrue D.honest → CanCreate (state_in (D.meaning disk.old)) file.now → (D.meaning disk.new).misuses ≡ (D.meaning disk.old).misuses }
+    ensures served { IsTrue D.honest → CanCreate (state_in (D.meaning disk.old)) file.now → AllServed (D.meaning disk.old) (D.meaning disk.new) }
     ensures cause { OnlyFaults (D.meaning disk.old) (D.meaning disk.new) result }
     ensures kinds { IsTrue D.honest → FitsAt file.now (File [] []) → StaysTidy (D.meaning disk.old) (D.meaning disk.new) }
 {
@@ -71,7 +76,8 @@ pub fn remove_home<D: Disk>(disk: &mut D, folder: &str, files: &[String]) -> Res
     requires inside { All (λ file. folder_of (string_bytes file) ≡ folder.now) files.now }
     ensures gone { IsTrue D.honest → OnOk result ((state_in (D.meaning disk.new) folder.now).now ≡ Missing) }
     ensures within { IsTrue D.honest → folder.now ≢ [] → Within folder.now (D.meaning disk.old) (D.meaning disk.new) }
-    ensures served { IsTrue D.honest → HoldsOnly (state_in (D.meaning disk.old)) folder.now (map string_bytes files.now) → (D.meaning disk.new).misuses ≡ (D.meaning disk.old).misuses }
+    ensures served { IsTrue D.honest → HoldsOnly (state_in (D.meaning disk.old)) folder.now (map string_bytes files.now)
+        → AllServed (D.meaning disk.old) (D.meaning disk.new) }
     ensures cause { OnlyFaults (D.meaning disk.old) (D.meaning disk.new) result }
     ensures kinds { IsTrue D.honest → StaysTidy (D.meaning disk.old) (D.meaning disk.new) }
 {

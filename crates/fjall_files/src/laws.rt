@@ -17,7 +17,8 @@ pub fn keyspace_folders_differ()
 
 /// Different tables have different names, in one keyspace and in two.
 pub fn table_names_differ()
-    ensures { (id other table another : ℕ) → id < 2 ^ 64 → other < 2 ^ 64 → table < 2 ^ 64 → another < 2 ^ 64 → table_name id table ≡ table_name other another → (id ≡ other) × (table ≡ another) }
+    ensures { (id other table another : ℕ) → id < 2 ^ 64 → other < 2 ^ 64 → table < 2 ^ 64 → another < 2 ^ 64
+        → table_name id table ≡ table_name other another → (id ≡ other) × (table ≡ another) }
 {}
 
 /// No two of the files and folders that are kept have one name: no journal's is another file's.
@@ -32,6 +33,7 @@ pub fn elsewhere_stays()
 
 /// Whatever a crash at any moment of the run leaves in a region that the folder is not in, a crash before it might have left.
 pub fn crashes_see_a_region()
-    ensures { (folder : Name) (region : Name → Bool) (old new : Meaning) (image : Image) → (folder ≡ [] → ⊥) → ((q : Name) → region q ≡ true → is_under folder q ≡ false)
+    ensures { (folder : Name) (region : Name → Bool) (old new : Meaning) (image : Image) → (folder ≡ [] → ⊥)
+        → ((q : Name) → region q ≡ true → is_under folder q ≡ false)
         → (run : Within folder old new) → Leaves (state_in old) run.added image → IsImageIn Survives region (state_in old) image }
 {}

@@ -17,6 +17,9 @@ pub use laws::{
 };
 pub use lists::{journals, keyspaces, tables};
 pub use marker::{Marker, parse_file_header, read_marker, version_of, write_file_header};
-pub use names::{current_name, journal_name, keyspace_folder, parse_journal_name, table_name};
+pub use names::{
+    KEYSPACES_FOLDER, MARKER_FILE, TREE_FOLDER, TREE_RECORDS, current_name, journal_name,
+    keyspace_folder, parse_journal_name, table_name,
+};
 pub use number::parse_number;
 pub use trim::end_file;

@@ -1,11 +1,23 @@
 //! The names of journals, keyspaces and tables.
 
-ghost use Rattle.std.specs.Prelude.{◌≡◌, ◌↔◌, ℕ, ◌<◌, ◌^◌, IfErr, IfOk, IfSome, IsErr, IsOkUnless, Ok, Some, string_bytes};
+ghost use Rattle.std.specs.Prelude.{◌≡◌, ◌↔◌, ℕ, ◌<◌, IfOk, IfSome, IsErr, IsOkUnless, Ok, Some, string_bytes};
 ghost use Rattle.fjall_files.specs.Names.{IsJournalName, IsMisnamed, IsNameOf, current_name, journal_name, keyspace_folder, name_in, table_name};
 
 use crate::number::parse_number;
 use fjall_base::{Error, JournalRecoveryError, Result};
 use std::alloc::Global;
+
+/// The marker of a folder.
+pub const MARKER_FILE: &str = "version";
+
+/// The folder of all keyspaces.
+pub const KEYSPACES_FOLDER: &str = "keyspaces";
+
+/// The folder of tree 0, which says which keyspaces live.
+pub const TREE_FOLDER: &str = "keyspaces/0";
+
+/// The file of tree 0's records.
+pub const TREE_RECORDS: &str = "keyspaces/0/current";
 
 /// The name of a journal's file: its id and `.jnl`, as `12.jnl`.
 pub fn journal_name(alloc: Global, id: u64) -> Result<String>

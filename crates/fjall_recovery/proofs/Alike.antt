@@ -7,6 +7,7 @@ use Rattle.fjall_base.specs.Store.{Store, Command}
 use Rattle.fjall_base.specs.Disk.{Name, Entry, Missing, File, Folder, State, Image, IsFile, IsImage, all_synced, standing}
 use Rattle.fjall_base.specs.Crash.{IsHoused}
 use Rattle.fjall_base.proofs.Wholes.{all_kept, all_kept-is, all_kept_is_left}
+use Rattle.fjall_files.specs.Texts.{text_in}
 use Rattle.fjall_journal.specs.declared.batch.Tail.TheVariants.{Clean, Torn}
 use Rattle.fjall_journal.specs.Batches.{NoneAt}
 use Rattle.fjall_table.specs.declared.table_info.TableInfo.{TableInfo}
@@ -20,7 +21,7 @@ use Rattle.fjall_catalog.specs.Catalog.{HoldsEntries, IsTableOf}
 use Rattle.fjall_catalog.specs.Catalog as catalog
 use Rattle.fjall_recovery.specs.Folders.{Contents, IsBegun, IsSound, IsUnfinished, StandsFor, file_bytes}
 use Rattle.fjall_recovery.specs.Homes.{HasLast, HaveHomes, records_text}
-use Rattle.fjall_recovery.specs.Journals.{Journal, ReadsAs, AreRead, journal_text, text_in}
+use Rattle.fjall_recovery.specs.Journals.{Journal, ReadsAs, AreRead, journal_text}
 use Rattle.fjall_recovery.specs.Naming.{JournalsAreNamed, KeyspacesAreNamed}
 use Rattle.fjall_recovery.specs.Amid.{StandsAmid}
 
@@ -74,7 +75,7 @@ sound_by image other c sound marker named files texts keyspaces folder file reco
 pub record Alike (e d : Entry) : Type 0 where
   pub bytes : file_bytes d ≡ file_bytes e
   pub text : text_in d ≡ text_in e
-  pub counted : catalog.text_in d ≡ catalog.text_in e
+  pub counted : text_in d ≡ text_in e
   pub file : IsFile e ↔ IsFile d
   pub folder : (e ≡ Folder) ↔ (d ≡ Folder)
 

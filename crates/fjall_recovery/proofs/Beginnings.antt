@@ -6,6 +6,7 @@ use Rattle.std.proofs.Math.Seq.{take-suc}
 use Rattle.std.specs.Prelude.{Contains}
 use Rattle.std.specs.List.{flat_map}
 use Rattle.fjall_base.specs.Disk.{Entry, Missing, File, Folder, Image, IsFile}
+use Rattle.fjall_files.specs.Texts.{text_in}
 use Rattle.fjall_journal.specs.declared.batch.Tail.{Tail}
 use Rattle.fjall_journal.specs.Spelling.{spelling}
 use Rattle.fjall_journal.specs.Batches.{Shown, Written, IsWritten, IsWhole, NoneAt, batch_text, shown}
@@ -15,7 +16,7 @@ use Rattle.fjall_tree.proofs.Currents.{contradiction_has_no_reading}
 use Rattle.fjall_files.specs.Names.{journal_name}
 use Rattle.fjall_catalog.specs.Catalog.{fields, first_catalog}
 use Rattle.fjall_recovery.specs.Folders.{AreEmpty, IsBegun}
-use Rattle.fjall_recovery.specs.Journals.{AreJournalIds, IsReadAs, journal_text, text_in}
+use Rattle.fjall_recovery.specs.Journals.{AreJournalIds, IsReadAs, journal_text}
 
 -- ---- a journal without a whole batch
 

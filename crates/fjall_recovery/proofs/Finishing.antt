@@ -17,7 +17,7 @@ use Rattle.fjall_files.specs.declared.marker.Marker.TheVariants.{Whole, Unfinish
 use Rattle.fjall_files.specs.Marker.{marker_tells}
 use Rattle.fjall_files.specs.Names.{keyspace_folder}
 use Rattle.fjall_catalog.specs.declared.catalog.Catalog.{Catalog}
-use Rattle.fjall_catalog.specs.Catalog.{Says, records_in}
+use Rattle.fjall_catalog.specs.Catalog.{HasEnd, Says, records_in}
 use Rattle.fjall_catalog.specs.Refusals.{IsRefusal}
 use Rattle.fjall_base.specs.Errors.{IsFaultOrMemory}
 use Rattle.fjall_recovery.specs.declared.folder.Finished.{Finished}
@@ -121,9 +121,9 @@ pub finished_of : (image one two three : Image) (f : Finished) (journal_ids : Li
     → journal_ids ≡ f.journal_ids.items → AreJournalIds image f.journal_ids.items
     → AreFound image journal_ids (map view f.journals.batches.items) f.journals.least f.journals.end f.journals.torn
     → AreFolderIds one f.folder_ids.items → KeyspacesAreNamed one → two (keyspace_folder 0) ≡ Folder
-    → (records : List Fields) × Says two records f.catalog.catalog f.catalog.keyspaces → AreMade f.catalog.catalog f.catalog.keyspaces
+    → (records : List Fields) × Says two records f.catalog.catalog f.catalog.keyspaces → HasEnd two f.catalog.end f.catalog.is_torn → AreMade f.catalog.catalog f.catalog.keyspaces
     → living ≡ f.catalog.keyspaces.living → AreHomesRead three living f.homes.items → IsFinished image f
-finished_of image one two three f journal_ids living at_one at_two at_three ids are found folders named folder says made is homes = record {
+finished_of image one two three f journal_ids living at_one at_two at_three ids are found folders named folder says ends made is homes = record {
   journal_ids = are;
   journals = subst (λ (l : List ℕ). AreFound image l (map view f.journals.batches.items) f.journals.least f.journals.end f.journals.torn) ids found;
   folder_ids = subst (λ i. AreFolderIds i f.folder_ids.items) at_one folders;
@@ -131,6 +131,7 @@ finished_of image one two three f journal_ids living at_one at_two at_three ids 
   folder = subst (λ (i : Image). i (keyspace_folder 0) ≡ Folder) at_two folder;
   records = says.0;
   catalog = subst (λ i. Says i says.0 f.catalog.catalog f.catalog.keyspaces) at_two says.1;
+  end = subst (λ i. HasEnd i f.catalog.end f.catalog.is_torn) at_two ends;
   made = made;
   homes = subst (λ i. AreHomesRead i f.catalog.keyspaces.living f.homes.items) at_three (subst (λ (l : List LivingKeyspace). AreHomesRead three l f.homes.items) is homes);
 }

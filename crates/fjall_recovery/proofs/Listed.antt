@@ -1,49 +1,21 @@
 -- What the list of a folder tells of an image.
-use Rattle.std.proofs.Common.{◌≡◌, ◌≢◌, ◌⊎◌, inl, inr, ℕ, ◌<◌, ◌^◌, Bool, true, false, ◌||◌, ◌==◌, List, [], ◌∷◌, ◌++◌, length, get_or, codes, decimal, All, Any, Result, Ok, Err, refl, sym, ◌∙◌, ap, subst, arith, append_assoc}
-use Rattle.std.specs.Prelude.{Vec, IfOk, IfErr, OnOk, IsFalse, IsTrue, ◌↔◌, string_bytes}
-use Rattle.std.specs.List.{list_any, Contains}
-use Rattle.std.proofs.lemmas.List.{get_or_default}
-use Rattle.std.proofs.lemmas.List.Folds.{list_any-append, list_any_none}
+use Rattle.std.proofs.Common.{◌≡◌, ◌≢◌, ◌⊎◌, inl, inr, ℕ, Bool, true, false, List, [], codes, Any, Result, Ok, Err, refl, sym, ◌∙◌, ap, subst}
+use Rattle.std.specs.Prelude.{Vec, IfOk, IfErr, OnOk, IsFalse, IsTrue, string_bytes}
 use Rattle.std.proofs.lemmas.Bool.{true≢false}
-use Rattle.std.proofs.lemmas.Bool.Decides.{nat_tests}
-use Rattle.std.proofs.lemmas.Fmt.{digits_decimal}
-use Rattle.std.specs.Str.Parse.{AllDigits, digits_value}
-use Rattle.std.proofs.lemmas.Str.Parse.{IsNumeralModel, numerals_by_value, tells_digits, not_in_digits}
 use Rattle.std.specs.declared.alloc.Global.{Global}
 use Rattle.fjall_base.specs.declared.error.Error.{Error}
 use Rattle.fjall_base.specs.declared.error.Error.TheVariants.{OutOfMemory}
 use Rattle.fjall_base.specs.declared.disk.DirEntry.{DirEntry}
-use Rattle.fjall_base.specs.Disk.{Name, Entry, Missing, File, Folder, State, Image, IsFile, Lists, IsListed, Tells, folder_of, standing}
-use Rattle.fjall_files.specs.Regions.{join}
-use Rattle.fjall_files.proofs.Under.{IsPlain, folder_of-join, folder_of-plain}
+use Rattle.fjall_base.specs.Disk.{Name, Entry, Missing, File, Folder, State, IsFile, Lists, IsListed, Tells, folder_of, standing}
 use Rattle.fjall_files.specs.Names.{IsMisnamed, IsNameOf, journal_name, keyspace_folder}
 use Rattle.fjall_files.specs.Lists.{AreIds, IsJournal, IsKeyspace, IsMisnamedFile, IsStrayFolder}
 use Rattle.fjall_recovery.specs.Naming.{AreFolderIds, JournalsAreNamed, KeyspacesAreNamed}
 use Rattle.fjall_recovery.specs.Journals.{AreJournalIds}
 use Rattle.fjall_recovery.specs.Refusals.{IsDue}
 use Rattle.fjall_recovery.proofs.Gathering.{due}
+pub use Rattle.fjall_files.proofs.Fitting.{folder_of-journal as in_root, folder_of-folder as in_keyspaces}
 
--- ---- names without a slash
-
-own : IsNumeralModel (AllDigits 10) (digits_value 10)
-own = numerals_by_value (AllDigits 10) tells_digits
-
-abbrev slash : ℕ → Bool
-slash b = b == 47
-
-plain_decimal : (n : ℕ) → n < 2 ^ 64 → list_any slash (decimal n) ≡ false
-plain_decimal n small = list_any_none slash (decimal n) (λ k d lt.
-    let other : get_or (decimal n) k 0 ≢ 47 = not_in_digits own (decimal n) 47 (digits_decimal own n small) (λ range. omega (arith, range)) k lt in
-    let same : get_or (decimal n) k d ≡ get_or (decimal n) k 0 = get_or_default (decimal n) k d 0 lt in
-    rw same (grind (arith, nat_tests)))
-
--- journals stand in the root
-pub in_root : (id : ℕ) → id < 2 ^ 64 → folder_of (journal_name id) ≡ []
-in_root id small = folder_of-plain (journal_name id) (list_any-append slash (decimal id) (codes ".jnl") ∙ ap (λ (b : Bool). b || list_any slash (codes ".jnl")) (plain_decimal id small))
-
--- the folders of keyspaces stand in `keyspaces`
-pub in_keyspaces : (id : ℕ) → id < 2 ^ 64 → folder_of (keyspace_folder id) ≡ codes "keyspaces"
-in_keyspaces id small = ap (λ (n : Name). folder_of n) (append_assoc (codes "keyspaces") (codes "/") (decimal id)) ∙ folder_of-join (codes "keyspaces") (decimal id) (plain_decimal id small)
+-- journals stand in the root, and the folders of keyspaces in `keyspaces`
 
 -- ---- entries of a list
 

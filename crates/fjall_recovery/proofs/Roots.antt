@@ -8,6 +8,7 @@ use Rattle.std.proofs.lemmas.List.{append-nil, drop_at, map-append}
 use Rattle.std.proofs.lemmas.Grind.{flat_map-append}
 use Rattle.std.proofs.Math.Seq.{drop-append-add}
 use Rattle.fjall_base.specs.Disk.{Name, Entry, File, State, Image, Survives, IsFile, folder_of, standing}
+use Rattle.fjall_files.specs.Texts.{text_in}
 use Rattle.fjall_files.specs.Regions.{IsImageIn, IsSafe}
 use Rattle.fjall_journal.specs.declared.batch.Tail.TheVariants.{Clean, Torn}
 use Rattle.fjall_journal.specs.Batches.{Written, IsWritten, IsWhole, IsTail, shown}
@@ -19,7 +20,7 @@ use Rattle.fjall_files.specs.Names.{IsMisnamed, journal_name}
 use Rattle.fjall_versions.specs.Replays.{first_fault}
 use Rattle.fjall_versions.proofs.Faults.{first_fault-append}
 use Rattle.fjall_recovery.specs.Folders.{file_bytes, marker_bytes}
-use Rattle.fjall_recovery.specs.Journals.{AreJournalIds, AreRead, IsSealed, Journal, ReadsAs, batches_in, journal_text, text_in}
+use Rattle.fjall_recovery.specs.Journals.{AreJournalIds, AreRead, IsSealed, Journal, ReadsAs, batches_in, journal_text}
 use Rattle.fjall_recovery.specs.Naming.{JournalsAreNamed}
 use Rattle.fjall_recovery.proofs.Listed.{in_root}
 use Rattle.fjall_recovery.specs.Halves.{HasRoot, is_of_root}

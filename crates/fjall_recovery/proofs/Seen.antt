@@ -4,9 +4,9 @@ use Rattle.std.proofs.lemmas.List.{append-nil, take_all}
 use Rattle.std.specs.List.{AllByRecursion}
 use Rattle.fjall_base.specs.Disk.{Name, Entry, Missing, File, Folder, Place, State, Image, Survives, SomeSurvives, IsFile, IsThere, IsNoFile, IsNoFolder, folder_of, standing}
 use Rattle.fjall_base.proofs.States.{survives_whole}
+use Rattle.fjall_files.specs.Texts.{text_in}
 use Rattle.fjall_files.specs.Regions.{IsImageIn, IsSafe}
 use Rattle.fjall_catalog.specs.Catalog.{only}
-use Rattle.fjall_recovery.specs.Journals.{text_in}
 use Rattle.fjall_recovery.specs.Places.{IsNeverFile, IsNeverFolder}
 
 -- what stands there now, or what a crash may leave of it

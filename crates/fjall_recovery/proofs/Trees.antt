@@ -4,6 +4,7 @@ use Rattle.std.specs.List.{AllByRecursion}
 use Rattle.std.proofs.lemmas.List.{append-nil}
 use Rattle.std.proofs.lemmas.List.Elements.{recursion_from_All}
 use Rattle.fjall_base.specs.Disk.{Name, Entry, Missing, File, Folder, Place, State, Image, Survives, IsThere, folder_of, standing}
+use Rattle.fjall_files.specs.Texts.{text_in}
 use Rattle.fjall_files.specs.Regions.{IsImageIn}
 use Rattle.fjall_files.proofs.Under.{folder_of-join}
 use Rattle.fjall_table.specs.declared.table_info.TableInfo.{TableInfo}
@@ -18,7 +19,6 @@ use Rattle.fjall_catalog.proofs.Naming.{folder_of-folder, folder_of-current, fol
 use Rattle.fjall_catalog.proofs.Resting.{last_record, table_id, says_in}
 use Rattle.fjall_catalog.proofs.Meanings as Meanings
 use Rattle.fjall_recovery.specs.Homes.{HasHome, HasLast, HaveHomes, records_text}
-use Rattle.fjall_recovery.specs.Journals.{text_in}
 use Rattle.fjall_recovery.proofs.Listed.{in_keyspaces}
 use Rattle.fjall_recovery.specs.Halves.{HasTree, Tree, is_of_keyspaces}
 use Rattle.fjall_recovery.specs.Places.{HasSafeHome, HaveSafeHomes, RestsInTree}

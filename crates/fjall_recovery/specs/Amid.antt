@@ -1,7 +1,7 @@
 -- What a disk holds in the midst of work: a crash leaves a store with some of the commands that still wait.
 use Rattle.std.specs.Prelude.{◌≡◌, ℕ, ◌<◌, ◌^◌, List, [], ◌∷◌, ◌++◌}
 use Rattle.fjall_base.specs.Store.{Store, Command, fold, kept}
-use Rattle.fjall_base.specs.Disk.{Name, State, Image, IsFile, IsImage, SomeSurvives, standing}
+use Rattle.fjall_base.specs.Disk.{Name, State, Image, IsFile, IsImage, LeavesOnly, Meaning, SomeSurvives, standing, state_in}
 use Rattle.fjall_files.specs.Names.{journal_name}
 use Rattle.fjall_recovery.specs.Folders.{Contents, IsSound, IsUnfinished, StandsFor}
 
@@ -39,3 +39,17 @@ pub record HoldsAmid (state : State) (base : Store) (pending : List Command) : T
   pub crash : (image : Image) → IsImage state image → StandsAmid base [] pending image
   pub journals : (c : Contents) → IsSound (standing state) c → c.journals ≡ [] → (image : Image) → IsImage state image → (id : ℕ) → id < 2 ^ 64 → IsFile (image (journal_name id)) → ⊥
   pub back : IsUnfinished (standing state) → ComesBackUnfinished state
+
+-- ---- what calls keep of it
+
+-- this is so where the disk holds some base with some pending commands
+abbrev pub WhereAmid : Meaning → Type 0 → Type 0
+WhereAmid disk P = (base : Store) (pending : List Command) → HoldsAmid (state_in disk) base pending → P
+
+-- where the disk holds a base with pending commands, a crash at any moment leaves the base with a beginning of them
+abbrev pub LeavesAmid : Meaning → Meaning → Type 0
+LeavesAmid old new = (base : Store) (pending : List Command) → HoldsAmid (state_in old) base pending → LeavesOnly old new (StandsAmid base [] pending)
+
+-- where the disk holds a base with pending commands, it holds them still
+abbrev pub KeepsAmid : Meaning → Meaning → Type 0
+KeepsAmid old new = (base : Store) (pending : List Command) → HoldsAmid (state_in old) base pending → HoldsAmid (state_in new) base pending

@@ -10,7 +10,7 @@ use Rattle.fjall_files.specs.declared.marker.Marker.TheVariants.{Whole, Unfinish
 use Rattle.fjall_files.specs.Marker.{marker_tells}
 use Rattle.fjall_files.specs.Names.{keyspace_folder}
 use Rattle.fjall_catalog.specs.declared.catalog.Catalog.{Catalog}
-use Rattle.fjall_catalog.specs.Catalog.{Says, fields, first_catalog, records_in}
+use Rattle.fjall_catalog.specs.Catalog.{HasEnd, Says, fields, first_catalog, records_in}
 use Rattle.fjall_versions.specs.Replays.{bare, store_in, least_after}
 use Rattle.fjall_recovery.specs.declared.folder.Finished.{Finished}
 use Rattle.fjall_recovery.specs.Homes.{AreHomesRead, HaveHomes}
@@ -106,6 +106,7 @@ pub record IsFinished (image : Image) (f : Finished) : Type 0 where
   pub folder : image (keyspace_folder 0) ≡ Folder
   pub records : List Fields
   pub catalog : Says image records f.catalog.catalog f.catalog.keyspaces
+  pub end : HasEnd image f.catalog.end f.catalog.is_torn
   pub made : AreMade f.catalog.catalog f.catalog.keyspaces
   pub homes : AreHomesRead image f.catalog.keyspaces.living f.homes.items
 

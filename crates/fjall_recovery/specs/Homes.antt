@@ -3,10 +3,10 @@ use Rattle.std.specs.Prelude.{◌≡◌, ℕ, List, [], ◌∷◌, length, Some,
 use Rattle.fjall_base.specs.Disk.{Folder, Image}
 use Rattle.fjall_tree.specs.Records.{Fields, IsRecords, view}
 use Rattle.fjall_base.specs.Lists.{last_of}
+use Rattle.fjall_files.specs.Texts.{text_in}
 use Rattle.fjall_meta.specs.declared.living.LivingKeyspace.{LivingKeyspace}
 use Rattle.fjall_files.specs.Names.{keyspace_folder, current_name}
 use Rattle.fjall_recovery.specs.declared.homes.Home.{Home}
-use Rattle.fjall_recovery.specs.Journals.{text_in}
 
 -- the bytes of a keyspace's records in an image
 abbrev pub records_text : Image → ℕ → List ℕ

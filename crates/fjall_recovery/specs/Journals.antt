@@ -3,16 +3,12 @@ use Rattle.std.specs.Prelude.{◌≡◌, ◌⊎◌, ◌↔◌, ℕ, ◌<◌, ◌
 use Rattle.std.specs.List.{flat_map, AllByRecursion}
 use Rattle.std.specs.List.Sorted.{IsStrictlyIncreasing}
 use Rattle.fjall_base.specs.Disk.{Entry, File, Image, IsFile}
+use Rattle.fjall_files.specs.Texts.{text_in}
 use Rattle.fjall_journal.specs.declared.batch.Tail.{Tail}
 use Rattle.fjall_journal.specs.declared.batch.Tail.TheVariants.{Clean, Torn}
 use Rattle.fjall_journal.specs.Batches.{Written, Shown, IsWhole, IsTail, shown}
 use Rattle.fjall_versions.specs.Replays.{first_fault, least_after}
 use Rattle.fjall_files.specs.Names.{journal_name}
-
--- the bytes of a file, and none where there is no file
-abbrev pub text_in : Entry → List ℕ
-text_in (File synced unsynced) = synced ++ unsynced
-text_in entry = []
 
 -- the bytes of the journal of that id in an image
 abbrev pub journal_text : Image → ℕ → List ℕ

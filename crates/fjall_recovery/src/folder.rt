@@ -1,14 +1,15 @@
 //! A folder, read whole.
 
 ghost use Rattle.std.specs.Prelude.{◌≡◌, ◌<◌, ◌≤◌, ◌↔◌, [], ◌^◌, map, All, IsTrue, IfErr, IfOk, OnOk, List, Ok, Err};
-ghost use Rattle.fjall_base.specs.Disk.{Folder, Image, Took, standing, state_in};
+ghost use Rattle.fjall_base.specs.Disk.{Folder, Image, Took};
 ghost use Rattle.fjall_base.specs.Store.{Store};
+ghost use Rattle.fjall_files.specs.Calls.{seen, AllServed};
 ghost use Rattle.fjall_files.specs.Marker.{marker_tells};
 ghost use Rattle.fjall_files.specs.Names.{keyspace_folder};
 ghost use Rattle.fjall_tree.specs.Records.{Fields, view};
 ghost use Rattle.fjall_meta.specs.Keyspaces.{Keyspaces};
 ghost use Rattle.fjall_catalog.specs.declared.catalog.Catalog.{Catalog};
-ghost use Rattle.fjall_catalog.specs.Catalog.{Says, fields};
+ghost use Rattle.fjall_catalog.specs.Catalog.{HasEnd, Says, fields};
 ghost use Rattle.fjall_recovery.specs.Folders.{AreMade, Contents, IsFinished, IsSound, ReadsFolder, Shows, StandsFor, marker_bytes, number_of, past, past_record, past_records};
 ghost use Rattle.fjall_recovery.specs.Journals.{AreJournalIds};
 ghost use Rattle.fjall_recovery.specs.Naming.{AreFolderIds};
@@ -20,7 +21,7 @@ use crate::listing::{list_journals, list_keyspaces};
 use crate::unfinished::check_unfinished;
 use fjall_base::{Disk, Error, Result, StorageError};
 use fjall_catalog::{Catalog, LoadedCatalog, read_catalog};
-use fjall_files::{Marker, read_marker};
+use fjall_files::{MARKER_FILE, Marker, read_marker};
 use fjall_meta::LivingKeyspace;
 use std::alloc::Global;
 
@@ -84,17 +85,20 @@ fn are_made(last: &Catalog, living: &[LivingKeyspace]) -> bool
 
 /// Reads tree 0, where it has its folder. Each keyspace must be made under a number that its last record knows.
 fn read_tree<D: Disk>(alloc: Global, disk: &mut D, folder_ids: &[u64]) -> Result<LoadedCatalog>
-    ensures says { IsTrue D.honest → IfOk result (λ found. (records : List Fields) × Says (standing (state_in (D.meaning disk.old))) records found.catalog found.keyspaces) }
+    ensures says { IsTrue D.honest → IfOk result (λ found. (records : List Fields) × Says (seen (D.meaning disk.old)) records found.catalog found.keyspaces) }
+    ensures end { IsTrue D.honest → IfOk result (λ found. HasEnd (seen (D.meaning disk.old)) found.end found.is_torn) }
     ensures made { IfOk result (λ found. AreMade found.catalog found.keyspaces) }
-    ensures folder { IsTrue D.honest → AreFolderIds (standing (state_in (D.meaning disk.old))) folder_ids.now → OnOk result (standing (state_in (D.meaning disk.old)) (keyspace_folder 0) ≡ Folder) }
+    ensures folder { IsTrue D.honest → AreFolderIds (seen (D.meaning disk.old)) folder_ids.now
+        → OnOk result (seen (D.meaning disk.old) (keyspace_folder 0) ≡ Folder) }
     ensures same { IsTrue D.honest → Took (D.meaning disk.old) (D.meaning disk.new) [] }
-    ensures served { IsTrue D.honest → (D.meaning disk.new).misuses ≡ (D.meaning disk.old).misuses }
+    ensures served { IsTrue D.honest → AllServed (D.meaning disk.old) (D.meaning disk.new) }
     ensures later { (D.meaning disk.old).faults ≤ (D.meaning disk.new).faults }
     ensures risen { IfErr result (HasRisen (D.meaning disk.old).faults (D.meaning disk.new).faults) }
-    ensures cause { IsTrue D.honest → AreFolderIds (standing (state_in (D.meaning disk.old))) folder_ids.now → IfErr result (IsDue (TreeRefuses (standing (state_in (D.meaning disk.old))))) }
+    ensures cause { IsTrue D.honest → AreFolderIds (seen (D.meaning disk.old)) folder_ids.now → IfErr result (IsDue (TreeRefuses (seen (D.meaning disk.old)))) }
     // Where the folder is there, and what it says is made, it is read.
-    ensures sound { IsTrue D.honest → AreFolderIds (standing (state_in (D.meaning disk.old))) folder_ids.now → (records : List Fields) (last : Catalog) (s : Keyspaces) → Says (standing (state_in (D.meaning disk.old))) records last s
-        → AreMade last s → standing (state_in (D.meaning disk.old)) (keyspace_folder 0) ≡ Folder → IfErr result (IsDue (λ error. ⊥)) }
+    ensures sound { IsTrue D.honest → AreFolderIds (seen (D.meaning disk.old)) folder_ids.now
+        → (records : List Fields) (last : Catalog) (s : Keyspaces) → Says (seen (D.meaning disk.old)) records last s
+        → AreMade last s → seen (D.meaning disk.old) (keyspace_folder 0) ≡ Folder → IfErr result (IsDue (λ error. ⊥)) }
     ensures listed { IfErr result IsOpeningRefusal }
 {
     if !folder_ids.contains(&0) {
@@ -109,14 +113,16 @@ fn read_tree<D: Disk>(alloc: Global, disk: &mut D, folder_ids: &[u64]) -> Result
 
 /// Reads a folder that was made to its end: the journals of these ids, and then tree 0 and the keyspaces that it names.
 fn read_finished<D: Disk>(alloc: Global, disk: &mut D, journal_ids: Vec<u64>) -> Result<Finished>
-    ensures found { IsTrue D.honest → AreJournalIds (standing (state_in (D.meaning disk.old))) journal_ids.items → IfOk result (IsFinished (standing (state_in (D.meaning disk.old)))) }
+    ensures found { IsTrue D.honest → AreJournalIds (seen (D.meaning disk.old)) journal_ids.items → IfOk result (IsFinished (seen (D.meaning disk.old))) }
     ensures same { IsTrue D.honest → Took (D.meaning disk.old) (D.meaning disk.new) [] }
-    ensures served { IsTrue D.honest → (D.meaning disk.new).misuses ≡ (D.meaning disk.old).misuses }
+    ensures served { IsTrue D.honest → AllServed (D.meaning disk.old) (D.meaning disk.new) }
     ensures later { (D.meaning disk.old).faults ≤ (D.meaning disk.new).faults }
     ensures risen { IfErr result (HasRisen (D.meaning disk.old).faults (D.meaning disk.new).faults) }
-    ensures cause { IsTrue D.honest → AreJournalIds (standing (state_in (D.meaning disk.old))) journal_ids.items → IfErr result (IsDue (FinishedRefuses (standing (state_in (D.meaning disk.old))))) }
+    ensures cause { IsTrue D.honest → AreJournalIds (seen (D.meaning disk.old)) journal_ids.items
+        → IfErr result (IsDue (FinishedRefuses (seen (D.meaning disk.old)))) }
     // A sound folder is read.
-    ensures sound { IsTrue D.honest → AreJournalIds (standing (state_in (D.meaning disk.old))) journal_ids.items → (c : Contents) → IsSound (standing (state_in (D.meaning disk.old))) c → IfErr result (IsDue (λ error. ⊥)) }
+    ensures sound { IsTrue D.honest → AreJournalIds (seen (D.meaning disk.old)) journal_ids.items → (c : Contents)
+        → IsSound (seen (D.meaning disk.old)) c → IfErr result (IsDue (λ error. ⊥)) }
     ensures listed { IfErr result IsOpeningRefusal }
 {
     let journals = read_journals(alloc, disk, &journal_ids)?;
@@ -134,15 +140,15 @@ fn read_finished<D: Disk>(alloc: Global, disk: &mut D, journal_ids: Vec<u64>) ->
 
 /// What the marker of the folder tells.
 fn read_version<D: Disk>(alloc: Global, disk: &mut D) -> Result<Marker>
-    ensures tells { IsTrue D.honest → IfOk result (λ marker. marker_tells (marker_bytes (standing (state_in (D.meaning disk.old)))) ≡ Ok marker) }
+    ensures tells { IsTrue D.honest → IfOk result (λ marker. marker_tells (marker_bytes (seen (D.meaning disk.old))) ≡ Ok marker) }
     ensures same { IsTrue D.honest → Took (D.meaning disk.old) (D.meaning disk.new) [] }
-    ensures served { IsTrue D.honest → (D.meaning disk.new).misuses ≡ (D.meaning disk.old).misuses }
+    ensures served { IsTrue D.honest → AllServed (D.meaning disk.old) (D.meaning disk.new) }
     ensures later { (D.meaning disk.old).faults ≤ (D.meaning disk.new).faults }
     ensures risen { IfErr result (HasRisen (D.meaning disk.old).faults (D.meaning disk.new).faults) }
-    ensures cause { IsTrue D.honest → IfErr result (IsDue (λ error. marker_tells (marker_bytes (standing (state_in (D.meaning disk.old)))) ≡ Err error)) }
+    ensures cause { IsTrue D.honest → IfErr result (IsDue (λ error. marker_tells (marker_bytes (seen (D.meaning disk.old))) ≡ Err error)) }
     ensures listed { IfErr result IsOpeningRefusal }
 {
-    match disk.read(alloc, "version")? {
+    match disk.read(alloc, MARKER_FILE)? {
         Some(bytes) => read_marker(Some(bytes.as_slice())),
         None => read_marker(None),
     }
@@ -156,14 +162,14 @@ fn read_version<D: Disk>(alloc: Global, disk: &mut D) -> Result<Marker>
 /// the names and options that it stores, and each keyspace by its id. A folder without its marker into which something was
 /// written is `Unrecoverable`. `OutOfMemory` and `Io` come as ever.
 pub fn read_folder<D: Disk>(alloc: Global, disk: &mut D) -> Result<Option<Finished>>
-    ensures found { IsTrue D.honest → IfOk result (λ folder. ReadsFolder (standing (state_in (D.meaning disk.old))) folder) }
+    ensures found { IsTrue D.honest → IfOk result (λ folder. ReadsFolder (seen (D.meaning disk.old)) folder) }
     ensures same { IsTrue D.honest → Took (D.meaning disk.old) (D.meaning disk.new) [] }
-    ensures served { IsTrue D.honest → (D.meaning disk.new).misuses ≡ (D.meaning disk.old).misuses }
+    ensures served { IsTrue D.honest → AllServed (D.meaning disk.old) (D.meaning disk.new) }
     ensures later { (D.meaning disk.old).faults ≤ (D.meaning disk.new).faults }
     ensures risen { IfErr result (HasRisen (D.meaning disk.old).faults (D.meaning disk.new).faults) }
-    ensures cause { IsTrue D.honest → IfErr result (IsDue (FolderRefuses (standing (state_in (D.meaning disk.old))))) }
+    ensures cause { IsTrue D.honest → IfErr result (IsDue (FolderRefuses (seen (D.meaning disk.old)))) }
     // A folder that stands for a store is read, unless memory runs out or the disk fails.
-    ensures sound { IsTrue D.honest → (store : Store) → StandsFor (standing (state_in (D.meaning disk.old))) store → IfErr result (IsDue (λ error. ⊥)) }
+    ensures sound { IsTrue D.honest → (store : Store) → StandsFor (seen (D.meaning disk.old)) store → IfErr result (IsDue (λ error. ⊥)) }
     ensures listed { IfErr result IsOpeningRefusal }
 {
     let marker = read_version(alloc, disk)?;

@@ -1,11 +1,12 @@
 //! The records of each keyspace.
 
 ghost use Rattle.std.specs.Prelude.{◌≡◌, ◌≤◌, ◌↔◌, [], IsTrue, IfErr, IfOk};
-ghost use Rattle.fjall_base.specs.Disk.{Took, standing, state_in};
+ghost use Rattle.fjall_base.specs.Disk.{Took};
 ghost use Rattle.fjall_tree.specs.Records.{view};
 ghost use Rattle.fjall_recovery.specs.Homes.{AreHomesRead, HasNoRecord, IsPlain, IsRead, IsReadFrom, records_text};
 ghost use Rattle.fjall_recovery.specs.Naming.{AreFolderIds};
 ghost use Rattle.fjall_recovery.specs.Refusals.{HasRisen, HomeRefuses, HomesRefuse, IsDue, IsOpeningRefusal};
+ghost use Rattle.fjall_files.specs.Calls.{seen, AllServed};
 
 use crate::file::read_text;
 use fjall_base::{Disk, Error, Result, StorageError};
@@ -38,13 +39,14 @@ fn is_plain(last: &Record) -> bool
 
 /// Reads the records of the keyspace of this id.
 fn read_records<D: Disk>(alloc: Global, disk: &mut D, id: u64) -> Result<Home>
-    ensures read { IsTrue D.honest → IfOk result (λ home. IsReadFrom (records_text (standing (state_in (D.meaning disk.old))) id) home) }
+    ensures read { IsTrue D.honest → IfOk result (λ home. IsReadFrom (records_text (seen (D.meaning disk.old)) id) home) }
     ensures named { IfOk result (λ home. home.id ≡ id) }
     ensures same { IsTrue D.honest → Took (D.meaning disk.old) (D.meaning disk.new) [] }
-    ensures served { IsTrue D.honest → (D.meaning disk.new).misuses ≡ (D.meaning disk.old).misuses }
+    ensures served { IsTrue D.honest → AllServed (D.meaning disk.old) (D.meaning disk.new) }
     ensures later { (D.meaning disk.old).faults ≤ (D.meaning disk.new).faults }
     ensures risen { IfErr result (HasRisen (D.meaning disk.old).faults (D.meaning disk.new).faults) }
-    ensures cause { IsTrue D.honest → IfErr result (IsDue (λ error. (error ≡ Error.Storage StorageError.RecordDamaged) × HasNoRecord (records_text (standing (state_in (D.meaning disk.old))) id))) }
+    ensures cause { IsTrue D.honest
+        → IfErr result (IsDue (λ error. (error ≡ Error.Storage StorageError.RecordDamaged) × HasNoRecord (records_text (seen (D.meaning disk.old)) id))) }
     ensures listed { IfErr result IsOpeningRefusal }
 {
     let name = current_name(alloc, id)?;
@@ -66,12 +68,12 @@ fn read_records<D: Disk>(alloc: Global, disk: &mut D, id: u64) -> Result<Home>
 
 /// Reads the records of the keyspace of this id, whose folder is among those of these ids.
 fn read_home<D: Disk>(alloc: Global, disk: &mut D, folders: &[u64], id: u64) -> Result<Home>
-    ensures read { IsTrue D.honest → AreFolderIds (standing (state_in (D.meaning disk.old))) folders.now → IfOk result (IsRead (standing (state_in (D.meaning disk.old))) id) }
+    ensures read { IsTrue D.honest → AreFolderIds (seen (D.meaning disk.old)) folders.now → IfOk result (IsRead (seen (D.meaning disk.old)) id) }
     ensures same { IsTrue D.honest → Took (D.meaning disk.old) (D.meaning disk.new) [] }
-    ensures served { IsTrue D.honest → (D.meaning disk.new).misuses ≡ (D.meaning disk.old).misuses }
+    ensures served { IsTrue D.honest → AllServed (D.meaning disk.old) (D.meaning disk.new) }
     ensures later { (D.meaning disk.old).faults ≤ (D.meaning disk.new).faults }
     ensures risen { IfErr result (HasRisen (D.meaning disk.old).faults (D.meaning disk.new).faults) }
-    ensures cause { IsTrue D.honest → AreFolderIds (standing (state_in (D.meaning disk.old))) folders.now → IfErr result (IsDue (HomeRefuses (standing (state_in (D.meaning disk.old))) id)) }
+    ensures cause { IsTrue D.honest → AreFolderIds (seen (D.meaning disk.old)) folders.now → IfErr result (IsDue (HomeRefuses (seen (D.meaning disk.old)) id)) }
     ensures listed { IfErr result IsOpeningRefusal }
 {
     if !folders.contains(&id) {
@@ -89,12 +91,14 @@ pub(crate) fn read_homes<D: Disk>(
     folders: &[u64],
     living: &[LivingKeyspace],
 ) -> Result<Vec<Home>>
-    ensures read { IsTrue D.honest → AreFolderIds (standing (state_in (D.meaning disk.old))) folders.now → IfOk result (λ homes. AreHomesRead (standing (state_in (D.meaning disk.old))) living.now homes.items) }
+    ensures read { IsTrue D.honest → AreFolderIds (seen (D.meaning disk.old)) folders.now
+        → IfOk result (λ homes. AreHomesRead (seen (D.meaning disk.old)) living.now homes.items) }
     ensures same { IsTrue D.honest → Took (D.meaning disk.old) (D.meaning disk.new) [] }
-    ensures served { IsTrue D.honest → (D.meaning disk.new).misuses ≡ (D.meaning disk.old).misuses }
+    ensures served { IsTrue D.honest → AllServed (D.meaning disk.old) (D.meaning disk.new) }
     ensures later { (D.meaning disk.old).faults ≤ (D.meaning disk.new).faults }
     ensures risen { IfErr result (HasRisen (D.meaning disk.old).faults (D.meaning disk.new).faults) }
-    ensures cause { IsTrue D.honest → AreFolderIds (standing (state_in (D.meaning disk.old))) folders.now → IfErr result (IsDue (HomesRefuse (standing (state_in (D.meaning disk.old))) living.now)) }
+    ensures cause { IsTrue D.honest → AreFolderIds (seen (D.meaning disk.old)) folders.now
+        → IfErr result (IsDue (HomesRefuse (seen (D.meaning disk.old)) living.now)) }
     ensures listed { IfErr result IsOpeningRefusal }
 {
     let mut homes = Vec::new(alloc);

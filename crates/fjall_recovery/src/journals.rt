@@ -1,13 +1,14 @@
 //! The journals of a folder, read one after another.
 
 ghost use Rattle.std.specs.Prelude.{◌≡◌, ◌≤◌, ◌⊎◌, ◌++◌, ◌∷◌, [], false, true, IsTrue, IfOk, IfErr, OnOk, ℕ, map, None};
-ghost use Rattle.fjall_base.specs.Disk.{Took, standing, state_in};
+ghost use Rattle.fjall_base.specs.Disk.{Took};
 ghost use Rattle.fjall_base.specs.declared.error.Error.{Error};
 ghost use Rattle.fjall_journal.specs.Batches.{view};
 ghost use Rattle.fjall_journal.specs.declared.batch.Tail.TheVariants.{Clean};
 ghost use Rattle.fjall_versions.specs.Replays.{first_fault, least_after, NamesFault};
 ghost use Rattle.fjall_recovery.specs.Journals.{AreFound, AreSealed, IsReadAs, journal_text, tail_of};
 ghost use Rattle.fjall_recovery.specs.Refusals.{HasRisen, IsDue, IsOpeningRefusal, JournalsRefuse, TailRefuses};
+ghost use Rattle.fjall_files.specs.Calls.{seen, AllServed};
 
 use crate::file::read_text;
 use fjall_base::{Disk, Error, Result};
@@ -55,9 +56,9 @@ fn check_active(tail: Tail) -> Result<bool>
 
 /// Reads the journal of this id.
 pub(crate) fn read_one<D: Disk>(alloc: Global, disk: &mut D, id: u64) -> Result<Contents>
-    ensures found { IsTrue D.honest → IfOk result (λ c. IsReadAs (journal_text (standing (state_in (D.meaning disk.old))) id) (map view c.batches.items) c.end c.tail) }
+    ensures found { IsTrue D.honest → IfOk result (λ c. IsReadAs (journal_text (seen (D.meaning disk.old)) id) (map view c.batches.items) c.end c.tail) }
     ensures same { IsTrue D.honest → Took (D.meaning disk.old) (D.meaning disk.new) [] }
-    ensures served { IsTrue D.honest → (D.meaning disk.new).misuses ≡ (D.meaning disk.old).misuses }
+    ensures served { IsTrue D.honest → AllServed (D.meaning disk.old) (D.meaning disk.new) }
     ensures later { (D.meaning disk.old).faults ≤ (D.meaning disk.new).faults }
     ensures risen { IfErr result (HasRisen (D.meaning disk.old).faults (D.meaning disk.new).faults) }
     ensures only { IfErr result (IsDue (λ error. ⊥)) }
@@ -103,14 +104,16 @@ impl Journals {
 
 /// Reads sealed journals, one after another.
 fn read_sealed<D: Disk>(alloc: Global, disk: &mut D, ids: &[u64]) -> Result<Journals>
-    ensures found { IsTrue D.honest → IfOk result (λ found. AreSealed (standing (state_in (D.meaning disk.old))) ids.now (map view found.batches.items) found.least) }
+    ensures found { IsTrue D.honest → IfOk result (λ found. AreSealed (seen (D.meaning disk.old)) ids.now (map view found.batches.items) found.least) }
     ensures torn { IfOk result (λ found. found.torn ≡ false) }
-    ensures behind { IsTrue D.honest → (active : ℕ) (error : Error) → IfOk result (λ found. JournalsRefuse (standing (state_in (D.meaning disk.old))) found.least (active ∷ []) error → JournalsRefuse (standing (state_in (D.meaning disk.old))) 0 (ids.now ++ active ∷ []) error) }
+    ensures behind { IsTrue D.honest → (active : ℕ) (error : Error)
+        → IfOk result (λ found. JournalsRefuse (seen (D.meaning disk.old)) found.least (active ∷ []) error
+        → JournalsRefuse (seen (D.meaning disk.old)) 0 (ids.now ++ active ∷ []) error) }
     ensures same { IsTrue D.honest → Took (D.meaning disk.old) (D.meaning disk.new) [] }
-    ensures served { IsTrue D.honest → (D.meaning disk.new).misuses ≡ (D.meaning disk.old).misuses }
+    ensures served { IsTrue D.honest → AllServed (D.meaning disk.old) (D.meaning disk.new) }
     ensures later { (D.meaning disk.old).faults ≤ (D.meaning disk.new).faults }
     ensures risen { IfErr result (HasRisen (D.meaning disk.old).faults (D.meaning disk.new).faults) }
-    ensures cause { IsTrue D.honest → (active : ℕ) → IfErr result (IsDue (JournalsRefuse (standing (state_in (D.meaning disk.old))) 0 (ids.now ++ active ∷ []))) }
+    ensures cause { IsTrue D.honest → (active : ℕ) → IfErr result (IsDue (JournalsRefuse (seen (D.meaning disk.old)) 0 (ids.now ++ active ∷ []))) }
     ensures listed { IfErr result IsOpeningRefusal }
 {
     let mut journals = Journals::new(alloc);
@@ -128,12 +131,13 @@ fn read_sealed<D: Disk>(alloc: Global, disk: &mut D, ids: &[u64]) -> Result<Jour
 /// end (`Unrecoverable`); no item has the value type 4 (`InvalidTag`); and a damaged tail has its name
 /// (`JournalRecovery`). The first of these in the order of the bytes refuses. Nothing of the disk changes.
 pub fn read_journals<D: Disk>(alloc: Global, disk: &mut D, ids: &[u64]) -> Result<Journals>
-    ensures found { IsTrue D.honest → IfOk result (λ found. AreFound (standing (state_in (D.meaning disk.old))) ids.now (map view found.batches.items) found.least found.end found.torn) }
+    ensures found { IsTrue D.honest
+        → IfOk result (λ found. AreFound (seen (D.meaning disk.old)) ids.now (map view found.batches.items) found.least found.end found.torn) }
     ensures same { IsTrue D.honest → Took (D.meaning disk.old) (D.meaning disk.new) [] }
-    ensures served { IsTrue D.honest → (D.meaning disk.new).misuses ≡ (D.meaning disk.old).misuses }
+    ensures served { IsTrue D.honest → AllServed (D.meaning disk.old) (D.meaning disk.new) }
     ensures later { (D.meaning disk.old).faults ≤ (D.meaning disk.new).faults }
     ensures risen { IfErr result (HasRisen (D.meaning disk.old).faults (D.meaning disk.new).faults) }
-    ensures cause { IsTrue D.honest → IfErr result (IsDue (JournalsRefuse (standing (state_in (D.meaning disk.old))) 0 ids.now)) }
+    ensures cause { IsTrue D.honest → IfErr result (IsDue (JournalsRefuse (seen (D.meaning disk.old)) 0 ids.now)) }
     ensures listed { IfErr result IsOpeningRefusal }
 {
     let [sealed @ .., active] = ids else {

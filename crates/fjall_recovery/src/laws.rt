@@ -42,13 +42,16 @@ pub fn sound_folders_are_read()
 
 /// A folder is sound where its root and its keyspaces are.
 pub fn a_sound_folder_has_both_halves()
-    ensures made { (image : Image) (c : Contents) → HasRoot image c.journals → HasTree image (record { last = c.last; keyspaces = c.keyspaces; homes = c.homes }) → IsSound image c }
-    ensures parted { (image : Image) (c : Contents) → IsSound image c → HasRoot image c.journals × HasTree image (record { last = c.last; keyspaces = c.keyspaces; homes = c.homes }) }
+    ensures made { (image : Image) (c : Contents) → HasRoot image c.journals
+        → HasTree image (record { last = c.last; keyspaces = c.keyspaces; homes = c.homes }) → IsSound image c }
+    ensures parted { (image : Image) (c : Contents) → IsSound image c
+        → HasRoot image c.journals × HasTree image (record { last = c.last; keyspaces = c.keyspaces; homes = c.homes }) }
 {}
 
 /// The root of an image is sound by what stands outside `keyspaces`.
 pub fn roots_alike()
-    ensures { (image other : Image) (journals : List Journal) → ((q : Name) → is_of_root q ≡ true → other q ≡ image q) → HasRoot image journals → HasRoot other journals }
+    ensures { (image other : Image) (journals : List Journal) → ((q : Name) → is_of_root q ≡ true → other q ≡ image q) → HasRoot image journals
+        → HasRoot other journals }
 {}
 
 /// The keyspaces of an image are sound by what stands in `keyspaces`.
@@ -70,17 +73,20 @@ pub fn crashes_leave_the_root()
 
 /// Whatever a crash leaves of keyspaces that rest so is sound, and says what they say.
 pub fn crashes_leave_the_tree()
-    ensures { (state : State) (image : Image) (records : List Fields) (t : Tree) → RestsInTree state records t → IsImageIn Survives is_of_keyspaces state image → HasTree image t }
+    ensures { (state : State) (image : Image) (records : List Fields) (t : Tree) → RestsInTree state records t
+        → IsImageIn Survives is_of_keyspaces state image → HasTree image t }
 {}
 
 /// A disk that a crash left holds what its image is.
 pub fn a_crash_holds()
-    ensures { (state : State) (steps : List Step) (image : Image) (folder : Option Contents) → Leaves state steps image → IsFolder image folder → Holds (disk_of image) folder }
+    ensures { (state : State) (steps : List Step) (image : Image) (folder : Option Contents) → Leaves state steps image → IsFolder image folder
+        → Holds (disk_of image) folder }
 {}
 
 /// A disk on which nothing waits for a sync holds what lies on it.
 pub fn a_rest_holds()
-    ensures { (state : State) (j : Journaling) (records : List Fields) (t : Tree) → j.later ≡ [] → LiesInRoot state j → RestsInTree state records t → Holds state (Some (contents_with j t [])) }
+    ensures { (state : State) (j : Journaling) (records : List Fields) (t : Tree) → j.later ≡ [] → LiesInRoot state j → RestsInTree state records t
+        → Holds state (Some (contents_with j t [])) }
 {}
 
 /// A folder stands for its store.

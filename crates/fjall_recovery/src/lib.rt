@@ -18,3 +18,4 @@ pub use laws::{
     crashes_leave_the_root, crashes_leave_the_tree, journals_are_of_the_root, one_contents,
     one_list_of_journals, one_refusal, one_store, roots_alike, sound_folders_are_read, trees_alike,
 };
+pub use listing::list_keyspaces;

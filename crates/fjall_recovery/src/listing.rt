@@ -3,24 +3,27 @@
 ghost use Rattle.std.specs.Prelude.{◌≡◌, ◌≤◌, [], IsTrue, IfErr, IfOk, OnOk};
 ghost use Rattle.fjall_base.specs.declared.error.Error.{Error};
 ghost use Rattle.fjall_base.specs.declared.error.JournalRecoveryError.{JournalRecoveryError};
-ghost use Rattle.fjall_base.specs.Disk.{Took, standing, state_in};
+ghost use Rattle.fjall_base.specs.Disk.{Took};
 ghost use Rattle.fjall_recovery.specs.Journals.{AreJournalIds};
 ghost use Rattle.fjall_recovery.specs.Naming.{AreFolderIds, JournalsAreNamed, KeyspacesAreNamed};
 ghost use Rattle.fjall_recovery.specs.Refusals.{HasRisen, IsDue, IsOpeningRefusal};
+ghost use Rattle.fjall_files.specs.Calls.{seen, AllServed};
 
 use fjall_base::{Disk, Error, JournalRecoveryError, Result};
-use fjall_files::{journals, keyspaces};
+use fjall_files::{KEYSPACES_FOLDER, journals, keyspaces};
 use std::alloc::Global;
 
 /// The ids of the journals in the root, ascending. A file that is named nearly like one is `InvalidFileName`.
 pub(crate) fn list_journals<D: Disk>(alloc: Global, disk: &mut D) -> Result<Vec<u64>>
-    ensures ids { IsTrue D.honest → IfOk result (λ ids. AreJournalIds (standing (state_in (D.meaning disk.old))) ids.items) }
-    ensures named { IsTrue D.honest → OnOk result (JournalsAreNamed (standing (state_in (D.meaning disk.old)))) }
+    ensures ids { IsTrue D.honest → IfOk result (λ ids. AreJournalIds (seen (D.meaning disk.old)) ids.items) }
+    ensures named { IsTrue D.honest → OnOk result (JournalsAreNamed (seen (D.meaning disk.old))) }
     ensures same { IsTrue D.honest → Took (D.meaning disk.old) (D.meaning disk.new) [] }
-    ensures served { IsTrue D.honest → (D.meaning disk.new).misuses ≡ (D.meaning disk.old).misuses }
+    ensures served { IsTrue D.honest → AllServed (D.meaning disk.old) (D.meaning disk.new) }
     ensures later { (D.meaning disk.old).faults ≤ (D.meaning disk.new).faults }
     ensures risen { IfErr result (HasRisen (D.meaning disk.old).faults (D.meaning disk.new).faults) }
-    ensures cause { IsTrue D.honest → IfErr result (IsDue (λ error. (error ≡ Error.JournalRecovery JournalRecoveryError.InvalidFileName) × (JournalsAreNamed (standing (state_in (D.meaning disk.old))) → ⊥))) }
+    ensures cause { IsTrue D.honest
+        → IfErr result (IsDue (λ error. (error ≡ Error.JournalRecovery JournalRecoveryError.InvalidFileName)
+        × (JournalsAreNamed (seen (D.meaning disk.old)) → ⊥))) }
     ensures listed { IfErr result IsOpeningRefusal }
 {
     let listed = disk.list(alloc, "")?;
@@ -28,16 +31,16 @@ pub(crate) fn list_journals<D: Disk>(alloc: Global, disk: &mut D) -> Result<Vec<
 }
 
 /// The ids of the keyspaces that have a folder, ascending. A folder that isn't named by an id is `Unrecoverable`.
-pub(crate) fn list_keyspaces<D: Disk>(alloc: Global, disk: &mut D) -> Result<Vec<u64>>
-    ensures ids { IsTrue D.honest → IfOk result (λ ids. AreFolderIds (standing (state_in (D.meaning disk.old))) ids.items) }
-    ensures named { IsTrue D.honest → OnOk result (KeyspacesAreNamed (standing (state_in (D.meaning disk.old)))) }
+pub fn list_keyspaces<D: Disk>(alloc: Global, disk: &mut D) -> Result<Vec<u64>>
+    ensures ids { IsTrue D.honest → IfOk result (λ ids. AreFolderIds (seen (D.meaning disk.old)) ids.items) }
+    ensures named { IsTrue D.honest → OnOk result (KeyspacesAreNamed (seen (D.meaning disk.old))) }
     ensures same { IsTrue D.honest → Took (D.meaning disk.old) (D.meaning disk.new) [] }
-    ensures served { IsTrue D.honest → (D.meaning disk.new).misuses ≡ (D.meaning disk.old).misuses }
+    ensures served { IsTrue D.honest → AllServed (D.meaning disk.old) (D.meaning disk.new) }
     ensures later { (D.meaning disk.old).faults ≤ (D.meaning disk.new).faults }
     ensures risen { IfErr result (HasRisen (D.meaning disk.old).faults (D.meaning disk.new).faults) }
-    ensures cause { IsTrue D.honest → IfErr result (IsDue (λ error. (error ≡ Error.Unrecoverable) × (KeyspacesAreNamed (standing (state_in (D.meaning disk.old))) → ⊥))) }
+    ensures cause { IsTrue D.honest → IfErr result (IsDue (λ error. (error ≡ Error.Unrecoverable) × (KeyspacesAreNamed (seen (D.meaning disk.old)) → ⊥))) }
     ensures listed { IfErr result IsOpeningRefusal }
 {
-    let listed = disk.list(alloc, "keyspaces")?;
+    let listed = disk.list(alloc, KEYSPACES_FOLDER)?;
     keyspaces(alloc, &listed)
 }

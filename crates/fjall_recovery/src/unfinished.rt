@@ -1,12 +1,13 @@
 //! A folder whose making was cut short.
 
 ghost use Rattle.std.specs.Prelude.{◌≡◌, ◌≤◌, ◌↔◌, [], IsTrue, IfErr, OnOk};
-ghost use Rattle.fjall_base.specs.Disk.{Took, standing, state_in};
+ghost use Rattle.fjall_base.specs.Disk.{Took};
 ghost use Rattle.fjall_catalog.specs.Catalog.{records_in};
 ghost use Rattle.fjall_recovery.specs.Folders.{AreEmpty, IsBegun};
 ghost use Rattle.fjall_recovery.specs.Journals.{AreJournalIds};
 ghost use Rattle.fjall_recovery.specs.Naming.{KeyspacesAreNamed};
 ghost use Rattle.fjall_recovery.specs.Refusals.{BegunRefuses, HasRisen, IsDue, IsOpeningRefusal, UnfinishedRefuses};
+ghost use Rattle.fjall_files.specs.Calls.{seen, AllServed};
 
 use crate::file::read_text;
 use crate::journals::read_one;
@@ -19,12 +20,13 @@ use std::alloc::Global;
 
 /// Refuses journals of which one holds a whole batch. The journals that there are have these ids.
 fn check_journals<D: Disk>(alloc: Global, disk: &mut D, ids: &[u64]) -> Result<()>
-    ensures empty { IsTrue D.honest → AreJournalIds (standing (state_in (D.meaning disk.old))) ids.now → OnOk result (AreEmpty (standing (state_in (D.meaning disk.old)))) }
+    ensures empty { IsTrue D.honest → AreJournalIds (seen (D.meaning disk.old)) ids.now → OnOk result (AreEmpty (seen (D.meaning disk.old))) }
     ensures same { IsTrue D.honest → Took (D.meaning disk.old) (D.meaning disk.new) [] }
-    ensures served { IsTrue D.honest → (D.meaning disk.new).misuses ≡ (D.meaning disk.old).misuses }
+    ensures served { IsTrue D.honest → AllServed (D.meaning disk.old) (D.meaning disk.new) }
     ensures later { (D.meaning disk.old).faults ≤ (D.meaning disk.new).faults }
     ensures risen { IfErr result (HasRisen (D.meaning disk.old).faults (D.meaning disk.new).faults) }
-    ensures cause { IsTrue D.honest → AreJournalIds (standing (state_in (D.meaning disk.old))) ids.now → IfErr result (IsDue (λ error. (error ≡ Error.Unrecoverable) × (AreEmpty (standing (state_in (D.meaning disk.old))) → ⊥))) }
+    ensures cause { IsTrue D.honest → AreJournalIds (seen (D.meaning disk.old)) ids.now
+        → IfErr result (IsDue (λ error. (error ≡ Error.Unrecoverable) × (AreEmpty (seen (D.meaning disk.old)) → ⊥))) }
     ensures listed { IfErr result IsOpeningRefusal }
 {
     for id in ids {
@@ -45,12 +47,12 @@ fn are_equal(bytes: &[u8], others: &[u8]) -> bool
 
 /// Refuses a tree 0 that has another whole record than its first one.
 fn check_tree<D: Disk>(alloc: Global, disk: &mut D) -> Result<()>
-    ensures begun { IsTrue D.honest → OnOk result (IsBegun (records_in (standing (state_in (D.meaning disk.old))))) }
+    ensures begun { IsTrue D.honest → OnOk result (IsBegun (records_in (seen (D.meaning disk.old)))) }
     ensures same { IsTrue D.honest → Took (D.meaning disk.old) (D.meaning disk.new) [] }
-    ensures served { IsTrue D.honest → (D.meaning disk.new).misuses ≡ (D.meaning disk.old).misuses }
+    ensures served { IsTrue D.honest → AllServed (D.meaning disk.old) (D.meaning disk.new) }
     ensures later { (D.meaning disk.old).faults ≤ (D.meaning disk.new).faults }
     ensures risen { IfErr result (HasRisen (D.meaning disk.old).faults (D.meaning disk.new).faults) }
-    ensures cause { IsTrue D.honest → IfErr result (IsDue (BegunRefuses (records_in (standing (state_in (D.meaning disk.old)))))) }
+    ensures cause { IsTrue D.honest → IfErr result (IsDue (BegunRefuses (records_in (seen (D.meaning disk.old))))) }
     ensures listed { IfErr result IsOpeningRefusal }
 {
     let name = current_name(alloc, 0)?;
@@ -72,14 +74,15 @@ pub(crate) fn check_unfinished<D: Disk>(
     disk: &mut D,
     journal_ids: &[u64],
 ) -> Result<()>
-    ensures empty { IsTrue D.honest → AreJournalIds (standing (state_in (D.meaning disk.old))) journal_ids.now → OnOk result (AreEmpty (standing (state_in (D.meaning disk.old)))) }
-    ensures named { IsTrue D.honest → OnOk result (KeyspacesAreNamed (standing (state_in (D.meaning disk.old)))) }
-    ensures begun { IsTrue D.honest → OnOk result (IsBegun (records_in (standing (state_in (D.meaning disk.old))))) }
+    ensures empty { IsTrue D.honest → AreJournalIds (seen (D.meaning disk.old)) journal_ids.now → OnOk result (AreEmpty (seen (D.meaning disk.old))) }
+    ensures named { IsTrue D.honest → OnOk result (KeyspacesAreNamed (seen (D.meaning disk.old))) }
+    ensures begun { IsTrue D.honest → OnOk result (IsBegun (records_in (seen (D.meaning disk.old)))) }
     ensures same { IsTrue D.honest → Took (D.meaning disk.old) (D.meaning disk.new) [] }
-    ensures served { IsTrue D.honest → (D.meaning disk.new).misuses ≡ (D.meaning disk.old).misuses }
+    ensures served { IsTrue D.honest → AllServed (D.meaning disk.old) (D.meaning disk.new) }
     ensures later { (D.meaning disk.old).faults ≤ (D.meaning disk.new).faults }
     ensures risen { IfErr result (HasRisen (D.meaning disk.old).faults (D.meaning disk.new).faults) }
-    ensures cause { IsTrue D.honest → AreJournalIds (standing (state_in (D.meaning disk.old))) journal_ids.now → IfErr result (IsDue (UnfinishedRefuses (standing (state_in (D.meaning disk.old))))) }
+    ensures cause { IsTrue D.honest → AreJournalIds (seen (D.meaning disk.old)) journal_ids.now
+        → IfErr result (IsDue (UnfinishedRefuses (seen (D.meaning disk.old)))) }
     ensures listed { IfErr result IsOpeningRefusal }
 {
     check_journals(alloc, disk, journal_ids)?;

@@ -8,19 +8,19 @@ use Rattle.fjall_base.specs.Disk.{Name, Entry, Missing, File, Folder, Place, Sta
 use Rattle.fjall_base.proofs.Frames.{replaced, replaced-same, replaced-other}
 use Rattle.fjall_base.proofs.Moments.{at_end, started, stays, steps_on}
 use Rattle.fjall_base.proofs.States.{differs, put-same, put-other}
+use Rattle.fjall_files.specs.Texts.{text_in}
 use Rattle.fjall_files.proofs.Changes.{may_be_missing, settle-now}
 use Rattle.fjall_files.proofs.Parts.{in_region, region_put_back}
 use Rattle.fjall_journal.specs.Batches.{NoneAt}
 use Rattle.fjall_journal.proofs.Cuts.{none_at_nil}
 use Rattle.fjall_files.specs.Marker.{marker_tells}
 use Rattle.fjall_files.specs.Names.{journal_name, current_name}
-use Rattle.fjall_catalog.specs.Catalog as catalog
 use Rattle.fjall_recovery.specs.Folders.{Contents, IsBegun, IsSound, IsUnfinished, StandsFor, store_of, file_bytes}
-use Rattle.fjall_recovery.specs.Journals.{Journal, AreJournalIds, text_in}
+use Rattle.fjall_recovery.specs.Journals.{Journal, AreJournalIds}
 use Rattle.fjall_recovery.specs.Amid.{HoldsAmid, StandsAmid}
 use Rattle.fjall_repair.specs.Steps.{IsOpened, active_of, with_active}
 use Rattle.fjall_repair.proofs.Naming.{same_or_not, folder_of-journal, journal_current, marker_journal}
-use Rattle.fjall_repair.proofs.MendOpened.{active_small, active_there, ids_of, opened_sound, same_store, some_swap}
+use Rattle.fjall_repair.proofs.MendOpened.{active_small, active_there, ids_of, older_image, opened_sound, same_store}
 use Rattle.fjall_repair.proofs.Narrowing.{settled_image}
 
 -- ---- an unfinished folder in which a journal was made
@@ -45,7 +45,7 @@ module _ (image made : Image) (active : Name) (is : IsOpened image made active) 
     journals_named = λ name in_root file misnamed. ⊎_elim (λ same. misnamed.1 id (small, same ∙ named)) (λ was. begun.journals_named name in_root was misnamed) (opened_file name file);
     journals = λ other fits. nothing_new (journal_name other) (begun.journals other fits);
     keyspaces_named = λ name inside folder none. begun.keyspaces_named name inside (opened_folder name folder) none;
-    catalog = subst (λ (e : Entry). IsBegun (catalog.text_in e)) (sym (is.elsewhere (current_name 0) (λ same. journal_current id 0 (sym named ∙ sym same)))) begun.catalog;
+    catalog = subst (λ (e : Entry). IsBegun (text_in e)) (sym (is.elsewhere (current_name 0) (λ same. journal_current id 0 (sym named ∙ sym same)))) begun.catalog;
   }
 
 -- ---- what a crash leaves of it
@@ -74,15 +74,6 @@ none_there image c sound none = by c.journals refl
 module _ (old : State) (active : Name) (c : Contents) (sound : IsSound (standing old) c) (base : Store) (pending : List Command) (holds : HoldsAmid old base pending) (named : active ≡ journal_name (active_of (ids_of c.journals))) where
   in_root : folder_of active ≡ []
   in_root = ap (λ (n : Name). folder_of n) named ∙ folder_of-journal (active_of (ids_of c.journals)) (active_small (standing old) (ids_of c.journals) sound.journals.ids)
-
-  -- an image in which the journal isn't made yet
-  older_image : (image : Image) → IsImage (put old active (File [] [])) image → SomeSurvives ((old active).older ++ (old active).now ∷ []) (image active) → IsImage old image
-  older_image image is some = record {
-    kept = λ q there. ⊎_elim
-        (λ same. subst (λ (n : Name). SomeSurvives ((old n).now ∷ (old n).older) (image n)) (sym same) (some_swap (old active).older (old active).now (image active) some))
-        (λ not. subst (λ (p : Place). SomeSurvives (p.now ∷ p.older) (image q)) (put-other old active (File [] []) q (differs q active not)) (is.kept q there)) (same_or_not q active);
-    lost = is.lost;
-  }
 
   abbrev everywhere : Name → Bool
   everywhere q = true
@@ -116,7 +107,7 @@ module _ (old : State) (active : Name) (c : Contents) (sound : IsSound (standing
   pub made_amid : (image : Image) → (old active).now ≡ Missing → IsImage (put old active (File [] [])) image → StandsAmid base [] pending image
   made_amid image gone is =
       let some = subst (λ (p : Place). SomeSurvives (p.now ∷ p.older) (image active)) (put-same old active (File [] [])) (is.kept active (inl in_root)) in
-      ⊎_elim (λ new. made_image image gone is (new.1 ∙ ap (λ l. File l []) (take_all new.0 [] (omega arith)))) (λ was. holds.crash image (older_image image is was)) some
+      ⊎_elim (λ new. made_image image gone is (new.1 ∙ ap (λ l. File l []) (take_all new.0 [] (omega arith)))) (λ was. holds.crash image (older_image old active image is was)) some
 
 -- ---- the moments
 

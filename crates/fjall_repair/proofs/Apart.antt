@@ -1,43 +1,22 @@
 -- Names in `keyspaces` that are not one.
-use Rattle.std.proofs.Common.{◌≡◌, ◌≢◌, ℕ, ◌<◌, ◌^◌, Bool, true, false, ◌||◌, ◌==◌, List, ◌++◌, get_or, codes, decimal, refl, sym, ◌∙◌, ap, arith, append_assoc}
+use Rattle.std.proofs.Common.{◌≡◌, ℕ, ◌<◌, ◌^◌, Bool, true, false, ◌||◌, ◌==◌, List, ◌++◌, codes, decimal, refl, sym, ◌∙◌, ap, arith}
 use Rattle.std.specs.List.{list_any}
-use Rattle.std.proofs.lemmas.List.{append_cancel_left, get_or_default}
-use Rattle.std.proofs.lemmas.List.Folds.{list_any-append, list_any_none}
-use Rattle.std.proofs.lemmas.Bool.Decides.{nat_tests}
-use Rattle.std.proofs.lemmas.Fmt.{decimal_injective, digits_decimal}
-use Rattle.std.specs.Str.Parse.{AllDigits, digits_value}
-use Rattle.std.proofs.lemmas.Str.Parse.{IsNumeralModel, numerals_by_value, tells_digits, not_in_digits}
+use Rattle.std.proofs.lemmas.List.{append_cancel_left}
+use Rattle.std.proofs.lemmas.List.Folds.{list_any-append}
+use Rattle.std.proofs.lemmas.Fmt.{decimal_injective}
 use Rattle.fjall_base.specs.Disk.{Name, folder_of}
 use Rattle.fjall_files.specs.Regions.{join, is_under}
-use Rattle.fjall_files.proofs.Under.{IsPlain, folder_of-join, join_name}
+use Rattle.fjall_files.proofs.Under.{join_name}
+use Rattle.fjall_files.proofs.Fitting.{table_parts}
 use Rattle.fjall_files.specs.Names.{keyspace_folder, current_name, table_name}
 use Rattle.fjall_catalog.proofs.Naming.{tables_apart}
 use Rattle.fjall_recovery.proofs.Trees.{folder_of-home}
+pub use Rattle.fjall_files.proofs.Fitting.{folder_of-table as in_folder}
 
 abbrev file_of : ℕ → Name
 file_of n = decimal n ++ codes ".table"
 
-table_parts : (id n : ℕ) → table_name id n ≡ join (keyspace_folder id) (file_of n)
-table_parts id n = append_assoc (keyspace_folder id ++ codes "/") (decimal n) (codes ".table") ∙ append_assoc (keyspace_folder id) (codes "/") (file_of n)
-
-own : IsNumeralModel (AllDigits 10) (digits_value 10)
-own = numerals_by_value (AllDigits 10) tells_digits
-
-abbrev slash : ℕ → Bool
-slash b = b == 47
-
-plain_decimal : (n : ℕ) → n < 2 ^ 64 → list_any slash (decimal n) ≡ false
-plain_decimal n small = list_any_none slash (decimal n) (λ k d lt.
-    let other : get_or (decimal n) k 0 ≢ 47 = not_in_digits own (decimal n) 47 (digits_decimal own n small) (λ range. omega (arith, range)) k lt in
-    let same : get_or (decimal n) k d ≡ get_or (decimal n) k 0 = get_or_default (decimal n) k d 0 lt in
-    rw same (grind (arith, nat_tests)))
-
-plain_table : (n : ℕ) → n < 2 ^ 64 → IsPlain (file_of n)
-plain_table n small = list_any-append slash (decimal n) (codes ".table") ∙ ap (λ (b : Bool). b || list_any slash (codes ".table")) (plain_decimal n small)
-
 -- a table stands in its keyspace's folder
-pub in_folder : (id n : ℕ) → n < 2 ^ 64 → folder_of (table_name id n) ≡ keyspace_folder id
-in_folder id n small = ap (λ (m : Name). folder_of m) (table_parts id n) ∙ folder_of-join (keyspace_folder id) (file_of n) (plain_table n small)
 
 pub folders_apart : (id other : ℕ) → id < 2 ^ 64 → other < 2 ^ 64 → keyspace_folder id ≡ keyspace_folder other → id ≡ other
 folders_apart id other small small' e = decimal_injective id other small small' (append_cancel_left (codes "keyspaces/") (decimal id) (decimal other) e)

@@ -5,6 +5,7 @@ use Rattle.fjall_base.specs.declared.error.Error.{Error}
 use Rattle.fjall_base.specs.declared.error.FormatVersion.TheVariants.{V3}
 use Rattle.fjall_base.specs.Disk.{Name, Entry, Missing, File, Folder, Place, State, Meaning, SyncFolder, Took, IsFile, IsLong, IsNoFile, IsNoFolder, CanCreate, CanMakeFolder, making, state_in}
 use Rattle.fjall_base.proofs.States.{differs}
+use Rattle.fjall_files.specs.Texts.{text_in}
 use Rattle.fjall_files.proofs.Changes.{settle-now}
 use Rattle.fjall_files.proofs.Fitting.{fits_current, fits_folder, fits_journal}
 use Rattle.fjall_files.proofs.Serving.{can_make_journal}
@@ -17,7 +18,6 @@ use Rattle.fjall_files.proofs.OfKinds.{kind_now}
 use Rattle.fjall_files.proofs.Tidying.{stays_making, stays_none as tidy_none}
 use Rattle.fjall_catalog.specs.Catalog.{fields, first_catalog}
 use Rattle.fjall_catalog.proofs.Naming.{current_zero, folder_zero}
-use Rattle.fjall_recovery.specs.Journals.{text_in}
 use Rattle.fjall_repair.specs.Making.{KeepsHomes, StaysAt}
 use Rattle.fjall_repair.specs.Plans.{first_text}
 use Rattle.fjall_repair.proofs.Emptying.{journal_at}

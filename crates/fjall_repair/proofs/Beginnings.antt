@@ -10,10 +10,11 @@ use Rattle.fjall_journal.specs.declared.batch.Tail.TheVariants.{Clean, Torn}
 use Rattle.fjall_journal.specs.Batches.{Written, IsWhole}
 use Rattle.fjall_journal.proofs.Wholes as Wholes
 use Rattle.fjall_base.specs.Lists.{last_of}
+use Rattle.fjall_files.specs.Texts.{text_in}
 use Rattle.fjall_files.specs.Marker.{marker_tells}
 use Rattle.fjall_files.specs.Names.{journal_name, current_name, table_name}
 use Rattle.fjall_recovery.specs.Folders.{Contents, IsSound, file_bytes}
-use Rattle.fjall_recovery.specs.Journals.{Journal, ReadsAs, AreRead, journal_text, text_in}
+use Rattle.fjall_recovery.specs.Journals.{Journal, ReadsAs, AreRead, journal_text}
 use Rattle.fjall_recovery.specs.Halves.{HasRoot}
 use Rattle.fjall_recovery.specs.Places.{texts_of}
 use Rattle.fjall_repair.specs.Amids.{StaysAmid}
@@ -21,7 +22,7 @@ use Rattle.fjall_repair.specs.Steps.{End, EndsBatches, EndsRecords, IsRightEnd}
 use Rattle.fjall_repair.proofs.Naming.{journal_current, journal_table, marker_journal}
 use Rattle.fjall_repair.proofs.Halving.{file_is, no_folder, root_of, tree_in, sound_of, tree_of, tree_along}
 use Rattle.fjall_repair.proofs.Cutting.{journal_cut, whole_cut, whole_length}
-use Rattle.fjall_repair.proofs.Trimming.{Cuts, IsCut, records_are_cut}
+use Rattle.fjall_repair.proofs.Trimming.{Cuts, IsCut, elsewhere, file_back, file_stays, folder_back, folder_stays, records_are_cut}
 use Rattle.fjall_repair.proofs.Ending.{keeps_cut}
 
 -- what is read of a beginning of a text ends where what is read of the text ends, or before
@@ -40,21 +41,6 @@ last_whole image (j ∷ []) a is read =
 last_whole image (j ∷ k ∷ js) a is read = last_whole image (k ∷ js) a is read.1
 
 module _ (image other : Image) (f : Name) (len : ℕ) (at : Cuts image other f len) where
-  elsewhere : (q : Name) → q ≢ f → other q ≡ image q
-  elsewhere q not = ⊎_elim (λ same. same) (λ cut. absurd (not cut.0)) (at q)
-
-  folder_back : (q : Name) → other q ≡ Folder → image q ≡ Folder
-  folder_back q is = ⊎_elim (λ same. sym same ∙ is) (λ cut. absurd (no_folder (other q) cut.1.still is)) (at q)
-
-  folder_stays : (q : Name) → image q ≡ Folder → other q ≡ Folder
-  folder_stays q is = ⊎_elim (λ same. same ∙ is) (λ cut. absurd (no_folder (image q) cut.1.file is)) (at q)
-
-  file_back : (q : Name) → IsFile (other q) → IsFile (image q)
-  file_back q file = ⊎_elim (λ same. file_is _ _ same file) (λ cut. cut.1.file) (at q)
-
-  pub file_stays : (q : Name) → IsFile (image q) → IsFile (other q)
-  file_stays q file = ⊎_elim (λ same. file_is _ _ (sym same) file) (λ cut. cut.1.still) (at q)
-
   -- ---- a journal of which the image has a beginning
 
   module _ (text : List ℕ) (bs : List Written) (whole : IsWhole text bs len) (n : ℕ) (part : text_in (image f) ≡ take n text) where
@@ -91,14 +77,14 @@ module _ (image other : Image) (f : Name) (len : ℕ) (at : Cuts image other f l
     journal_is_cut id named c sound =
         let root = root_of image c sound in
         let left : HasRoot other c.journals = record {
-          marker = ap (λ (e : Entry). marker_tells (file_bytes e)) (elsewhere (codes "version") (λ same. marker_journal id (same ∙ named))) ∙ root.marker;
-          named = λ name in_root file. root.named name in_root (file_back name file);
+          marker = ap (λ (e : Entry). marker_tells (file_bytes e)) (elsewhere image other f len at (codes "version") (λ same. marker_journal id (same ∙ named))) ∙ root.marker;
+          named = λ name in_root file. root.named name in_root (file_back image other f len at name file);
           holds = record {
             ids = record {
               ascending = root.holds.ids.ascending;
               each = λ k. (
-                (λ has. let here = (root.holds.ids.each k).0 has in (here.0, file_stays (journal_name k) here.1)),
-                (λ here. (root.holds.ids.each k).1 (here.0, file_back (journal_name k) here.1)),
+                (λ has. let here = (root.holds.ids.each k).0 has in (here.0, file_stays image other f len at (journal_name k) here.1)),
+                (λ here. (root.holds.ids.each k).1 (here.0, file_back image other f len at (journal_name k) here.1)),
               );
             };
             read = read_cut c.journals root.holds.read;
@@ -106,8 +92,8 @@ module _ (image other : Image) (f : Name) (len : ℕ) (at : Cuts image other f l
           };
         } in
         sound_of other c left
-        (tree_along image other (tree_of c) folder_back folder_stays (λ k. elsewhere (current_name k) (λ same. journal_current id k (sym named ∙ sym same)))
-        (λ m. elsewhere (table_name 0 m) (λ same. journal_table id 0 m (sym named ∙ sym same))) (tree_in image c sound))
+        (tree_along image other (tree_of c) (folder_back image other f len at) (folder_stays image other f len at) (λ k. elsewhere image other f len at (current_name k) (λ same. journal_current id k (sym named ∙ sym same)))
+        (λ m. elsewhere image other f len at (table_name 0 m) (λ same. journal_table id 0 m (sym named ∙ sym same))) (tree_in image c sound))
 
 -- ---- what stays
 

@@ -5,14 +5,16 @@ use Rattle.std.specs.List.{AllByRecursion}
 use Rattle.std.proofs.lemmas.List.{append-nil, length-take}
 use Rattle.std.proofs.Math.Seq.{take-append-add}
 use Rattle.fjall_base.specs.declared.error.Error.{Error}
-use Rattle.fjall_base.specs.Disk.{Name, Entry, Missing, File, Folder, Place, State, Image, IsImage, IsFile, IsThere, LeavesOnly, Meaning, Survives, SomeSurvives, all_synced, folder_of, standing, state_in}
+use Rattle.fjall_base.specs.Disk.{Name, Entry, Missing, File, Folder, Place, State, Image, IsImage, IsFile, LeavesOnly, Meaning, Survives, SomeSurvives, all_synced, folder_of, standing, state_in}
 use Rattle.fjall_base.proofs.Moments.{at_end, runs_on, weaken}
 use Rattle.fjall_tree.specs.Records.{Fields, IsRecords}
 use Rattle.fjall_base.specs.Lists.{last_of}
+use Rattle.fjall_files.specs.Texts.{text_in}
 use Rattle.fjall_tree.proofs.Currents as Currents
+use Rattle.fjall_files.proofs.Tidying.{there_or_not}
 use Rattle.fjall_files.specs.Names.{journal_name, keyspace_folder, current_name}
 use Rattle.fjall_recovery.specs.Folders.{Contents, IsSound, StandsFor, store_of}
-use Rattle.fjall_recovery.specs.Journals.{Journal, text_in}
+use Rattle.fjall_recovery.specs.Journals.{Journal}
 use Rattle.fjall_recovery.specs.Held.{Holds}
 use Rattle.fjall_recovery.specs.Places.{texts_of}
 use Rattle.fjall_repair.specs.declared.mending.plan.FileEnd.{FileEnd}
@@ -31,15 +33,6 @@ pub survived_text : (now left : Entry) → Survives now left → (n : ℕ) × (t
 survived_text Missing left is = (0, ap text_in is)
 survived_text Folder left is = (0, ap text_in is)
 survived_text (File synced unsynced) left some = (length synced + some.0, ap text_in some.1 ∙ append-nil (synced ++ take some.0 unsynced) ∙ sym (take-append-add synced unsynced some.0))
-
-there_or_not : (image : Image) (folder : Name) → IsThere image folder ⊎ (IsThere image folder → ⊥)
-there_or_not image [] = inl (inl refl)
-there_or_not image (c ∷ cs) = by (image (c ∷ cs)) refl
-  where
-    by : (entry : Entry) → image (c ∷ cs) ≡ entry → IsThere image (c ∷ cs) ⊎ (IsThere image (c ∷ cs) → ⊥)
-    by Missing is = inr (λ there. ⊎_elim (λ e. let no : ⊥ = cc in no) (λ e. let no : Missing ≡ Folder = sym is ∙ e in cc) there)
-    by (File synced unsynced) is = inr (λ there. ⊎_elim (λ e. let no : ⊥ = cc in no) (λ e. let no : File synced unsynced ≡ Folder = sym is ∙ e in cc) there)
-    by Folder is = inl (inr is)
 
 pub images_stay : (s : State) (c : Contents) → ((image : Image) → IsImage s image → IsSound image c) → (image : Image) → IsImage s image → Stays s c image
 images_stay s c sound image is = record {

@@ -7,11 +7,11 @@ use Rattle.fjall_base.specs.Store.{Store, Command, fold, kept}
 use Rattle.fjall_base.specs.Disk.{Name, Entry, Missing, File, Folder, Place, State, Image, IsImage, IsFile, IsThere, LeavesOnly, Meaning, Survives, SomeSurvives, all_synced, folder_of, standing, state_in}
 use Rattle.fjall_base.proofs.Moments.{at_end, runs_on, weaken}
 use Rattle.fjall_base.proofs.States.{survives_whole}
+use Rattle.fjall_files.specs.Texts.{text_in}
 use Rattle.fjall_files.specs.declared.marker.Marker.{Marker}
 use Rattle.fjall_files.specs.declared.marker.Marker.TheVariants.{Whole, Unfinished}
 use Rattle.fjall_files.specs.Marker.{marker_tells}
 use Rattle.fjall_recovery.specs.Folders.{Contents, IsSound, StandsFor, file_bytes, marker_bytes, store_of}
-use Rattle.fjall_recovery.specs.Journals.{text_in}
 use Rattle.fjall_recovery.specs.Amid.{StandsAmid}
 use Rattle.fjall_recovery.proofs.Alike.{Alike, alike_sound, alike_synced}
 use Rattle.fjall_recovery.proofs.Holding.{there_or_not}

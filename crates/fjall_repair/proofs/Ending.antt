@@ -2,10 +2,11 @@
 use Rattle.std.proofs.Common.{◌≡◌, ◌≢◌, ◌⊎◌, inl, inr, ⊎_elim, ℕ, ◌≤◌, Bool, true, false, List, [], ◌++◌, length, take, Some, refl, sym, ◌∙◌, ap, subst, arith}
 use Rattle.std.proofs.lemmas.List.{append-nil, take_all, length-take}
 use Rattle.fjall_base.specs.Disk.{Name, Entry, Missing, File, Folder, Place, State, Image, IsImage, IsFile, all_synced, cut_to, standing}
+use Rattle.fjall_files.specs.Texts.{text_in}
 use Rattle.fjall_files.specs.Trims.{IsTrimmed, Keeps, ended, ended_place}
 use Rattle.fjall_tree.proofs.Currents as Currents
 use Rattle.fjall_recovery.specs.Folders.{Contents}
-use Rattle.fjall_recovery.specs.Journals.{Journal, text_in}
+use Rattle.fjall_recovery.specs.Journals.{Journal}
 use Rattle.fjall_recovery.specs.Places.{texts_of}
 use Rattle.fjall_repair.specs.Steps.{End, EndsBatches, EndsRecords, IsEnded, IsRightEnd, IsSynced, Stays}
 use Rattle.fjall_repair.proofs.Naming.{same_or_not, journal_current}

@@ -4,9 +4,9 @@ use Rattle.std.specs.Prelude.{OnOk}
 use Rattle.fjall_base.specs.declared.error.Error.{Error}
 use Rattle.fjall_base.specs.Disk.{Name, Entry, Missing, File, Folder, Place, State, Append, Sync, Loosen, Cut, Meaning, Took, IsFile, IsLong, making, all_synced, appended, cut_to, state_in}
 use Rattle.fjall_base.proofs.States.{put-now}
+use Rattle.fjall_files.specs.Texts.{text_in}
 use Rattle.fjall_files.proofs.Changes.{alter-now}
 use Rattle.fjall_files.proofs.Trimmed.{cut_place}
-use Rattle.fjall_recovery.specs.Journals.{text_in}
 
 filled_entry : (bytes : List ℕ) (entry : Entry) → IsFile entry → text_in entry ≡ [] → all_synced (appended bytes entry) ≡ File bytes []
 filled_entry bytes Missing file none = absurd file

@@ -5,39 +5,19 @@ use Rattle.fjall_journal.specs.declared.batch.Tail.TheVariants.{Clean, Torn}
 use Rattle.fjall_table.specs.declared.table_info.TableInfo.{TableInfo}
 use Rattle.fjall_tree.specs.Records.{Fields, IsRecords}
 use Rattle.fjall_base.specs.Lists.{last_of}
+use Rattle.fjall_files.specs.Texts.{text_in}
 use Rattle.fjall_files.specs.Marker.{marker_tells}
 use Rattle.fjall_files.specs.Names.{journal_name, keyspace_folder, current_name, table_name}
 use Rattle.fjall_meta.specs.declared.entry.MetaEntry.{MetaEntry}
 use Rattle.fjall_meta.specs.declared.living.LivingKeyspace.{LivingKeyspace}
 use Rattle.fjall_meta.specs.Entries.{entries_of}
-use Rattle.fjall_catalog.specs.Catalog.{HoldsEntries, IsTableOf, Says}
+use Rattle.fjall_catalog.specs.Catalog.{HoldsEntries, IsTableOf}
 use Rattle.fjall_catalog.specs.Catalog as catalog
-use Rattle.fjall_recovery.specs.Folders.{Contents, IsSound, file_bytes}
+use Rattle.fjall_recovery.specs.Folders.{file_bytes}
 use Rattle.fjall_recovery.specs.Homes.{HasLast, HaveHomes, records_text}
-use Rattle.fjall_recovery.specs.Journals.{Journal, ReadsAs, AreRead, journal_text, text_in}
+use Rattle.fjall_recovery.specs.Journals.{Journal, ReadsAs, AreRead, journal_text}
 use Rattle.fjall_recovery.specs.Halves.{HasRoot, HasTree, Tree}
-
-abbrev pub tree_of : Contents → Tree
-tree_of c = record { last = c.last; keyspaces = c.keyspaces; homes = c.homes }
-
-pub root_of : (image : Image) (c : Contents) → IsSound image c → HasRoot image c.journals
-root_of image c sound = record { marker = sound.marker; named = sound.journals_named; holds = sound.journals }
-
-pub tree_in : (image : Image) (c : Contents) → IsSound image c → HasTree image (tree_of c)
-tree_in image c sound = record { named = sound.keyspaces_named; folder = sound.folder; records = sound.records; catalog = sound.catalog; made = sound.made; homes = sound.homes }
-
-pub sound_of : (image : Image) (c : Contents) → HasRoot image c.journals → HasTree image (tree_of c) → IsSound image c
-sound_of image c root tree = record {
-  marker = root.marker;
-  journals_named = root.named;
-  journals = root.holds;
-  keyspaces_named = tree.named;
-  folder = tree.folder;
-  records = tree.records;
-  catalog = tree.catalog;
-  made = tree.made;
-  homes = tree.homes;
-}
+pub use Rattle.fjall_recovery.proofs.Holding.{tree_of, root_of, tree_in, made as sound_of}
 
 -- ---- kinds of entries
 
@@ -46,12 +26,6 @@ file_is e d is file = subst IsFile is file
 
 pub no_folder : (e : Entry) → IsFile e → e ≡ Folder → ⊥
 no_folder e file is = subst IsFile is file
-
--- the two words for the bytes of an entry
-pub same_text : (e : Entry) → catalog.text_in e ≡ text_in e
-same_text Missing = refl
-same_text (File synced unsynced) = refl
-same_text Folder = refl
 
 module _ (image other : Image) where
   -- ---- a root in which all stands alike but files that are gone
@@ -89,7 +63,7 @@ module _ (image other : Image) where
   entries_along None entries tables none = none
   entries_along (Some t) entries tables holds = record {
     file = file_is _ _ (sym (tables t.id)) holds.file;
-    is = subst (λ text. IsTableOf t text entries) (ap catalog.text_in (sym (tables t.id))) holds.is;
+    is = subst (λ text. IsTableOf t text entries) (ap text_in (sym (tables t.id))) holds.is;
   }
 
   pub homes_along : (living : List LivingKeyspace) (homes : List Fields) → ((id : ℕ) → image (keyspace_folder id) ≡ Folder → other (keyspace_folder id) ≡ Folder)
@@ -125,5 +99,5 @@ module _ (image other : Image) where
       → ((id : ℕ) → other (current_name id) ≡ image (current_name id)) → ((n : ℕ) → other (table_name 0 n) ≡ image (table_name 0 n)) → HasTree image t → HasTree other t
   tree_along t back stays currents tables tree =
       tree_with t tree back stays (file_is _ _ (sym (currents 0)) tree.catalog.file) tree.records tree.catalog.end
-      (subst (λ text. IsRecords text tree.records tree.catalog.end) (ap catalog.text_in (sym (currents 0))) tree.catalog.whole) tree.catalog.last_is tables
+      (subst (λ text. IsRecords text tree.records tree.catalog.end) (ap text_in (sym (currents 0))) tree.catalog.whole) tree.catalog.last_is tables
       (λ id last has. subst (λ text. HasLast text last) (ap text_in (sym (currents id))) has)

@@ -8,6 +8,7 @@ use Rattle.fjall_base.specs.Disk.{Name, Entry, Missing, File, Folder, Place, Sta
 use Rattle.fjall_base.proofs.Frames.{replaced, replaced-same, replaced-other}
 use Rattle.fjall_base.proofs.Moments.{at_end, started, stays, steps_on, weaken}
 use Rattle.fjall_base.proofs.States.{differs, put-same, put-other}
+use Rattle.fjall_files.specs.Texts.{text_in}
 use Rattle.fjall_files.proofs.Changes.{settle-now, may_be_missing}
 use Rattle.fjall_files.proofs.Parts.{in_region, region_put_back}
 use Rattle.fjall_journal.specs.declared.batch.Tail.TheVariants.{Clean}
@@ -17,7 +18,7 @@ use Rattle.fjall_files.specs.Marker.{marker_tells}
 use Rattle.fjall_files.specs.Names.{journal_name, current_name, table_name}
 use Rattle.fjall_versions.specs.Replays.{store_in}
 use Rattle.fjall_recovery.specs.Folders.{Contents, IsSound, StandsFor, store_of, file_bytes}
-use Rattle.fjall_recovery.specs.Journals.{Journal, ReadsAs, AreJournalIds, batches_in, text_in}
+use Rattle.fjall_recovery.specs.Journals.{Journal, ReadsAs, AreJournalIds, batches_in}
 use Rattle.fjall_recovery.specs.Halves.{HasRoot}
 use Rattle.fjall_recovery.specs.Held.{Holds}
 use Rattle.fjall_repair.specs.Steps.{IsOpened, active_of, opened, with_active}
@@ -133,18 +134,18 @@ some_swap [] entry left some = some
 some_swap (e ∷ older) entry left (inl here) = inr (inl here)
 some_swap (e ∷ older) entry left (inr later) = ⊎_elim (λ now. inl now) (λ was. inr (inr was)) (some_swap older entry left later)
 
+-- an image in which the file isn't made yet
+pub older_image : (old : State) (active : Name) (image : Image) → IsImage (put old active (File [] [])) image → SomeSurvives ((old active).older ++ (old active).now ∷ []) (image active) → IsImage old image
+older_image old active image is some = record {
+  kept = λ q there. ⊎_elim
+      (λ same. subst (λ (n : Name). SomeSurvives ((old n).now ∷ (old n).older) (image n)) (sym same) (some_swap (old active).older (old active).now (image active) some))
+      (λ not. subst (λ (p : Place). SomeSurvives (p.now ∷ p.older) (image q)) (put-other old active (File [] []) q (differs q active not)) (is.kept q there)) (same_or_not q active);
+  lost = is.lost;
+}
+
 module _ (old : State) (active : Name) (c : Contents) (holds : Holds old (Some c)) (named : active ≡ journal_name (active_of (ids_of c.journals))) where
   in_root : folder_of active ≡ []
   in_root = ap (λ (n : Name). folder_of n) named ∙ folder_of-journal (active_of (ids_of c.journals)) (active_small (standing old) (ids_of c.journals) holds.now.journals.ids)
-
-  -- an image in which the journal isn't made yet
-  older_image : (image : Image) → IsImage (put old active (File [] [])) image → SomeSurvives ((old active).older ++ (old active).now ∷ []) (image active) → IsImage old image
-  older_image image is some = record {
-    kept = λ q there. ⊎_elim
-        (λ same. subst (λ (n : Name). SomeSurvives ((old n).now ∷ (old n).older) (image n)) (sym same) (some_swap (old active).older (old active).now (image active) some))
-        (λ not. subst (λ (p : Place). SomeSurvives (p.now ∷ p.older) (image q)) (put-other old active (File [] []) q (differs q active not)) (is.kept q there)) (same_or_not q active);
-    lost = is.lost;
-  }
 
   abbrev everywhere : Name → Bool
   everywhere q = true
@@ -164,7 +165,7 @@ module _ (old : State) (active : Name) (c : Contents) (holds : Holds old (Some c
   pub made_either : (image : Image) → (old active).now ≡ Missing → IsImage (put old active (File [] [])) image → SoundEither c image
   made_either image gone is =
       let some = subst (λ (p : Place). SomeSurvives (p.now ∷ p.older) (image active)) (put-same old active (File [] [])) (is.kept active (inl in_root)) in
-      ⊎_elim (λ new. inr (made_image image gone is (new.1 ∙ ap (λ l. File l []) (take_all new.0 [] (omega arith))))) (λ was. inl (holds.crash image (older_image image is was))) some
+      ⊎_elim (λ new. inr (made_image image gone is (new.1 ∙ ap (λ l. File l []) (take_all new.0 [] (omega arith))))) (λ was. inl (holds.crash image (older_image old active image is was))) some
 
 -- ---- the moments
 

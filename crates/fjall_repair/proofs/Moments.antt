@@ -8,10 +8,10 @@ use Rattle.fjall_base.specs.declared.error.Error.{Error}
 use Rattle.fjall_base.specs.Disk.{Name, Entry, Missing, File, Folder, Place, State, Image, Step, Put, Append, Sync, Loosen, Cut, SyncFolder, Meaning, Took, TookCut, TookOrNot, TookPart, Leaves, after, all_synced, alter, appended, change, cut_to, folder_of, loosened, making, put, settle, state_in}
 use Rattle.fjall_base.proofs.States.{alter-same, alter-other, differs, put-same, put-other, settle-in, settle-out}
 use Rattle.fjall_base.proofs.Moments.{runs_on, stays}
+use Rattle.fjall_files.specs.Texts.{text_in}
 use Rattle.fjall_files.specs.Regions.{AreUnder, Within, is_under, target}
 use Rattle.fjall_files.proofs.Made.{took_both}
 use Rattle.fjall_files.specs.Names.{table_name}
-use Rattle.fjall_recovery.specs.Journals.{text_in}
 use Rattle.fjall_repair.specs.Making.{CanHold, ChangesAt, GoesOn, IsKept, IsMaking, KeepsTables, MayStand, StaysAt}
 use Rattle.fjall_repair.proofs.Fronts.{bool_cases, same}
 use Rattle.fjall_repair.proofs.Standing.{all_appended_stands, appended_stands, cut_stands, kept_image, loosened_stands, synced_stands}

@@ -1,20 +1,14 @@
 -- Which names differ, and which folders they are in.
-use Rattle.std.proofs.Common.{◌≡◌, ◌≢◌, ◌⊎◌, inl, inr, ℕ, ◌<◌, ◌^◌, Bool, true, false, ◌||◌, ◌==◌, List, [], ◌∷◌, ◌++◌, get_or, Some, codes, decimal, refl, sym, ◌∙◌, ap, arith, append_assoc}
-use Rattle.std.specs.List.{list_any}
-use Rattle.std.proofs.lemmas.List.{append_cancel_right, get_or_default}
-use Rattle.std.proofs.lemmas.List.Folds.{list_any-append, list_any_none}
-use Rattle.std.proofs.lemmas.Bool.Decides.{nat_tests}
-use Rattle.std.proofs.lemmas.Fmt.{decimal_injective, digits_decimal}
-use Rattle.std.specs.Str.Parse.{AllDigits, digits_value}
-use Rattle.std.proofs.lemmas.Str.Parse.{IsNumeralModel, numerals_by_value, tells_digits, not_in_digits}
+use Rattle.std.proofs.Common.{◌≡◌, ◌≢◌, ◌⊎◌, inl, inr, ℕ, ◌<◌, ◌^◌, Bool, true, false, List, [], ◌∷◌, ◌++◌, Some, codes, decimal, refl, sym, ◌∙◌, ap, arith, append_assoc}
+use Rattle.std.proofs.lemmas.List.{append_cancel_right}
+use Rattle.std.proofs.lemmas.Fmt.{decimal_injective}
 use Rattle.std.specs.Str.{bytes_eq}
 use Rattle.std.proofs.lemmas.Slice.Eq.{bytes_eq-Decides}
-use Rattle.fjall_base.specs.Disk.{Name, folder_of}
-use Rattle.fjall_files.specs.Regions.{join}
-use Rattle.fjall_files.proofs.Under.{IsPlain, folder_of-join, folder_of-plain}
+use Rattle.fjall_base.specs.Disk.{Name}
 use Rattle.fjall_tree.proofs.Currents.{last_behind}
 use Rattle.fjall_base.specs.Lists.{last_of}
 use Rattle.fjall_files.specs.Names.{journal_name, keyspace_folder, current_name, table_name}
+pub use Rattle.fjall_files.proofs.Fitting.{folder_of-journal, folder_of-folder, folder_of-current, folder_of-table}
 
 -- ---- names by their last byte
 
@@ -62,36 +56,6 @@ pub journals_apart : (id other : ℕ) → id < 2 ^ 64 → other < 2 ^ 64 → jou
 journals_apart id other small small' is = decimal_injective id other small small' (append_cancel_right (decimal id) (decimal other) (codes ".jnl") is)
 
 -- ---- folders
-
-own : IsNumeralModel (AllDigits 10) (digits_value 10)
-own = numerals_by_value (AllDigits 10) tells_digits
-
-abbrev slash : ℕ → Bool
-slash b = b == 47
-
-plain_decimal : (n : ℕ) → n < 2 ^ 64 → list_any slash (decimal n) ≡ false
-plain_decimal n small = list_any_none slash (decimal n) (λ k d lt.
-    let other : get_or (decimal n) k 0 ≢ 47 = not_in_digits own (decimal n) 47 (digits_decimal own n small) (λ range. omega (arith, range)) k lt in
-    let same : get_or (decimal n) k d ≡ get_or (decimal n) k 0 = get_or_default (decimal n) k d 0 lt in
-    rw same (grind (arith, nat_tests)))
-
-plain_with : (n : ℕ) (rest : List ℕ) → n < 2 ^ 64 → IsPlain rest → IsPlain (decimal n ++ rest)
-plain_with n rest small plain = list_any-append slash (decimal n) rest ∙ ap (λ (b : Bool). b || list_any slash rest) (plain_decimal n small) ∙ plain
-
-pub folder_of-journal : (id : ℕ) → id < 2 ^ 64 → folder_of (journal_name id) ≡ []
-folder_of-journal id small = folder_of-plain (journal_name id) (plain_with id (codes ".jnl") small refl)
-
-pub folder_of-folder : (id : ℕ) → id < 2 ^ 64 → folder_of (keyspace_folder id) ≡ codes "keyspaces"
-folder_of-folder id small = folder_of-join (codes "keyspaces") (decimal id) (plain_decimal id small)
-
-pub folder_of-current : (id : ℕ) → folder_of (current_name id) ≡ keyspace_folder id
-folder_of-current id = folder_of-join (keyspace_folder id) (codes "current") refl
-
-table_parts : (id n : ℕ) → table_name id n ≡ join (keyspace_folder id) (decimal n ++ codes ".table")
-table_parts id n = append_assoc (keyspace_folder id ++ codes "/") (decimal n) (codes ".table") ∙ append_assoc (keyspace_folder id) (codes "/") (decimal n ++ codes ".table")
-
-pub folder_of-table : (id n : ℕ) → n < 2 ^ 64 → folder_of (table_name id n) ≡ keyspace_folder id
-folder_of-table id n small = ap (λ (m : Name). folder_of m) (table_parts id n) ∙ folder_of-join (keyspace_folder id) (decimal n ++ codes ".table") (plain_with n (codes ".table") small refl)
 
 -- ---- one name or another
 

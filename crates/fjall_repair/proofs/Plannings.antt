@@ -8,10 +8,11 @@ use Rattle.std.proofs.Math.Seq.{get_or-append_right}
 use Rattle.std.proofs.lemmas.List.Elements.{All-cons, All-nil}
 use Rattle.fjall_base.specs.declared.error.FormatVersion.TheVariants.{V3}
 use Rattle.fjall_base.specs.Disk.{Image, Name}
+use Rattle.fjall_files.specs.Texts.{text_in}
 use Rattle.fjall_files.specs.Marker.{header}
 use Rattle.fjall_files.specs.Names.{journal_name}
 use Rattle.fjall_catalog.proofs.Naming.{current_zero}
-use Rattle.fjall_recovery.specs.Journals.{AreJournalIds, text_in}
+use Rattle.fjall_recovery.specs.Journals.{AreJournalIds}
 use Rattle.fjall_repair.specs.declared.beginning.plan.FileState.{FileState}
 use Rattle.fjall_repair.specs.declared.beginning.plan.BeginPlan.{BeginPlan}
 use Rattle.fjall_repair.specs.Begun.{IsActive}

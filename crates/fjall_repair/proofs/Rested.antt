@@ -13,6 +13,7 @@ use Rattle.fjall_journal.specs.Batches.{Written, IsWritten, shown}
 use Rattle.fjall_table.specs.declared.table_info.TableInfo.{TableInfo}
 use Rattle.fjall_tree.specs.Records.{Fields, IsRecord, IsRecords, record_text}
 use Rattle.fjall_base.specs.Lists.{last_of}
+use Rattle.fjall_files.specs.Texts.{text_in}
 use Rattle.fjall_tree.proofs.Currents.{last_behind}
 use Rattle.fjall_files.specs.Marker.{marker_tells}
 use Rattle.fjall_files.specs.Names.{journal_name, keyspace_folder, current_name, table_name}
@@ -21,15 +22,14 @@ use Rattle.fjall_meta.specs.declared.living.LivingKeyspace.{LivingKeyspace}
 use Rattle.fjall_meta.specs.Entries.{entries_of}
 use Rattle.fjall_versions.specs.Replays.{first_fault}
 use Rattle.fjall_catalog.specs.Catalog.{AreSafe, HoldsEntries, IsTableOf, Rests, fields, only}
-use Rattle.fjall_catalog.specs.Catalog as catalog
 use Rattle.fjall_catalog.proofs.Resting.{last_has, table_id}
 use Rattle.fjall_recovery.specs.Folders.{Contents, IsSound, file_bytes}
 use Rattle.fjall_recovery.specs.Homes.{HasLast, HaveHomes}
-use Rattle.fjall_recovery.specs.Journals.{Journal, ReadsAs, AreRead, batches_in, journal_text, text_in}
+use Rattle.fjall_recovery.specs.Journals.{Journal, ReadsAs, AreRead, batches_in, journal_text}
 use Rattle.fjall_recovery.specs.Places.{HaveSafeHomes, IsNeverFile, Journaling, LiesInRoot, RestsInTree, journal_ids, journals_with, texts_of}
 use Rattle.fjall_repair.specs.Steps.{IsRested, IsSynced, active_of, sealed_of}
 use Rattle.fjall_repair.proofs.Naming.{folder_of-journal, folder_of-folder, folder_of-current, folder_of-table}
-use Rattle.fjall_repair.proofs.Halving.{same_text, tree_of}
+use Rattle.fjall_repair.proofs.Halving.{tree_of}
 use Rattle.fjall_repair.proofs.Cutting.{whole_length}
 use Rattle.fjall_repair.proofs.Trimming.{fits_all}
 use Rattle.fjall_repair.proofs.Crashing.{left, left_is, left_there}
@@ -258,7 +258,7 @@ module _ (s : State) (c : Contents) (rest : IsRested s c) where
   table_count : (k : ℕ) (t : TableInfo) (entries : List MetaEntry) → t.id < 2 ^ 64 → HoldsEntries (left k s) (Some t) entries → IsThere (left k s) (keyspace_folder 0) → length (text_in (keeping k (s (table_name 0 t.id)).now)) ≡ t.file_len
   table_count k t entries small holds there =
       let at = left_there k s (table_name 0 t.id) (subst (IsThere (left k s)) (sym (folder_of-table 0 t.id small)) there) in
-      ap (λ (e : Entry). length (text_in e)) (sym at) ∙ ap length (sym (same_text (left k s (table_name 0 t.id)))) ∙ holds.is.len
+      ap (λ (e : Entry). length (text_in e)) (sym at) ∙ holds.is.len
 
   table_safe : (table : Option TableInfo) (entries : List MetaEntry) → c.last.table ≡ table → entries_of c.keyspaces.living ≡ entries → AreSafe s table entries
   table_safe None entries table_is entries_is = let here = sound.catalog.entries in subst (λ (t : Option TableInfo). HoldsEntries image t entries) table_is (subst (HoldsEntries image c.last.table) entries_is here)
@@ -269,7 +269,7 @@ module _ (s : State) (c : Contents) (rest : IsRested s c) where
       let at = names_left (keyspace_folder 0) (inr sound.folder) (table_name 0 t.id) (folder_of-table 0 t.id small) in
       let file : IsFile (s (table_name 0 t.id)).now = was_file (s (table_name 0 t.id)).now (subst IsFile at (holds 0).file) in
       let whole = same_whole (s (table_name 0 t.id)).now t.file_len file (λ k. table_count k t entries small (holds k) (inr (rest.images (left k s) (left_is k s)).folder)) in
-      let text : catalog.text_in (image (table_name 0 t.id)) ≡ whole.0 = same_text (image (table_name 0 t.id)) ∙ ap text_in at ∙ whole.2 in
+      let text : text_in (image (table_name 0 t.id)) ≡ whole.0 = ap text_in at ∙ whole.2 in
       record {
         bytes = whole.0;
         safe = safe (table_name 0 t.id) whole.0 whole.1 (rest.folders.1.0 (table_name 0 t.id) (folder_of-table 0 t.id small));
@@ -305,7 +305,7 @@ module _ (s : State) (c : Contents) (rest : IsRested s c) where
   rests_in_tree =
       let synced = rest.ended.1.0 in
       let text : text_in (image (current_name 0)) ≡ synced.0 = current_seen 0 synced.0 sound.folder synced.1 in
-      let whole : IsRecords synced.0 sound.records sound.catalog.end = subst (λ t. IsRecords t sound.records sound.catalog.end) (same_text (image (current_name 0)) ∙ text) sound.catalog.whole in
+      let whole : IsRecords synced.0 sound.records sound.catalog.end = subst (λ t. IsRecords t sound.records sound.catalog.end) text sound.catalog.whole in
       let now_text : text_in (s (current_name 0)).now ≡ synced.0 = ap text_in synced.1 ∙ append-nil synced.0 in
       let short = rest.tree sound.records sound.catalog.end (subst (λ t. IsRecords t sound.records sound.catalog.end) (sym now_text) whole) in
       let count = ap length now_text in

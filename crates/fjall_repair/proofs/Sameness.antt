@@ -5,6 +5,7 @@ use Rattle.std.specs.List.{AllByRecursion}
 use Rattle.std.proofs.lemmas.List.{take_all, length-take}
 use Rattle.fjall_base.specs.Disk.{Name, Entry, Missing, File, Folder, State, Image, IsFile, IsImage, IsThere, Survives, SomeSurvives, folder_of, standing}
 use Rattle.fjall_base.proofs.States.{survives_whole}
+use Rattle.fjall_files.specs.Texts.{text_in}
 use Rattle.fjall_table.specs.declared.table_info.TableInfo.{TableInfo}
 use Rattle.fjall_tree.specs.Records.{Fields, IsRecord, IsRecords}
 use Rattle.fjall_files.specs.Names.{journal_name, keyspace_folder, current_name, table_name}
@@ -18,12 +19,11 @@ use Rattle.fjall_catalog.proofs.Meanings.{last_one}
 use Rattle.fjall_catalog.proofs.Resting.{last_has, table_id}
 use Rattle.fjall_recovery.specs.Folders.{Contents, IsSound, file_bytes}
 use Rattle.fjall_recovery.specs.Homes.{HasLast, HaveHomes}
-use Rattle.fjall_recovery.specs.Journals.{Journal, journal_text, text_in}
+use Rattle.fjall_recovery.specs.Journals.{Journal, journal_text}
 use Rattle.fjall_recovery.proofs.Alike.{sound_by}
 use Rattle.fjall_recovery.proofs.Holding.{there_or_not}
 use Rattle.fjall_repair.specs.Steps.{IsSynced, active_of, ended_names, folder_names, sealed_of, whole_names}
 use Rattle.fjall_repair.proofs.Naming.{folder_of-journal, folder_of-folder, folder_of-current, folder_of-table}
-use Rattle.fjall_repair.proofs.Halving.{same_text}
 use Rattle.fjall_repair.proofs.Trimming.{fits_all}
 use Rattle.fjall_repair.proofs.MendOpened.{ids_of}
 use Rattle.fjall_repair.proofs.Rested.{Parted, active_parted, each_both, each_front, last_parted, parted, sealed_parted}
@@ -104,7 +104,7 @@ module _ (s : State) (c : Contents) (sound : IsSound (standing s) c) (root : (q 
 
   one_last : c.last ≡ d.last
   one_last = last_one (catalog.records_in image) sound.records other.records sound.catalog.end other.catalog.end c.last d.last
-      (subst (λ (e : Entry). IsRecords (catalog.text_in e) sound.records sound.catalog.end) (sym current_alike) sound.catalog.whole) other.catalog.whole sound.catalog.last_is other.catalog.last_is
+      (subst (λ (e : Entry). IsRecords (text_in e) sound.records sound.catalog.end) (sym current_alike) sound.catalog.whole) other.catalog.whole sound.catalog.last_is other.catalog.last_is
 
   table_alike : (t : TableInfo) (entries others : List MetaEntry) → t.id < 2 ^ 64 → HoldsEntries (standing s) (Some t) entries → HoldsEntries image (Some t) others → HoldsEntries image (Some t) entries
   table_alike t entries others small stands holds =
@@ -112,8 +112,8 @@ module _ (s : State) (c : Contents) (sound : IsSound (standing s) c) (root : (q 
       let at = folder_of-table 0 t.id small in
       let part = survived_text (s name).now (image name) (seen name (tree_name name at) (folders.1.0 name at)) in
       let same : text_in (image name) ≡ text_in (s name).now =
-      same_by_length (text_in (s name).now) (text_in (image name)) part.0 t.file_len part.1 (ap length (sym (same_text (s name).now)) ∙ stands.is.len) (ap length (sym (same_text (image name))) ∙ holds.is.len) in
-      record { file = holds.file; is = subst (λ (bytes : List ℕ). IsTableOf t bytes entries) (same_text (s name).now ∙ sym same ∙ sym (same_text (image name))) stands.is }
+      same_by_length (text_in (s name).now) (text_in (image name)) part.0 t.file_len part.1 stands.is.len holds.is.len in
+      record { file = holds.file; is = subst (λ (bytes : List ℕ). IsTableOf t bytes entries) (sym same) stands.is }
 
   entries_alike : (table : Option TableInfo) (entries others : List MetaEntry) → IfSome table (λ t. t.id < 2 ^ 64) → HoldsEntries (standing s) table entries → HoldsEntries image table others → HoldsEntries image table entries
   entries_alike None entries others small stands holds = stands
@@ -135,7 +135,7 @@ module _ (s : State) (c : Contents) (sound : IsSound (standing s) c) (root : (q 
   -- the image holds what stands
   pub same_sound : IsSound image c
   same_sound = sound_by (standing s) image c sound (ap file_bytes (synced_seen (codes "version") (inl refl) (root (codes "version") refl) whole.0)) other.journals_named files_alike (texts_all c.journals refl)
-      other.keyspaces_named other.folder other.catalog.file (ap catalog.text_in current_alike)
+      other.keyspaces_named other.folder other.catalog.file (ap text_in current_alike)
       (entries_alike c.last.table (entries_of c.keyspaces.living) (entries_of d.keyspaces.living) (table_id c.last (last_has IsRecord sound.records (fields c.last) sound.catalog.whole.each sound.catalog.last_is)) sound.catalog.entries
       (subst (λ (l : Catalog). HoldsEntries image l.table (entries_of d.keyspaces.living)) (sym one_last) other.catalog.entries))
       (homes_alike c.keyspaces.living c.homes (small_all c.keyspaces.next c.keyspaces.living sound.catalog.are.fits sound.catalog.are.given) folders.1.1 ended.1.1 sound.homes)

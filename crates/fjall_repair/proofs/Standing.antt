@@ -3,6 +3,7 @@ use Rattle.std.proofs.Common.{◌≡◌, inl, inr, ⊎_elim, ℕ, Bool, true, fa
 use Rattle.std.proofs.lemmas.List.{append-nil, take_all}
 use Rattle.std.specs.List.{AllByRecursion}
 use Rattle.fjall_base.specs.Disk.{Name, Entry, Missing, File, Folder, State, Image, IsImage, Survives, SomeSurvives, all_synced, appended, cut_to, loosened, folder_of}
+use Rattle.fjall_files.specs.Texts.{text_in}
 use Rattle.fjall_journal.specs.Batches.{NoneAt}
 use Rattle.fjall_journal.proofs.Cuts.{none_at_nil}
 use Rattle.fjall_tree.proofs.Currents.{texts_are_records}
@@ -10,7 +11,6 @@ use Rattle.fjall_files.specs.declared.marker.Marker.TheVariants.{Unfinished}
 use Rattle.fjall_files.specs.Marker.{marker_tells}
 use Rattle.fjall_files.specs.Names.{IsNameOf, journal_name, keyspace_folder, current_name}
 use Rattle.fjall_recovery.specs.Folders.{IsBegun, IsUnfinished, file_bytes}
-use Rattle.fjall_recovery.specs.Journals.{text_in}
 use Rattle.fjall_recovery.proofs.Holding.{there_or_not}
 use Rattle.fjall_repair.specs.Making.{CanHold, IsKept, IsMaking, MayMark, MayStand}
 use Rattle.fjall_repair.proofs.Fronts.{begun_front, mark_front, marks_more, no_file_marks, none_front}

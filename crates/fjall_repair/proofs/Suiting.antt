@@ -8,7 +8,7 @@ use Rattle.fjall_base.specs.Disk.{Name, Entry, Missing, File, Folder, Image, IsF
 use Rattle.fjall_journal.specs.Batches.{IsWhole, IsTail}
 use Rattle.fjall_tree.specs.Records.{Fields, IsRecords, record_text}
 use Rattle.fjall_base.specs.Lists.{last_of}
-use Rattle.fjall_tree.proofs.Currents.{records_apart}
+use Rattle.fjall_tree.proofs.Currents.{one_reading, records_apart}
 use Rattle.fjall_files.specs.Names.{journal_name, current_name}
 use Rattle.fjall_meta.specs.Keyspaces.{Keyspaces}
 use Rattle.fjall_meta.specs.declared.living.LivingKeyspace.{LivingKeyspace}
@@ -16,14 +16,18 @@ use Rattle.fjall_recovery.specs.declared.folder.Finished.{Finished}
 use Rattle.fjall_recovery.specs.declared.homes.Home.{Home}
 use Rattle.fjall_recovery.specs.Folders.{Contents, IsFinished, IsSound, Shows}
 use Rattle.fjall_recovery.specs.Homes.{AreHomesRead}
-use Rattle.fjall_recovery.specs.Journals.{Journal, AreJournalIds, EndsAt, HoldsJournals, journal_text, tail_of, text_in}
+use Rattle.fjall_recovery.specs.Journals.{Journal, AreJournalIds, EndsAt, HoldsJournals, journal_text, tail_of}
 use Rattle.fjall_recovery.proofs.Alone.{one_list_of_journals}
 use Rattle.fjall_recovery.specs.Places.{texts_of}
 use Rattle.fjall_repair.specs.declared.mending.plan.FileEnd.{FileEnd}
 use Rattle.fjall_repair.specs.declared.mending.plan.MendPlan.{MendPlan}
-use Rattle.fjall_repair.specs.Steps.{End, IsOpened, IsPlanOf, IsRightEnd, IsTreeEnd, Suits, active_of, end_of, ended_names, folder_names, home_end, opened, whole_names, with_active}
+use Rattle.fjall_repair.specs.Steps.{End, IsOpened, IsPlanOf, IsRightEnd, IsTreeEnd, Suits, active_of, end_of, ended_names, folder_names, home_end, opened, tree_end, whole_names, with_active}
+use Rattle.fjall_repair.specs.Mended.{IsMendingOf}
+use Rattle.fjall_base.specs.declared.error.Error.{Error}
+use Rattle.fjall_catalog.specs.Catalog.{records_in}
+use Rattle.std.specs.Prelude.{◌↔◌, ◌<◌, IfOk, IsTrue, Result, Ok, Err}
+use Rattle.fjall_files.specs.Texts.{text_in}
 use Rattle.fjall_repair.proofs.Naming.{journal_current}
-use Rattle.fjall_repair.proofs.Halving.{same_text}
 use Rattle.fjall_repair.proofs.Cutting.{whole_length}
 use Rattle.fjall_repair.proofs.MendOpened.{active_there, ids_of}
 use Rattle.fjall_repair.proofs.Rested.{active_parted, last_parted, parted}
@@ -111,7 +115,7 @@ module _ (image made : Image) (active : Name) (is : IsOpened image made active) 
 
     tree_right : (c d : Contents) (e : End) → IsSound image d → IsTreeEnd image e → IsRightEnd made c e
     tree_right c d e sound tree =
-        let whole = subst (λ t. IsRecords t sound.records sound.catalog.end) (same_text (image (current_name 0))) sound.catalog.whole in
+        let whole = sound.catalog.whole in
         records_right c 0 e sound.records tree.named sound.catalog.file (subst (λ n. IsRecords (text_in (image (current_name 0))) sound.records n) (tree.is sound.records sound.catalog.end whole) whole) tree.uncut
 
     not_less : (n m : ℕ) → nat_lt n m ≡ false → m ≤ n
@@ -174,6 +178,23 @@ planned_names f tree p named plan =
     ∙ ap (λ ns. journal_name (active_of f.journal_ids.items) ∷ current_name 0 ∷ ns) (home_names f.homes.items)
 
 -- ---- the plan
+
+-- where no bytes stand behind the end, there are no more than up to it
+not_torn : (torn : Bool) (end len : ℕ) → torn ≡ false → (IsTrue torn ↔ (end < len)) → len ≤ end
+not_torn torn end len not is = grind (arith, nat_tests)
+
+-- the end of tree 0's records that was read is right
+tree_ends : (image : Image) (f : Finished) → IsFinished image f → IsTreeEnd image (tree_end f.catalog)
+tree_ends image f read = record {
+  named = refl;
+  is = λ records end whole. (one_reading (records_in image) records read.end.records end f.catalog.end whole read.end.whole).1;
+  uncut = λ not. not_torn f.catalog.is_torn f.catalog.end (length (records_in image)) not read.end.torn;
+}
+
+-- so a plan for the folder that was read is one of the image
+pub plan_is : (image : Image) (f : Finished) (result : Result MendPlan Error) → IsFinished image f → IfOk result (IsPlanOf f (tree_end f.catalog)) → IfOk result (IsMendingOf image f)
+plan_is image f (Ok p) read is = (tree_end f.catalog, tree_ends image f read, is)
+plan_is image f (Err e) read is = tt
 
 pub suits : (image : Image) (f : Finished) (c : Contents) (tree : End) (p : MendPlan) → IsSound image c → IsFinished image f → Shows f c → IsTreeEnd image tree → IsPlanOf f tree p → Suits image c p
 suits image f c tree p sound finished shows tree_end plan =

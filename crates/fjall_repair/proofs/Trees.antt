@@ -5,6 +5,7 @@ use Rattle.std.specs.Str.{bytes_eq}
 use Rattle.fjall_base.specs.declared.error.Error.{Error}
 use Rattle.fjall_base.specs.Disk.{Name, Entry, File, Folder, Place, State, SyncFolder, Meaning, Took, folder_of, making, standing, state_in}
 use Rattle.fjall_base.proofs.States.{settle-in, settle-out}
+use Rattle.fjall_files.specs.Texts.{text_in}
 use Rattle.fjall_files.specs.Regions.{Within, is_under}
 use Rattle.fjall_files.proofs.Changes.{settle-now, within_on, within_start}
 use Rattle.fjall_files.proofs.Made.{making_other, making_within, within_none}
@@ -13,7 +14,6 @@ use Rattle.fjall_files.specs.Names.{keyspace_folder, current_name}
 use Rattle.fjall_catalog.specs.Catalog.{fields, first_catalog, only, records_in}
 use Rattle.fjall_catalog.proofs.Naming.{current_zero, folder_zero, folder_of-current, folder_of-folder}
 use Rattle.fjall_catalog.proofs.Shapes.{first_fits}
-use Rattle.fjall_recovery.specs.Journals.{text_in}
 use Rattle.fjall_repair.specs.declared.beginning.plan.FileState.{FileState}
 use Rattle.fjall_repair.specs.Making.{CanHold, GoesOn, MayStand, StaysAt}
 use Rattle.fjall_repair.specs.Plans.{HasFirstTree, IsFound, first_text}

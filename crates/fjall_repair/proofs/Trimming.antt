@@ -8,18 +8,19 @@ use Rattle.fjall_base.proofs.Lists.{front_of_part}
 use Rattle.fjall_journal.specs.declared.batch.Tail.TheVariants.{Clean, Torn}
 use Rattle.fjall_tree.specs.Records.{Fields, IsRecords}
 use Rattle.fjall_base.specs.Lists.{last_of}
+use Rattle.fjall_files.specs.Texts.{text_in}
 use Rattle.fjall_meta.proofs.Rising.{Rises, from_pairs}
 use Rattle.fjall_files.specs.Names.{journal_name, current_name, table_name}
 use Rattle.fjall_catalog.proofs.Resting.{last_has}
 use Rattle.fjall_files.specs.Marker.{marker_tells}
 use Rattle.fjall_recovery.specs.Folders.{Contents, IsSound, file_bytes}
 use Rattle.fjall_recovery.specs.Homes.{HasLast}
-use Rattle.fjall_recovery.specs.Journals.{Journal, ReadsAs, AreRead, journal_text, text_in}
+use Rattle.fjall_recovery.specs.Journals.{Journal, ReadsAs, AreRead, journal_text}
 use Rattle.fjall_recovery.specs.Halves.{HasRoot}
 use Rattle.fjall_recovery.specs.Places.{texts_of}
 use Rattle.fjall_repair.specs.Steps.{EndsBatches, EndsRecords, Stays}
 use Rattle.fjall_repair.proofs.Naming.{journal_current, journal_table, current_table, marker_journal, marker_current, journals_apart}
-use Rattle.fjall_repair.proofs.Halving.{file_is, no_folder, same_text, root_of, tree_in, sound_of, tree_of, root_along, tree_along, tree_with}
+use Rattle.fjall_repair.proofs.Halving.{file_is, no_folder, root_of, tree_in, sound_of, tree_of, root_along, tree_along, tree_with}
 use Rattle.fjall_repair.proofs.Cutting.{Lasts, journal_cut, records_cut}
 
 -- ---- the ids of journals
@@ -48,19 +49,19 @@ abbrev pub Cuts : Image → Image → Name → ℕ → Type 0
 Cuts image other f len = (q : Name) → (other q ≡ image q) ⊎ ((q ≡ f) × IsCut image other len q)
 
 module _ (image other : Image) (f : Name) (len : ℕ) (at : Cuts image other f len) where
-  elsewhere : (q : Name) → q ≢ f → other q ≡ image q
+  pub elsewhere : (q : Name) → q ≢ f → other q ≡ image q
   elsewhere q not = ⊎_elim (λ same. same) (λ cut. absurd (not cut.0)) (at q)
 
-  folder_back : (q : Name) → other q ≡ Folder → image q ≡ Folder
+  pub folder_back : (q : Name) → other q ≡ Folder → image q ≡ Folder
   folder_back q is = ⊎_elim (λ same. sym same ∙ is) (λ cut. absurd (no_folder (other q) cut.1.still is)) (at q)
 
-  folder_stays : (q : Name) → image q ≡ Folder → other q ≡ Folder
+  pub folder_stays : (q : Name) → image q ≡ Folder → other q ≡ Folder
   folder_stays q is = ⊎_elim (λ same. same ∙ is) (λ cut. absurd (no_folder (image q) cut.1.file is)) (at q)
 
-  file_back : (q : Name) → IsFile (other q) → IsFile (image q)
+  pub file_back : (q : Name) → IsFile (other q) → IsFile (image q)
   file_back q file = ⊎_elim (λ same. file_is _ _ same file) (λ cut. cut.1.file) (at q)
 
-  file_stays : (q : Name) → IsFile (image q) → IsFile (other q)
+  pub file_stays : (q : Name) → IsFile (image q) → IsFile (other q)
   file_stays q file = ⊎_elim (λ same. file_is _ _ (sym same) file) (λ cut. cut.1.still) (at q)
 
   -- ---- the active journal
@@ -121,11 +122,11 @@ module _ (image other : Image) (f : Name) (len : ℕ) (at : Cuts image other f l
 
     pub records_are_cut : (c : Contents) → IsSound image c → IsSound other c
     records_are_cut c sound =
-        let l = lasts_at (current_name 0) sound.records sound.catalog.end (subst (λ t. IsRecords t sound.records sound.catalog.end) (same_text (image (current_name 0))) sound.catalog.whole) in
+        let l = lasts_at (current_name 0) sound.records sound.catalog.end sound.catalog.whole in
         sound_of other c
         (root_along image other c.journals (elsewhere (codes "version") (λ same. marker_current id (same ∙ named))) (λ j. elsewhere (journal_name j) (λ same. journal_current j id (same ∙ named))) file_back (root_of image c sound))
         (tree_with image other (tree_of c) (tree_in image c sound) folder_back folder_stays (file_stays (current_name 0) sound.catalog.file) l.records l.end
-        (subst (λ t. IsRecords t l.records l.end) (sym (same_text (other (current_name 0)))) l.whole) (l.is ∙ sound.catalog.last_is)
+        l.whole (l.is ∙ sound.catalog.last_is)
         (λ m. elsewhere (table_name 0 m) (λ same. current_table id 0 m (sym named ∙ sym same))) (λ k last. last_at (current_name k) last))
 
 -- ---- what stays

@@ -6,9 +6,9 @@ use Rattle.fjall_base.specs.declared.error.Error.{Error}
 use Rattle.fjall_base.specs.Store.{Store, Command}
 use Rattle.fjall_base.specs.Disk.{Name, Entry, Missing, File, Folder, Image, IsFile, IsImage, LeavesOnly, Meaning, Place, State, standing, state_in}
 use Rattle.fjall_base.proofs.Moments.{at_end, runs_on, weaken}
+use Rattle.fjall_files.specs.Texts.{text_in}
 use Rattle.fjall_files.specs.Trims.{IsTrimmed, ended, ended_place}
 use Rattle.fjall_recovery.specs.Folders.{Contents, IsSound}
-use Rattle.fjall_recovery.specs.Journals.{text_in}
 use Rattle.fjall_repair.specs.declared.mending.plan.FileEnd.{FileEnd}
 use Rattle.fjall_repair.specs.Amids.{StaysAmid}
 use Rattle.fjall_repair.specs.Steps.{IsRightEnd, Stays, end_of}

@@ -7,3 +7,4 @@ pub mod Amids
 pub mod Listing
 pub mod Sweeps
 pub mod Opened
+pub mod Readings

@@ -3,12 +3,12 @@ use Rattle.std.specs.Prelude.{◌≡◌, ◌≢◌, ◌⊎◌, ℕ, ◌<◌, ◌
 use Rattle.std.specs.List.{AllByRecursion}
 use Rattle.fjall_base.specs.declared.error.FormatVersion.TheVariants.{V3}
 use Rattle.fjall_base.specs.Disk.{Name, Entry, File, Folder, State, Image, IsFile, Step, Put, Append, Sync, Loosen, Cut, SyncFolder, Meaning, Took, LeavesOnly, folder_of, state_in}
+use Rattle.fjall_files.specs.Texts.{text_in}
 use Rattle.fjall_journal.specs.Batches.{NoneAt}
 use Rattle.fjall_files.specs.declared.marker.Marker.TheVariants.{Unfinished}
 use Rattle.fjall_files.specs.Marker.{header, marker_tells}
 use Rattle.fjall_files.specs.Names.{IsMisnamed, IsNameOf, journal_name, keyspace_folder, current_name, table_name}
 use Rattle.fjall_recovery.specs.Folders.{IsBegun, file_bytes}
-use Rattle.fjall_recovery.specs.Journals.{text_in}
 pub use Rattle.fjall_recovery.specs.Amid.{AreLeft, ComesBackUnfinished}
 
 -- What a marker may be: missing or cut short, and, while it is written, also whole.

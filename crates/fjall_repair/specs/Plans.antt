@@ -1,16 +1,19 @@
 -- What is found of a folder before it is made, and how far it is made.
-use Rattle.std.specs.Prelude.{◌≡◌, ◌≢◌, ◌⊎◌, if◌then◌else◌, ℕ, ◌<◌, ◌^◌, List, [], ◌∷◌, ◌++◌, map, codes, All, Contains, string_bytes}
+use Rattle.std.specs.Prelude.{◌≡◌, ◌≢◌, ◌⊎◌, if◌then◌else◌, ℕ, ◌<◌, ◌^◌, List, [], ◌∷◌, ◌++◌, map, codes, All, Contains, String, string_bytes}
+use Rattle.std.specs.declared.alloc.Global.{Global}
 use Rattle.std.specs.List.Sorted.{IsStrictlyIncreasing}
 use Rattle.std.specs.Str.{bytes_eq}
 use Rattle.fjall_base.specs.declared.error.FormatVersion.TheVariants.{V3}
-use Rattle.fjall_base.specs.Disk.{Name, File, Folder, State, Image, IsFile, folder_of}
+use Rattle.fjall_base.specs.Disk.{Meaning, Name, File, Folder, State, Image, IsFile, folder_of}
+use Rattle.fjall_files.specs.Texts.{text_in}
+use Rattle.fjall_files.specs.Calls.{seen}
 use Rattle.fjall_files.specs.Regions.{IsSafe}
 use Rattle.fjall_tree.specs.Records.{record_text}
 use Rattle.fjall_files.specs.Marker.{header}
 use Rattle.fjall_files.specs.Names.{journal_name, keyspace_folder, current_name}
 use Rattle.fjall_meta.specs.Keyspaces.{no_keyspaces}
 use Rattle.fjall_catalog.specs.Catalog.{fields, first_catalog, only, records_in}
-use Rattle.fjall_recovery.specs.Journals.{Journal, text_in}
+use Rattle.fjall_recovery.specs.Journals.{Journal}
 use Rattle.fjall_recovery.specs.Halves.{Tree}
 use Rattle.fjall_recovery.specs.Places.{Journaling, LiesInRoot, RestsInTree}
 use Rattle.fjall_repair.specs.declared.beginning.plan.FileState.{FileState}
@@ -75,3 +78,25 @@ pub record AwaitsMarker (state : State) (sealed : List ℕ) (active : ℕ) : Typ
   pub root : LiesInRoot (marked state) (empty_journals sealed active)
   pub tree : RestsInTree (marked state) (fields first_catalog ∷ []) first_tree
   pub settled : (name : Name) → folder_of name ≡ [] → (state name).older ≡ []
+
+-- ---- what is asked of a step
+
+-- what a name's file has of the bytes that it is to hold, where it is there
+abbrev pub FindsAt : Image → Name → List ℕ → FileState → Type 0
+FindsAt image name bytes found = IsFound found bytes (text_in (image name))
+
+-- what tree 0's file has of its first record
+abbrev pub FindsFirst : Image → FileState → Type 0
+FindsFirst image found = IsFound found first_text (records_in image)
+
+-- a file of these bytes stands there, all of them synced
+abbrev pub IsFilled : State → Name → List ℕ → Type 0
+IsFilled state name bytes = (state name).now ≡ File bytes []
+
+-- these are the names of journals, and so this is so
+abbrev pub WhereJournals : List (String Global) → Type 0 → Type 0
+WhereJournals names P = (ids : List ℕ) → All (λ id. id < 2 ^ 64) ids → map string_bytes names ≡ map journal_name ids → P
+
+-- the marker is as it was
+abbrev pub KeepsMarker : Meaning → Meaning → Type 0
+KeepsMarker old new = seen new (codes "version") ≡ seen old (codes "version")

@@ -1,14 +1,17 @@
 -- What is done to a folder that is mended, and what each part of it keeps.
-use Rattle.std.specs.Prelude.{◌≡◌, ◌⊎◌, ◌≢◌, ℕ, ◌-◌, ◌≤◌, Bool, false, nat_lt, List, [], ◌∷◌, length, map, take, codes, slice_index_or, string_bytes, Some}
+use Rattle.std.specs.Prelude.{◌≡◌, ◌⊎◌, All, ◌≢◌, ℕ, ◌-◌, ◌≤◌, Bool, false, nat_lt, List, [], ◌∷◌, length, map, take, codes, slice_index_or, string_bytes, Some}
 use Rattle.std.specs.List.{AllByRecursion}
-use Rattle.fjall_base.specs.Disk.{Name, Entry, Missing, File, Place, State, Image, IsFile, IsImage, all_synced, folder_of}
+use Rattle.fjall_base.specs.Disk.{Name, Entry, Meaning, Missing, File, Place, State, Image, IsFile, IsImage, all_synced, folder_of}
 use Rattle.fjall_tree.specs.Records.{Fields, IsRecords}
 use Rattle.fjall_base.specs.Lists.{last_of}
+use Rattle.fjall_files.specs.Texts.{text_in}
+use Rattle.fjall_files.specs.Calls.{seen}
 use Rattle.fjall_files.specs.Names.{journal_name, keyspace_folder, current_name}
+use Rattle.fjall_catalog.specs.declared.reading.LoadedCatalog.{LoadedCatalog}
 use Rattle.fjall_recovery.specs.declared.folder.Finished.{Finished}
 use Rattle.fjall_recovery.specs.declared.homes.Home.{Home}
 use Rattle.fjall_recovery.specs.Folders.{Contents, IsSound}
-use Rattle.fjall_recovery.specs.Journals.{Journal, text_in}
+use Rattle.fjall_recovery.specs.Journals.{Journal}
 use Rattle.fjall_recovery.specs.Places.{texts_of}
 use Rattle.fjall_repair.specs.declared.mending.plan.FileEnd.{FileEnd}
 use Rattle.fjall_repair.specs.declared.mending.plan.MendPlan.{MendPlan}
@@ -44,6 +47,10 @@ whole_names ids = codes "version" ∷ map journal_name (sealed_of ids)
 -- the end of a keyspace's records as they were read
 abbrev pub home_end : Home → End
 home_end h = record { name = current_name h.id; cut = nat_lt h.end h.len; len = h.end }
+
+-- the end of tree 0's records as they were read
+abbrev pub tree_end : LoadedCatalog → End
+tree_end c = record { name = current_name 0; cut = c.is_torn; len = c.end }
 
 -- the files that are ended: the active journal, and the records of tree 0 and of these keyspaces
 abbrev pub ended_names : ℕ → List ℕ → List Name
@@ -146,3 +153,21 @@ pub record IsRested (state : State) (c : Contents) : Type 0 where
   pub ended : AllByRecursion (λ f. IsSynced (state f).now) (ended_names (active_of (map (λ (j : Journal). j.id) c.journals)) (map (λ k. k.id) c.keyspaces.living))
   pub active : (journal : Journal) → last_of c.journals ≡ Some journal → length (text_in (state (journal_name journal.id)).now) ≤ length (texts_of journal.batches)
   pub tree : (records : List Fields) (end : ℕ) → IsRecords (text_in (state (current_name 0)).now) records end → length (text_in (state (current_name 0)).now) ≤ end
+
+-- ---- what a step is asked for
+
+-- the name is that of the active journal of these contents
+abbrev pub IsActiveIn : Contents → Name → Type 0
+IsActiveIn c name = name ≡ journal_name (active_of (map (λ (j : Journal). j.id) c.journals))
+
+-- all of these are right ends
+abbrev pub AreRightEnds : Image → Contents → List FileEnd → Type 0
+AreRightEnds image c ends = All (λ e. IsRightEnd image c (end_of e)) ends
+
+-- the names of all of these files are synced
+abbrev pub AreNamesSynced : State → List FileEnd → Type 0
+AreNamesSynced state ends = All (λ e. (state (string_bytes e.name)).older ≡ []) ends
+
+-- P is so of a sound folder on the disk that the plan suits
+abbrev pub WhereSuits : Meaning → MendPlan → (Contents → Type 0) → Type 0
+WhereSuits disk plan P = (c : Contents) → IsSound (seen disk) c → Suits (seen disk) c plan → P c

@@ -14,5 +14,6 @@ pub fn settled_folders_come_back_unfinished()
 
 /// Where a crash brings nothing back, as on a disk that a crash left, nothing comes back but what stands.
 pub fn settled_folders_come_back()
-    ensures { (state : State) (folder : Option Contents) → ((name : Name) → (state name).older ≡ []) → IsFolder (standing state) folder → ComesBack state folder }
+    ensures { (state : State) (folder : Option Contents) → ((name : Name) → (state name).older ≡ []) → IsFolder (standing state) folder
+        → ComesBack state folder }
 {}

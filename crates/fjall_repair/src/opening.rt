@@ -1,17 +1,18 @@
 //! A database opened: all of its folder is read before anything is changed, and the store is the same at each moment.
 
-ghost use Rattle.std.specs.Prelude.{◌≡◌, ◌≤◌, IfErr, IfOk, IsErrAnd, IsTrue, None, Option, Some, List, []};
+ghost use Rattle.std.specs.Prelude.{◌≡◌, ◌≤◌, IfErr, IfOk, IsErrAnd, IsTrue, None, Option, Some};
 ghost use Rattle.fjall_base.specs.declared.error.Error.{Error};
-ghost use Rattle.fjall_base.specs.Store.{Command, Store};
-ghost use Rattle.fjall_base.specs.Disk.{LeavesOnly, standing, state_in};
+ghost use Rattle.fjall_base.specs.Disk.{LeavesOnly, state_in};
+ghost use Rattle.fjall_files.specs.Calls.{seen, AllServed};
 ghost use Rattle.fjall_files.specs.Tidy.{IsTidy, StaysTidy};
 ghost use Rattle.fjall_meta.specs.Keyspaces.{no_keyspaces};
 ghost use Rattle.fjall_versions.specs.Replays.{bare};
 ghost use Rattle.fjall_versions.specs.Versions.{store_of as store_behind};
-ghost use Rattle.fjall_recovery.specs.Folders.{Contents, IsFinished, IsUnfinished, Shows, StandsFor, number_of as number_in, store_of, IsSound};
+ghost use Rattle.fjall_recovery.specs.Amid.{LeavesAmid, KeepsAmid, WhereAmid};
+ghost use Rattle.fjall_recovery.specs.Folders.{Contents, IsFinished, IsUnfinished, Shows, StandsFor, number_of as number_in, store_of};
 ghost use Rattle.fjall_recovery.specs.Refusals.{AreOne, FolderRefuses, HasRisen, IsDue, IsOpeningRefusal};
 ghost use Rattle.fjall_recovery.specs.Held.{Holds, store_held, IsFolder};
-ghost use Rattle.fjall_recovery.specs.Amid.{HoldsAmid, StandsAmid};
+ghost use Rattle.fjall_repair.specs.Readings.{WhereRead, WhereSound};
 ghost use Rattle.fjall_repair.specs.Making.{ComesBackUnfinished};
 ghost use Rattle.fjall_repair.specs.Opened.{ComesBack, IsHeldUp, IsLawful, IsOpenedFrom, IsUnopened, Opens};
 ghost use Rattle.fjall_repair.specs.Sweeps.{IsSwept};
@@ -34,15 +35,14 @@ fn open_unfinished<D: Disk>(alloc: Global, disk: &mut D) -> Result<Opened>
         → LeavesOnly (D.meaning disk.old) (D.meaning disk.new) (λ image. StandsFor image (bare no_keyspaces)) }
     ensures later { (D.meaning disk.old).faults ≤ (D.meaning disk.new).faults }
     ensures risen { IfErr result (HasRisen (D.meaning disk.old).faults (D.meaning disk.new).faults) }
-    ensures due { IsTrue D.honest → IsUnfinished (standing (state_in (D.meaning disk.old))) → IfErr result (IsHeldUp (D.meaning disk.old) (D.meaning disk.new)) }
+    ensures due { IsTrue D.honest → IsUnfinished (seen (D.meaning disk.old)) → IfErr result (IsHeldUp (D.meaning disk.old) (D.meaning disk.new)) }
     ensures listed { IfErr result IsOpeningRefusal }
     // Where a crash of the disk leaves different stores, so does one of this call; what stands is opened.
-    ensures amid { IsTrue D.honest → IsUnfinished (standing (state_in (D.meaning disk.old))) → (base : Store) (pending : List Command) → HoldsAmid (state_in (D.meaning disk.old)) base pending
-        → LeavesOnly (D.meaning disk.old) (D.meaning disk.new) (StandsAmid base [] pending) }
-    ensures opens { IsTrue D.honest → IsUnfinished (standing (state_in (D.meaning disk.old))) → IfOk result (Opens (state_in (D.meaning disk.new)) None) }
-    ensures held { IsTrue D.honest → IsUnfinished (standing (state_in (D.meaning disk.old))) → (base : Store) (pending : List Command) → HoldsAmid (state_in (D.meaning disk.old)) base pending → HoldsAmid (state_in (D.meaning disk.new)) base pending }
+    ensures amid { IsTrue D.honest → IsUnfinished (seen (D.meaning disk.old)) → LeavesAmid (D.meaning disk.old) (D.meaning disk.new) }
+    ensures opens { IsTrue D.honest → IsUnfinished (seen (D.meaning disk.old)) → IfOk result (Opens (state_in (D.meaning disk.new)) None) }
+    ensures held { IsTrue D.honest → IsUnfinished (seen (D.meaning disk.old)) → KeepsAmid (D.meaning disk.old) (D.meaning disk.new) }
     ensures kinds { IsTrue D.honest → StaysTidy (D.meaning disk.old) (D.meaning disk.new) }
-    ensures served { IsTrue D.honest → IsTidy (state_in (D.meaning disk.old)) → (D.meaning disk.new).misuses ≡ (D.meaning disk.old).misuses }
+    ensures served { IsTrue D.honest → IsTidy (state_in (D.meaning disk.old)) → AllServed (D.meaning disk.old) (D.meaning disk.new) }
 {
     let ToBegin {
         opened,
@@ -55,27 +55,29 @@ fn open_unfinished<D: Disk>(alloc: Global, disk: &mut D) -> Result<Opened>
 
 /// Opens a folder that was made to its end and read.
 fn open_finished<D: Disk>(alloc: Global, disk: &mut D, found: Finished) -> Result<Opened>
-    ensures opened { IsTrue D.honest → (contents : Contents) → IsFinished (standing (state_in (D.meaning disk.old))) found → Shows found contents → Holds (state_in (D.meaning disk.old)) (Some contents)
-        → IfOk result (Opens (state_in (D.meaning disk.new)) (Some contents)) }
-    ensures swept { IsTrue D.honest → IsFinished (standing (state_in (D.meaning disk.old))) found → IfOk result (λ o. IsSwept (state_in (D.meaning disk.old)) (state_in (D.meaning disk.new)) o.catalog o.keyspaces.living) }
+    ensures opened { IsTrue D.honest
+        → WhereRead (D.meaning disk.old) found (λ contents. Holds (state_in (D.meaning disk.old)) (Some contents)
+        → IfOk result (Opens (state_in (D.meaning disk.new)) (Some contents))) }
+    ensures swept { IsTrue D.honest → IsFinished (seen (D.meaning disk.old)) found
+        → IfOk result (λ o. IsSwept (state_in (D.meaning disk.old)) (state_in (D.meaning disk.new)) o.catalog o.keyspaces.living) }
     ensures store { (contents : Contents) → Shows found contents → IfOk result (λ o. store_behind o.keyspaces o.versions.items ≡ store_of contents) }
-    ensures number { IsTrue D.honest → (contents : Contents) → IsFinished (standing (state_in (D.meaning disk.old))) found → Shows found contents → IfOk result (λ o. o.number ≡ number_in contents) }
+    ensures number { IsTrue D.honest → WhereRead (D.meaning disk.old) found (λ contents. IfOk result (λ o. o.number ≡ number_in contents)) }
     ensures lawful { IfOk result IsLawful }
-    ensures any_moment { IsTrue D.honest → (contents : Contents) → IsFinished (standing (state_in (D.meaning disk.old))) found → Shows found contents → Holds (state_in (D.meaning disk.old)) (Some contents)
-        → LeavesOnly (D.meaning disk.old) (D.meaning disk.new) (λ image. StandsFor image (store_of contents)) }
+    ensures any_moment { IsTrue D.honest → WhereRead (D.meaning disk.old) found (λ contents. Holds (state_in (D.meaning disk.old)) (Some contents)
+        → LeavesOnly (D.meaning disk.old) (D.meaning disk.new) (λ image. StandsFor image (store_of contents))) }
     ensures later { (D.meaning disk.old).faults ≤ (D.meaning disk.new).faults }
     ensures risen { IfErr result (HasRisen (D.meaning disk.old).faults (D.meaning disk.new).faults) }
-    ensures due { IsTrue D.honest → (contents : Contents) → IsFinished (standing (state_in (D.meaning disk.old))) found → Shows found contents → IfErr result (IsHeldUp (D.meaning disk.old) (D.meaning disk.new)) }
+    ensures due { IsTrue D.honest → WhereRead (D.meaning disk.old) found (λ contents. IfErr result (IsHeldUp (D.meaning disk.old) (D.meaning disk.new))) }
     ensures listed { IfErr result IsOpeningRefusal }
     // Where a crash of the disk leaves different stores, so does one of this call; what stands is opened.
-    ensures amid { IsTrue D.honest → (contents : Contents) → IsFinished (standing (state_in (D.meaning disk.old))) found → Shows found contents → IsSound (standing (state_in (D.meaning disk.old))) contents
-        → (base : Store) (pending : List Command) → HoldsAmid (state_in (D.meaning disk.old)) base pending → LeavesOnly (D.meaning disk.old) (D.meaning disk.new) (StandsAmid base [] pending) }
-    ensures opens { IsTrue D.honest → (contents : Contents) → IsFinished (standing (state_in (D.meaning disk.old))) found → Shows found contents → IsSound (standing (state_in (D.meaning disk.old))) contents
-        → (base : Store) (pending : List Command) → HoldsAmid (state_in (D.meaning disk.old)) base pending → IfOk result (Opens (state_in (D.meaning disk.new)) (Some contents)) }
-    ensures held { IsTrue D.honest → (contents : Contents) → IsFinished (standing (state_in (D.meaning disk.old))) found → Shows found contents → IsSound (standing (state_in (D.meaning disk.old))) contents
-        → (base : Store) (pending : List Command) → HoldsAmid (state_in (D.meaning disk.old)) base pending → HoldsAmid (state_in (D.meaning disk.new)) base pending }
-    ensures kinds { IsTrue D.honest → IsFinished (standing (state_in (D.meaning disk.old))) found → StaysTidy (D.meaning disk.old) (D.meaning disk.new) }
-    ensures served { IsTrue D.honest → IsTidy (state_in (D.meaning disk.old)) → (contents : Contents) → IsFinished (standing (state_in (D.meaning disk.old))) found → Shows found contents → IsSound (standing (state_in (D.meaning disk.old))) contents → (D.meaning disk.new).misuses ≡ (D.meaning disk.old).misuses }
+    ensures amid { IsTrue D.honest → WhereSound (D.meaning disk.old) found (λ contents. LeavesAmid (D.meaning disk.old) (D.meaning disk.new)) }
+    ensures opens { IsTrue D.honest
+        → WhereSound (D.meaning disk.old) found (λ contents.
+        WhereAmid (D.meaning disk.old) (IfOk result (Opens (state_in (D.meaning disk.new)) (Some contents)))) }
+    ensures held { IsTrue D.honest → WhereSound (D.meaning disk.old) found (λ contents. KeepsAmid (D.meaning disk.old) (D.meaning disk.new)) }
+    ensures kinds { IsTrue D.honest → IsFinished (seen (D.meaning disk.old)) found → StaysTidy (D.meaning disk.old) (D.meaning disk.new) }
+    ensures served { IsTrue D.honest → IsTidy (state_in (D.meaning disk.old))
+        → WhereSound (D.meaning disk.old) found (λ contents. AllServed (D.meaning disk.old) (D.meaning disk.new)) }
 {
     let ToMend {
         opened,
@@ -94,32 +96,34 @@ fn open_finished<D: Disk>(alloc: Global, disk: &mut D, found: Finished) -> Resul
 /// goes on. Whatever a crash leaves at any moment
 /// of the call stands for the store that the folder stood for.
 pub fn open_folder<D: Disk>(alloc: Global, disk: &mut D) -> Result<Opened>
-    ensures opened { IsTrue D.honest → (folder : Option Contents) → Holds (state_in (D.meaning disk.old)) folder → IfOk result (Opens (state_in (D.meaning disk.new)) folder) }
+    ensures opened { IsTrue D.honest → (folder : Option Contents) → Holds (state_in (D.meaning disk.old)) folder
+        → IfOk result (Opens (state_in (D.meaning disk.new)) folder) }
     // Nothing is left that no record names.
     ensures swept { IsTrue D.honest → IfOk result (λ o. IsSwept (state_in (D.meaning disk.old)) (state_in (D.meaning disk.new)) o.catalog o.keyspaces.living) }
-    ensures found { IsTrue D.honest → IfOk result (IsOpenedFrom (standing (state_in (D.meaning disk.old)))) }
+    ensures found { IsTrue D.honest → IfOk result (IsOpenedFrom (seen (D.meaning disk.old))) }
     ensures lawful { IfOk result IsLawful }
     // A crash at any moment of the call, also of one that fails, leaves a folder of the same store.
-    ensures any_moment { IsTrue D.honest → (folder : Option Contents) → Holds (state_in (D.meaning disk.old)) folder → ComesBack (state_in (D.meaning disk.old)) folder
+    ensures any_moment { IsTrue D.honest → (folder : Option Contents) → Holds (state_in (D.meaning disk.old)) folder
+        → ComesBack (state_in (D.meaning disk.old)) folder
         → LeavesOnly (D.meaning disk.old) (D.meaning disk.new) (λ image. StandsFor image (store_held folder)) }
     ensures later { (D.meaning disk.old).faults ≤ (D.meaning disk.new).faults }
     ensures risen { IfErr result (HasRisen (D.meaning disk.old).faults (D.meaning disk.new).faults) }
     ensures due { IsTrue D.honest → IfErr result (IsUnopened (D.meaning disk.old) (D.meaning disk.new)) }
     // Where the folder is refused, this is refused with that error, unless memory runs out or the disk fails.
-    ensures refuses { IsTrue D.honest → (error : Error) → FolderRefuses (standing (state_in (D.meaning disk.old))) error → IsErrAnd result (IsDue (AreOne error)) }
+    ensures refuses { IsTrue D.honest → (error : Error) → FolderRefuses (seen (D.meaning disk.old)) error → IsErrAnd result (IsDue (AreOne error)) }
     // Over any disk at all it is refused with one of these alone.
     ensures listed { IfErr result IsOpeningRefusal }
     // The same of a disk of which a crash may leave different stores, as an opening that failed leaves it: what stands is
     // opened, and a crash at any moment leaves the base with a beginning of the pending commands.
-    ensures amid { IsTrue D.honest → (base : Store) (pending : List Command) → HoldsAmid (state_in (D.meaning disk.old)) base pending → LeavesOnly (D.meaning disk.old) (D.meaning disk.new) (StandsAmid base [] pending) }
-    ensures opens { IsTrue D.honest → (folder : Option Contents) → IsFolder (standing (state_in (D.meaning disk.old))) folder → (base : Store) (pending : List Command) → HoldsAmid (state_in (D.meaning disk.old)) base pending
-        → IfOk result (Opens (state_in (D.meaning disk.new)) folder) }
+    ensures amid { IsTrue D.honest → LeavesAmid (D.meaning disk.old) (D.meaning disk.new) }
+    ensures opens { IsTrue D.honest → (folder : Option Contents) → IsFolder (seen (D.meaning disk.old)) folder
+        → WhereAmid (D.meaning disk.old) (IfOk result (Opens (state_in (D.meaning disk.new)) folder)) }
     // Then the disk holds them still, so that an opening after one that failed finds what that one found.
-    ensures held { IsTrue D.honest → (base : Store) (pending : List Command) → HoldsAmid (state_in (D.meaning disk.old)) base pending → HoldsAmid (state_in (D.meaning disk.new)) base pending }
+    ensures held { IsTrue D.honest → KeepsAmid (D.meaning disk.old) (D.meaning disk.new) }
     // Nothing is put in the way of what the engine makes and removes.
     ensures kinds { IsTrue D.honest → StaysTidy (D.meaning disk.old) (D.meaning disk.new) }
     // Where nothing stands in the way, each call of the disk was one that it can serve, also where the folder is refused.
-    ensures served { IsTrue D.honest → IsTidy (state_in (D.meaning disk.old)) → (D.meaning disk.new).misuses ≡ (D.meaning disk.old).misuses }
+    ensures served { IsTrue D.honest → IsTidy (state_in (D.meaning disk.old)) → AllServed (D.meaning disk.old) (D.meaning disk.new) }
 {
     match read_folder(alloc, disk)? {
         Some(found) => open_finished(alloc, disk, found),

@@ -1,9 +1,10 @@
 //! What no record names: found before anything is removed.
 
 ghost use Rattle.std.specs.List.{list_any};
-ghost use Rattle.std.specs.Prelude.{◌≡◌, ◌==◌, ◌↔◌, ◌⊎◌, ◌≢◌, ◌≤◌, ◌<◌, ◌^◌, ℕ, [], All, Contains, IfErr, IfOk, IsOkUnless, IsTrue, List, None, map, string_bytes};
-ghost use Rattle.fjall_base.specs.Disk.{Name, Took, folder_of, state_in};
+ghost use Rattle.std.specs.Prelude.{◌≡◌, ◌==◌, ◌↔◌, ◌⊎◌, ◌≤◌, ◌<◌, ◌^◌, [], All, IfErr, IfOk, IsOkUnless, IsTrue, None, map, string_bytes};
+ghost use Rattle.fjall_base.specs.Disk.{Lists, Took, folder_of, state_in};
 ghost use Rattle.fjall_recovery.specs.Refusals.{HasRisen, IsDue};
+ghost use Rattle.fjall_files.specs.Calls.{AllServed};
 ghost use Rattle.fjall_files.specs.Names.{keyspace_folder as folder_at};
 ghost use Rattle.fjall_repair.specs.Listing.{AreTables, as_file, other_tables};
 ghost use Rattle.fjall_repair.specs.Sweeps.{FindsAll, FindsHomes, FindsTables, FindsTablesOf, HasAll, IsHomeFound, IsPlan, IsUnnamedHome, IsUnnamedTable, Lives};
@@ -66,6 +67,30 @@ fn names_of(alloc: Global, listed: Vec<DirEntry>) -> Result<Vec<String>>
     Ok(names.collect(alloc)?)
 }
 
+/// A keyspace's folder.
+#[derive(Drop)]
+struct ListedFolder {
+    name: String,
+    /// What stands in it.
+    entries: Vec<DirEntry>,
+}
+
+/// Lists the folder of the keyspace of this id.
+fn list_folder<D: Disk>(alloc: Global, disk: &mut D, id: u64) -> Result<ListedFolder>
+    ensures name { IfOk result (λ l. string_bytes l.name ≡ folder_at id) }
+    ensures found { IsTrue D.honest → IfOk result (λ l. Lists (state_in (D.meaning disk.old)) (folder_at id) l.entries.items) }
+    ensures fits { id < 2 ^ 64 }
+    ensures same { IsTrue D.honest → Took (D.meaning disk.old) (D.meaning disk.new) [] }
+    ensures served { IsTrue D.honest → AllServed (D.meaning disk.old) (D.meaning disk.new) }
+    ensures later { (D.meaning disk.old).faults ≤ (D.meaning disk.new).faults }
+    ensures risen { IfErr result (HasRisen (D.meaning disk.old).faults (D.meaning disk.new).faults) }
+    ensures only { IfErr result (IsDue (λ error. ⊥)) }
+{
+    let name = keyspace_folder(alloc, id)?;
+    let entries = disk.list(alloc, name.as_str())?;
+    Ok(ListedFolder { name, entries })
+}
+
 /// The names of the tables that stand in the folder of this id, but that of the one that is named.
 fn list_tables<D: Disk>(
     alloc: Global,
@@ -76,14 +101,13 @@ fn list_tables<D: Disk>(
     ensures found { IsTrue D.honest → IfOk result (λ names. AreTables (state_in (D.meaning disk.old)) id named (map string_bytes names.items)) }
     ensures fits { id < 2 ^ 64 }
     ensures same { IsTrue D.honest → Took (D.meaning disk.old) (D.meaning disk.new) [] }
-    ensures served { IsTrue D.honest → (D.meaning disk.new).misuses ≡ (D.meaning disk.old).misuses }
+    ensures served { IsTrue D.honest → AllServed (D.meaning disk.old) (D.meaning disk.new) }
     ensures later { (D.meaning disk.old).faults ≤ (D.meaning disk.new).faults }
     ensures risen { IfErr result (HasRisen (D.meaning disk.old).faults (D.meaning disk.new).faults) }
     ensures only { IfErr result (IsDue (λ error. ⊥)) }
 {
-    let folder = keyspace_folder(alloc, id)?;
-    let listed = disk.list(alloc, folder.as_str())?;
-    let files = as_files(alloc, listed)?;
+    let folder = list_folder(alloc, disk, id)?;
+    let files = as_files(alloc, folder.entries)?;
     let ids = tables(alloc, id, &files)?;
     other_names(alloc, id, named, &ids)
 }
@@ -99,7 +123,7 @@ fn list_all_tables<D: Disk>(
     ensures tree { IsTrue D.honest → IfOk result (λ names. FindsTables (state_in (D.meaning disk.old)) named (map string_bytes names.items)) }
     ensures others { IsTrue D.honest → IfOk result (λ names. FindsTablesOf (state_in (D.meaning disk.old)) living.now (map string_bytes names.items)) }
     ensures same { IsTrue D.honest → Took (D.meaning disk.old) (D.meaning disk.new) [] }
-    ensures served { IsTrue D.honest → (D.meaning disk.new).misuses ≡ (D.meaning disk.old).misuses }
+    ensures served { IsTrue D.honest → AllServed (D.meaning disk.old) (D.meaning disk.new) }
     ensures later { (D.meaning disk.old).faults ≤ (D.meaning disk.new).faults }
     ensures risen { IfErr result (HasRisen (D.meaning disk.old).faults (D.meaning disk.new).faults) }
     ensures only { IfErr result (IsDue (λ error. ⊥)) }
@@ -132,15 +156,17 @@ fn list_home<D: Disk>(alloc: Global, disk: &mut D, id: u64) -> Result<UnnamedHom
     ensures fits { id < 2 ^ 64 }
     ensures inside { IsTrue D.honest → IfOk result (λ home. All (λ file. folder_of (string_bytes file) ≡ folder_at id) home.files.items) }
     ensures same { IsTrue D.honest → Took (D.meaning disk.old) (D.meaning disk.new) [] }
-    ensures served { IsTrue D.honest → (D.meaning disk.new).misuses ≡ (D.meaning disk.old).misuses }
+    ensures served { IsTrue D.honest → AllServed (D.meaning disk.old) (D.meaning disk.new) }
     ensures later { (D.meaning disk.old).faults ≤ (D.meaning disk.new).faults }
     ensures risen { IfErr result (HasRisen (D.meaning disk.old).faults (D.meaning disk.new).faults) }
     ensures only { IfErr result (IsDue (λ error. ⊥)) }
 {
-    let folder = keyspace_folder(alloc, id)?;
-    let listed = disk.list(alloc, folder.as_str())?;
-    let files = names_of(alloc, listed)?;
-    Ok(UnnamedHome { folder, files })
+    let folder = list_folder(alloc, disk, id)?;
+    let files = names_of(alloc, folder.entries)?;
+    Ok(UnnamedHome {
+        folder: folder.name,
+        files,
+    })
 }
 
 /// The folders of these ids but tree 0's and those of the keyspaces that live.
@@ -153,7 +179,7 @@ fn list_homes<D: Disk>(
     ensures unnamed { IsTrue D.honest → IfOk result (λ homes. All (IsUnnamedHome living.now) homes.items) }
     ensures found { IsTrue D.honest → IfOk result (λ homes. FindsHomes (state_in (D.meaning disk.old)) living.now ids.now homes.items) }
     ensures same { IsTrue D.honest → Took (D.meaning disk.old) (D.meaning disk.new) [] }
-    ensures served { IsTrue D.honest → (D.meaning disk.new).misuses ≡ (D.meaning disk.old).misuses }
+    ensures served { IsTrue D.honest → AllServed (D.meaning disk.old) (D.meaning disk.new) }
     ensures later { (D.meaning disk.old).faults ≤ (D.meaning disk.new).faults }
     ensures risen { IfErr result (HasRisen (D.meaning disk.old).faults (D.meaning disk.new).faults) }
     ensures only { IfErr result (IsDue (λ error. ⊥)) }
@@ -184,7 +210,7 @@ pub fn plan_sweep<D: Disk>(
     ensures right { IsTrue D.honest → IfOk result (IsPlan named_table living.now) }
     ensures whole { IsTrue D.honest → IfOk result (FindsAll (state_in (D.meaning disk.old)) named_table living.now folder_ids.now) }
     ensures same { IsTrue D.honest → Took (D.meaning disk.old) (D.meaning disk.new) [] }
-    ensures served { IsTrue D.honest → (D.meaning disk.new).misuses ≡ (D.meaning disk.old).misuses }
+    ensures served { IsTrue D.honest → AllServed (D.meaning disk.old) (D.meaning disk.new) }
     ensures later { (D.meaning disk.old).faults ≤ (D.meaning disk.new).faults }
     ensures risen { IfErr result (HasRisen (D.meaning disk.old).faults (D.meaning disk.new).faults) }
     ensures only { IfErr result (IsDue (λ error. ⊥)) }

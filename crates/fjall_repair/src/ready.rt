@@ -2,15 +2,17 @@
 
 ghost use Rattle.std.specs.Prelude.{◌≡◌, ◌<◌, ◌≤◌, [], ℕ, List, All, IfErr, IfOk, IsOkUnless, IsTrue, None, map, max, string_bytes};
 ghost use Rattle.std.specs.Option.{option_map};
-ghost use Rattle.fjall_base.specs.Disk.{Image, Took, standing, state_in};
+ghost use Rattle.fjall_base.specs.Disk.{Image, Took, state_in};
 ghost use Rattle.fjall_journal.specs.Batches.{view};
 ghost use Rattle.fjall_meta.specs.Keyspaces.{AreKeyspaces, no_keyspaces};
 ghost use Rattle.fjall_catalog.specs.Catalog.{first_catalog};
+ghost use Rattle.fjall_files.specs.Calls.{seen, AllServed};
 ghost use Rattle.fjall_files.specs.Names.{journal_name};
 ghost use Rattle.fjall_versions.specs.Versions.{versions_behind};
 ghost use Rattle.fjall_recovery.specs.Folders.{IsFinished, IsUnfinished, past_records};
-ghost use Rattle.fjall_recovery.specs.Naming.{AreFolderIds, KeyspacesAreNamed};
+ghost use Rattle.fjall_recovery.specs.Naming.{AreFolderIds};
 ghost use Rattle.fjall_recovery.specs.Refusals.{HasRisen, IsDue, IsOpeningRefusal};
+ghost use Rattle.fjall_repair.specs.Readings.{IsSweepOf, FindsUnnamed, TakesRead};
 ghost use Rattle.fjall_repair.specs.Plans.{IsPlan as IsMakingOf};
 ghost use Rattle.fjall_repair.specs.Mended.{IsMendingOf};
 ghost use Rattle.fjall_repair.specs.Opened.{HasNumbers, IsLawful, Takes, records_of};
@@ -22,10 +24,10 @@ use crate::plan::{SweepPlan, plan_sweep};
 use crate::{BeginPlan, MendPlan, plan_beginning, plan_mending};
 use fjall_base::{Disk, Error, Result};
 use fjall_catalog::Catalog;
-use fjall_files::{journal_name, keyspaces};
+use fjall_files::journal_name;
 use fjall_journal::{Batch, Writer};
 use fjall_meta::MetaKeyspace;
-use fjall_recovery::Finished;
+use fjall_recovery::{Finished, list_keyspaces};
 use fjall_versions::{Version, replay};
 use std::alloc::Global;
 
@@ -51,20 +53,6 @@ pub(crate) struct ToMend {
     pub sweep: SweepPlan,
 }
 
-/// The ids of the folders of keyspaces, where each folder in `keyspaces` is named by an id.
-fn list_folders<D: Disk>(alloc: Global, disk: &mut D) -> Result<Vec<u64>>
-    ensures ids { IsTrue D.honest → IfOk result (λ ids. AreFolderIds (standing (state_in (D.meaning disk.old))) ids.items) }
-    ensures same { IsTrue D.honest → Took (D.meaning disk.old) (D.meaning disk.new) [] }
-    ensures served { IsTrue D.honest → (D.meaning disk.new).misuses ≡ (D.meaning disk.old).misuses }
-    ensures later { (D.meaning disk.old).faults ≤ (D.meaning disk.new).faults }
-    ensures risen { IfErr result (HasRisen (D.meaning disk.old).faults (D.meaning disk.new).faults) }
-    ensures only { IsTrue D.honest → KeyspacesAreNamed (standing (state_in (D.meaning disk.old))) → IfErr result (IsDue (λ error. ⊥)) }
-    ensures listed { IfErr result IsOpeningRefusal }
-{
-    let listed = disk.list(alloc, "keyspaces")?;
-    keyspaces(alloc, &listed)
-}
-
 /// What a database without keyspaces opens as.
 fn new_database(alloc: Global, active: u64) -> Result<Opened>
     ensures opened { IfOk result (λ o. Takes o (journal_name active) 0 first_catalog no_keyspaces []) }
@@ -84,20 +72,21 @@ fn new_database(alloc: Global, active: u64) -> Result<Opened>
 
 /// Gets ready to begin a database, or to go on with one whose making was cut short.
 pub(crate) fn ready_to_begin<D: Disk>(alloc: Global, disk: &mut D) -> Result<ToBegin>
-    ensures making { IsTrue D.honest → IfOk result (λ r. IsMakingOf (standing (state_in (D.meaning disk.old))) r.making) }
+    ensures making { IsTrue D.honest → IfOk result (λ r. IsMakingOf (seen (D.meaning disk.old)) r.making) }
     ensures sweep { IsTrue D.honest → IfOk result (λ r. IsPlan None [] r.sweep) }
-    ensures finds { IsTrue D.honest → IfOk result (λ r. (ids : List ℕ) × AreFolderIds (standing (state_in (D.meaning disk.old))) ids × FindsAll (state_in (D.meaning disk.old)) None [] ids r.sweep) }
+    ensures finds { IsTrue D.honest
+        → IfOk result (λ r. (ids : List ℕ) × AreFolderIds (seen (D.meaning disk.old)) ids × FindsAll (state_in (D.meaning disk.old)) None [] ids r.sweep) }
     ensures opened { IfOk result (λ r. Takes r.opened (journal_name r.making.active) 0 first_catalog no_keyspaces []) }
     ensures number { IfOk result (λ r. r.opened.number ≡ 0) }
     ensures lawful { IfOk result (λ r. IsLawful r.opened) }
     ensures same { IsTrue D.honest → Took (D.meaning disk.old) (D.meaning disk.new) [] }
-    ensures served { IsTrue D.honest → (D.meaning disk.new).misuses ≡ (D.meaning disk.old).misuses }
+    ensures served { IsTrue D.honest → AllServed (D.meaning disk.old) (D.meaning disk.new) }
     ensures later { (D.meaning disk.old).faults ≤ (D.meaning disk.new).faults }
     ensures risen { IfErr result (HasRisen (D.meaning disk.old).faults (D.meaning disk.new).faults) }
-    ensures due { IsTrue D.honest → IsUnfinished (standing (state_in (D.meaning disk.old))) → IfErr result (IsDue (λ error. ⊥)) }
+    ensures due { IsTrue D.honest → IsUnfinished (seen (D.meaning disk.old)) → IfErr result (IsDue (λ error. ⊥)) }
     ensures listed { IfErr result IsOpeningRefusal }
 {
-    let ids = list_folders(alloc, disk)?;
+    let ids = list_keyspaces(alloc, disk)?;
     let sweep = plan_sweep(alloc, disk, None, &[], &ids)?;
     let making = plan_beginning(alloc, disk)?;
     Ok(ToBegin {
@@ -129,7 +118,7 @@ fn replayed(alloc: Global, keyspaces: &MetaKeyspace, batches: Vec<Batch>) -> Res
 
 /// What a folder opens as that was read, and whose journal goes on at the end of this file.
 fn database_of(alloc: Global, found: Finished, active: &str) -> Result<Opened>
-    ensures opened { IfOk result (λ o. Takes o active.now found.journals.end found.catalog.catalog found.catalog.keyspaces (map view found.journals.batches.items)) }
+    ensures opened { IfOk result (λ o. TakesRead o active.now found) }
     ensures number { All HasNumbers (records_of found) → IfOk result (λ o. o.number ≡ max found.journals.least (past_records (records_of found))) }
     ensures lawful { IfOk result IsLawful }
     ensures risen { (faults : ℕ) → IfErr result (HasRisen faults faults) }
@@ -156,14 +145,14 @@ fn database_of(alloc: Global, found: Finished, active: &str) -> Result<Opened>
 
 /// Gets ready to mend the folder that was read.
 pub(crate) fn ready_to_mend<D: Disk>(alloc: Global, disk: &mut D, found: Finished) -> Result<ToMend>
-    ensures mending { IsTrue D.honest → IfOk result (λ r. IsMendingOf (standing (state_in (D.meaning disk.old))) found r.mending) }
-    ensures sweep { IsTrue D.honest → IfOk result (λ r. IsPlan (option_map (λ table. table.id) found.catalog.catalog.table) found.catalog.keyspaces.living r.sweep) }
-    ensures finds { IsTrue D.honest → IfOk result (λ r. FindsAll (state_in (D.meaning disk.old)) (option_map (λ table. table.id) found.catalog.catalog.table) found.catalog.keyspaces.living found.folder_ids.items r.sweep) }
-    ensures opened { IfOk result (λ r. Takes r.opened (string_bytes r.mending.active) found.journals.end found.catalog.catalog found.catalog.keyspaces (map view found.journals.batches.items)) }
+    ensures mending { (image : Image) → IsFinished image found → IfOk result (λ r. IsMendingOf image found r.mending) }
+    ensures sweep { IsTrue D.honest → IfOk result (λ r. IsSweepOf found r.sweep) }
+    ensures finds { IsTrue D.honest → IfOk result (λ r. FindsUnnamed (state_in (D.meaning disk.old)) found r.sweep) }
+    ensures opened { IfOk result (λ r. TakesRead r.opened (string_bytes r.mending.active) found) }
     ensures number { All HasNumbers (records_of found) → IfOk result (λ r. r.opened.number ≡ max found.journals.least (past_records (records_of found))) }
     ensures lawful { IfOk result (λ r. IsLawful r.opened) }
     ensures same { IsTrue D.honest → Took (D.meaning disk.old) (D.meaning disk.new) [] }
-    ensures served { IsTrue D.honest → (D.meaning disk.new).misuses ≡ (D.meaning disk.old).misuses }
+    ensures served { IsTrue D.honest → AllServed (D.meaning disk.old) (D.meaning disk.new) }
     ensures later { (D.meaning disk.old).faults ≤ (D.meaning disk.new).faults }
     ensures risen { IfErr result (HasRisen (D.meaning disk.old).faults (D.meaning disk.new).faults) }
     ensures due { IsTrue D.honest → (image : Image) → IsFinished image found → IfErr result (IsDue (λ error. ⊥)) }
@@ -172,7 +161,7 @@ pub(crate) fn ready_to_mend<D: Disk>(alloc: Global, disk: &mut D, found: Finishe
     let named = named_table(&found.catalog.catalog);
     let living = found.catalog.keyspaces.living();
     let sweep = plan_sweep(alloc, disk, named, living, &found.folder_ids)?;
-    let mending = plan_mending(alloc, disk, &found)?;
+    let mending = plan_mending(alloc, &found)?;
     Ok(ToMend {
         opened: database_of(alloc, found, mending.active.as_str())?,
         mending,

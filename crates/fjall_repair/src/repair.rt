@@ -1,17 +1,17 @@
 //! A folder repaired: begun or mended, and then swept. A crash at any moment of it leaves the same store.
 
-ghost use Rattle.std.specs.Prelude.{◌≡◌, List, [], IsTrue, None, OnOk, Some, map, string_bytes, All};
-ghost use Rattle.std.specs.Option.{option_map};
-ghost use Rattle.fjall_base.specs.Store.{Command, Store};
-ghost use Rattle.fjall_base.specs.Disk.{LeavesOnly, OnlyFaults, standing, state_in};
+ghost use Rattle.std.specs.Prelude.{[], IsTrue, None, OnOk, Some, map, string_bytes, All};
+ghost use Rattle.fjall_base.specs.Disk.{LeavesOnly, OnlyFaults, state_in};
 ghost use Rattle.fjall_meta.specs.Keyspaces.{no_keyspaces};
+ghost use Rattle.fjall_files.specs.Calls.{seen, AllServed};
 ghost use Rattle.fjall_files.specs.Names.{journal_name};
 ghost use Rattle.fjall_files.specs.Tidy.{IsTidy, StaysTidy};
 ghost use Rattle.fjall_versions.specs.Replays.{bare};
+ghost use Rattle.fjall_recovery.specs.Amid.{LeavesAmid, KeepsAmid, WhereAmid};
 ghost use Rattle.fjall_recovery.specs.declared.folder.Finished.{Finished};
-ghost use Rattle.fjall_recovery.specs.Folders.{Contents, IsFinished, IsSound, IsUnfinished, Shows, StandsFor, store_of};
-ghost use Rattle.fjall_recovery.specs.Amid.{HoldsAmid, StandsAmid};
+ghost use Rattle.fjall_recovery.specs.Folders.{IsFinished, IsUnfinished, StandsFor, store_of};
 ghost use Rattle.fjall_recovery.specs.Held.{Holds};
+ghost use Rattle.fjall_repair.specs.Readings.{WhereRead, WhereSound, IsSweepOf, FindsNamed};
 ghost use Rattle.fjall_repair.specs.Making.{ComesBackUnfinished};
 ghost use Rattle.fjall_repair.specs.Plans.{IsPlan as IsMakingOf};
 ghost use Rattle.fjall_repair.specs.Mended.{IsMendingOf};
@@ -29,30 +29,33 @@ pub(crate) fn mend_and_sweep<D: Disk>(
     mending: &MendPlan,
     plan: &SweepPlan,
 ) -> Result<()>
-    ensures any_moment { IsTrue D.honest → (found : Finished) (contents : Contents) → IsFinished (standing (state_in (D.meaning disk.old))) found → Shows found contents → Holds (state_in (D.meaning disk.old)) (Some contents)
-        → IsMendingOf (standing (state_in (D.meaning disk.old))) found mending.now → IsPlan (option_map (λ table. table.id) found.catalog.catalog.table) found.catalog.keyspaces.living plan.now
-        → LeavesOnly (D.meaning disk.old) (D.meaning disk.new) (λ image. StandsFor image (store_of contents)) }
-    ensures ok { IsTrue D.honest → (found : Finished) (contents : Contents) → IsFinished (standing (state_in (D.meaning disk.old))) found → Shows found contents → Holds (state_in (D.meaning disk.old)) (Some contents)
-        → IsMendingOf (standing (state_in (D.meaning disk.old))) found mending.now → IsPlan (option_map (λ table. table.id) found.catalog.catalog.table) found.catalog.keyspaces.living plan.now
-        → FindsTables (state_in (D.meaning disk.old)) (option_map (λ table. table.id) found.catalog.catalog.table) (map string_bytes plan.now.tables.items)
-        → OnOk result (IsRepaired (state_in (D.meaning disk.new)) contents (string_bytes mending.now.active) found.journals.end) }
+    ensures any_moment { IsTrue D.honest → (found : Finished)
+        → WhereRead (D.meaning disk.old) found (λ contents. Holds (state_in (D.meaning disk.old)) (Some contents)
+        → IsMendingOf (seen (D.meaning disk.old)) found mending.now → IsSweepOf found plan.now
+        → LeavesOnly (D.meaning disk.old) (D.meaning disk.new) (λ image. StandsFor image (store_of contents))) }
+    ensures ok { IsTrue D.honest → (found : Finished) → WhereRead (D.meaning disk.old) found (λ contents. Holds (state_in (D.meaning disk.old)) (Some contents)
+        → IsMendingOf (seen (D.meaning disk.old)) found mending.now → IsSweepOf found plan.now → FindsNamed (state_in (D.meaning disk.old)) found plan.now
+        → OnOk result (IsRepaired (state_in (D.meaning disk.new)) contents (string_bytes mending.now.active) found.journals.end)) }
     ensures gone { IsTrue D.honest → OnOk result (AreGone (state_in (D.meaning disk.new)) (planned plan.now)) }
     ensures cause { OnlyFaults (D.meaning disk.old) (D.meaning disk.new) result }
-    ensures tables { IsTrue D.honest → (found : Finished) → IsMendingOf (standing (state_in (D.meaning disk.old))) found mending.now → BringsNoTable (state_in (D.meaning disk.old)) (state_in (D.meaning disk.new)) }
+    ensures tables { IsTrue D.honest → (found : Finished) → IsMendingOf (seen (D.meaning disk.old)) found mending.now
+        → BringsNoTable (state_in (D.meaning disk.old)) (state_in (D.meaning disk.new)) }
     // The same where a crash of the disk leaves different stores.
-    ensures amid { IsTrue D.honest → (found : Finished) (contents : Contents) → IsFinished (standing (state_in (D.meaning disk.old))) found → Shows found contents → IsSound (standing (state_in (D.meaning disk.old))) contents
-        → IsMendingOf (standing (state_in (D.meaning disk.old))) found mending.now → IsPlan (option_map (λ table. table.id) found.catalog.catalog.table) found.catalog.keyspaces.living plan.now
-        → (base : Store) (pending : List Command) → HoldsAmid (state_in (D.meaning disk.old)) base pending → LeavesOnly (D.meaning disk.old) (D.meaning disk.new) (StandsAmid base [] pending) }
-    ensures repaired { IsTrue D.honest → (found : Finished) (contents : Contents) → IsFinished (standing (state_in (D.meaning disk.old))) found → Shows found contents → IsSound (standing (state_in (D.meaning disk.old))) contents
-        → IsMendingOf (standing (state_in (D.meaning disk.old))) found mending.now → IsPlan (option_map (λ table. table.id) found.catalog.catalog.table) found.catalog.keyspaces.living plan.now
-        → (base : Store) (pending : List Command) → HoldsAmid (state_in (D.meaning disk.old)) base pending → FindsTables (state_in (D.meaning disk.old)) (option_map (λ table. table.id) found.catalog.catalog.table) (map string_bytes plan.now.tables.items)
-        → OnOk result (IsRepaired (state_in (D.meaning disk.new)) contents (string_bytes mending.now.active) found.journals.end) }
-    ensures held { IsTrue D.honest → (found : Finished) (contents : Contents) → IsFinished (standing (state_in (D.meaning disk.old))) found → Shows found contents → IsSound (standing (state_in (D.meaning disk.old))) contents
-        → IsMendingOf (standing (state_in (D.meaning disk.old))) found mending.now → IsPlan (option_map (λ table. table.id) found.catalog.catalog.table) found.catalog.keyspaces.living plan.now
-        → (base : Store) (pending : List Command) → HoldsAmid (state_in (D.meaning disk.old)) base pending → HoldsAmid (state_in (D.meaning disk.new)) base pending }
-    ensures kinds { IsTrue D.honest → (found : Finished) → IsFinished (standing (state_in (D.meaning disk.old))) found → IsMendingOf (standing (state_in (D.meaning disk.old))) found mending.now → StaysTidy (D.meaning disk.old) (D.meaning disk.new) }
-    ensures served { IsTrue D.honest → IsTidy (state_in (D.meaning disk.old)) → (found : Finished) (contents : Contents) → IsFinished (standing (state_in (D.meaning disk.old))) found → Shows found contents → IsSound (standing (state_in (D.meaning disk.old))) contents
-        → IsMendingOf (standing (state_in (D.meaning disk.old))) found mending.now → IsPlan (option_map (λ table. table.id) found.catalog.catalog.table) found.catalog.keyspaces.living plan.now → All (HasAll (state_in (D.meaning disk.old))) plan.now.homes.items → (D.meaning disk.new).misuses ≡ (D.meaning disk.old).misuses }
+    ensures amid { IsTrue D.honest → (found : Finished)
+        → WhereSound (D.meaning disk.old) found (λ contents. IsMendingOf (seen (D.meaning disk.old)) found mending.now
+        → IsSweepOf found plan.now → LeavesAmid (D.meaning disk.old) (D.meaning disk.new)) }
+    ensures repaired { IsTrue D.honest → (found : Finished)
+        → WhereSound (D.meaning disk.old) found (λ contents. IsMendingOf (seen (D.meaning disk.old)) found mending.now → IsSweepOf found plan.now
+        → WhereAmid (D.meaning disk.old) (FindsNamed (state_in (D.meaning disk.old)) found plan.now
+        → OnOk result (IsRepaired (state_in (D.meaning disk.new)) contents (string_bytes mending.now.active) found.journals.end))) }
+    ensures held { IsTrue D.honest → (found : Finished)
+        → WhereSound (D.meaning disk.old) found (λ contents. IsMendingOf (seen (D.meaning disk.old)) found mending.now
+        → IsSweepOf found plan.now → KeepsAmid (D.meaning disk.old) (D.meaning disk.new)) }
+    ensures kinds { IsTrue D.honest → (found : Finished) → IsFinished (seen (D.meaning disk.old)) found
+        → IsMendingOf (seen (D.meaning disk.old)) found mending.now → StaysTidy (D.meaning disk.old) (D.meaning disk.new) }
+    ensures served { IsTrue D.honest → IsTidy (state_in (D.meaning disk.old)) → (found : Finished)
+        → WhereSound (D.meaning disk.old) found (λ contents. IsMendingOf (seen (D.meaning disk.old)) found mending.now
+        → IsSweepOf found plan.now → All (HasAll (state_in (D.meaning disk.old))) plan.now.homes.items → AllServed (D.meaning disk.old) (D.meaning disk.new)) }
 {
     mend(disk, mending)?;
     sweep(disk, plan)
@@ -64,24 +67,27 @@ pub(crate) fn begin_and_sweep<D: Disk>(
     making: &BeginPlan,
     plan: &SweepPlan,
 ) -> Result<()>
-    ensures any_moment { IsTrue D.honest → Holds (state_in (D.meaning disk.old)) None → ComesBackUnfinished (state_in (D.meaning disk.old)) → IsMakingOf (standing (state_in (D.meaning disk.old))) making.now → IsPlan None [] plan.now
+    ensures any_moment { IsTrue D.honest → Holds (state_in (D.meaning disk.old)) None → ComesBackUnfinished (state_in (D.meaning disk.old))
+        → IsMakingOf (seen (D.meaning disk.old)) making.now → IsPlan None [] plan.now
         → LeavesOnly (D.meaning disk.old) (D.meaning disk.new) (λ image. StandsFor image (bare no_keyspaces)) }
-    ensures ok { IsTrue D.honest → Holds (state_in (D.meaning disk.old)) None → IsMakingOf (standing (state_in (D.meaning disk.old))) making.now → IsPlan None [] plan.now
+    ensures ok { IsTrue D.honest → Holds (state_in (D.meaning disk.old)) None → IsMakingOf (seen (D.meaning disk.old)) making.now → IsPlan None [] plan.now
         → FindsTables (state_in (D.meaning disk.old)) None (map string_bytes plan.now.tables.items)
         → OnOk result (IsRepaired (state_in (D.meaning disk.new)) nothing (journal_name making.now.active) 0) }
     ensures gone { IsTrue D.honest → OnOk result (AreGone (state_in (D.meaning disk.new)) (planned plan.now)) }
     ensures cause { OnlyFaults (D.meaning disk.old) (D.meaning disk.new) result }
-    ensures tables { IsTrue D.honest → IsMakingOf (standing (state_in (D.meaning disk.old))) making.now → BringsNoTable (state_in (D.meaning disk.old)) (state_in (D.meaning disk.new)) }
+    ensures tables { IsTrue D.honest → IsMakingOf (seen (D.meaning disk.old)) making.now
+        → BringsNoTable (state_in (D.meaning disk.old)) (state_in (D.meaning disk.new)) }
     // The same where a crash of the disk leaves different stores.
-    ensures amid { IsTrue D.honest → IsUnfinished (standing (state_in (D.meaning disk.old))) → IsMakingOf (standing (state_in (D.meaning disk.old))) making.now → IsPlan None [] plan.now
-        → (base : Store) (pending : List Command) → HoldsAmid (state_in (D.meaning disk.old)) base pending → LeavesOnly (D.meaning disk.old) (D.meaning disk.new) (StandsAmid base [] pending) }
-    ensures repaired { IsTrue D.honest → IsUnfinished (standing (state_in (D.meaning disk.old))) → IsMakingOf (standing (state_in (D.meaning disk.old))) making.now → IsPlan None [] plan.now
+    ensures amid { IsTrue D.honest → IsUnfinished (seen (D.meaning disk.old)) → IsMakingOf (seen (D.meaning disk.old)) making.now → IsPlan None [] plan.now
+        → LeavesAmid (D.meaning disk.old) (D.meaning disk.new) }
+    ensures repaired { IsTrue D.honest → IsUnfinished (seen (D.meaning disk.old)) → IsMakingOf (seen (D.meaning disk.old)) making.now → IsPlan None [] plan.now
         → FindsTables (state_in (D.meaning disk.old)) None (map string_bytes plan.now.tables.items)
         → OnOk result (IsRepaired (state_in (D.meaning disk.new)) nothing (journal_name making.now.active) 0) }
-    ensures held { IsTrue D.honest → IsUnfinished (standing (state_in (D.meaning disk.old))) → IsMakingOf (standing (state_in (D.meaning disk.old))) making.now → IsPlan None [] plan.now
-        → (base : Store) (pending : List Command) → HoldsAmid (state_in (D.meaning disk.old)) base pending → HoldsAmid (state_in (D.meaning disk.new)) base pending }
-    ensures kinds { IsTrue D.honest → IsMakingOf (standing (state_in (D.meaning disk.old))) making.now → StaysTidy (D.meaning disk.old) (D.meaning disk.new) }
-    ensures served { IsTrue D.honest → IsTidy (state_in (D.meaning disk.old)) → IsMakingOf (standing (state_in (D.meaning disk.old))) making.now → IsPlan None [] plan.now → All (HasAll (state_in (D.meaning disk.old))) plan.now.homes.items → (D.meaning disk.new).misuses ≡ (D.meaning disk.old).misuses }
+    ensures held { IsTrue D.honest → IsUnfinished (seen (D.meaning disk.old)) → IsMakingOf (seen (D.meaning disk.old)) making.now → IsPlan None [] plan.now
+        → KeepsAmid (D.meaning disk.old) (D.meaning disk.new) }
+    ensures kinds { IsTrue D.honest → IsMakingOf (seen (D.meaning disk.old)) making.now → StaysTidy (D.meaning disk.old) (D.meaning disk.new) }
+    ensures served { IsTrue D.honest → IsTidy (state_in (D.meaning disk.old)) → IsMakingOf (seen (D.meaning disk.old)) making.now
+        → IsPlan None [] plan.now → All (HasAll (state_in (D.meaning disk.old))) plan.now.homes.items → AllServed (D.meaning disk.old) (D.meaning disk.new) }
 {
     begin(disk, making)?;
     sweep(disk, plan)

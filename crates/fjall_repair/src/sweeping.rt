@@ -1,8 +1,9 @@
 //! What no record names, removed: what is named stays as it was.
 
-ghost use Rattle.std.specs.Prelude.{◌≡◌, ◌∷◌, ◌++◌, ℕ, All, List, IsTrue, OnOk, Option, codes, map, string_bytes};
+ghost use Rattle.std.specs.Prelude.{ℕ, All, List, IsTrue, OnOk, Option, codes, map, string_bytes};
 ghost use Rattle.std.specs.List.{flat_map, Contains};
 ghost use Rattle.fjall_base.specs.Disk.{IsNoFolder, LeavesOnly, OnlyFaults, state_in};
+ghost use Rattle.fjall_files.specs.Calls.{AllServed};
 ghost use Rattle.fjall_files.specs.Tidy.{IsTidy, StaysTidy};
 ghost use Rattle.fjall_meta.specs.declared.living.LivingKeyspace.{LivingKeyspace};
 ghost use Rattle.fjall_recovery.specs.Halves.{HasTree, Tree};
@@ -20,7 +21,8 @@ fn remove_all<D: Disk>(disk: &mut D, names: &[String]) -> Result<()>
     ensures gone { IsTrue D.honest → OnOk result (AreGone (state_in (D.meaning disk.new)) (map string_bytes names.now)) }
     ensures cause { OnlyFaults (D.meaning disk.old) (D.meaning disk.new) result }
     ensures kinds { IsTrue D.honest → StaysTidy (D.meaning disk.old) (D.meaning disk.new) }
-    ensures served { IsTrue D.honest → All (λ name. IsNoFolder (state_in (D.meaning disk.old) (string_bytes name)).now) names.now → (D.meaning disk.new).misuses ≡ (D.meaning disk.old).misuses }
+    ensures served { IsTrue D.honest → All (λ name. IsNoFolder (state_in (D.meaning disk.old) (string_bytes name)).now) names.now
+        → AllServed (D.meaning disk.old) (D.meaning disk.new) }
 {
     for name in names {
         disk.remove(name.as_str())?;
@@ -34,7 +36,8 @@ fn remove_unnamed<D: Disk>(disk: &mut D, home: &UnnamedHome) -> Result<()>
     ensures gone { IsTrue D.honest → OnOk result (AreGone (state_in (D.meaning disk.new)) (home_names home.now)) }
     ensures cause { OnlyFaults (D.meaning disk.old) (D.meaning disk.new) result }
     ensures kinds { IsTrue D.honest → StaysTidy (D.meaning disk.old) (D.meaning disk.new) }
-    ensures served { IsTrue D.honest → IsTidy (state_in (D.meaning disk.old)) → (living : List LivingKeyspace) → IsUnnamedHome living home.now → HasAll (state_in (D.meaning disk.old)) home.now → (D.meaning disk.new).misuses ≡ (D.meaning disk.old).misuses }
+    ensures served { IsTrue D.honest → IsTidy (state_in (D.meaning disk.old)) → (living : List LivingKeyspace) → IsUnnamedHome living home.now
+        → HasAll (state_in (D.meaning disk.old)) home.now → AllServed (D.meaning disk.old) (D.meaning disk.new) }
 {
     remove_all(disk, &home.files)?;
     disk.remove_folder(home.folder.as_str())
@@ -46,7 +49,8 @@ fn remove_homes<D: Disk>(disk: &mut D, homes: &[UnnamedHome]) -> Result<()>
     ensures gone { IsTrue D.honest → OnOk result (AreGone (state_in (D.meaning disk.new)) (flat_map home_names homes.now)) }
     ensures cause { OnlyFaults (D.meaning disk.old) (D.meaning disk.new) result }
     ensures kinds { IsTrue D.honest → StaysTidy (D.meaning disk.old) (D.meaning disk.new) }
-    ensures served { IsTrue D.honest → IsTidy (state_in (D.meaning disk.old)) → (living : List LivingKeyspace) → All (IsUnnamedHome living) homes.now → All (HasAll (state_in (D.meaning disk.old))) homes.now → (D.meaning disk.new).misuses ≡ (D.meaning disk.old).misuses }
+    ensures served { IsTrue D.honest → IsTidy (state_in (D.meaning disk.old)) → (living : List LivingKeyspace) → All (IsUnnamedHome living) homes.now
+        → All (HasAll (state_in (D.meaning disk.old))) homes.now → AllServed (D.meaning disk.old) (D.meaning disk.new) }
 {
     for home in homes {
         remove_unnamed(disk, home)?;
@@ -63,18 +67,25 @@ pub fn sweep<D: Disk>(disk: &mut D, plan: &SweepPlan) -> Result<()>
     // Names of the plan are removed and nothing else is done, and after a success none of them is left.
     ensures removes { IsTrue D.honest → Removes (Contains (planned plan.now)) (D.meaning disk.old) (D.meaning disk.new) }
     ensures gone { IsTrue D.honest → OnOk result (AreGone (state_in (D.meaning disk.new)) (planned plan.now)) }
-    ensures within { IsTrue D.honest → (t : Tree) → IsPlan (named_in t) t.keyspaces.living plan.now → Within (codes "keyspaces") (D.meaning disk.old) (D.meaning disk.new) }
+    ensures within { IsTrue D.honest → (t : Tree) → IsPlan (named_in t) t.keyspaces.living plan.now
+        → Within (codes "keyspaces") (D.meaning disk.old) (D.meaning disk.new) }
     // A crash at any moment of the call leaves what the records name.
-    ensures any_moment { IsTrue D.honest → (records : List Fields) (t : Tree) → IsPlan (named_in t) t.keyspaces.living plan.now → RestsInTree (state_in (D.meaning disk.old)) records t
+    ensures any_moment { IsTrue D.honest → (records : List Fields) (t : Tree) → IsPlan (named_in t) t.keyspaces.living plan.now
+        → RestsInTree (state_in (D.meaning disk.old)) records t
         → LeavesOnly (D.meaning disk.old) (D.meaning disk.new) (λ image. HasTree image t) }
     // It rests as before, also where the call fails.
-    ensures rests { IsTrue D.honest → (records : List Fields) (t : Tree) → IsPlan (named_in t) t.keyspaces.living plan.now → RestsInTree (state_in (D.meaning disk.old)) records t
+    ensures rests { IsTrue D.honest → (records : List Fields) (t : Tree) → IsPlan (named_in t) t.keyspaces.living plan.now
+        → RestsInTree (state_in (D.meaning disk.old)) records t
         → RestsInTree (state_in (D.meaning disk.new)) records t }
-    ensures ok { IsTrue D.honest → (records : List Fields) (t : Tree) → IsPlan (named_in t) t.keyspaces.living plan.now → RestsInTree (state_in (D.meaning disk.old)) records t
-        → FindsTables (state_in (D.meaning disk.old)) (named_in t) (map string_bytes plan.now.tables.items) → OnOk result (LiesInTree (state_in (D.meaning disk.new)) records t) }
+    ensures ok { IsTrue D.honest → (records : List Fields) (t : Tree) → IsPlan (named_in t) t.keyspaces.living plan.now
+        → RestsInTree (state_in (D.meaning disk.old)) records t
+        → FindsTables (state_in (D.meaning disk.old)) (named_in t) (map string_bytes plan.now.tables.items)
+        → OnOk result (LiesInTree (state_in (D.meaning disk.new)) records t) }
     ensures cause { OnlyFaults (D.meaning disk.old) (D.meaning disk.new) result }
     ensures kinds { IsTrue D.honest → StaysTidy (D.meaning disk.old) (D.meaning disk.new) }
-    ensures served { IsTrue D.honest → IsTidy (state_in (D.meaning disk.old)) → (named : Option ℕ) (living : List LivingKeyspace) → IsPlan named living plan.now → All (HasAll (state_in (D.meaning disk.old))) plan.now.homes.items → (D.meaning disk.new).misuses ≡ (D.meaning disk.old).misuses }
+    ensures served { IsTrue D.honest → IsTidy (state_in (D.meaning disk.old)) → (named : Option ℕ) (living : List LivingKeyspace)
+        → IsPlan named living plan.now → All (HasAll (state_in (D.meaning disk.old))) plan.now.homes.items
+        → AllServed (D.meaning disk.old) (D.meaning disk.new) }
 {
     remove_all(disk, &plan.tables)?;
     remove_homes(disk, &plan.homes)

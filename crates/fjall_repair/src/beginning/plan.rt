@@ -1,24 +1,22 @@
 //! What is to be done, found out before anything is changed: from then on no memory is asked for.
 
 ghost use Rattle.std.specs.Prelude.{◌≡◌, ◌≢◌, ◌≤◌, ◌∷◌, ◌++◌, ℕ, [], IfErr, IfOk, IsOkUnless, IsTrue, List, map, string_bytes};
-ghost use Rattle.fjall_base.specs.Disk.{HasCause, Took, standing, state_in};
+ghost use Rattle.fjall_base.specs.Disk.{HasCause, Took};
 ghost use Rattle.fjall_base.specs.declared.error.FormatVersion.TheVariants.{V3};
+ghost use Rattle.fjall_files.specs.Texts.{text_in};
+ghost use Rattle.fjall_files.specs.Calls.{seen, AllServed};
 ghost use Rattle.fjall_files.specs.Marker.{header as header_of};
 ghost use Rattle.fjall_files.specs.Names.{journal_name as name_of_journal};
-ghost use Rattle.fjall_recovery.specs.Journals.{AreJournalIds, text_in};
+ghost use Rattle.fjall_recovery.specs.Journals.{AreJournalIds};
 ghost use Rattle.fjall_recovery.specs.Naming.{JournalsAreNamed};
 ghost use Rattle.fjall_recovery.specs.Refusals.{HasRisen, IsDue, IsOpeningRefusal};
 ghost use Rattle.fjall_repair.specs.Begun.{IsActive};
 ghost use Rattle.fjall_repair.specs.Plans.{AreToBe, IsFound, IsPlan};
 
-use crate::beginning::tree::CURRENT;
 use fjall_base::{Disk, Error, Result};
 use fjall_catalog::first_record;
-use fjall_files::{journal_name, journals, write_file_header};
+use fjall_files::{MARKER_FILE, TREE_RECORDS, journal_name, journals, write_file_header};
 use std::alloc::Global;
-
-/// The file of the marker.
-pub(crate) const MARKER: &str = "version";
 
 /// What a file has of the bytes that it is to hold.
 #[derive(Clone, Copy, Debug, PartialEq, Eq)]
@@ -63,9 +61,9 @@ fn compare(bytes: &[u8], wanted: &[u8]) -> FileState
 
 /// What the file of this name has of these bytes.
 fn find<D: Disk>(alloc: Global, disk: &mut D, name: &str, wanted: &[u8]) -> Result<FileState>
-    ensures found { IsTrue D.honest → IfOk result (λ found. IsFound found wanted.now (text_in (standing (state_in (D.meaning disk.old)) name.now))) }
+    ensures found { IsTrue D.honest → IfOk result (λ found. IsFound found wanted.now (text_in (seen (D.meaning disk.old) name.now))) }
     ensures same { IsTrue D.honest → Took (D.meaning disk.old) (D.meaning disk.new) [] }
-    ensures served { IsTrue D.honest → (D.meaning disk.new).misuses ≡ (D.meaning disk.old).misuses }
+    ensures served { IsTrue D.honest → AllServed (D.meaning disk.old) (D.meaning disk.new) }
     ensures cause { HasCause (D.meaning disk.old) (D.meaning disk.new) result }
 {
     match disk.read(alloc, name)? {
@@ -76,12 +74,12 @@ fn find<D: Disk>(alloc: Global, disk: &mut D, name: &str, wanted: &[u8]) -> Resu
 
 /// The ids of the journals that are there, ascending.
 fn list_ids<D: Disk>(alloc: Global, disk: &mut D) -> Result<Vec<u64>>
-    ensures ids { IsTrue D.honest → IfOk result (λ ids. AreJournalIds (standing (state_in (D.meaning disk.old))) ids.items) }
+    ensures ids { IsTrue D.honest → IfOk result (λ ids. AreJournalIds (seen (D.meaning disk.old)) ids.items) }
     ensures same { IsTrue D.honest → Took (D.meaning disk.old) (D.meaning disk.new) [] }
-    ensures served { IsTrue D.honest → (D.meaning disk.new).misuses ≡ (D.meaning disk.old).misuses }
+    ensures served { IsTrue D.honest → AllServed (D.meaning disk.old) (D.meaning disk.new) }
     ensures later { (D.meaning disk.old).faults ≤ (D.meaning disk.new).faults }
     ensures risen { IfErr result (HasRisen (D.meaning disk.old).faults (D.meaning disk.new).faults) }
-    ensures cause { IsTrue D.honest → JournalsAreNamed (standing (state_in (D.meaning disk.old))) → IfErr result (IsDue (λ error. ⊥)) }
+    ensures cause { IsTrue D.honest → JournalsAreNamed (seen (D.meaning disk.old)) → IfErr result (IsDue (λ error. ⊥)) }
     ensures listed { IfErr result IsOpeningRefusal }
 {
     let listed = disk.list(alloc, "")?;
@@ -90,13 +88,13 @@ fn list_ids<D: Disk>(alloc: Global, disk: &mut D) -> Result<Vec<u64>>
 
 /// The ids of the journals that are to be, ascending: those that are there, or 0 alone.
 fn journal_ids<D: Disk>(alloc: Global, disk: &mut D) -> Result<Vec<u64>>
-    ensures ids { IsTrue D.honest → IfOk result (λ ids. AreToBe (standing (state_in (D.meaning disk.old))) ids.items) }
+    ensures ids { IsTrue D.honest → IfOk result (λ ids. AreToBe (seen (D.meaning disk.old)) ids.items) }
     ensures some { IfOk result (λ ids. ids.items ≢ []) }
     ensures same { IsTrue D.honest → Took (D.meaning disk.old) (D.meaning disk.new) [] }
-    ensures served { IsTrue D.honest → (D.meaning disk.new).misuses ≡ (D.meaning disk.old).misuses }
+    ensures served { IsTrue D.honest → AllServed (D.meaning disk.old) (D.meaning disk.new) }
     ensures later { (D.meaning disk.old).faults ≤ (D.meaning disk.new).faults }
     ensures risen { IfErr result (HasRisen (D.meaning disk.old).faults (D.meaning disk.new).faults) }
-    ensures cause { IsTrue D.honest → JournalsAreNamed (standing (state_in (D.meaning disk.old))) → IfErr result (IsDue (λ error. ⊥)) }
+    ensures cause { IsTrue D.honest → JournalsAreNamed (seen (D.meaning disk.old)) → IfErr result (IsDue (λ error. ⊥)) }
     ensures listed { IfErr result IsOpeningRefusal }
 {
     let mut ids = list_ids(alloc, disk)?;
@@ -145,21 +143,21 @@ fn header(alloc: Global) -> Result<Vec<u8>>
 /// Refusals: `OutOfMemory`; `Io` for a fault of the disk; and for a file that is named nearly like a journal
 /// `InvalidFileName`, which `read_folder` answers first.
 pub fn plan_beginning<D: Disk>(alloc: Global, disk: &mut D) -> Result<BeginPlan>
-    ensures plan { IsTrue D.honest → IfOk result (IsPlan (standing (state_in (D.meaning disk.old)))) }
-    ensures active { IsTrue D.honest → IfOk result (λ plan. IsActive (standing (state_in (D.meaning disk.old))) plan.active) }
+    ensures plan { IsTrue D.honest → IfOk result (IsPlan (seen (D.meaning disk.old))) }
+    ensures active { IsTrue D.honest → IfOk result (λ plan. IsActive (seen (D.meaning disk.old)) plan.active) }
     ensures same { IsTrue D.honest → Took (D.meaning disk.old) (D.meaning disk.new) [] }
-    ensures served { IsTrue D.honest → (D.meaning disk.new).misuses ≡ (D.meaning disk.old).misuses }
+    ensures served { IsTrue D.honest → AllServed (D.meaning disk.old) (D.meaning disk.new) }
     ensures later { (D.meaning disk.old).faults ≤ (D.meaning disk.new).faults }
     ensures risen { IfErr result (HasRisen (D.meaning disk.old).faults (D.meaning disk.new).faults) }
-    ensures cause { IsTrue D.honest → JournalsAreNamed (standing (state_in (D.meaning disk.old))) → IfErr result (IsDue (λ error. ⊥)) }
+    ensures cause { IsTrue D.honest → JournalsAreNamed (seen (D.meaning disk.old)) → IfErr result (IsDue (λ error. ⊥)) }
     ensures listed { IfErr result IsOpeningRefusal }
 {
     let ids = journal_ids(alloc, disk)?;
     let journals = journal_names(alloc, &ids)?;
     let first = first_record(alloc)?;
-    let records = find(alloc, disk, CURRENT, &first)?;
+    let records = find(alloc, disk, TREE_RECORDS, &first)?;
     let header = header(alloc)?;
-    let marker = find(alloc, disk, MARKER, &header)?;
+    let marker = find(alloc, disk, MARKER_FILE, &header)?;
     Ok(BeginPlan {
         journals,
         active: last_id(&ids),

@@ -1,15 +1,12 @@
 //! What is to be done to a folder, by name, all of it in memory before the disk is changed.
 
-ghost use Rattle.std.specs.Prelude.{◌≡◌, ◌∷◌, ℕ, List, IfOk, IsOkUnless, IsTrue, [], map, string_bytes};
-ghost use Rattle.fjall_base.specs.Disk.{HasCause, Took, standing, state_in};
-ghost use Rattle.fjall_tree.specs.Records.{Fields, IsRecords};
-ghost use Rattle.fjall_files.specs.Names.{current_name};
-ghost use Rattle.fjall_repair.specs.Steps.{IsPlanOf, IsTreeEnd, active_of, end_of, folder_names, home_end, whole_names};
+ghost use Rattle.std.specs.Prelude.{◌≡◌, ◌∷◌, IfOk, IsOkUnless, map, string_bytes};
+ghost use Rattle.fjall_repair.specs.Steps.{IsPlanOf, active_of, end_of, folder_names, home_end, tree_end, whole_names};
 
-use fjall_base::{Disk, Error, Result};
-use fjall_files::{current_name, journal_name, keyspace_folder};
+use fjall_base::{Error, Result};
+use fjall_catalog::LoadedCatalog;
+use fjall_files::{KEYSPACES_FOLDER, MARKER_FILE, current_name, journal_name, keyspace_folder};
 use fjall_recovery::{Finished, Home};
-use fjall_tree::read_current;
 use std::alloc::Global;
 
 /// A file, and where it is to end.
@@ -52,7 +49,7 @@ fn folders_of(alloc: Global, homes: &[Home]) -> Result<Vec<String>>
     ensures only { IsOkUnless result Error.OutOfMemory }
 {
     let mut folders = Vec::new(alloc);
-    folders.push(String::from_str(alloc, "keyspaces")?)?;
+    folders.push(String::from_str(alloc, KEYSPACES_FOLDER)?)?;
     folders.push(keyspace_folder(alloc, 0)?)?;
     for home in homes {
         folders.push(keyspace_folder(alloc, home.id)?)?;
@@ -66,7 +63,7 @@ fn whole_files(alloc: Global, ids: &[u64]) -> Result<Vec<String>>
     ensures only { IsOkUnless result Error.OutOfMemory }
 {
     let mut files = Vec::new(alloc);
-    files.push(String::from_str(alloc, "version")?)?;
+    files.push(String::from_str(alloc, MARKER_FILE)?)?;
     if let [sealed @ .., _] = ids {
         for id in sealed {
             files.push(journal_name(alloc, *id)?)?;
@@ -101,9 +98,21 @@ fn ends_of(alloc: Global, journal: FileEnd, tree: FileEnd, homes: &[Home]) -> Re
     Ok(ends)
 }
 
-/// What is to be done to the folder that was read, whose tree 0 has this end.
-pub(crate) fn plan_of(alloc: Global, found: &Finished, tree: FileEnd) -> Result<MendPlan>
-    ensures plan { IfOk result (IsPlanOf found.now (end_of tree)) }
+/// The end of tree 0's records.
+fn end_of_tree(alloc: Global, catalog: &LoadedCatalog) -> Result<FileEnd>
+    ensures end { IfOk result (λ end. end_of end ≡ tree_end catalog.now) }
+    ensures only { IsOkUnless result Error.OutOfMemory }
+{
+    Ok(FileEnd {
+        name: current_name(alloc, 0)?,
+        cut: catalog.is_torn,
+        len: catalog.end,
+    })
+}
+
+/// What is to be done to the folder that was read.
+pub(crate) fn plan_of(alloc: Global, found: &Finished) -> Result<MendPlan>
+    ensures plan { IfOk result (IsPlanOf found.now (tree_end found.now.catalog)) }
     ensures only { IsOkUnless result Error.OutOfMemory }
 {
     let active = active_id(&found.journal_ids);
@@ -112,47 +121,11 @@ pub(crate) fn plan_of(alloc: Global, found: &Finished, tree: FileEnd) -> Result<
         cut: found.journals.torn,
         len: found.journals.end,
     };
+    let tree = end_of_tree(alloc, &found.catalog)?;
     Ok(MendPlan {
         active: journal_name(alloc, active)?,
         folders: folders_of(alloc, &found.homes)?,
         whole: whole_files(alloc, &found.journal_ids)?,
         ends: ends_of(alloc, journal, tree, &found.homes)?,
-    })
-}
-
-/// How many bytes whole records take at the front of these bytes; all of them where a record contradicts itself.
-fn whole_len(alloc: Global, bytes: &[u8]) -> Result<usize>
-    ensures len { IfOk result (λ len. (records : List Fields) (end : ℕ) → IsRecords bytes.now records end → end ≡ len) }
-    ensures only { IsOkUnless result Error.OutOfMemory }
-{
-    match read_current(alloc, bytes) {
-        Ok(current) => Ok(current.end),
-        Err(Error::Storage(_)) => Ok(bytes.len()),
-        Err(_) => Err(Error::OutOfMemory),
-    }
-}
-
-/// The end of tree 0's records. They are read again, since what was read of the folder promises what the last of them says,
-/// and not where they end.
-pub(crate) fn read_tree_end<D: Disk>(alloc: Global, disk: &mut D) -> Result<FileEnd>
-    ensures end { IsTrue D.honest → IfOk result (λ end. IsTreeEnd (standing (state_in (D.meaning disk.old))) (end_of end)) }
-    ensures named { IfOk result (λ end. string_bytes end.name ≡ current_name 0) }
-    ensures same { IsTrue D.honest → Took (D.meaning disk.old) (D.meaning disk.new) [] }
-    ensures served { IsTrue D.honest → (D.meaning disk.new).misuses ≡ (D.meaning disk.old).misuses }
-    ensures cause { HasCause (D.meaning disk.old) (D.meaning disk.new) result }
-{
-    let name = current_name(alloc, 0)?;
-    let Some(bytes) = disk.read(alloc, name.as_str())? else {
-        return Ok(FileEnd {
-            name,
-            cut: false,
-            len: 0,
-        });
-    };
-    let len = whole_len(alloc, &bytes)?;
-    Ok(FileEnd {
-        name,
-        cut: len < bytes.len(),
-        len,
     })
 }

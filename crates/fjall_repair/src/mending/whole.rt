@@ -1,33 +1,30 @@
 //! A folder mended: a crash at any moment of it leaves the same store.
 
-ghost use Rattle.std.specs.Prelude.{◌≡◌, ℕ, List, IfOk, IsTrue, OnOk, [], Some, string_bytes, ◌<◌, ◌^◌, Contains, map};
-ghost use Rattle.fjall_base.specs.Store.{Command, Store};
-ghost use Rattle.fjall_base.specs.Disk.{HasCause, Image, LeavesOnly, OnlyFaults, Took, standing, state_in};
+ghost use Rattle.std.specs.Prelude.{◌≡◌, ℕ, IfOk, IsOkUnless, IsTrue, OnOk, Some, string_bytes, ◌<◌, ◌^◌};
+ghost use Rattle.fjall_base.specs.Disk.{Image, LeavesOnly, OnlyFaults, state_in};
+ghost use Rattle.fjall_files.specs.Calls.{seen, AllServed};
 ghost use Rattle.fjall_files.specs.Names.{current_name, table_name};
 ghost use Rattle.fjall_files.specs.Tidy.{IsTidy, StaysTidy};
+ghost use Rattle.fjall_recovery.specs.Amid.{LeavesAmid, KeepsAmid, WhereAmid};
 ghost use Rattle.fjall_recovery.specs.declared.folder.Finished.{Finished};
-ghost use Rattle.fjall_recovery.specs.Folders.{Contents, IsFinished, IsSound, Shows, StandsFor, store_of};
-ghost use Rattle.fjall_recovery.specs.Amid.{HoldsAmid, StandsAmid};
+ghost use Rattle.fjall_recovery.specs.Folders.{IsFinished, IsSound, StandsFor, store_of};
 ghost use Rattle.fjall_recovery.specs.Held.{Holds};
+ghost use Rattle.fjall_repair.specs.Sweeps.{Lives};
+ghost use Rattle.fjall_repair.specs.Readings.{WhereRead, WhereSound};
 ghost use Rattle.fjall_repair.specs.Mended.{IsMended, IsMendingOf};
 
-use crate::mending::plan::{MendPlan, plan_of, read_tree_end};
+use crate::mending::plan::{MendPlan, plan_of};
 use crate::mending::steps::carry_out;
-use fjall_base::{Disk, Result};
+use fjall_base::{Disk, Error, Result};
 use fjall_recovery::Finished;
 use std::alloc::Global;
 
-/// Finds out what is to be done to a folder that was read, and gets all memory for it. Nothing of the disk changes.
-///
-/// Refusals: `OutOfMemory`, and `Io` for a fault of the disk.
-pub fn plan_mending<D: Disk>(alloc: Global, disk: &mut D, found: &Finished) -> Result<MendPlan>
-    ensures plan { IsTrue D.honest → IfOk result (IsMendingOf (standing (state_in (D.meaning disk.old))) found.now) }
-    ensures same { IsTrue D.honest → Took (D.meaning disk.old) (D.meaning disk.new) [] }
-    ensures served { IsTrue D.honest → (D.meaning disk.new).misuses ≡ (D.meaning disk.old).misuses }
-    ensures cause { HasCause (D.meaning disk.old) (D.meaning disk.new) result }
+/// Finds out what is to be done to a folder that was read, and gets all memory for it. It refuses with `OutOfMemory` alone.
+pub fn plan_mending(alloc: Global, found: &Finished) -> Result<MendPlan>
+    ensures plan { (image : Image) → IsFinished image found.now → IfOk result (IsMendingOf image found.now) }
+    ensures only { IsOkUnless result Error.OutOfMemory }
 {
-    let tree = read_tree_end(alloc, disk)?;
-    plan_of(alloc, found, tree)
+    plan_of(alloc, found)
 }
 
 /// Mends a folder by the plan that was made of it, so that all that counts lies whole and synced.
@@ -38,27 +35,33 @@ pub fn plan_mending<D: Disk>(alloc: Global, disk: &mut D, found: &Finished) -> R
 ///
 /// It refuses with `Io` alone, for a fault of the disk, after which the folder is to be read anew.
 pub fn mend<D: Disk>(disk: &mut D, plan: &MendPlan) -> Result<()>
-    ensures any_moment { IsTrue D.honest → (found : Finished) (c : Contents) → IsFinished (standing (state_in (D.meaning disk.old))) found → Shows found c → IsMendingOf (standing (state_in (D.meaning disk.old))) found plan.now
-        → Holds (state_in (D.meaning disk.old)) (Some c) → LeavesOnly (D.meaning disk.old) (D.meaning disk.new) (λ image. StandsFor image (store_of c)) }
-    ensures ok { IsTrue D.honest → (found : Finished) (c : Contents) → IsFinished (standing (state_in (D.meaning disk.old))) found → Shows found c → IsMendingOf (standing (state_in (D.meaning disk.old))) found plan.now
-        → Holds (state_in (D.meaning disk.old)) (Some c) → OnOk result (IsMended (state_in (D.meaning disk.new)) found c (string_bytes plan.now.active)) }
+    ensures any_moment { IsTrue D.honest → (found : Finished)
+        → WhereRead (D.meaning disk.old) found (λ c. IsMendingOf (seen (D.meaning disk.old)) found plan.now
+        → Holds (state_in (D.meaning disk.old)) (Some c) → LeavesOnly (D.meaning disk.old) (D.meaning disk.new) (λ image. StandsFor image (store_of c))) }
+    ensures ok { IsTrue D.honest → (found : Finished) → WhereRead (D.meaning disk.old) found (λ c. IsMendingOf (seen (D.meaning disk.old)) found plan.now
+        → Holds (state_in (D.meaning disk.old)) (Some c) → OnOk result (IsMended (state_in (D.meaning disk.new)) found c (string_bytes plan.now.active))) }
     ensures tables { IsTrue D.honest → (image : Image) (found : Finished) → IsMendingOf image found plan.now
         → (id n : ℕ) → (state_in (D.meaning disk.new) (table_name id n)).now ≡ (state_in (D.meaning disk.old) (table_name id n)).now }
     ensures cause { OnlyFaults (D.meaning disk.old) (D.meaning disk.new) result }
     // The same where a crash of the disk leaves different stores: the base with a beginning of the pending commands.
-    ensures amid { IsTrue D.honest → (found : Finished) (c : Contents) → IsFinished (standing (state_in (D.meaning disk.old))) found → Shows found c → IsSound (standing (state_in (D.meaning disk.old))) c → IsMendingOf (standing (state_in (D.meaning disk.old))) found plan.now
-        → (base : Store) (pending : List Command) → HoldsAmid (state_in (D.meaning disk.old)) base pending → LeavesOnly (D.meaning disk.old) (D.meaning disk.new) (StandsAmid base [] pending) }
-    ensures mended { IsTrue D.honest → (found : Finished) (c : Contents) → IsFinished (standing (state_in (D.meaning disk.old))) found → Shows found c → IsSound (standing (state_in (D.meaning disk.old))) c → IsMendingOf (standing (state_in (D.meaning disk.old))) found plan.now
-        → (base : Store) (pending : List Command) → HoldsAmid (state_in (D.meaning disk.old)) base pending → OnOk result (IsMended (state_in (D.meaning disk.new)) found c (string_bytes plan.now.active)) }
+    ensures amid { IsTrue D.honest → (found : Finished)
+        → WhereSound (D.meaning disk.old) found (λ c. IsMendingOf (seen (D.meaning disk.old)) found plan.now
+        → LeavesAmid (D.meaning disk.old) (D.meaning disk.new)) }
+    ensures mended { IsTrue D.honest → (found : Finished) → WhereSound (D.meaning disk.old) found (λ c. IsMendingOf (seen (D.meaning disk.old)) found plan.now
+        → WhereAmid (D.meaning disk.old) (OnOk result (IsMended (state_in (D.meaning disk.new)) found c (string_bytes plan.now.active)))) }
     // Then it holds them still, also where the call fails.
-    ensures held { IsTrue D.honest → (found : Finished) (c : Contents) → IsFinished (standing (state_in (D.meaning disk.old))) found → Shows found c → IsSound (standing (state_in (D.meaning disk.old))) c → IsMendingOf (standing (state_in (D.meaning disk.old))) found plan.now
-        → (base : Store) (pending : List Command) → HoldsAmid (state_in (D.meaning disk.old)) base pending → HoldsAmid (state_in (D.meaning disk.new)) base pending }
-    ensures kinds { IsTrue D.honest → (found : Finished) → IsFinished (standing (state_in (D.meaning disk.old))) found → IsMendingOf (standing (state_in (D.meaning disk.old))) found plan.now → StaysTidy (D.meaning disk.old) (D.meaning disk.new) }
+    ensures held { IsTrue D.honest → (found : Finished)
+        → WhereSound (D.meaning disk.old) found (λ c. IsMendingOf (seen (D.meaning disk.old)) found plan.now
+        → KeepsAmid (D.meaning disk.old) (D.meaning disk.new)) }
+    ensures kinds { IsTrue D.honest → (found : Finished) → IsFinished (seen (D.meaning disk.old)) found → IsMendingOf (seen (D.meaning disk.old)) found plan.now
+        → StaysTidy (D.meaning disk.old) (D.meaning disk.new) }
     // The records of a keyspace that doesn't live stay as they are.
     ensures homes { IsTrue D.honest → (image : Image) (found : Finished) → IsFinished image found → IsMendingOf image found plan.now
-        → (id : ℕ) → 0 < id → id < 2 ^ 64 → (Contains (map (λ k. k.id) found.catalog.keyspaces.living) id → ⊥) → (state_in (D.meaning disk.new) (current_name id)).now ≡ (state_in (D.meaning disk.old) (current_name id)).now }
-    ensures served { IsTrue D.honest → IsTidy (state_in (D.meaning disk.old)) → (found : Finished) (c : Contents) → IsFinished (standing (state_in (D.meaning disk.old))) found → Shows found c
-        → IsMendingOf (standing (state_in (D.meaning disk.old))) found plan.now → IsSound (standing (state_in (D.meaning disk.old))) c → (D.meaning disk.new).misuses ≡ (D.meaning disk.old).misuses }
+        → (id : ℕ) → 0 < id → id < 2 ^ 64 → (Lives found.catalog.keyspaces.living id → ⊥)
+        → (state_in (D.meaning disk.new) (current_name id)).now ≡ (state_in (D.meaning disk.old) (current_name id)).now }
+    ensures served { IsTrue D.honest → IsTidy (state_in (D.meaning disk.old)) → (found : Finished)
+        → WhereRead (D.meaning disk.old) found (λ c. IsMendingOf (seen (D.meaning disk.old)) found plan.now
+        → IsSound (seen (D.meaning disk.old)) c → AllServed (D.meaning disk.old) (D.meaning disk.new)) }
 {
     carry_out(disk, plan)
 }

@@ -1,7 +1,7 @@
 use Rattle.std.proofs.Common.{◌∙◌, refl, sym, ap}
 use Rattle.std.proofs.lemmas.Result.{err_from_is_err_and}
 use Rattle.fjall_base.specs.Disk.{Image, Name, standing, state_in}
-use Rattle.fjall_recovery.specs.Journals.{text_in}
+use Rattle.fjall_files.specs.Texts.{text_in}
 use Rattle.fjall_recovery.proofs.Homing.{damaged_due, read_from}
 use Rattle.fjall_recovery.proofs.homes.read_records.Goals as goal
 

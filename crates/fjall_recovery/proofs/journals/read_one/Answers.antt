@@ -1,6 +1,6 @@
 use Rattle.std.proofs.Common.{sym, ◌∙◌, ap}
 use Rattle.fjall_base.specs.Disk.{Image, Name, standing, state_in}
-use Rattle.fjall_recovery.specs.Journals.{text_in}
+use Rattle.fjall_files.specs.Texts.{text_in}
 use Rattle.fjall_recovery.proofs.Gathering.{read_as}
 use Rattle.fjall_recovery.proofs.journals.read_one.Goals as goal
 

@@ -1,7 +1,7 @@
 use Rattle.std.proofs.Common.{ℕ, List, ◌∙◌, ap, sym, take}
 use Rattle.std.proofs.lemmas.Bool.{true≢false}
 use Rattle.fjall_base.specs.Disk.{Image, Name, standing, state_in}
-use Rattle.fjall_recovery.specs.Journals.{text_in}
+use Rattle.fjall_files.specs.Texts.{text_in}
 use Rattle.fjall_recovery.proofs.Beginnings.{none_begun, first_begun, not_begun, not_contradicted}
 use Rattle.fjall_recovery.proofs.unfinished.check_tree.Goals as goal
 

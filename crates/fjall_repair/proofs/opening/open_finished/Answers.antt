@@ -36,7 +36,7 @@ returns-in_err-mend_and_sweep-clause-any_moment g c honest contents read shows h
     run_on (m c.args.disk.now) (m c.ready_to_mend.new.disk) same (m c.mend_and_sweep.new.disk) _
     (c.in_err-mend_and_sweep.ensures.any_moment honest found contents (subst (λ (s : State). IsFinished (standing s) found) (sym same.state) read) shows
     (holds_on (m c.args.disk.now) (m c.ready_to_mend.new.disk) same (Some contents) holds)
-    (subst (λ (s : State). IsMendingOf (standing s) found ready.mending) (sym same.state) (c.in_ok-opened.ensures.mending honest)) (c.in_ok-opened.ensures.sweep honest))
+    (subst (λ (s : State). IsMendingOf (standing s) found ready.mending) (sym same.state) (c.in_ok-opened.ensures.mending _ read)) (c.in_ok-opened.ensures.sweep honest))
 
 pub returns-clause-opened : goal.returns-clause-opened
 returns-clause-opened g c honest contents read shows holds =
@@ -47,7 +47,7 @@ returns-clause-opened g c honest contents read shows holds =
     let same = c.in_ok-opened.ensures.same honest in
     let repaired = c.in_ok-mend_and_sweep.ensures.ok honest found contents (subst (λ (s : State). IsFinished (standing s) found) (sym same.state) read) shows
     (holds_on (m c.args.disk.now) (m c.ready_to_mend.new.disk) same (Some contents) holds)
-    (subst (λ (s : State). IsMendingOf (standing s) found ready.mending) (sym same.state) (c.in_ok-opened.ensures.mending honest)) (c.in_ok-opened.ensures.sweep honest)
+    (subst (λ (s : State). IsMendingOf (standing s) found ready.mending) (sym same.state) (c.in_ok-opened.ensures.mending _ read)) (c.in_ok-opened.ensures.sweep honest)
     (subst (λ (s : State). FindsTables s (option_map (λ table. table.id) found.catalog.catalog.table) (map string_bytes ready.sweep.tables.items)) (sym same.state) (c.in_ok-opened.ensures.finds honest).tables) in
     opens_of (state_in (m c.mend_and_sweep.new.disk)) contents (string_bytes ready.mending.active) found.journals.end repaired (Some contents) ready.opened
     (takes_contents found contents ready.opened (string_bytes ready.mending.active) found.journals.end shows c.in_ok-opened.ensures.opened) refl
@@ -62,7 +62,7 @@ returns-clause-swept g c honest read =
     let new : State = state_in (m c.mend_and_sweep.new.disk) in
     let mid : State = state_in (m c.ready_to_mend.new.disk) in
     let same : mid ≡ old = (c.in_ok-opened.ensures.same honest).state in
-    let mending = subst (λ (s : State). IsMendingOf (standing s) found ready.mending) (sym same) (c.in_ok-opened.ensures.mending honest) in
+    let mending = subst (λ (s : State). IsMendingOf (standing s) found ready.mending) (sym same) (c.in_ok-opened.ensures.mending _ read) in
     let brings = subst (λ (s : State). BringsNoTable s new) same (c.in_ok-mend_and_sweep.ensures.tables honest found mending) in
     let keyspaces = c.in_ok-opened.ensures.opened.keyspaces in
     let are = subst AreKeyspaces keyspaces c.in_ok-opened.ensures.lawful.keyspaces in
@@ -91,7 +91,7 @@ returns-clause-any_moment g c honest contents read shows holds =
     run_on (m c.args.disk.now) (m c.ready_to_mend.new.disk) same (m c.mend_and_sweep.new.disk) _
     (c.in_ok-mend_and_sweep.ensures.any_moment honest found contents (subst (λ (s : State). IsFinished (standing s) found) (sym same.state) read) shows
     (holds_on (m c.args.disk.now) (m c.ready_to_mend.new.disk) same (Some contents) holds)
-    (subst (λ (s : State). IsMendingOf (standing s) found ready.mending) (sym same.state) (c.in_ok-opened.ensures.mending honest)) (c.in_ok-opened.ensures.sweep honest))
+    (subst (λ (s : State). IsMendingOf (standing s) found ready.mending) (sym same.state) (c.in_ok-opened.ensures.mending _ read)) (c.in_ok-opened.ensures.sweep honest))
 
 pub returns-in_err-opened-clause-kinds : goal.returns-in_err-opened-clause-kinds
 returns-in_err-opened-clause-kinds g c honest read = tidy_none _ _ (c.in_err-opened.ensures.same honest)
@@ -105,7 +105,7 @@ returns-in_err-mend_and_sweep-clause-kinds g c honest read =
     let found = c.args.found in
     let ready = c.in_ok-opened.field-0 in
     let same = c.in_ok-opened.ensures.same honest in
-    stays_both (m c.args.disk.now) (m c.ready_to_mend.new.disk) (m c.mend_and_sweep.new.disk) (tidy_none _ _ same) (c.in_err-mend_and_sweep.ensures.kinds honest found (subst (λ (s : State). IsFinished (standing s) found) (sym same.state) read) (subst (λ (s : State). IsMendingOf (standing s) found ready.mending) (sym same.state) (c.in_ok-opened.ensures.mending honest)))
+    stays_both (m c.args.disk.now) (m c.ready_to_mend.new.disk) (m c.mend_and_sweep.new.disk) (tidy_none _ _ same) (c.in_err-mend_and_sweep.ensures.kinds honest found (subst (λ (s : State). IsFinished (standing s) found) (sym same.state) read) (subst (λ (s : State). IsMendingOf (standing s) found ready.mending) (sym same.state) (c.in_ok-opened.ensures.mending _ read)))
 
 pub returns-in_err-mend_and_sweep-clause-served : goal.returns-in_err-mend_and_sweep-clause-served
 returns-in_err-mend_and_sweep-clause-served g c honest tidy contents read shows sound =
@@ -113,7 +113,7 @@ returns-in_err-mend_and_sweep-clause-served g c honest tidy contents read shows 
     let ready = c.in_ok-opened.field-0 in
     let same = c.in_ok-opened.ensures.same honest in
     c.in_err-mend_and_sweep.ensures.served honest (subst IsTidy (sym same.state) tidy) found contents (subst (λ (s : State). IsFinished (standing s) found) (sym same.state) read) shows
-    (subst (λ (s : State). IsSound (standing s) contents) (sym same.state) sound) (subst (λ (s : State). IsMendingOf (standing s) found ready.mending) (sym same.state) (c.in_ok-opened.ensures.mending honest)) (c.in_ok-opened.ensures.sweep honest)
+    (subst (λ (s : State). IsSound (standing s) contents) (sym same.state) sound) (subst (λ (s : State). IsMendingOf (standing s) found ready.mending) (sym same.state) (c.in_ok-opened.ensures.mending _ read)) (c.in_ok-opened.ensures.sweep honest)
     (subst (λ (s : State). All (HasAll s) ready.sweep.homes.items) (sym same.state) (c.in_ok-opened.ensures.finds honest).each)
     ∙ c.in_ok-opened.ensures.served honest
 
@@ -123,7 +123,7 @@ returns-clause-kinds g c honest read =
     let found = c.args.found in
     let ready = c.in_ok-opened.field-0 in
     let same = c.in_ok-opened.ensures.same honest in
-    stays_both (m c.args.disk.now) (m c.ready_to_mend.new.disk) (m c.mend_and_sweep.new.disk) (tidy_none _ _ same) (c.in_ok-mend_and_sweep.ensures.kinds honest found (subst (λ (s : State). IsFinished (standing s) found) (sym same.state) read) (subst (λ (s : State). IsMendingOf (standing s) found ready.mending) (sym same.state) (c.in_ok-opened.ensures.mending honest)))
+    stays_both (m c.args.disk.now) (m c.ready_to_mend.new.disk) (m c.mend_and_sweep.new.disk) (tidy_none _ _ same) (c.in_ok-mend_and_sweep.ensures.kinds honest found (subst (λ (s : State). IsFinished (standing s) found) (sym same.state) read) (subst (λ (s : State). IsMendingOf (standing s) found ready.mending) (sym same.state) (c.in_ok-opened.ensures.mending _ read)))
 
 pub returns-clause-served : goal.returns-clause-served
 returns-clause-served g c honest tidy contents read shows sound =
@@ -131,7 +131,7 @@ returns-clause-served g c honest tidy contents read shows sound =
     let ready = c.in_ok-opened.field-0 in
     let same = c.in_ok-opened.ensures.same honest in
     c.in_ok-mend_and_sweep.ensures.served honest (subst IsTidy (sym same.state) tidy) found contents (subst (λ (s : State). IsFinished (standing s) found) (sym same.state) read) shows
-    (subst (λ (s : State). IsSound (standing s) contents) (sym same.state) sound) (subst (λ (s : State). IsMendingOf (standing s) found ready.mending) (sym same.state) (c.in_ok-opened.ensures.mending honest)) (c.in_ok-opened.ensures.sweep honest)
+    (subst (λ (s : State). IsSound (standing s) contents) (sym same.state) sound) (subst (λ (s : State). IsMendingOf (standing s) found ready.mending) (sym same.state) (c.in_ok-opened.ensures.mending _ read)) (c.in_ok-opened.ensures.sweep honest)
     (subst (λ (s : State). All (HasAll s) ready.sweep.homes.items) (sym same.state) (c.in_ok-opened.ensures.finds honest).each)
     ∙ c.in_ok-opened.ensures.served honest
 
@@ -152,7 +152,7 @@ returns-in_err-mend_and_sweep-clause-amid g c honest contents read shows sound b
     run_on (m c.args.disk.now) (m c.ready_to_mend.new.disk) same (m c.mend_and_sweep.new.disk) _
     (c.in_err-mend_and_sweep.ensures.amid honest found contents (subst (λ (s : State). IsFinished (standing s) found) (sym same.state) read) shows
     (subst (λ (s : State). IsSound (standing s) contents) (sym same.state) sound)
-    (subst (λ (s : State). IsMendingOf (standing s) found ready.mending) (sym same.state) (c.in_ok-opened.ensures.mending honest)) (c.in_ok-opened.ensures.sweep honest)
+    (subst (λ (s : State). IsMendingOf (standing s) found ready.mending) (sym same.state) (c.in_ok-opened.ensures.mending _ read)) (c.in_ok-opened.ensures.sweep honest)
     base pending (amid_on (m c.args.disk.now) (m c.ready_to_mend.new.disk) same base pending holds))
 
 pub returns-in_err-mend_and_sweep-clause-held : goal.returns-in_err-mend_and_sweep-clause-held
@@ -163,7 +163,7 @@ returns-in_err-mend_and_sweep-clause-held g c honest contents read shows sound b
     let same = c.in_ok-opened.ensures.same honest in
     (c.in_err-mend_and_sweep.ensures.held honest found contents (subst (λ (s : State). IsFinished (standing s) found) (sym same.state) read) shows
     (subst (λ (s : State). IsSound (standing s) contents) (sym same.state) sound)
-    (subst (λ (s : State). IsMendingOf (standing s) found ready.mending) (sym same.state) (c.in_ok-opened.ensures.mending honest)) (c.in_ok-opened.ensures.sweep honest)
+    (subst (λ (s : State). IsMendingOf (standing s) found ready.mending) (sym same.state) (c.in_ok-opened.ensures.mending _ read)) (c.in_ok-opened.ensures.sweep honest)
     base pending (amid_on (m c.args.disk.now) (m c.ready_to_mend.new.disk) same base pending holds))
 
 pub returns-clause-amid : goal.returns-clause-amid
@@ -175,7 +175,7 @@ returns-clause-amid g c honest contents read shows sound base pending holds =
     run_on (m c.args.disk.now) (m c.ready_to_mend.new.disk) same (m c.mend_and_sweep.new.disk) _
     (c.in_ok-mend_and_sweep.ensures.amid honest found contents (subst (λ (s : State). IsFinished (standing s) found) (sym same.state) read) shows
     (subst (λ (s : State). IsSound (standing s) contents) (sym same.state) sound)
-    (subst (λ (s : State). IsMendingOf (standing s) found ready.mending) (sym same.state) (c.in_ok-opened.ensures.mending honest)) (c.in_ok-opened.ensures.sweep honest)
+    (subst (λ (s : State). IsMendingOf (standing s) found ready.mending) (sym same.state) (c.in_ok-opened.ensures.mending _ read)) (c.in_ok-opened.ensures.sweep honest)
     base pending (amid_on (m c.args.disk.now) (m c.ready_to_mend.new.disk) same base pending holds))
 
 pub returns-clause-held : goal.returns-clause-held
@@ -186,7 +186,7 @@ returns-clause-held g c honest contents read shows sound base pending holds =
     let same = c.in_ok-opened.ensures.same honest in
     (c.in_ok-mend_and_sweep.ensures.held honest found contents (subst (λ (s : State). IsFinished (standing s) found) (sym same.state) read) shows
     (subst (λ (s : State). IsSound (standing s) contents) (sym same.state) sound)
-    (subst (λ (s : State). IsMendingOf (standing s) found ready.mending) (sym same.state) (c.in_ok-opened.ensures.mending honest)) (c.in_ok-opened.ensures.sweep honest)
+    (subst (λ (s : State). IsMendingOf (standing s) found ready.mending) (sym same.state) (c.in_ok-opened.ensures.mending _ read)) (c.in_ok-opened.ensures.sweep honest)
     base pending (amid_on (m c.args.disk.now) (m c.ready_to_mend.new.disk) same base pending holds))
 
 pub returns-clause-opens : goal.returns-clause-opens
@@ -198,7 +198,7 @@ returns-clause-opens g c honest contents read shows sound base pending holds =
     let same = c.in_ok-opened.ensures.same honest in
     let repaired = c.in_ok-mend_and_sweep.ensures.repaired honest found contents (subst (λ (s : State). IsFinished (standing s) found) (sym same.state) read) shows
     (subst (λ (s : State). IsSound (standing s) contents) (sym same.state) sound)
-    (subst (λ (s : State). IsMendingOf (standing s) found ready.mending) (sym same.state) (c.in_ok-opened.ensures.mending honest)) (c.in_ok-opened.ensures.sweep honest)
+    (subst (λ (s : State). IsMendingOf (standing s) found ready.mending) (sym same.state) (c.in_ok-opened.ensures.mending _ read)) (c.in_ok-opened.ensures.sweep honest)
     base pending (amid_on (m c.args.disk.now) (m c.ready_to_mend.new.disk) same base pending holds)
     (subst (λ (s : State). FindsTables s (option_map (λ table. table.id) found.catalog.catalog.table) (map string_bytes ready.sweep.tables.items)) (sym same.state) (c.in_ok-opened.ensures.finds honest).tables) in
     opens_of (state_in (m c.mend_and_sweep.new.disk)) contents (string_bytes ready.mending.active) found.journals.end repaired (Some contents) ready.opened

@@ -1,9 +1,17 @@
-use Rattle.std.proofs.Common.{[], sym, subst}
+use Rattle.std.proofs.Common.{[], refl, sym, subst}
 use Rattle.std.proofs.lemmas.Result.{err_from_is_err_and}
-use Rattle.fjall_base.specs.Disk.{Meaning, State, Took, standing}
+use Rattle.fjall_base.specs.Disk.{Image, Meaning, State, Took, standing, state_in}
+use Rattle.fjall_base.specs.declared.error.Error.TheVariants.{Unrecoverable}
 use Rattle.fjall_journal.proofs.Writing.{took_none}
-use Rattle.fjall_recovery.specs.Naming.{JournalsAreNamed}
+use Rattle.fjall_recovery.specs.Naming.{JournalsAreNamed, KeyspacesAreNamed}
+use Rattle.fjall_recovery.proofs.Kept.{names_spared}
 use Rattle.fjall_repair.proofs.ready.ready_to_begin.Goals as goal
+
+pub returns-in_err-ids-clause-due : goal.returns-in_err-ids-clause-due
+returns-in_err-ids-clause-due g c honest unfinished =
+    let p = err_from_is_err_and c.from_residual.result c.from_residual.ensures.1 in
+    let image : Image = standing (state_in (g.D.Disk.meaning c.args.disk.now)) in
+    rw (p.1, p.2) (names_spared image image KeyspacesAreNamed Unrecoverable c.in_err-ids.field-0.0 refl unfinished.keyspaces_named (c.in_err-ids.ensures.cause honest))
 
 pub returns-in_err-making-clause-due : goal.returns-in_err-making-clause-due
 returns-in_err-making-clause-due g c honest unfinished =

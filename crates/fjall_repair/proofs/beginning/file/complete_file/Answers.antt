@@ -1,6 +1,6 @@
 use Rattle.std.proofs.Common.{[], Ok, ap, refl, subst, ◌∙◌, inl}
 use Rattle.fjall_base.specs.Disk.{Entry, File, Meaning, state_in}
-use Rattle.fjall_recovery.specs.Journals.{text_in}
+use Rattle.fjall_files.specs.Texts.{text_in}
 use Rattle.fjall_repair.specs.Plans.{IsFound}
 use Rattle.fjall_repair.proofs.Filled.{emptied, made_text, synced_whole}
 use Rattle.fjall_repair.proofs.Moments.{either_cut, either_sync, goes_both, goes_cut, goes_made, goes_none, goes_synced, stays_both, stays_cut, stays_made, stays_none, stays_synced}

@@ -1,8 +1,8 @@
 use Rattle.std.proofs.Common.{sym, subst, ◌∙◌}
 use Rattle.fjall_base.specs.Disk.{Entry, Meaning, standing, state_in}
 use Rattle.fjall_base.specs.declared.error.FormatVersion.TheVariants.{V3}
+use Rattle.fjall_files.specs.Texts.{text_in}
 use Rattle.fjall_files.specs.Marker.{header}
-use Rattle.fjall_recovery.specs.Journals.{text_in}
 use Rattle.fjall_repair.specs.Plans.{IsFound}
 use Rattle.fjall_repair.proofs.Begun.{before, comes_back_kept, then_done}
 use Rattle.fjall_repair.proofs.Standing.{kept_more, making_of, unfinished_of}

@@ -6,7 +6,6 @@ use Rattle.fjall_files.specs.Marker.{header}
 use Rattle.fjall_meta.specs.Keyspaces.{no_keyspaces}
 use Rattle.fjall_versions.specs.Replays.{bare}
 use Rattle.fjall_recovery.specs.Folders.{StandsFor}
-use Rattle.fjall_recovery.specs.Journals.{text_in}
 use Rattle.fjall_repair.specs.Making.{CanHold}
 use Rattle.fjall_repair.specs.Plans.{IsFound}
 use Rattle.fjall_repair.proofs.Holding.{marker_holds}
@@ -14,6 +13,7 @@ use Rattle.fjall_repair.proofs.Marking.{IsMarking, begun, marking_moments, settl
 use Rattle.fjall_repair.proofs.Trees.{on_ok_as}
 use Rattle.fjall_repair.proofs.Backs.{active_there, marking_back, older_stands, settled_older, settled_elsewhere}
 use Rattle.fjall_base.proofs.States.{differs}
+use Rattle.fjall_files.specs.Texts.{text_in}
 use Rattle.fjall_repair.proofs.Moments.{elsewhere, goes_settled}
 use Rattle.fjall_repair.proofs.Standing.{kept_more}
 use Rattle.fjall_files.proofs.Tidying.{stays_both as tidy_both, stays_settling}

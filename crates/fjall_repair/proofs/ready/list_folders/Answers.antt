@@ -1,9 +1,0 @@
-use Rattle.std.proofs.Common.{sym, subst}
-use Rattle.fjall_base.specs.Disk.{Lists, state_in}
-use Rattle.fjall_recovery.proofs.Listed.{folder_ids_ok}
-use Rattle.fjall_repair.proofs.ready.list_folders.Goals as goal
-
-pub returns-clause-ids : goal.returns-clause-ids
-returns-clause-ids g c honest =
-    let state = state_in (g.D.Disk.meaning c.args.disk.now) in
-    folder_ids_ok state c.keyspaces.result _ (subst (Lists state _) (sym c.deref.ensures.value) (c.in_ok-listed.ensures.found honest)) c.keyspaces.ensures.ids
