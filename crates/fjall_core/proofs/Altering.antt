@@ -32,7 +32,7 @@ use Rattle.fjall_core.proofs.Dues.{bool_cases}
 use Rattle.fjall_core.proofs.Amids.{amid_more}
 use Rattle.fjall_core.proofs.Leading.{folder_amid}
 use Rattle.fjall_core.proofs.Rooted.{leaves_beside, within_root, writing_along}
-use Rattle.fjall_core.proofs.Writes.{Leads, Settles, held_on, leads_on, present_of, stands_ill, stands_well}
+use Rattle.fjall_core.proofs.JournalWrites.{Leads, Settles, held_on, leads_on, present_of, stands_ill, stands_well}
 
 -- ---- numbers
 

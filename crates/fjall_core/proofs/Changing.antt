@@ -32,7 +32,7 @@ use Rattle.fjall_core.proofs.Altering.{Changed, numbers_below, store_of_tree}
 use Rattle.fjall_core.proofs.Leading.{folder_amid}
 use Rattle.fjall_core.proofs.Numbers.{below_number, created_number, deleted_number}
 use Rattle.fjall_core.proofs.Rooted.{leaves_beside}
-use Rattle.fjall_core.proofs.Writes.{held_on}
+use Rattle.fjall_core.proofs.JournalWrites.{held_on}
 
 -- the tree of a core
 abbrev pub tree_held : Held → List Fields → Tree

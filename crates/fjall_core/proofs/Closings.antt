@@ -24,7 +24,7 @@ use Rattle.fjall_core.proofs.Dues.{none_due}
 use Rattle.fjall_core.proofs.Leading.{lies_rest, root_finished}
 use Rattle.fjall_core.proofs.Reopening.{a_core_holds_amid, finished_amid}
 use Rattle.fjall_core.proofs.Syncs.{HandedOut, hand_leaves, same_of, sync_empty, sync_lies, synced_passes}
-use Rattle.fjall_core.proofs.Writes.{held_on, present_of}
+use Rattle.fjall_core.proofs.JournalWrites.{held_on, present_of}
 
 -- what the disk took of a sync is what closing owes of it
 pub closes_disk : (old new : Held) (result : Result Unit Error) → OnDisk old (Persist SyncAll) (reply_of result) new → ClosesDisk old result new.disk

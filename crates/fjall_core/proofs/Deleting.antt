@@ -30,7 +30,7 @@ use Rattle.fjall_core.proofs.Keyspacing.{between, stays}
 use Rattle.fjall_core.proofs.Serving.{Led, led_by, long_owes, long_serves, memory_owes, memory_serves, replaces_table, serves_by, still_led}
 use Rattle.std.proofs.lemmas.Bool.{true≢false}
 use Rattle.fjall_core.proofs.Syncs.{HandedOut, sync_empty, sync_lies}
-use Rattle.fjall_core.proofs.Writes.{held_on}
+use Rattle.fjall_core.proofs.JournalWrites.{held_on}
 use Rattle.fjall_core.proofs.Tables.{deleted_table, long_option, some_left}
 use Rattle.fjall_core.proofs.Turned.{not_done}
 use Rattle.fjall_core.proofs.Ways.{ChangesTo, alter_settles, unaltered_leads, unsynced_leads}

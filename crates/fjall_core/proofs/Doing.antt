@@ -24,7 +24,7 @@ use Rattle.fjall_core.specs.Standing.{Grows, OnDisk, Owes, OwesRefusal, Serves, 
 use Rattle.fjall_core.specs.Turns.{Writes, is_out}
 use Rattle.fjall_core.proofs.Devices.{failed_on, served_on}
 use Rattle.fjall_core.proofs.Serving.{led_by, memory_owes, memory_serves, serves_by}
-use Rattle.fjall_core.proofs.Writes.{IsAdmitted, torn_leads, write_leads}
+use Rattle.fjall_core.proofs.JournalWrites.{IsAdmitted, torn_leads, write_leads}
 
 -- ---- writes
 

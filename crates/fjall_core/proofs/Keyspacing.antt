@@ -36,7 +36,7 @@ use Rattle.fjall_core.specs.Turns.{Makes, Turned}
 use Rattle.fjall_core.specs.Turns as turns
 use Rattle.fjall_core.proofs.Changing.{Becomes, creation_changed, creation_served}
 use Rattle.fjall_core.proofs.Devices.{served_on, room_on}
-use Rattle.fjall_core.proofs.Writes.{held_on}
+use Rattle.fjall_core.proofs.JournalWrites.{held_on}
 use Rattle.fjall_state.proofs.Standing.{a_name_there}
 use Rattle.fjall_core.proofs.Serving.{Led, still_led, led_by, long_owes, long_serves, memory_owes, memory_serves, replaces_table, serves_by}
 use Rattle.fjall_core.proofs.Syncs.{HandedOut, StaysSame, sync_empty, sync_lies}

@@ -4,7 +4,7 @@ mod Tries
 pub mod Running
 mod Leading
 mod Along
-mod Writes
+mod JournalWrites
 mod Syncs
 mod Rooted
 mod Altering
@@ -17,7 +17,7 @@ mod Devices
 mod Serving
 mod Outcomes
 mod Doing
-mod Replies
+mod CallsInMemory
 mod Persisting
 mod Releasing
 mod Tables

@@ -28,7 +28,7 @@ use Rattle.fjall_core.proofs.Amids.{passes_still}
 use Rattle.fjall_core.proofs.Dues.{is_fault, never_due, no_attempt, no_sync}
 use Rattle.fjall_core.proofs.Owing.{owes_step}
 use Rattle.fjall_core.proofs.Devices.{refusal_blames}
-use Rattle.fjall_core.proofs.Writes.{Leads}
+use Rattle.fjall_core.proofs.JournalWrites.{Leads}
 
 -- the core stands on some disk now, to which such a call leads
 abbrev pub Led : Held → State → Durable → Call → Reply → Type 0

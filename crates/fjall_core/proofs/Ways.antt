@@ -21,7 +21,7 @@ use Rattle.fjall_core.proofs.Changing.{removal_leaves}
 use Rattle.fjall_core.proofs.Leading.{leaves_finished, lies_rest}
 use Rattle.fjall_core.proofs.Rooted.{within_finished, within_root, writing_along}
 use Rattle.fjall_core.proofs.Syncs.{HandedOut, hand_leaves, StaysSame, sync_empty, sync_lies, synced_passes}
-use Rattle.fjall_core.proofs.Writes.{Leads, Settles, held_on, leads_on, present_of, settles_on, stands_ill, stands_well}
+use Rattle.fjall_core.proofs.JournalWrites.{Leads, Settles, held_on, leads_on, present_of, settles_on, stands_ill, stands_well}
 
 -- what happens to the keyspaces, once all is synced
 abbrev pub ChangesTo : Held → Held → Command → Bool → Type 0

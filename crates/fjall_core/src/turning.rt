@@ -8,20 +8,12 @@ ghost use Rattle.fjall_meta.specs.Keyspaces.{Keyspaces};
 ghost use Rattle.fjall_catalog.specs.declared.catalog.Catalog.{Catalog};
 ghost use Rattle.fjall_catalog.specs.Updates.{IsUpdate};
 ghost use Rattle.fjall_commit.specs.Changes.{IsCreation};
-ghost use Rattle.fjall_core.specs.Standing.{is_io};
 ghost use Rattle.fjall_core.specs.Turns.{Made, Turns, Unmade};
 
-use fjall_base::{Disk, Error, Result};
+use fjall_base::{Disk, Result};
 use fjall_catalog::Update;
 use fjall_commit::{Creation, create_keyspace, delete_keyspace, sync_journal};
 use fjall_journal::{PersistMode, Writer};
-
-/// Whether it tells of a fault of the disk.
-pub(crate) fn is_fault(error: &Error) -> bool
-    ensures { result ≡ is_io error.now }
-{
-    matches!(error, Error::Io(_))
-}
 
 /// Syncs the journal, and then makes a keyspace.
 pub(crate) fn make_keyspace<D: Disk>(

@@ -1,5 +1,5 @@
 use Rattle.std.proofs.Common.{rules, ◌≡◌}
-use Rattle.fjall_core.proofs.Replies.{count_serves, exists_serves, seqno_serves, space_serves, visible_serves}
+use Rattle.fjall_core.proofs.CallsInMemory.{count_serves, exists_serves, seqno_serves, space_serves, visible_serves}
 use Rattle.fjall_core.proofs.engine.Core.serve.Goals as goal
 
 pub returns-in-KeyspaceCount-clause-serves : goal.returns-in-KeyspaceCount-clause-serves
