@@ -13,3 +13,4 @@ pub mod Writing
 pub mod Results
 pub mod Filed
 pub mod Tidied
+pub mod ChangesAfterSync

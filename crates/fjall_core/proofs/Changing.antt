@@ -26,7 +26,7 @@ use Rattle.fjall_commit.specs.declared.creation.Creation.{Creation}
 use Rattle.fjall_commit.specs.Changes.{HasRoom, IsCreation, with_home, without_home}
 use Rattle.fjall_state.specs.Remembered.{Remembered, with_creation, with_deletion}
 use Rattle.fjall_core.specs.Holding.{Held}
-use Rattle.fjall_core.specs.Turns as turns
+use Rattle.fjall_commit.specs.SyncedChanges as on_disk
 use Rattle.fjall_core.specs.Durables.{Durable, Lies, StandsAmid}
 use Rattle.fjall_core.proofs.Altering.{Changed, numbers_below, store_of_tree}
 use Rattle.fjall_core.proofs.Leading.{folder_amid}
@@ -58,8 +58,8 @@ created_store state j t name options number c root are is =
     sym (nothing_to_keep (with_keyspace name options number t.keyspaces) batches) ∙ ap kept (Creating.creation_of_batches name options number t.keyspaces are batches older)
 
 -- what is known of a creation on the disk of a core
-abbrev pub Made : Held → Held → Creation → Bool → Type 0
-Made mid new creation done = turns.Made mid.disk new.disk creation done
+abbrev pub CreatedKeyspace : Held → Held → Creation → Bool → Type 0
+CreatedKeyspace mid new creation done = on_disk.CreatedKeyspace mid.disk new.disk creation done
 
 -- what a creation leaves of a core
 pub record Becomes (mid new : Held) (after : Remembered) (catalog : Catalog) (done : Bool) : Type 0 where
@@ -69,7 +69,7 @@ pub record Becomes (mid new : Held) (after : Remembered) (catalog : Catalog) (do
 
 pub creation_changed : (mid new : Held) (base : Store) (name : List ℕ) (options : List (List ℕ)) (creation : Creation) (done : Bool) (lies : Lies mid (held_on mid base [])) → lies.journals.later ≡ []
     → IsCreation mid.catalog (with_keyspace name options mid.memory.next mid.memory.keyspaces) mid.memory.keyspaces.next mid.memory.next creation → AreKeyspaces mid.memory.keyspaces
-    → AreKeyspaces (with_keyspace name options mid.memory.next mid.memory.keyspaces) → Made mid new creation done → Becomes mid new (with_creation name options mid.memory) creation.update.catalog done
+    → AreKeyspaces (with_keyspace name options mid.memory.next mid.memory.keyspaces) → CreatedKeyspace mid new creation done → Becomes mid new (with_creation name options mid.memory) creation.update.catalog done
     → Changed mid new lies.journals lies.tree (Create name (option_pairs options)) done
 creation_changed mid new base name options creation done lies none is were are disk core =
     let j = lies.journals in
@@ -96,7 +96,7 @@ creation_changed mid new base name options creation done lies none is were are d
 -- no call of it was one that no disk can serve
 pub creation_served : (mid new : Held) (base : Store) (name : List ℕ) (options : List (List ℕ)) (creation : Creation) (done : Bool) (lies : Lies mid (held_on mid base [])) → lies.journals.later ≡ []
     → IsCreation mid.catalog (with_keyspace name options mid.memory.next mid.memory.keyspaces) mid.memory.keyspaces.next mid.memory.next creation → AreKeyspaces mid.memory.keyspaces
-    → AreKeyspaces (with_keyspace name options mid.memory.next mid.memory.keyspaces) → Made mid new creation done → HasRoom (state_in mid.disk) mid.memory.keyspaces.next → new.disk.misuses ≡ mid.disk.misuses
+    → AreKeyspaces (with_keyspace name options mid.memory.next mid.memory.keyspaces) → CreatedKeyspace mid new creation done → HasRoom (state_in mid.disk) mid.memory.keyspaces.next → new.disk.misuses ≡ mid.disk.misuses
 creation_served mid new base name options creation done lies none is were are disk room =
     let t = tree_held mid lies.tree.homes in
     let there : LiesInTree (state_in mid.disk) lies.records t = subst (λ (x : Tree). LiesInTree (state_in mid.disk) lies.records x) (sym (same_tree mid (held_on mid base []) lies)) lies.in_tree in
@@ -105,11 +105,11 @@ creation_served mid new base name options creation done lies none is were are di
 -- ---- a deletion
 
 -- the same of a deletion
-abbrev pub Unmade : Held → Held → Update → Bool → Type 0
-Unmade mid new update done = turns.Unmade mid.disk new.disk update done
+abbrev pub DeletedKeyspace : Held → Held → Update → Bool → Type 0
+DeletedKeyspace mid new update done = on_disk.DeletedKeyspace mid.disk new.disk update done
 
 pub deletion_changed : (mid new : Held) (base : Store) (id : ℕ) (update : Update) (done : Bool) (lies : Lies mid (held_on mid base [])) → lies.journals.later ≡ []
-    → IsUpdate mid.catalog (without_keyspace id mid.memory.keyspaces) mid.memory.next update → Unmade mid new update done → Becomes mid new (with_deletion id mid.memory) update.catalog done
+    → IsUpdate mid.catalog (without_keyspace id mid.memory.keyspaces) mid.memory.next update → DeletedKeyspace mid new update done → Becomes mid new (with_deletion id mid.memory) update.catalog done
     → Changed mid new lies.journals lies.tree (Delete id) done
 deletion_changed mid new base id update done lies none is disk core =
     let j = lies.journals in
@@ -134,7 +134,7 @@ deletion_changed mid new base id update done lies none is disk core =
 
 -- no call of it was one that no disk can serve
 pub deletion_served : (mid new : Held) (base : Store) (id : ℕ) (update : Update) (done : Bool) (lies : Lies mid (held_on mid base [])) → lies.journals.later ≡ []
-    → IsUpdate mid.catalog (without_keyspace id mid.memory.keyspaces) mid.memory.next update → Unmade mid new update done → new.disk.misuses ≡ mid.disk.misuses
+    → IsUpdate mid.catalog (without_keyspace id mid.memory.keyspaces) mid.memory.next update → DeletedKeyspace mid new update done → new.disk.misuses ≡ mid.disk.misuses
 deletion_served mid new base id update done lies none is disk =
     let t = tree_held mid lies.tree.homes in
     let there : LiesInTree (state_in mid.disk) lies.records t = subst (λ (x : Tree). LiesInTree (state_in mid.disk) lies.records x) (sym (same_tree mid (held_on mid base []) lies)) lies.in_tree in

@@ -22,17 +22,18 @@ use Rattle.fjall_files.proofs.Tidying.{stays_both, stays_start}
 use Rattle.fjall_core.specs.Holding.{Held}
 use Rattle.fjall_core.specs.Durables.{Durable, Passes}
 use Rattle.fjall_core.specs.Standing.{Deletes, Owes, OwesRefusal, Poisons, ReplacesTable, Serves, StandsFor, StandsOn, held_due, is_io, store_in}
-use Rattle.fjall_core.specs.Turns.{Turned, Unmakes}
-use Rattle.fjall_core.specs.Turns as turns
+use Rattle.fjall_commit.specs.SyncedChanges.{SyncedThenChanged}
+use Rattle.fjall_core.specs.CallParts.{Unmakes}
+use Rattle.fjall_commit.specs.SyncedChanges as on_disk
 use Rattle.fjall_core.proofs.Changing.{Becomes, deletion_changed, deletion_served}
 use Rattle.fjall_core.proofs.Devices.{served_on}
 use Rattle.fjall_core.proofs.Keyspacing.{between, stays}
 use Rattle.fjall_core.proofs.Serving.{Led, led_by, long_owes, long_serves, memory_owes, memory_serves, replaces_table, serves_by, still_led}
 use Rattle.std.proofs.lemmas.Bool.{true≢false}
-use Rattle.fjall_core.proofs.Syncs.{HandedOut, sync_empty, sync_lies}
+use Rattle.fjall_core.proofs.Syncs.{Persisted, sync_empty, sync_lies}
 use Rattle.fjall_core.proofs.JournalWrites.{held_on}
 use Rattle.fjall_core.proofs.Tables.{deleted_table, long_option, some_left}
-use Rattle.fjall_core.proofs.Turned.{not_done}
+use Rattle.fjall_commit.proofs.ChangesAfterSync.{not_done}
 use Rattle.fjall_core.proofs.Ways.{ChangesTo, alter_settles, unaltered_leads, unsynced_leads}
 
 module _ (old : Held) (id : ℕ) (none : held_due old (DeleteKeyspace id) ≡ None) (living : is_living (store_in old) id ≡ true) where
@@ -43,12 +44,12 @@ module _ (old : Held) (id : ℕ) (none : held_due old (DeleteKeyspace id) ≡ No
   room_left = room.numbered
 
   changes_by : (made new : Held) (mid : Meaning) (update : Update) (done : Bool) → IsUpdate old.catalog (without_keyspace id old.memory.keyspaces) old.memory.next update
-      → turns.Unmade mid new.disk update done → Becomes (between old made mid) new (with_deletion id old.memory) update.catalog done → ChangesTo (between old made mid) new (Delete id) done
+      → on_disk.DeletedKeyspace mid new.disk update done → Becomes (between old made mid) new (with_deletion id old.memory) update.catalog done → ChangesTo (between old made mid) new (Delete id) done
   changes_by made new mid update done is disk core base lies empty = deletion_changed (between old made mid) new base id update done lies empty is disk core
 
   -- wherever the core stood, no call was one that no disk can serve
   served_by : (made new : Held) (mid : Meaning) (update : Update) (done : Bool) → IsUpdate old.catalog (without_keyspace id old.memory.keyspaces) old.memory.next update
-      → turns.Unmade mid new.disk update done → HandedOut old (between old made mid) SyncAll true → (d : Durable) → StandsOn old d → new.disk.misuses ≡ old.disk.misuses
+      → on_disk.DeletedKeyspace mid new.disk update done → Persisted old (between old made mid) SyncAll true → (d : Durable) → StandsOn old d → new.disk.misuses ≡ old.disk.misuses
   served_by made new mid update done is disk out d on =
       let here : d ≡ held_on old d.base d.pending = λ i. record { meaning = on.same i; base = d.base; pending = d.pending } in
       let lies = (subst (λ (x : Durable). StandsOn old x) here on).lies room.well in
@@ -81,7 +82,7 @@ module _ (old : Held) (id : ℕ) (none : held_due old (DeleteKeyspace id) ≡ No
   deleted_serves honest made new lawful all is true_ =
       let turned = all.4 true_ in
       let disk : new.disk ≡ made.disk = ap (λ (h : Held). h.disk) is in
-      let changed = subst (λ m. turns.Unmade turned.mid m all.0 true) (sym disk) turned.changed in
+      let changed = subst (λ m. on_disk.DeletedKeyspace turned.mid m all.0 true) (sym disk) turned.changed in
       let well = ap (λ (h : Held). h.memory.poisoned) is ∙ room.well in
       let led : (s : State) (d : Durable) → StandsFor old s → StandsOn old d → Led new s d (DeleteKeyspace id) Done = λ s d stands on.
       let core : Becomes (between old made turned.mid) new (with_deletion id old.memory) all.0.catalog true =
@@ -132,15 +133,15 @@ module _ (old : Held) (id : ℕ) (none : held_due old (DeleteKeyspace id) ≡ No
       (λ s d stands on tidy. record {
         rose = fault.faults;
         served = ⊎_elim
-            (λ unsynced. served_on old new.disk d room.well (subst (λ (h : Held). turns.HandedOut old.disk h.disk old.journal h.journal SyncAll false) (sym back) unsynced).served on)
-            (λ turned. served_by made new turned.mid all.0 false all.1 (subst (λ m. turns.Unmade turned.mid m all.0 false) (sym disk) turned.changed) turned.synced d on)
+            (λ unsynced. served_on old new.disk d room.well (subst (λ (h : Held). on_disk.Persisted old.disk h.disk old.journal h.journal SyncAll false) (sym back) unsynced).served on)
+            (λ turned. served_by made new turned.mid all.0 false all.1 (subst (λ m. on_disk.DeletedKeyspace turned.mid m all.0 false) (sym disk) turned.changed) turned.synced d on)
             (all.5 true_);
       }) (λ s d stands on.
       led_by new s d (DeleteKeyspace id) (Refused (Io kind)) (Delete id ∷ []) (asks_one s stands) (λ sync. sync)
       (⊎_elim
-      (λ unsynced. unsynced_leads old new d (Delete id) room.well fault (subst (λ (h : Held). turns.HandedOut old.disk h.disk old.journal h.journal SyncAll false) (sym back) unsynced) on)
+      (λ unsynced. unsynced_leads old new d (Delete id) room.well fault (subst (λ (h : Held). on_disk.Persisted old.disk h.disk old.journal h.journal SyncAll false) (sym back) unsynced) on)
       (λ turned. unaltered_leads old (between old made turned.mid) new d (Delete id) room.well (stays old made turned.mid) turned.synced
-      (changes_by made new turned.mid all.0 false all.1 (subst (λ m. turns.Unmade turned.mid m all.0 false) (sym disk) turned.changed)
+      (changes_by made new turned.mid all.0 false all.1 (subst (λ m. on_disk.DeletedKeyspace turned.mid m all.0 false) (sym disk) turned.changed)
       (record { memory_is = λ e. not_done e; catalog_is = λ e. not_done e; journal_is = λ e. not_done e })) fault on)
       (all.5 true_)))
   undeleted_serves honest made new OutOfMemory lawful all back true_ = subst (λ (h : Held). Serves old (DeleteKeyspace id) (Refused OutOfMemory) h) (sym (back ∙ all.0)) (memory_serves old (DeleteKeyspace id) tt none)

@@ -21,7 +21,7 @@ use Rattle.fjall_state.proofs.Dues.{may_write}
 use Rattle.fjall_core.specs.Holding.{Held, by_hand}
 use Rattle.fjall_core.specs.Crashes.{IsSync, attempt}
 use Rattle.fjall_core.specs.Standing.{Grows, OnDisk, Owes, OwesRefusal, Serves, StandsFor, WroteOut, held_due, reply_of}
-use Rattle.fjall_core.specs.Turns.{Writes, is_out}
+use Rattle.fjall_core.specs.CallParts.{Writes, is_out}
 use Rattle.fjall_core.proofs.Devices.{failed_on, served_on}
 use Rattle.fjall_core.proofs.Serving.{led_by, memory_owes, memory_serves, serves_by}
 use Rattle.fjall_core.proofs.JournalWrites.{IsAdmitted, torn_leads, write_leads}

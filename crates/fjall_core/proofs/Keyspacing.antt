@@ -32,16 +32,17 @@ use Rattle.fjall_core.specs.Holding.{Held}
 use Rattle.fjall_core.specs.Durables.{Durable, Passes}
 use Rattle.fjall_core.specs.Crashes.{attempt}
 use Rattle.fjall_core.specs.Standing.{Creates, Owes, OwesRefusal, Poisons, ReplacesTable, Serves, StandsFor, StandsOn, held_due, is_io, store_in}
-use Rattle.fjall_core.specs.Turns.{Makes, Turned}
-use Rattle.fjall_core.specs.Turns as turns
+use Rattle.fjall_commit.specs.SyncedChanges.{SyncedThenChanged}
+use Rattle.fjall_core.specs.CallParts.{Makes}
+use Rattle.fjall_commit.specs.SyncedChanges as on_disk
 use Rattle.fjall_core.proofs.Changing.{Becomes, creation_changed, creation_served}
 use Rattle.fjall_core.proofs.Devices.{served_on, room_on}
 use Rattle.fjall_core.proofs.JournalWrites.{held_on}
 use Rattle.fjall_state.proofs.Standing.{a_name_there}
 use Rattle.fjall_core.proofs.Serving.{Led, still_led, led_by, long_owes, long_serves, memory_owes, memory_serves, replaces_table, serves_by}
-use Rattle.fjall_core.proofs.Syncs.{HandedOut, StaysSame, sync_empty, sync_lies}
+use Rattle.fjall_core.proofs.Syncs.{Persisted, StaysSame, sync_empty, sync_lies}
 use Rattle.fjall_core.proofs.Tables.{created_table, long_option}
-use Rattle.fjall_core.proofs.Turned.{not_done}
+use Rattle.fjall_commit.proofs.ChangesAfterSync.{not_done}
 use Rattle.fjall_core.proofs.Ways.{ChangesTo, alter_settles, unaltered_leads, unsynced_leads}
 
 -- a core that has the new keyspace in memory already
@@ -69,7 +70,7 @@ module _ (old : Held) (name : Bytes) (options : List Bytes) (id number : ℕ) (i
       (subst (λ i. IsCreation old.catalog (with_keyspace name options old.memory.next old.memory.keyspaces) i number creation) id_is is)
 
   changes_by : (made new : Held) (mid : Meaning) (creation : Creation) (done : Bool) → IsLawful old.memory → IsCreation old.catalog (with_keyspace name options old.memory.next old.memory.keyspaces) id number creation
-      → turns.Made mid new.disk creation done → Becomes (between old made mid) new (with_creation name options old.memory) creation.update.catalog done → ChangesTo (between old made mid) new (Create name (option_pairs options)) done
+      → on_disk.CreatedKeyspace mid new.disk creation done → Becomes (between old made mid) new (with_creation name options old.memory) creation.update.catalog done → ChangesTo (between old made mid) new (Create name (option_pairs options)) done
   changes_by made new mid creation done lawful is disk core base lies none =
       creation_changed (between old made mid) new base name options creation done lies none (of_creation creation is) lawful.keyspaces after.keyspaces disk core
 
@@ -93,7 +94,7 @@ module _ (old : Held) (name : Bytes) (options : List Bytes) (id number : ℕ) (i
 
     -- wherever the core stood, no call was one that no disk can serve
     served_by : (made new : Held) (mid : Meaning) (creation : Creation) (done : Bool) → IsLawful old.memory → IsCreation old.catalog (with_keyspace name options old.memory.next old.memory.keyspaces) id number creation
-        → turns.Made mid new.disk creation done → HandedOut old (between old made mid) SyncAll true → (d : Durable) → StandsOn old d → IsTidy (state_in old.disk) → new.disk.misuses ≡ old.disk.misuses
+        → on_disk.CreatedKeyspace mid new.disk creation done → Persisted old (between old made mid) SyncAll true → (d : Durable) → StandsOn old d → IsTidy (state_in old.disk) → new.disk.misuses ≡ old.disk.misuses
     served_by made new mid creation done lawful is disk out d on tidy =
         let here : d ≡ held_on old d.base d.pending = λ i. record { meaning = on.same i; base = d.base; pending = d.pending } in
         let lies = (subst (λ (x : Durable). StandsOn old x) here on).lies room.well in
@@ -106,7 +107,7 @@ module _ (old : Held) (name : Bytes) (options : List Bytes) (id number : ℕ) (i
 
     -- what was put at names
     kinds_by : (made : Held) (mid : Meaning) (creation : Creation) (done : Bool) → IsCreation old.catalog (with_keyspace name options old.memory.next old.memory.keyspaces) id number creation
-        → turns.Made mid made.disk creation done → StaysTidy old.disk mid → StaysTidy old.disk made.disk
+        → on_disk.CreatedKeyspace mid made.disk creation done → StaysTidy old.disk mid → StaysTidy old.disk made.disk
     kinds_by made mid creation done is disk first =
         stays_both old.disk mid made.disk first (disk.kinds old.catalog (with_keyspace name options old.memory.next old.memory.keyspaces) id number (let more = after.keyspaces.fits in omega (arith, more, id_is)) is)
 
@@ -171,15 +172,15 @@ module _ (old : Held) (name : Bytes) (options : List Bytes) (id number : ℕ) (i
         (λ s d stands on tidy. record {
           rose = fault.faults;
           served = ⊎_elim
-              (λ unsynced. served_on old new.disk d room.well (subst (λ (h : Held). turns.HandedOut old.disk h.disk old.journal h.journal SyncAll false) (sym back) unsynced).served on)
-              (λ turned. served_by made new turned.mid all.0 false lawful all.1 (subst (λ m. turns.Made turned.mid m all.0 false) (sym disk) turned.changed) turned.synced d on tidy)
+              (λ unsynced. served_on old new.disk d room.well (subst (λ (h : Held). on_disk.Persisted old.disk h.disk old.journal h.journal SyncAll false) (sym back) unsynced).served on)
+              (λ turned. served_by made new turned.mid all.0 false lawful all.1 (subst (λ m. on_disk.CreatedKeyspace turned.mid m all.0 false) (sym disk) turned.changed) turned.synced d on tidy)
               (all.5 true_);
         }) (λ s d stands on.
         led_by new s d (Keyspace name options) (Refused (Io kind)) (Create name (option_pairs options) ∷ []) (asked_one s kind stands) (λ sync. sync)
         (⊎_elim
-        (λ unsynced. unsynced_leads old new d (Create name (option_pairs options)) room.well fault (subst (λ (h : Held). turns.HandedOut old.disk h.disk old.journal h.journal SyncAll false) (sym back) unsynced) on)
+        (λ unsynced. unsynced_leads old new d (Create name (option_pairs options)) room.well fault (subst (λ (h : Held). on_disk.Persisted old.disk h.disk old.journal h.journal SyncAll false) (sym back) unsynced) on)
         (λ turned. unaltered_leads old (between old made turned.mid) new d (Create name (option_pairs options)) room.well (stays old made turned.mid) turned.synced
-        (changes_by made new turned.mid all.0 false lawful all.1 (subst (λ m. turns.Made turned.mid m all.0 false) (sym disk) turned.changed)
+        (changes_by made new turned.mid all.0 false lawful all.1 (subst (λ m. on_disk.CreatedKeyspace turned.mid m all.0 false) (sym disk) turned.changed)
         (record { memory_is = λ e. not_done e; catalog_is = λ e. not_done e; journal_is = λ e. not_done e })) fault on)
         (all.5 true_)))
     uncreated_serves honest made new OutOfMemory lawful all back true_ = subst (λ (h : Held). Serves old (Keyspace name options) (Refused OutOfMemory) h) (sym (whole_again made new all.0 back)) (memory_serves old (Keyspace name options) tt none)

@@ -11,7 +11,6 @@ mod Altering
 mod Numbers
 mod Changing
 mod Ways
-mod Turned
 mod Owing
 mod Devices
 mod Serving

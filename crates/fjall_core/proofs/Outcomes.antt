@@ -17,7 +17,8 @@ use Rattle.fjall_commit.specs.Changes.{IsCreation}
 use Rattle.fjall_state.specs.Remembered.{poisoned, with_version}
 use Rattle.fjall_core.specs.Holding.{Held, by_hand}
 use Rattle.fjall_core.specs.Standing.{is_io}
-use Rattle.fjall_core.specs.Turns.{FilesGone, Made, Makes, Removes, Turns, Unmade, Unmakes, WentOut, Writes, is_out}
+use Rattle.fjall_commit.specs.SyncedChanges.{CreatedKeyspace, SyncsThenChanges, DeletedKeyspace}
+use Rattle.fjall_core.specs.CallParts.{FilesGone, Makes, Removes, Unmakes, WentOut, Writes, is_out}
 
 -- ---- a write
 
@@ -74,11 +75,11 @@ module _ (honest : Type 0) (old new : Held) (id number : ℕ) (s : Keyspaces) (h
   is_prepared = subst (λ k. IsCreation old.catalog k id number creation) held prepared
 
   pub make_done : new ≡ record old { disk = new.disk; catalog = creation.update.catalog; journal = written_out old.journal } → old.disk.faults ≤ new.disk.faults
-      → (honest → Turns (λ mid now done. Made mid now creation done) old.disk new.disk old.journal new.journal (Ok tt)) → Makes honest old id number (Ok tt) new
+      → (honest → SyncsThenChanges (λ mid now done. CreatedKeyspace mid now creation done) old.disk new.disk old.journal new.journal (Ok tt)) → Makes honest old id number (Ok tt) new
   make_done is faults turned = (creation, is_prepared, is, faults, turned)
 
   pub make_failed : (error : Error) → new.memory ≡ old.memory → new.catalog ≡ old.catalog → IsFault old.disk.faults new.disk.faults error
-      → (honest → Turns (λ mid now done. Made mid now creation done) old.disk new.disk old.journal new.journal (Err error)) → Makes honest old id number (Err error) new
+      → (honest → SyncsThenChanges (λ mid now done. CreatedKeyspace mid now creation done) old.disk new.disk old.journal new.journal (Err error)) → Makes honest old id number (Err error) new
   make_failed (Io kind) memory catalog cause turned = (creation, is_prepared, memory, catalog, cause, turned)
   make_failed error memory catalog cause turned = absurd cause
 
@@ -87,11 +88,11 @@ module _ (honest : Type 0) (old new : Held) (id number : ℕ) (s : Keyspaces) (h
   is_update = subst (λ n. IsUpdate old.catalog (without_keyspace id old.memory.keyspaces) n update) numbered (subst (λ k. IsUpdate old.catalog (without_keyspace id k) number update) held prepared)
 
   pub unmake_done : new ≡ record old { disk = new.disk; catalog = update.catalog; journal = written_out old.journal } → old.disk.faults ≤ new.disk.faults
-      → (honest → Turns (λ mid now done. Unmade mid now update done) old.disk new.disk old.journal new.journal (Ok tt)) → Unmakes honest old id (Ok tt) new
+      → (honest → SyncsThenChanges (λ mid now done. DeletedKeyspace mid now update done) old.disk new.disk old.journal new.journal (Ok tt)) → Unmakes honest old id (Ok tt) new
   unmake_done is faults turned = (update, is_update, is, faults, turned)
 
   pub unmake_failed : (error : Error) → new.memory ≡ old.memory → new.catalog ≡ old.catalog → IsFault old.disk.faults new.disk.faults error
-      → (honest → Turns (λ mid now done. Unmade mid now update done) old.disk new.disk old.journal new.journal (Err error)) → Unmakes honest old id (Err error) new
+      → (honest → SyncsThenChanges (λ mid now done. DeletedKeyspace mid now update done) old.disk new.disk old.journal new.journal (Err error)) → Unmakes honest old id (Err error) new
   unmake_failed (Io kind) memory catalog cause turned = (update, is_update, memory, catalog, cause, turned)
   unmake_failed error memory catalog cause turned = absurd cause
 

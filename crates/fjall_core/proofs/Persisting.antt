@@ -15,7 +15,7 @@ use Rattle.fjall_core.specs.Holding.{Held}
 use Rattle.fjall_core.specs.Standing.{HandsOver, Owes, OwesRefusal, Serves, held_due}
 use Rattle.fjall_core.proofs.Dues.{no_sync}
 use Rattle.fjall_core.proofs.Serving.{led_by, serves_by}
-use Rattle.fjall_core.proofs.Syncs.{HandedOut, persist_leads, unpersist_leads}
+use Rattle.fjall_core.proofs.Syncs.{Persisted, persist_leads, unpersist_leads}
 use Rattle.fjall_commit.proofs.Changes.{whole_part}
 
 -- ---- a persist
@@ -30,7 +30,7 @@ well_due core mode well = ap (λ b. first_due ((b, Poisoned) ∷ [])) well
 pub persisted_owes : (old new : Held) (mode : PersistMode) → old.memory.poisoned ≡ false → HandsOver old new → Owes old (Persist mode) Done new
 persisted_owes old new mode well hands = (well_due old mode well, hands)
 
-pub persisted_serves : (old new : Held) (mode : PersistMode) → old.memory.poisoned ≡ false → HandsOver old new → Took old.disk new.disk (persist_steps old.journal mode) → HandedOut old new mode true → Serves old (Persist mode) Done new
+pub persisted_serves : (old new : Held) (mode : PersistMode) → old.memory.poisoned ≡ false → HandsOver old new → Took old.disk new.disk (persist_steps old.journal mode) → Persisted old new mode true → Serves old (Persist mode) Done new
 persisted_serves old new mode well hands took out =
     serves_by old new (Persist mode) Done (persisted_owes old new mode well hands) took out.kinds (λ s d stands on tidy. served_on old new.disk d well out.served on) (λ s d stands on.
     let led = persist_leads old new mode d well hands out on in
@@ -47,7 +47,7 @@ unpersisted_owes old new mode (Io kind) well is cause = subst (λ first. OwesRef
 unpersisted_owes old new mode error well is cause = absurd cause
 
 pub unpersisted_serves : (old new : Held) (mode : PersistMode) (error : Error) → old.memory.poisoned ≡ false → new.memory ≡ poisoned old.memory → IsFault old.disk.faults new.disk.faults error → PersistTook old.journal new.journal mode old.disk new.disk
-    → HandedOut old new mode false → Serves old (Persist mode) (Refused error) new
+    → Persisted old new mode false → Serves old (Persist mode) (Refused error) new
 unpersisted_serves old new mode (Io kind) well is cause took out =
     serves_by old new (Persist mode) (Refused (Io kind)) (unpersisted_owes old new mode (Io kind) well is cause) (part_of old new new.journal mode took) out.kinds (λ s d stands on tidy. failed_on old new.disk d well cause out.served on) (λ s d stands on.
     led_by new s d (Persist mode) (Refused (Io kind)) [] refl (no_sync s (Persist mode) (Io kind)) (unpersist_leads old new mode d well (record { memory_is = is; faults = cause }) out on))

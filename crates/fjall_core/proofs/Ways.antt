@@ -20,7 +20,7 @@ use Rattle.fjall_core.proofs.Amids.{amid_least, amid_more, amid_shift, passes_on
 use Rattle.fjall_core.proofs.Changing.{removal_leaves}
 use Rattle.fjall_core.proofs.Leading.{leaves_finished, lies_rest}
 use Rattle.fjall_core.proofs.Rooted.{within_finished, within_root, writing_along}
-use Rattle.fjall_core.proofs.Syncs.{HandedOut, hand_leaves, StaysSame, sync_empty, sync_lies, synced_passes}
+use Rattle.fjall_core.proofs.Syncs.{Persisted, hand_leaves, StaysSame, sync_empty, sync_lies, synced_passes}
 use Rattle.fjall_core.proofs.JournalWrites.{Leads, Settles, held_on, leads_on, present_of, settles_on, stands_ill, stands_well}
 
 -- what happens to the keyspaces, once all is synced
@@ -28,7 +28,7 @@ abbrev pub ChangesTo : Held → Held → Command → Bool → Type 0
 ChangesTo mid new command done = (base : Store) (lies : Lies mid (held_on mid base [])) → lies.journals.later ≡ [] → Changed mid new lies.journals lies.tree command done
 
 -- a change of the keyspaces that was done: nothing is pending
-pub alter_settles : (old mid new : Held) (d : Durable) (command : Command) → old.memory.poisoned ≡ false → StaysSame old mid → HandedOut old mid SyncAll true → ChangesTo mid new command true → new.memory.poisoned ≡ false
+pub alter_settles : (old mid new : Held) (d : Durable) (command : Command) → old.memory.poisoned ≡ false → StaysSame old mid → Persisted old mid SyncAll true → ChangesTo mid new command true → new.memory.poisoned ≡ false
     → kept (apply (store_in old) command) ≡ kept (store_in new) → StandsOn old d → Settles new d (command ∷ [])
 alter_settles old mid new d command well same out changes well' present = settles_on old new d (command ∷ []) (λ base pending on.
     let lies = on.lies well in
@@ -45,13 +45,13 @@ asked_more old new base pending command leaves =
     weaken old.disk new.disk _ _ leaves (λ image s. amid_more base [] pending (command ∷ []) image (subst (λ (l : List Command). StandsAmid base [] l image) (append-nil pending) s))
 
 -- a sync that failed, before any change
-pub unsynced_leads : (old new : Held) (d : Durable) (command : Command) → old.memory.poisoned ≡ false → Poisons old new → HandedOut old new SyncAll false → StandsOn old d → Leads new d (command ∷ [])
+pub unsynced_leads : (old new : Held) (d : Durable) (command : Command) → old.memory.poisoned ≡ false → Poisons old new → Persisted old new SyncAll false → StandsOn old d → Leads new d (command ∷ [])
 unsynced_leads old new d command well fault out =
     ill_leads old new d command well fault (λ base pending lies. asked_more old new base pending command (hand_leaves old new SyncAll false base pending lies out))
     (λ base pending lies. leaves_finished old.disk new.disk (state_in old.disk) lies.journals _ (out.leaves lies.journals lies.writing))
 
 -- a change that failed
-pub unaltered_leads : (old mid new : Held) (d : Durable) (command : Command) → old.memory.poisoned ≡ false → StaysSame old mid → HandedOut old mid SyncAll true → ChangesTo mid new command false → Poisons old new → StandsOn old d
+pub unaltered_leads : (old mid new : Held) (d : Durable) (command : Command) → old.memory.poisoned ≡ false → StaysSame old mid → Persisted old mid SyncAll true → ChangesTo mid new command false → Poisons old new → StandsOn old d
     → Leads new d (command ∷ [])
 unaltered_leads old mid new d command well same out changes fault = ill_leads old new d command well fault (λ base pending lies.
     let after = sync_lies old mid base pending same lies out in

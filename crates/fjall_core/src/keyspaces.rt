@@ -5,14 +5,16 @@ ghost use Rattle.fjall_state.specs.Machine.{has_name, is_living};
 ghost use Rattle.fjall_state.specs.declared.call.Call.TheVariants.{Keyspace, DeleteKeyspace, Retain, Release};
 ghost use Rattle.fjall_meta.specs.Keyspaces.{id_of};
 ghost use Rattle.fjall_state.specs.Remembered.{IsLawful};
-ghost use Rattle.fjall_core.specs.Turns.{Makes, Removes, Unmakes};
+ghost use Rattle.fjall_core.specs.CallParts.{Makes, Removes, Unmakes};
 ghost use Rattle.fjall_core.specs.Standing.{held_due, Owes, Serves, number_reply, reply_of, store_in};
 
 use crate::engine::Core;
-use crate::turning::{make_keyspace, unmake_keyspace};
 use fjall_base::{Disk, Result, Slice};
 use fjall_catalog::prepare_deletion;
-use fjall_commit::{prepare_creation, prepare_removal, remove_keyspace};
+use fjall_commit::{
+    prepare_creation, prepare_removal, remove_keyspace, sync_and_create_keyspace,
+    sync_and_delete_keyspace,
+};
 use fjall_options::KeyspaceCreateOptions;
 
 impl<D: Disk> Core<D> {
@@ -65,7 +67,7 @@ impl<D: Disk> Core<D> {
     {
         let keyspaces = self.memory.keyspaces();
         let creation = prepare_creation(self.alloc, &self.catalog, keyspaces, id, number)?;
-        make_keyspace(&mut self.journal, &mut self.disk, &creation)?;
+        sync_and_create_keyspace(&mut self.journal, &mut self.disk, &creation)?;
         self.catalog = creation.update.catalog;
         Ok(())
     }
@@ -118,7 +120,7 @@ impl<D: Disk> Core<D> {
         let number = self.memory.seqno();
         let keyspaces = self.memory.keyspaces();
         let update = prepare_deletion(self.alloc, &self.catalog, keyspaces, id, number)?;
-        unmake_keyspace(&mut self.journal, &mut self.disk, &update)?;
+        sync_and_delete_keyspace(&mut self.journal, &mut self.disk, &update)?;
         self.catalog = update.catalog;
         Ok(())
     }

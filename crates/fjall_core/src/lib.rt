@@ -10,7 +10,6 @@ mod open;
 mod reads;
 mod replies;
 mod run;
-mod turning;
 mod writes;
 
 pub use config::Config;

@@ -8,7 +8,7 @@ ghost use Rattle.fjall_state.specs.Machine.{State, is_living};
 ghost use Rattle.fjall_state.specs.declared.call.Call.TheVariants.{Insert, Remove, RemoveWeak, Persist};
 ghost use Rattle.fjall_core.specs.Crashes.{BlamesDevice};
 ghost use Rattle.fjall_core.specs.Durables.{Durable};
-ghost use Rattle.fjall_core.specs.Turns.{Writes};
+ghost use Rattle.fjall_core.specs.CallParts.{Writes};
 ghost use Rattle.fjall_core.specs.Standing.{StandsFor, StandsOn, Owes, Serves, reply_of, store_in};
 
 use crate::engine::Core;

@@ -1,6 +1,6 @@
 use Rattle.std.proofs.Common.{◌<◌, ◌^◌, arith, IsTrue, Ok, Err, refl, subst}
 use Rattle.fjall_core.specs.Holding.{Held}
-use Rattle.fjall_core.specs.Turns.{Removes}
+use Rattle.fjall_core.specs.CallParts.{Removes}
 use Rattle.fjall_core.proofs.Outcomes.{remove_failed}
 use Rattle.fjall_core.proofs.engine.Core.remove_files.Goals as goal
 

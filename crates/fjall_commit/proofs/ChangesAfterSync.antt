@@ -18,17 +18,17 @@ use Rattle.fjall_recovery.specs.Halves.{Tree}
 use Rattle.fjall_recovery.specs.Places.{LiesInTree}
 use Rattle.fjall_commit.specs.declared.creation.Creation.{Creation}
 use Rattle.fjall_commit.specs.Changes.{HasEither, HasRoom, IsCreation, with_home, without_home}
-use Rattle.fjall_core.specs.Turns.{HandedOut, Made, Turns, Unmade}
+use Rattle.fjall_commit.specs.SyncedChanges.{Persisted, CreatedKeyspace, SyncsThenChanges, DeletedKeyspace}
 
 -- what came of the change, behind a sync that was done
-pub turn : (Change : Meaning → Meaning → Bool → Type 0) (old mid new : Meaning) (before after : Journal) (r : Result Unit Error) → HandedOut old mid before after SyncAll true → OnOk r (Change mid new true) → Change mid new false
-    → Turns Change old new before after r
-turn Change old mid new before after (Ok _) synced done any = record { mid = mid; synced = synced; changed = done }
-turn Change old mid new before after (Err error) synced done any = inr (record { mid = mid; synced = synced; changed = any })
+pub changed_after : (Change : Meaning → Meaning → Bool → Type 0) (old mid new : Meaning) (before after : Journal) (r : Result Unit Error) → Persisted old mid before after SyncAll true → OnOk r (Change mid new true) → Change mid new false
+    → SyncsThenChanges Change old new before after r
+changed_after Change old mid new before after (Ok _) synced done any = record { mid = mid; synced = synced; changed = done }
+changed_after Change old mid new before after (Err error) synced done any = inr (record { mid = mid; synced = synced; changed = any })
 
 -- a sync that failed, before any change
-pub unturned : (Change : Meaning → Meaning → Bool → Type 0) (old new : Meaning) (before after : Journal) (r : Result Unit Error) (error : Error) → r ≡ Err error → HandedOut old new before after SyncAll false → Turns Change old new before after r
-unturned Change old new before after r error is failed = subst (λ (x : Result Unit Error). Turns Change old new before after x) (sym is) (inl failed)
+pub sync_failed : (Change : Meaning → Meaning → Bool → Type 0) (old new : Meaning) (before after : Journal) (r : Result Unit Error) (error : Error) → r ≡ Err error → Persisted old new before after SyncAll false → SyncsThenChanges Change old new before after r
+sync_failed Change old new before after r error is failed = subst (λ (x : Result Unit Error). SyncsThenChanges Change old new before after x) (sym is) (inl failed)
 
 pub not_done : {A : Type 0} → false ≡ true → A
 not_done e = absurd (true≢false (sym e))
@@ -41,31 +41,31 @@ module _ (mid new : Meaning) (creation : Creation) (within : Within (codes "keys
     LiesInTree (state_in mid) records t → IsCreation t.last next.keyspaces t.keyspaces.next number creation → AreKeyspaces next.keyspaces → past_record (fields t.last) ≤ number → t.keyspaces.next < 2 ^ 64
     → HasRoom (state_in mid) t.keyspaces.next → new.misuses ≡ mid.misuses)
     (kinds : (old : Catalog) (s : Keyspaces) (id number : ℕ) → id < 2 ^ 64 → IsCreation old s id number creation → StaysTidy mid new) where
-  pub made_any : Made mid new creation false
-  made_any = record { within = within; leaves = leaves; lies = λ e. not_done e; served = served; gone = λ e. not_done e; kinds = kinds }
+  pub created_any : CreatedKeyspace mid new creation false
+  created_any = record { within = within; leaves = leaves; lies = λ e. not_done e; served = served; gone = λ e. not_done e; kinds = kinds }
 
-  pub made_done : (r : Result Unit Error)
+  pub created : (r : Result Unit Error)
       → ((records : List Fields) (t : Tree) (name : List ℕ) (options : List (List ℕ)) (number : ℕ) → let next = with_home name options number creation.update.catalog t in
       LiesInTree (state_in mid) records t → IsCreation t.last next.keyspaces t.keyspaces.next number creation → AreKeyspaces next.keyspaces → past_record (fields t.last) ≤ number → t.keyspaces.next < 2 ^ 64
       → OnOk r (LiesInTree (state_in new) (records ++ fields creation.update.catalog ∷ []) next))
       → ((old : Catalog) (s : Keyspaces) (id number : ℕ) → IsCreation old s id number creation → OnOk r (IsTableGone (state_in new) old))
-      → OnOk r (Made mid new creation true)
-  made_done (Ok _) lies gone = record { within = within; leaves = leaves; lies = λ e. lies; served = served; gone = λ e. gone; kinds = kinds }
-  made_done (Err error) lies gone = tt
+      → OnOk r (CreatedKeyspace mid new creation true)
+  created (Ok _) lies gone = record { within = within; leaves = leaves; lies = λ e. lies; served = served; gone = λ e. gone; kinds = kinds }
+  created (Err error) lies gone = tt
 
 module _ (mid new : Meaning) (update : Update) (within : Within (codes "keyspaces") mid new)
     (leaves : (records : List Fields) (t : Tree) (id number : ℕ) → let next = without_home id update.catalog t in
     LiesInTree (state_in mid) records t → IsUpdate t.last (without_keyspace id t.keyspaces) number update → past_record (fields t.last) ≤ number → LeavesOnly mid new (HasEither t next))
     (served : (records : List Fields) (t : Tree) (id number : ℕ) → LiesInTree (state_in mid) records t → IsUpdate t.last (without_keyspace id t.keyspaces) number update → past_record (fields t.last) ≤ number → new.misuses ≡ mid.misuses)
     (kinds : StaysTidy mid new) where
-  pub unmade_any : Unmade mid new update false
-  unmade_any = record { within = within; leaves = leaves; lies = λ e. not_done e; served = served; gone = λ e. not_done e; kinds = kinds }
+  pub deleted_any : DeletedKeyspace mid new update false
+  deleted_any = record { within = within; leaves = leaves; lies = λ e. not_done e; served = served; gone = λ e. not_done e; kinds = kinds }
 
-  pub unmade_done : (r : Result Unit Error)
+  pub deleted : (r : Result Unit Error)
       → ((records : List Fields) (t : Tree) (id number : ℕ) → let next = without_home id update.catalog t in
       LiesInTree (state_in mid) records t → IsUpdate t.last (without_keyspace id t.keyspaces) number update → past_record (fields t.last) ≤ number
       → OnOk r (LiesInTree (state_in new) (records ++ fields update.catalog ∷ []) next))
       → ((old : Catalog) (s : Keyspaces) (number : ℕ) → IsUpdate old s number update → OnOk r (IsTableGone (state_in new) old))
-      → OnOk r (Unmade mid new update true)
-  unmade_done (Ok _) lies gone = record { within = within; leaves = leaves; lies = λ e. lies; served = served; gone = λ e. gone; kinds = kinds }
-  unmade_done (Err error) lies gone = tt
+      → OnOk r (DeletedKeyspace mid new update true)
+  deleted (Ok _) lies gone = record { within = within; leaves = leaves; lies = λ e. lies; served = served; gone = λ e. gone; kinds = kinds }
+  deleted (Err error) lies gone = tt

@@ -8,22 +8,24 @@ ghost use Rattle.fjall_meta.specs.Keyspaces.{Keyspaces};
 ghost use Rattle.fjall_catalog.specs.declared.catalog.Catalog.{Catalog};
 ghost use Rattle.fjall_catalog.specs.Updates.{IsUpdate};
 ghost use Rattle.fjall_commit.specs.Changes.{IsCreation};
-ghost use Rattle.fjall_core.specs.Turns.{Made, Turns, Unmade};
+ghost use Rattle.fjall_commit.specs.SyncedChanges.{CreatedKeyspace, SyncsThenChanges, DeletedKeyspace};
 
+use crate::creation::{Creation, create_keyspace};
+use crate::deletion::delete_keyspace;
+use crate::journaling::sync_journal;
 use fjall_base::{Disk, Result};
 use fjall_catalog::Update;
-use fjall_commit::{Creation, create_keyspace, delete_keyspace, sync_journal};
 use fjall_journal::{PersistMode, Writer};
 
 /// Syncs the journal, and then makes a keyspace.
-pub(crate) fn make_keyspace<D: Disk>(
+pub fn sync_and_create_keyspace<D: Disk>(
     journal: &mut Writer,
     disk: &mut D,
     creation: &Creation,
 ) -> Result<()>
     ensures ok { OnOk result (journal.new ≡ written_out journal.old) }
     ensures turns { IsTrue D.honest → (old : Catalog) (s : Keyspaces) (id number : ℕ) → IsCreation old s id number creation.now
-        → Turns (λ mid new done. Made mid new creation.now done) (D.meaning disk.old) (D.meaning disk.new) journal.old journal.new result }
+        → SyncsThenChanges (λ mid new done. CreatedKeyspace mid new creation.now done) (D.meaning disk.old) (D.meaning disk.new) journal.old journal.new result }
     ensures cause { OnlyFaults (D.meaning disk.old) (D.meaning disk.new) result }
 {
     sync_journal(journal, disk, PersistMode::SyncAll)?;
@@ -31,14 +33,14 @@ pub(crate) fn make_keyspace<D: Disk>(
 }
 
 /// Syncs the journal, and then takes a keyspace out of the catalog.
-pub(crate) fn unmake_keyspace<D: Disk>(
+pub fn sync_and_delete_keyspace<D: Disk>(
     journal: &mut Writer,
     disk: &mut D,
     update: &Update,
 ) -> Result<()>
     ensures ok { OnOk result (journal.new ≡ written_out journal.old) }
     ensures turns { IsTrue D.honest → (old : Catalog) (s : Keyspaces) (number : ℕ) → IsUpdate old s number update.now
-        → Turns (λ mid new done. Unmade mid new update.now done) (D.meaning disk.old) (D.meaning disk.new) journal.old journal.new result }
+        → SyncsThenChanges (λ mid new done. DeletedKeyspace mid new update.now done) (D.meaning disk.old) (D.meaning disk.new) journal.old journal.new result }
     ensures cause { OnlyFaults (D.meaning disk.old) (D.meaning disk.new) result }
 {
     sync_journal(journal, disk, PersistMode::SyncAll)?;
