@@ -16,8 +16,8 @@ use Rattle.fjall_state.specs.Remembered.{IsDueOrMemory, Remembered, facts_of, re
 use Rattle.fjall_files.proofs.Tidying.{stays_start}
 use Rattle.fjall_core.specs.Holding.{Held}
 use Rattle.fjall_core.specs.Standing.{Owes, Serves, names_reply, pairs_reply, reply_of, store_in, value_reply}
-use Rattle.fjall_core.proofs.Serving.{answer_serves, either_serves, led_by, memory_owes, memory_serves, serves_by}
-use Rattle.fjall_core.proofs.Ways.{Recounts, recount_leads}
+use Rattle.fjall_core.proofs.ServedCalls.{answer_serves, either_serves, led_by, memory_owes, memory_serves, serves_by}
+use Rattle.fjall_core.proofs.KeyspaceCalls.{Recounts, recount_leads}
 
 -- ---- reads
 

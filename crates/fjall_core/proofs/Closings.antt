@@ -11,8 +11,8 @@ use Rattle.fjall_recovery.specs.Amid.{HoldsAmid}
 use Rattle.fjall_recovery.specs.Places.{contents_with}
 use Rattle.fjall_recovery.proofs.Holding.{a_rest_holds}
 use Rattle.fjall_files.specs.Tidy.{StaysTidy}
-use Rattle.fjall_commit.proofs.Tidied.{persist_stays}
-use Rattle.fjall_commit.proofs.Leaving.{persist_apart, persist_leaves, persist_out}
+use Rattle.fjall_commit.proofs.TidyWrites.{persist_stays}
+use Rattle.fjall_commit.proofs.CrashesInWrites.{persist_apart, persist_leaves, persist_out}
 use Rattle.fjall_state.specs.declared.call.Call.TheVariants.{Persist}
 use Rattle.fjall_state.specs.declared.call.Reply.TheVariants.{Refused}
 use Rattle.fjall_state.specs.Machine as machine
@@ -20,8 +20,8 @@ use Rattle.fjall_core.specs.Holding.{Held}
 use Rattle.fjall_core.specs.Durables.{Durable, Passes}
 use Rattle.fjall_core.specs.Crashes.{BlamesDevice, attempt}
 use Rattle.fjall_core.specs.Standing.{Closes, ClosesDisk, HandsOver, OnDisk, Owes, Serves, StandsFor, StandsOn, reply_of}
-use Rattle.fjall_core.proofs.Dues.{none_due}
-use Rattle.fjall_core.proofs.Leading.{lies_rest, root_finished}
+use Rattle.fjall_core.proofs.Refusals.{none_due}
+use Rattle.fjall_core.proofs.CrashImages.{lies_rest, root_finished}
 use Rattle.fjall_core.proofs.Reopening.{a_core_holds_amid, finished_amid}
 use Rattle.fjall_core.proofs.Syncs.{Persisted, hand_leaves, same_of, sync_empty, sync_lies, synced_passes}
 use Rattle.fjall_core.proofs.JournalWrites.{held_on, present_of}

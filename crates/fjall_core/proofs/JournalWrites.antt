@@ -28,8 +28,8 @@ use Rattle.fjall_state.specs.Remembered.{IsLawful, Remembered, version_of, with_
 use Rattle.fjall_core.specs.Holding.{Held}
 use Rattle.fjall_core.specs.Durables.{Durable, Lies, MakesPresent, Passes, Rests, StandsAmid, StaysFinished}
 use Rattle.fjall_core.specs.Standing.{Grows, Poisons, StandsOn, store_in}
-use Rattle.fjall_core.proofs.Along.{SameKeyspaces, tree_along}
-use Rattle.fjall_core.proofs.Leading.{commands_more, leaves_finished, lies_rest, root_amid, root_finished}
+use Rattle.fjall_core.proofs.KeyspacesUnchanged.{SameKeyspaces, tree_along}
+use Rattle.fjall_core.proofs.CrashImages.{commands_more, leaves_finished, lies_rest, root_amid, root_finished}
 
 -- the core stands on some disk now, to which these commands lead
 abbrev pub Leads : Held → Durable → List Command → Type 0

@@ -24,8 +24,8 @@ use Rattle.fjall_commit.specs.SyncedChanges as on_disk
 use Rattle.fjall_core.specs.Crashes.{IsSync}
 use Rattle.fjall_core.specs.Standing.{HandsOver, Poisons, StandsOn}
 use Rattle.fjall_core.specs.Standing as standing
-use Rattle.fjall_core.proofs.Along.{tree_along}
-use Rattle.fjall_core.proofs.Leading.{kept_with, leaves_finished, root_amid}
+use Rattle.fjall_core.proofs.KeyspacesUnchanged.{tree_along}
+use Rattle.fjall_core.proofs.CrashImages.{kept_with, leaves_finished, root_amid}
 use Rattle.fjall_core.proofs.JournalWrites.{Leads, Settles, held_on, leads_on, settles_on, present_of, stands_ill, stands_well}
 
 -- what a persist did to the disk and to the journal's writer of a core

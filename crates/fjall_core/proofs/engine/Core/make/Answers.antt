@@ -3,7 +3,7 @@ use Rattle.std.proofs.lemmas.Result.{err_from_is_err_and}
 use Rattle.fjall_base.specs.declared.error.Error.{Error}
 use Rattle.fjall_core.specs.Holding.{Held}
 use Rattle.fjall_core.specs.CallParts.{Makes}
-use Rattle.fjall_core.proofs.Outcomes.{make_done, make_failed}
+use Rattle.fjall_core.proofs.PartOutcomes.{make_done, make_failed}
 use Rattle.fjall_core.proofs.engine.Core.make.Goals as goal
 
 pub returns-in_err-sync_and_create_keyspace : goal.returns-in_err-sync_and_create_keyspace

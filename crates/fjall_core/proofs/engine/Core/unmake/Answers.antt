@@ -5,7 +5,7 @@ use Rattle.fjall_meta.specs.Keyspaces.{without_keyspace}
 use Rattle.fjall_state.specs.Remembered.{IsLawful}
 use Rattle.fjall_core.specs.Holding.{Held}
 use Rattle.fjall_core.specs.CallParts.{Unmakes}
-use Rattle.fjall_core.proofs.Outcomes.{unmake_done, unmake_failed}
+use Rattle.fjall_core.proofs.PartOutcomes.{unmake_done, unmake_failed}
 use Rattle.fjall_core.proofs.engine.Core.unmake.Goals as goal
 
 pub returns-in_err-sync_and_delete_keyspace : goal.returns-in_err-sync_and_delete_keyspace

@@ -15,11 +15,11 @@ use Rattle.fjall_state.specs.Remembered.{Remembered}
 use Rattle.fjall_core.specs.Holding.{Held}
 use Rattle.fjall_core.specs.Durables.{Durable, Lies, MakesPresent, Rests, StandsAmid}
 use Rattle.fjall_core.specs.Standing.{Poisons, StandsOn, store_in}
-use Rattle.fjall_core.proofs.Altering.{Changed, change_leaves, changed_settles, ill_leads}
-use Rattle.fjall_core.proofs.Amids.{amid_least, amid_more, amid_shift, passes_on, passes_still}
-use Rattle.fjall_core.proofs.Changing.{removal_leaves}
-use Rattle.fjall_core.proofs.Leading.{leaves_finished, lies_rest}
-use Rattle.fjall_core.proofs.Rooted.{within_finished, within_root, writing_along}
+use Rattle.fjall_core.proofs.CatalogChanges.{Changed, change_leaves, changed_settles, ill_leads}
+use Rattle.fjall_core.proofs.CrashesInRuns.{amid_least, amid_more, amid_shift, passes_on, passes_still}
+use Rattle.fjall_core.proofs.CatalogOnDisk.{removal_leaves}
+use Rattle.fjall_core.proofs.CrashImages.{leaves_finished, lies_rest}
+use Rattle.fjall_core.proofs.RootUnchanged.{within_finished, within_root, writing_along}
 use Rattle.fjall_core.proofs.Syncs.{Persisted, hand_leaves, StaysSame, sync_empty, sync_lies, synced_passes}
 use Rattle.fjall_core.proofs.JournalWrites.{Leads, Settles, held_on, leads_on, present_of, settles_on, stands_ill, stands_well}
 

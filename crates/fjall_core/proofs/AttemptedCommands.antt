@@ -18,7 +18,7 @@ use Rattle.fjall_state.specs.Machine.{State, Step, Refuses, MayFail, IsPoisoned,
 use Rattle.fjall_core.specs.Durables.{Durable}
 use Rattle.fjall_core.specs.Crashes.{asked, attempt, RunOn, Tried}
 use Rattle.fjall_core.specs.Standing.{is_io}
-use Rattle.fjall_core.proofs.Dues.{Asks, asks_nothing, asks_one, asks, is_fault, never_due, no_attempt}
+use Rattle.fjall_core.proofs.Refusals.{Asks, asks_nothing, asks_one, asks, is_fault, never_due, no_attempt}
 
 -- what a step tried and what it did to the history
 pub data Moves (s : State) (tried : List Command) (t : State) : Type 0 where

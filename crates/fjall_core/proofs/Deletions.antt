@@ -25,16 +25,16 @@ use Rattle.fjall_core.specs.Standing.{Deletes, Owes, OwesRefusal, Poisons, Repla
 use Rattle.fjall_commit.specs.SyncedChanges.{SyncedThenChanged}
 use Rattle.fjall_core.specs.CallParts.{Unmakes}
 use Rattle.fjall_commit.specs.SyncedChanges as on_disk
-use Rattle.fjall_core.proofs.Changing.{Becomes, deletion_changed, deletion_served}
-use Rattle.fjall_core.proofs.Devices.{served_on}
-use Rattle.fjall_core.proofs.Keyspacing.{between, stays}
-use Rattle.fjall_core.proofs.Serving.{Led, led_by, long_owes, long_serves, memory_owes, memory_serves, replaces_table, serves_by, still_led}
+use Rattle.fjall_core.proofs.CatalogOnDisk.{Becomes, deletion_changed, deletion_served}
+use Rattle.fjall_core.proofs.DeviceFaults.{served_on}
+use Rattle.fjall_core.proofs.Creations.{between, stays}
+use Rattle.fjall_core.proofs.ServedCalls.{Led, led_by, long_owes, long_serves, memory_owes, memory_serves, replaces_table, serves_by, still_led}
 use Rattle.std.proofs.lemmas.Bool.{true≢false}
 use Rattle.fjall_core.proofs.Syncs.{Persisted, sync_empty, sync_lies}
 use Rattle.fjall_core.proofs.JournalWrites.{held_on}
-use Rattle.fjall_core.proofs.Tables.{deleted_table, long_option, some_left}
+use Rattle.fjall_core.proofs.CatalogTables.{deleted_table, long_option, some_left}
 use Rattle.fjall_commit.proofs.ChangesAfterSync.{not_done}
-use Rattle.fjall_core.proofs.Ways.{ChangesTo, alter_settles, unaltered_leads, unsynced_leads}
+use Rattle.fjall_core.proofs.KeyspaceCalls.{ChangesTo, alter_settles, unaltered_leads, unsynced_leads}
 
 module _ (old : Held) (id : ℕ) (none : held_due old (DeleteKeyspace id) ≡ None) (living : is_living (store_in old) id ≡ true) where
   room : HasNumber (facts_of old.memory old.catalog.next_table_id)

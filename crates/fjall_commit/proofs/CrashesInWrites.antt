@@ -19,8 +19,8 @@ use Rattle.fjall_recovery.specs.Places.{Journaling, LiesInRoot, journals_with, t
 use Rattle.fjall_recovery.proofs.Named.{journal_within}
 use Rattle.fjall_recovery.proofs.Roots.{crashes_leave_the_root}
 use Rattle.fjall_commit.specs.Journaling.{IsWriting, HasSome, LeavesRoot, after_persist, handed, synced}
-use Rattle.fjall_commit.proofs.Changes.{SameBut, alter_but, appended_at, appending_at, appending_but, part_but, place_of, sync_but, sync_place, syncing_all, whole_part}
-use Rattle.fjall_commit.proofs.Lying.{active_fits, part_lies, synced_lies, whole_goes_on, with_active}
+use Rattle.fjall_commit.proofs.AppendsAndSyncs.{SameBut, alter_but, appended_at, appending_at, appending_but, part_but, place_of, sync_but, sync_place, syncing_all, whole_part}
+use Rattle.fjall_commit.proofs.RootAfterWrites.{active_fits, part_lies, synced_lies, whole_goes_on, with_active}
 
 -- ---- one image
 

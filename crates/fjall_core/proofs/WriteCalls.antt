@@ -8,7 +8,7 @@ use Rattle.fjall_journal.specs.declared.entry.ValueType.{ValueType}
 use Rattle.fjall_journal.specs.Batches.{Written, of_item}
 use Rattle.fjall_journal.specs.Writer.{goes_out}
 use Rattle.fjall_files.proofs.Tidying.{stays_part}
-use Rattle.fjall_commit.proofs.Writing.{command_part}
+use Rattle.fjall_commit.proofs.BatchAppends.{command_part}
 use Rattle.fjall_versions.specs.declared.version.Version.{Version}
 use Rattle.fjall_state.specs.declared.call.Reply.{Reply}
 use Rattle.fjall_state.specs.declared.call.Reply.TheVariants.{Done, Refused}
@@ -22,8 +22,8 @@ use Rattle.fjall_core.specs.Holding.{Held, by_hand}
 use Rattle.fjall_core.specs.Crashes.{IsSync, attempt}
 use Rattle.fjall_core.specs.Standing.{Grows, OnDisk, Owes, OwesRefusal, Serves, StandsFor, WroteOut, held_due, reply_of}
 use Rattle.fjall_core.specs.CallParts.{Writes, is_out}
-use Rattle.fjall_core.proofs.Devices.{failed_on, served_on}
-use Rattle.fjall_core.proofs.Serving.{led_by, memory_owes, memory_serves, serves_by}
+use Rattle.fjall_core.proofs.DeviceFaults.{failed_on, served_on}
+use Rattle.fjall_core.proofs.ServedCalls.{led_by, memory_owes, memory_serves, serves_by}
 use Rattle.fjall_core.proofs.JournalWrites.{IsAdmitted, torn_leads, write_leads}
 
 -- ---- writes

@@ -11,8 +11,8 @@ use Rattle.fjall_core.specs.Holding.{Held}
 use Rattle.fjall_core.specs.Durables.{Durable, StandsAmid}
 use Rattle.fjall_core.specs.Crashes.{attempt, RunOn, SafeAt}
 use Rattle.fjall_core.specs.Standing.{StandsFor, StandsOn, Serves, RunsOn, RunsSafely}
-use Rattle.fjall_core.proofs.Amids.{run_kinds, run_passes, run_safe, run-push}
-use Rattle.fjall_core.proofs.Tries.{run_tries}
+use Rattle.fjall_core.proofs.CrashesInRuns.{run_kinds, run_passes, run_safe, run-push}
+use Rattle.fjall_core.proofs.AttemptedCommands.{run_tries}
 
 -- a run so far: the state that the core is in now and what it stands on
 pub record SoFar (new : Held) (s : State) (d : Durable) (calls : List Call) (replies : List Reply) : Type 0 where

@@ -17,8 +17,8 @@ use Rattle.fjall_catalog.proofs.Resting.{last_record}
 use Rattle.fjall_recovery.specs.Halves.{Tree}
 use Rattle.fjall_recovery.specs.Places.{LiesInTree}
 use Rattle.fjall_commit.specs.Changes.{AreHoused, HasEither}
-use Rattle.fjall_commit.proofs.Apart.{outside, not_under, some_home, folder_of-current}
-use Rattle.fjall_commit.proofs.Beside.{AreOthers, Beside, beside_along, tree_left}
+use Rattle.fjall_commit.proofs.FolderNames.{outside, not_under, some_home, folder_of-current}
+use Rattle.fjall_commit.proofs.OtherFolders.{AreOthers, Beside, beside_along, tree_left}
 
 -- an image that a crash left has nothing in a folder that is gone
 abbrev pub IsHoused : Image → Type 0

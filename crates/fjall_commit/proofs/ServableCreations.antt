@@ -12,7 +12,7 @@ use Rattle.fjall_files.specs.Names.{keyspace_folder, current_name}
 use Rattle.fjall_recovery.specs.Halves.{Tree}
 use Rattle.fjall_recovery.specs.Places.{LiesInTree}
 use Rattle.fjall_commit.specs.Changes.{HasRoom}
-use Rattle.fjall_commit.proofs.Apart.{keyspaces_outside, some_home}
+use Rattle.fjall_commit.proofs.FolderNames.{keyspaces_outside, some_home}
 
 removed_kind : (file : Name) (m1 m2 : Meaning) (there : Entry) → (state_in m1 file).now ≡ there → IsNoFolder there → Took m1 m2 (removing file there) → IsNoFolder (state_in m2 file).now
 removed_kind file m1 m2 Missing is kind took = subst (λ (e : Entry). IsNoFolder e) (sym (ap (λ (s : State). (s file).now) took.state ∙ is)) tt

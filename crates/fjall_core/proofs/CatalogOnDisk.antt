@@ -28,10 +28,10 @@ use Rattle.fjall_state.specs.Remembered.{Remembered, with_creation, with_deletio
 use Rattle.fjall_core.specs.Holding.{Held}
 use Rattle.fjall_commit.specs.SyncedChanges as on_disk
 use Rattle.fjall_core.specs.Durables.{Durable, Lies, StandsAmid}
-use Rattle.fjall_core.proofs.Altering.{Changed, numbers_below, store_of_tree}
-use Rattle.fjall_core.proofs.Leading.{folder_amid}
-use Rattle.fjall_core.proofs.Numbers.{below_number, created_number, deleted_number}
-use Rattle.fjall_core.proofs.Rooted.{leaves_beside}
+use Rattle.fjall_core.proofs.CatalogChanges.{Changed, numbers_below, store_of_tree}
+use Rattle.fjall_core.proofs.CrashImages.{folder_amid}
+use Rattle.fjall_core.proofs.NextNumbers.{below_number, created_number, deleted_number}
+use Rattle.fjall_core.proofs.RootUnchanged.{leaves_beside}
 use Rattle.fjall_core.proofs.JournalWrites.{held_on}
 
 -- the tree of a core

@@ -24,10 +24,10 @@ use Rattle.fjall_core.specs.Holding.{Held}
 use Rattle.fjall_core.specs.Durables.{Durable, Passes}
 use Rattle.fjall_core.specs.Crashes.{BlamesDevice, CallLeaves, IsSync, attempt}
 use Rattle.fjall_core.specs.Standing.{HasTable, OnDisk, Owes, OwesRefusal, ReplacesTable, Serves, StandsFor, StandsOn, held_due, is_io, store_in}
-use Rattle.fjall_core.proofs.Amids.{passes_still}
-use Rattle.fjall_core.proofs.Dues.{is_fault, never_due, no_attempt, no_sync}
-use Rattle.fjall_core.proofs.Owing.{owes_step}
-use Rattle.fjall_core.proofs.Devices.{refusal_blames}
+use Rattle.fjall_core.proofs.CrashesInRuns.{passes_still}
+use Rattle.fjall_core.proofs.Refusals.{is_fault, never_due, no_attempt, no_sync}
+use Rattle.fjall_core.proofs.OwedSteps.{owes_step}
+use Rattle.fjall_core.proofs.DeviceFaults.{refusal_blames}
 use Rattle.fjall_core.proofs.JournalWrites.{Leads}
 
 -- the core stands on some disk now, to which such a call leads

@@ -1,7 +1,7 @@
 -- What a persist and a release make of a core.
 use Rattle.std.proofs.Common.{◌≡◌, ◌⊎◌, inl, inr, true, false, [], ◌∷◌, None, Some, refl, sym, ap, subst}
 use Rattle.fjall_base.specs.Disk.{Took, TookPart}
-use Rattle.fjall_core.proofs.Devices.{failed_on, served_on}
+use Rattle.fjall_core.proofs.DeviceFaults.{failed_on, served_on}
 use Rattle.fjall_base.specs.Errors.{IsFault}
 use Rattle.fjall_base.specs.declared.error.Error.{Error}
 use Rattle.fjall_base.specs.declared.error.Error.TheVariants.{Io, Poisoned}
@@ -13,10 +13,10 @@ use Rattle.fjall_state.specs.Machine.{first_due}
 use Rattle.fjall_state.specs.Remembered.{poisoned}
 use Rattle.fjall_core.specs.Holding.{Held}
 use Rattle.fjall_core.specs.Standing.{HandsOver, Owes, OwesRefusal, Serves, held_due}
-use Rattle.fjall_core.proofs.Dues.{no_sync}
-use Rattle.fjall_core.proofs.Serving.{led_by, serves_by}
+use Rattle.fjall_core.proofs.Refusals.{no_sync}
+use Rattle.fjall_core.proofs.ServedCalls.{led_by, serves_by}
 use Rattle.fjall_core.proofs.Syncs.{Persisted, persist_leads, unpersist_leads}
-use Rattle.fjall_commit.proofs.Changes.{whole_part}
+use Rattle.fjall_commit.proofs.AppendsAndSyncs.{whole_part}
 
 -- ---- a persist
 

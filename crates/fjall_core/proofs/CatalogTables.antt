@@ -30,7 +30,7 @@ use Rattle.fjall_versions.proofs.Naming.{living_names, settings}
 use Rattle.fjall_versions.proofs.Slots.{same_id}
 use Rattle.fjall_state.specs.Machine.{HasLongOption, is_living}
 use Rattle.fjall_state.proofs.Facts.{counted_is}
-use Rattle.fjall_core.proofs.Dues.{bool_cases}
+use Rattle.fjall_core.proofs.Refusals.{bool_cases}
 
 -- ---- whether a table is written
 

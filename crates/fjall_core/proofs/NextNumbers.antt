@@ -11,7 +11,7 @@ use Rattle.fjall_recovery.specs.Journals.{batches_in}
 use Rattle.fjall_recovery.specs.Halves.{Tree}
 use Rattle.fjall_recovery.specs.Places.{Journaling, contents_with, homes_without, journals_with}
 use Rattle.fjall_commit.specs.Changes.{with_home, without_home}
-use Rattle.fjall_core.proofs.Dues.{bool_cases}
+use Rattle.fjall_core.proofs.Refusals.{bool_cases}
 
 past-append : (homes : List Fields) (last : Fields) → past_records (homes ++ last ∷ []) ≡ max (past_records homes) (past_record last)
 past-append [] last = let all : max (past_record last) 0 ≡ max 0 (past_record last) = omega arith in all

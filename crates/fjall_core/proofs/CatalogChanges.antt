@@ -28,10 +28,10 @@ use Rattle.fjall_state.specs.Remembered.{Remembered}
 use Rattle.fjall_core.specs.Holding.{Held}
 use Rattle.fjall_core.specs.Durables.{Durable, Lies, Rests, StandsAmid, StaysFinished}
 use Rattle.fjall_core.specs.Standing.{Poisons, StandsOn}
-use Rattle.fjall_core.proofs.Dues.{bool_cases}
-use Rattle.fjall_core.proofs.Amids.{amid_more}
-use Rattle.fjall_core.proofs.Leading.{folder_amid}
-use Rattle.fjall_core.proofs.Rooted.{leaves_beside, within_root, writing_along}
+use Rattle.fjall_core.proofs.Refusals.{bool_cases}
+use Rattle.fjall_core.proofs.CrashesInRuns.{amid_more}
+use Rattle.fjall_core.proofs.CrashImages.{folder_amid}
+use Rattle.fjall_core.proofs.RootUnchanged.{leaves_beside, within_root, writing_along}
 use Rattle.fjall_core.proofs.JournalWrites.{Leads, Settles, held_on, leads_on, present_of, stands_ill, stands_well}
 
 -- ---- numbers

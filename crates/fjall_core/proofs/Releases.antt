@@ -29,8 +29,8 @@ use Rattle.fjall_core.specs.Durables.{Durable}
 use Rattle.fjall_core.specs.Standing.{Counts, Owes, OwesRefusal, Serves, StandsFor, StandsOn, held_due, store_in}
 use Rattle.fjall_core.proofs.JournalWrites.{held_on}
 use Rattle.fjall_core.specs.CallParts.{FilesGone, Removes}
-use Rattle.fjall_core.proofs.Serving.{led_by, memory_owes, memory_serves, serves_by}
-use Rattle.fjall_core.proofs.Ways.{Recounts, Removed, recount_leads, removed_leads, unremoved_leads}
+use Rattle.fjall_core.proofs.ServedCalls.{led_by, memory_owes, memory_serves, serves_by}
+use Rattle.fjall_core.proofs.KeyspaceCalls.{Recounts, Removed, recount_leads, removed_leads, unremoved_leads}
 
 -- ---- the id
 

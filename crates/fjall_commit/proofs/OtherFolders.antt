@@ -23,7 +23,7 @@ use Rattle.fjall_recovery.specs.Naming.{KeyspacesAreNamed}
 use Rattle.fjall_recovery.proofs.Listed.{in_keyspaces}
 use Rattle.fjall_recovery.specs.Halves.{HasTree, Tree}
 use Rattle.fjall_recovery.specs.Places.{HasSafeHome, HaveSafeHomes, IsNeverFolder}
-use Rattle.fjall_commit.proofs.Apart.{outside, outside_test, folder_of-current, current_under, other_home, keyspaces_outside, misnamed_outside}
+use Rattle.fjall_commit.proofs.FolderNames.{outside, outside_test, folder_of-current, current_under, other_home, keyspaces_outside, misnamed_outside}
 use Rattle.fjall_commit.proofs.Homes.{homes_along}
 
 -- no folder in `keyspaces` is named but by an id, and none was since its last sync

@@ -35,15 +35,15 @@ use Rattle.fjall_core.specs.Standing.{Creates, Owes, OwesRefusal, Poisons, Repla
 use Rattle.fjall_commit.specs.SyncedChanges.{SyncedThenChanged}
 use Rattle.fjall_core.specs.CallParts.{Makes}
 use Rattle.fjall_commit.specs.SyncedChanges as on_disk
-use Rattle.fjall_core.proofs.Changing.{Becomes, creation_changed, creation_served}
-use Rattle.fjall_core.proofs.Devices.{served_on, room_on}
+use Rattle.fjall_core.proofs.CatalogOnDisk.{Becomes, creation_changed, creation_served}
+use Rattle.fjall_core.proofs.DeviceFaults.{served_on, room_on}
 use Rattle.fjall_core.proofs.JournalWrites.{held_on}
 use Rattle.fjall_state.proofs.Standing.{a_name_there}
-use Rattle.fjall_core.proofs.Serving.{Led, still_led, led_by, long_owes, long_serves, memory_owes, memory_serves, replaces_table, serves_by}
+use Rattle.fjall_core.proofs.ServedCalls.{Led, still_led, led_by, long_owes, long_serves, memory_owes, memory_serves, replaces_table, serves_by}
 use Rattle.fjall_core.proofs.Syncs.{Persisted, StaysSame, sync_empty, sync_lies}
-use Rattle.fjall_core.proofs.Tables.{created_table, long_option}
+use Rattle.fjall_core.proofs.CatalogTables.{created_table, long_option}
 use Rattle.fjall_commit.proofs.ChangesAfterSync.{not_done}
-use Rattle.fjall_core.proofs.Ways.{ChangesTo, alter_settles, unaltered_leads, unsynced_leads}
+use Rattle.fjall_core.proofs.KeyspaceCalls.{ChangesTo, alter_settles, unaltered_leads, unsynced_leads}
 
 -- a core that has the new keyspace in memory already
 abbrev pub raised : Bytes → List Bytes → Held → Held

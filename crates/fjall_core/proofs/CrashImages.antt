@@ -19,7 +19,7 @@ use Rattle.fjall_recovery.proofs.Roots.{batches_are}
 use Rattle.fjall_recovery.proofs.Trees.{crashes_leave_the_tree}
 use Rattle.fjall_recovery.proofs.Holding.{made}
 use Rattle.fjall_commit.specs.Journaling.{LeavesRoot}
-use Rattle.fjall_commit.proofs.Leaving.{root_left}
+use Rattle.fjall_commit.proofs.CrashesInWrites.{root_left}
 use Rattle.fjall_core.specs.Holding.{Held}
 use Rattle.fjall_core.specs.Durables.{Durable, IsFinished, Lies, Rests, StandsAmid, StaysFinished}
 

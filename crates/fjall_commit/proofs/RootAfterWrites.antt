@@ -20,7 +20,7 @@ use Rattle.fjall_recovery.specs.Places.{Journaling, LiesInRoot, IsNeverFile, jou
 use Rattle.fjall_recovery.proofs.Roots.{all_both, batches_are}
 use Rattle.fjall_commit.specs.Journaling.{IsWriting, handed, synced}
 use Rattle.fjall_commit.proofs.Batches.{texts-append, batches-more}
-use Rattle.fjall_commit.proofs.Changes.{SameBut, place_of}
+use Rattle.fjall_commit.proofs.AppendsAndSyncs.{SameBut, place_of}
 
 -- ---- names
 

@@ -36,8 +36,8 @@ use Rattle.fjall_recovery.proofs.Listed.{in_keyspaces}
 use Rattle.fjall_recovery.specs.Halves.{HasTree, Tree}
 use Rattle.fjall_recovery.specs.Places.{HasSafeHome, LiesInTree}
 use Rattle.fjall_commit.specs.Removals.{IsRemoved, IsUnused}
-use Rattle.fjall_commit.proofs.Apart.{outside, outside_test, not_under, some_home, folder_of-current, current_under, other_home, keyspaces_outside, within_keyspaces}
-use Rattle.fjall_commit.proofs.Beside.{AreOthers, Beside, beside_along, beside_settled, settled_at, tree_left}
+use Rattle.fjall_commit.proofs.FolderNames.{outside, outside_test, not_under, some_home, folder_of-current, current_under, other_home, keyspaces_outside, within_keyspaces}
+use Rattle.fjall_commit.proofs.OtherFolders.{AreOthers, Beside, beside_along, beside_settled, settled_at, tree_left}
 
 -- ---- calls within the folder, and syncs
 

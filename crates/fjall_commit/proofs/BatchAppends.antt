@@ -15,9 +15,9 @@ use Rattle.fjall_files.specs.Names.{journal_name}
 use Rattle.fjall_recovery.specs.Places.{Journaling, texts_of}
 use Rattle.fjall_commit.specs.Journaling.{CanFollow, IsWriting, LeavesRoot, with_batch}
 use Rattle.fjall_commit.proofs.Batches.{batch_sound}
-use Rattle.fjall_commit.proofs.Changes.{appending_is, took_on, whole_part}
-use Rattle.fjall_commit.proofs.Leaving.{appended_all, leaves_part}
-use Rattle.fjall_commit.proofs.Lying.{waiting_goes_on}
+use Rattle.fjall_commit.proofs.AppendsAndSyncs.{appending_is, took_on, whole_part}
+use Rattle.fjall_commit.proofs.CrashesInWrites.{appended_all, leaves_part}
+use Rattle.fjall_commit.proofs.RootAfterWrites.{waiting_goes_on}
 
 -- ---- a write and the persist behind it
 

@@ -15,10 +15,10 @@ use Rattle.fjall_recovery.specs.Halves.{is_of_root}
 use Rattle.fjall_recovery.specs.Places.{IsNeverFile, Journaling, LiesInRoot, texts_of}
 use Rattle.fjall_recovery.proofs.Named.{journal_within, keyspaces_not_misnamed, root_cases}
 use Rattle.fjall_commit.specs.Journaling.{IsWriting}
-use Rattle.fjall_commit.proofs.Lying.{active_fits}
+use Rattle.fjall_commit.proofs.RootAfterWrites.{active_fits}
 use Rattle.fjall_core.specs.Durables.{StaysFinished}
-use Rattle.fjall_core.proofs.Dues.{bool_cases}
-use Rattle.fjall_core.proofs.Leading.{root_finished}
+use Rattle.fjall_core.proofs.Refusals.{bool_cases}
+use Rattle.fjall_core.proofs.CrashImages.{root_finished}
 
 -- what stands outside `keyspaces` is the same
 abbrev pub SameRoot : State → State → Type 0
