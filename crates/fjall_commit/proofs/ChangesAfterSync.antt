@@ -1,23 +1,18 @@
 -- A sync of the journal and a change of the keyspaces behind it.
-use Rattle.std.proofs.Common.{◌≡◌, ◌<◌, ◌≤◌, ◌^◌, inl, inr, ℕ, Bool, true, false, List, [], ◌∷◌, ◌++◌, codes, Result, Ok, Err, OnOk, subst, sym}
+use Rattle.std.proofs.Common.{◌≡◌, inl, inr, Bool, true, false, [], ◌∷◌, ◌++◌, codes, Result, Ok, Err, OnOk, subst, sym}
 use Rattle.std.proofs.lemmas.Bool.{true≢false}
 use Rattle.fjall_base.specs.Disk.{LeavesOnly, Meaning, state_in}
 use Rattle.fjall_base.specs.declared.error.Error.{Error}
 use Rattle.fjall_files.specs.Regions.{Within}
 use Rattle.fjall_journal.specs.declared.persist_mode.PersistMode.TheVariants.{SyncAll}
 use Rattle.fjall_journal.specs.Writer.{Journal}
-use Rattle.fjall_tree.specs.Records.{Fields}
 use Rattle.fjall_files.specs.Tidy.{StaysTidy}
-use Rattle.fjall_meta.specs.Keyspaces.{AreKeyspaces, Keyspaces, without_keyspace}
-use Rattle.fjall_catalog.specs.declared.catalog.Catalog.{Catalog}
 use Rattle.fjall_catalog.specs.declared.update.Update.{Update}
 use Rattle.fjall_catalog.specs.Catalog.{fields}
-use Rattle.fjall_catalog.specs.Updates.{IsTableGone, IsUpdate}
-use Rattle.fjall_recovery.specs.Folders.{past_record}
-use Rattle.fjall_recovery.specs.Halves.{Tree}
+use Rattle.fjall_catalog.specs.Updates.{IsTableGone}
 use Rattle.fjall_recovery.specs.Places.{LiesInTree}
 use Rattle.fjall_commit.specs.declared.creation.Creation.{Creation}
-use Rattle.fjall_commit.specs.Changes.{HasEither, HasRoom, IsCreation, with_home, without_home}
+use Rattle.fjall_commit.specs.Changes.{HasEither, HasRoom, ForCreation, ForCreationOn, ForDeletionOn, ForNewId, ForUpdate}
 use Rattle.fjall_commit.specs.SyncedChanges.{Persisted, CreatedKeyspace, SyncsThenChanges, DeletedKeyspace}
 
 -- what came of the change, behind a sync that was done
@@ -34,38 +29,29 @@ pub not_done : {A : Type 0} → false ≡ true → A
 not_done e = absurd (true≢false (sym e))
 
 module _ (mid new : Meaning) (creation : Creation) (within : Within (codes "keyspaces") mid new)
-    (leaves : (records : List Fields) (t : Tree) (name : List ℕ) (options : List (List ℕ)) (number : ℕ) → let next = with_home name options number creation.update.catalog t in
-    LiesInTree (state_in mid) records t → IsCreation t.last next.keyspaces t.keyspaces.next number creation → AreKeyspaces next.keyspaces → past_record (fields t.last) ≤ number → t.keyspaces.next < 2 ^ 64
-    → LeavesOnly mid new (HasEither t next))
-    (served : (records : List Fields) (t : Tree) (name : List ℕ) (options : List (List ℕ)) (number : ℕ) → let next = with_home name options number creation.update.catalog t in
-    LiesInTree (state_in mid) records t → IsCreation t.last next.keyspaces t.keyspaces.next number creation → AreKeyspaces next.keyspaces → past_record (fields t.last) ≤ number → t.keyspaces.next < 2 ^ 64
-    → HasRoom (state_in mid) t.keyspaces.next → new.misuses ≡ mid.misuses)
-    (kinds : (old : Catalog) (s : Keyspaces) (id number : ℕ) → id < 2 ^ 64 → IsCreation old s id number creation → StaysTidy mid new) where
+    (leaves : ForCreationOn mid creation (λ records t next. LeavesOnly mid new (HasEither t next)))
+    (served : ForCreationOn mid creation (λ records t next. HasRoom (state_in mid) t.keyspaces.next → new.misuses ≡ mid.misuses))
+    (kinds : ForNewId creation (λ id number. StaysTidy mid new)) where
   pub created_any : CreatedKeyspace mid new creation false
   created_any = record { within = within; leaves = leaves; lies = λ e. not_done e; served = served; gone = λ e. not_done e; kinds = kinds }
 
   pub created : (r : Result Unit Error)
-      → ((records : List Fields) (t : Tree) (name : List ℕ) (options : List (List ℕ)) (number : ℕ) → let next = with_home name options number creation.update.catalog t in
-      LiesInTree (state_in mid) records t → IsCreation t.last next.keyspaces t.keyspaces.next number creation → AreKeyspaces next.keyspaces → past_record (fields t.last) ≤ number → t.keyspaces.next < 2 ^ 64
-      → OnOk r (LiesInTree (state_in new) (records ++ fields creation.update.catalog ∷ []) next))
-      → ((old : Catalog) (s : Keyspaces) (id number : ℕ) → IsCreation old s id number creation → OnOk r (IsTableGone (state_in new) old))
+      → ForCreationOn mid creation (λ records t next. OnOk r (LiesInTree (state_in new) (records ++ fields creation.update.catalog ∷ []) next))
+      → ForCreation creation (λ old. OnOk r (IsTableGone (state_in new) old))
       → OnOk r (CreatedKeyspace mid new creation true)
   created (Ok _) lies gone = record { within = within; leaves = leaves; lies = λ e. lies; served = served; gone = λ e. gone; kinds = kinds }
   created (Err error) lies gone = tt
 
 module _ (mid new : Meaning) (update : Update) (within : Within (codes "keyspaces") mid new)
-    (leaves : (records : List Fields) (t : Tree) (id number : ℕ) → let next = without_home id update.catalog t in
-    LiesInTree (state_in mid) records t → IsUpdate t.last (without_keyspace id t.keyspaces) number update → past_record (fields t.last) ≤ number → LeavesOnly mid new (HasEither t next))
-    (served : (records : List Fields) (t : Tree) (id number : ℕ) → LiesInTree (state_in mid) records t → IsUpdate t.last (without_keyspace id t.keyspaces) number update → past_record (fields t.last) ≤ number → new.misuses ≡ mid.misuses)
+    (leaves : ForDeletionOn mid update (λ records t next. LeavesOnly mid new (HasEither t next)))
+    (served : ForDeletionOn mid update (λ records t next. new.misuses ≡ mid.misuses))
     (kinds : StaysTidy mid new) where
   pub deleted_any : DeletedKeyspace mid new update false
   deleted_any = record { within = within; leaves = leaves; lies = λ e. not_done e; served = served; gone = λ e. not_done e; kinds = kinds }
 
   pub deleted : (r : Result Unit Error)
-      → ((records : List Fields) (t : Tree) (id number : ℕ) → let next = without_home id update.catalog t in
-      LiesInTree (state_in mid) records t → IsUpdate t.last (without_keyspace id t.keyspaces) number update → past_record (fields t.last) ≤ number
-      → OnOk r (LiesInTree (state_in new) (records ++ fields update.catalog ∷ []) next))
-      → ((old : Catalog) (s : Keyspaces) (number : ℕ) → IsUpdate old s number update → OnOk r (IsTableGone (state_in new) old))
+      → ForDeletionOn mid update (λ records t next. OnOk r (LiesInTree (state_in new) (records ++ fields update.catalog ∷ []) next))
+      → ForUpdate update (λ old. OnOk r (IsTableGone (state_in new) old))
       → OnOk r (DeletedKeyspace mid new update true)
   deleted (Ok _) lies gone = record { within = within; leaves = leaves; lies = λ e. lies; served = served; gone = λ e. gone; kinds = kinds }
   deleted (Err error) lies gone = tt

@@ -25,7 +25,8 @@ pub fn sync_and_create_keyspace<D: Disk>(
 ) -> Result<()>
     ensures ok { OnOk result (journal.new ≡ written_out journal.old) }
     ensures turns { IsTrue D.honest → (old : Catalog) (s : Keyspaces) (id number : ℕ) → IsCreation old s id number creation.now
-        → SyncsThenChanges (λ mid new done. CreatedKeyspace mid new creation.now done) (D.meaning disk.old) (D.meaning disk.new) journal.old journal.new result }
+        → SyncsThenChanges (λ mid new done. CreatedKeyspace mid new creation.now done)
+        (D.meaning disk.old) (D.meaning disk.new) journal.old journal.new result }
     ensures cause { OnlyFaults (D.meaning disk.old) (D.meaning disk.new) result }
 {
     sync_journal(journal, disk, PersistMode::SyncAll)?;
@@ -40,7 +41,8 @@ pub fn sync_and_delete_keyspace<D: Disk>(
 ) -> Result<()>
     ensures ok { OnOk result (journal.new ≡ written_out journal.old) }
     ensures turns { IsTrue D.honest → (old : Catalog) (s : Keyspaces) (number : ℕ) → IsUpdate old s number update.now
-        → SyncsThenChanges (λ mid new done. DeletedKeyspace mid new update.now done) (D.meaning disk.old) (D.meaning disk.new) journal.old journal.new result }
+        → SyncsThenChanges (λ mid new done. DeletedKeyspace mid new update.now done)
+        (D.meaning disk.old) (D.meaning disk.new) journal.old journal.new result }
     ensures cause { OnlyFaults (D.meaning disk.old) (D.meaning disk.new) result }
 {
     sync_journal(journal, disk, PersistMode::SyncAll)?;
