@@ -1,16 +1,13 @@
 //! A core that opens on a disk.
 
-ghost use Rattle.std.specs.Prelude.{◌≡◌, ◌≤◌, Err, ℕ, IsTrue, IsErrAnd, IfOk, IfErr, List};
+ghost use Rattle.std.specs.Prelude.{◌≡◌, ◌≤◌, ℕ, IsTrue, IsErrAnd, IfOk, IfErr};
 ghost use Rattle.fjall_base.specs.Disk.{standing, state_in};
 ghost use Rattle.fjall_base.specs.declared.error.Error.{Error};
-ghost use Rattle.fjall_base.specs.Store.{Store, Command};
-ghost use Rattle.fjall_recovery.specs.Refusals.{AreOne, FolderRefuses, HasRisen, IsDue, IsOpeningRefusal};
-ghost use Rattle.fjall_repair.specs.Sweeps.{IsSwept};
+ghost use Rattle.fjall_base.specs.Store.{Store};
+ghost use Rattle.fjall_recovery.specs.Refusals.{AreOne, HasRisen, IsDue, IsOpeningRefusal};
 ghost use Rattle.fjall_files.specs.Tidy.{IsTidy, StaysTidy};
-ghost use Rattle.fjall_core.specs.Crashes.{BlamesDevice};
-ghost use Rattle.fjall_core.specs.Openings.{IsDueTo, KeepsStore, Opens, OpensAs, OpensOn, OpensAmid, StaysAmid};
-ghost use Rattle.fjall_recovery.specs.Amid.{HoldsAmid};
-ghost use Rattle.fjall_core.specs.Standing.{HoldsStore, reply_of};
+ghost use Rattle.fjall_core.specs.Openings.{IsDueTo, KeepsStore, Opens, OpensAs, OpensOn, OpensAmid, StaysAmid, ForHeld, RefusalBlames, RefusesFolder, Sweeps};
+ghost use Rattle.fjall_core.specs.Standing.{HoldsStore};
 
 use crate::config::Config;
 use crate::engine::Core;
@@ -32,25 +29,28 @@ impl<D: Disk> Core<D> {
         ensures any_moment { IsTrue D.honest → IfOk result (λ core. KeepsStore (D.meaning disk) core.disk) }
         ensures any_moment_err { IsTrue D.honest → IfErr result (λ refused. KeepsStore (D.meaning disk) (D.meaning refused.value)) }
         // Nothing is left that no record names.
-        ensures swept { IsTrue D.honest → IfOk result (λ core. IsSwept (state_in (D.meaning disk)) (state_in core.disk) core.catalog core.memory.keyspaces.living) }
+        ensures swept { IsTrue D.honest → IfOk result (λ core. Sweeps (D.meaning disk) core) }
         ensures stands { IfOk result (λ core. (store : Store) × (next : ℕ) × Opens core store next) }
         ensures later { IfOk result (λ core. (D.meaning disk).faults ≤ core.disk.faults) }
         ensures later_err { IfErr result (λ refused. (D.meaning disk).faults ≤ (D.meaning refused.value).faults) }
         ensures risen { IfErr result (λ refused. HasRisen (D.meaning disk).faults (D.meaning refused.value).faults refused.error) }
         ensures due { IsTrue D.honest → IfErr result (λ refused. IsDueTo (D.meaning disk) (D.meaning refused.value) refused.error) }
         // Where the folder is refused, this is refused with that error, unless memory runs out or the disk fails.
-        ensures refuses { IsTrue D.honest → (error : Error) → FolderRefuses (standing (state_in (D.meaning disk))) error → IsErrAnd result (λ refused. IsDue (AreOne error) refused.error) }
+        ensures refuses { IsTrue D.honest → (error : Error) → RefusesFolder (D.meaning disk) error
+            → IsErrAnd result (λ refused. IsDue (AreOne error) refused.error) }
         // Over any disk at all it is refused with one of these alone.
         ensures listed { IfErr result (λ refused. IsOpeningRefusal refused.error) }
         ensures kinds { IsTrue D.honest → IfOk result (λ core. StaysTidy (D.meaning disk) core.disk) }
         ensures kinds_err { IsTrue D.honest → IfErr result (λ refused. StaysTidy (D.meaning disk) (D.meaning refused.value)) }
         // Where nothing stands in the way, no call of the disk was one that no disk can serve.
         ensures served { IsTrue D.honest → IsTidy (state_in (D.meaning disk)) → IfOk result (λ core. core.disk.misuses ≡ (D.meaning disk).misuses) }
-        ensures device { IsTrue D.honest → IsTidy (state_in (D.meaning disk)) → IfErr result (λ refused. BlamesDevice (reply_of (Err refused.error)) (D.meaning disk) (D.meaning refused.value)) }
+        ensures device { IsTrue D.honest → IsTidy (state_in (D.meaning disk))
+            → IfErr result (λ refused. RefusalBlames refused.error (D.meaning disk) (D.meaning refused.value)) }
         // The same of a disk of which a crash may leave different stores, as each core leaves it, a poisoned one too, and a
         // closing or an opening that was refused.
-        ensures amid { IsTrue D.honest → (base : Store) (pending : List Command) → HoldsAmid (state_in (D.meaning disk)) base pending → IfOk result (λ core. OpensAmid (D.meaning disk) core base pending) }
-        ensures amid_err { IsTrue D.honest → (base : Store) (pending : List Command) → HoldsAmid (state_in (D.meaning disk)) base pending → IfErr result (λ refused. StaysAmid (D.meaning disk) (D.meaning refused.value) base pending) }
+        ensures amid { IsTrue D.honest → ForHeld (D.meaning disk) (λ base pending. IfOk result (λ core. OpensAmid (D.meaning disk) core base pending)) }
+        ensures amid_err { IsTrue D.honest → ForHeld (D.meaning disk) (λ base pending.
+            IfErr result (λ refused. StaysAmid (D.meaning disk) (D.meaning refused.value) base pending)) }
     {
         drop(config);
         let mut disk = disk;

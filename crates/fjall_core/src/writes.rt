@@ -107,7 +107,8 @@ impl<D: Disk> Core<D> {
     pub fn persist(&mut self, mode: PersistMode) -> Result<()>
         ensures serves { IsTrue D.honest → Serves self.old (Persist mode) (reply_of result) self.new }
         // Whatever stands in the way elsewhere, the device is to blame for `Io`.
-        ensures device { IsTrue D.honest → (s : State) (d : Durable) → StandsFor self.old s → StandsOn self.old d → BlamesDevice (reply_of result) self.old.disk self.new.disk }
+        ensures device { IsTrue D.honest → (s : State) (d : Durable) → StandsFor self.old s → StandsOn self.old d
+            → BlamesDevice (reply_of result) self.old.disk self.new.disk }
         ensures owes { Owes self.old (Persist mode) (reply_of result) self.new }
     {
         if self.memory.is_poisoned() {
