@@ -21,7 +21,7 @@ use std::alloc::Global;
 pub(crate) const KEYSPACES: &str = "keyspaces";
 
 /// All that the creation of a keyspace writes.
-#[derive(Debug, Drop)]
+#[derive(Drop)]
 pub struct Creation {
     /// The name of its folder, from the root on.
     pub folder: String,

@@ -16,7 +16,7 @@ use fjall_files::{current_name, keyspace_folder};
 use std::alloc::Global;
 
 /// What is removed of a deleted keyspace.
-#[derive(Debug, Drop)]
+#[derive(Drop)]
 pub struct Removal {
     /// The name of its folder, from the root on.
     pub folder: String,
