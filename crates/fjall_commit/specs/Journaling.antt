@@ -1,12 +1,12 @@
 -- The active journal of a database as it is written: batches go out behind those that stand, and are synced.
-use Rattle.std.specs.Prelude.{◌≡◌, ℕ, ◌<◌, ◌≤◌, ◌^◌, Bool, false, if◌then◌else◌, List, [], ◌∷◌, ◌++◌, length, map, take}
-use Rattle.fjall_base.specs.Disk.{State, Image, Survives}
+use Rattle.std.specs.Prelude.{◌≡◌, ℕ, ◌<◌, ◌≤◌, ◌^◌, Bool, false, if◌then◌else◌, List, [], ◌∷◌, ◌++◌, length, map, take, true}
+use Rattle.fjall_base.specs.Disk.{State, Image, Survives, Meaning, Name, state_in}
 use Rattle.fjall_files.specs.Regions.{IsImageIn}
 use Rattle.fjall_journal.specs.declared.entry.ValueType.{ValueType}
 use Rattle.fjall_journal.specs.declared.persist_mode.PersistMode.{PersistMode}
 use Rattle.fjall_journal.specs.declared.persist_mode.PersistMode.TheVariants.{Buffer, SyncData, SyncAll}
-use Rattle.fjall_journal.specs.Batches.{Written, shown}
-use Rattle.fjall_journal.specs.Writer.{Journal}
+use Rattle.fjall_journal.specs.Batches.{Written, shown, batch_text}
+use Rattle.fjall_journal.specs.Writer.{Journal, goes_out}
 use Rattle.fjall_files.specs.Names.{journal_name}
 use Rattle.fjall_versions.specs.Replays.{is_indirection, least_after}
 use Rattle.fjall_recovery.specs.Journals.{batches_in}
@@ -59,3 +59,19 @@ HasSome j batches image = (behind rest : List Written) × (behind ++ rest ≡ ba
 pub record LeavesRoot (state : State) (j : Journaling) (batches : List Written) (image : Image) : Type 0 where
   pub some : HasSome j batches image
   pub elsewhere : IsImageIn Survives is_of_keyspaces state image
+
+-- the batch goes out, and doesn't wait in the buffer
+abbrev pub is_out : Bool → Journal → Written → Bool
+is_out by_hand writer batch = goes_out by_hand (length (writer.buffer ++ batch_text batch))
+
+-- for whichever journals the writer goes on behind on this disk
+abbrev pub ForWriting : Meaning → Journal → (Journaling → Type 0) → Type 0
+ForWriting disk writer Holds = (j : Journaling) → IsWriting (state_in disk) writer j → Holds j
+
+-- the same, where a batch of this number with an item of this kind may follow
+abbrev pub ForFollowing : Meaning → Journal → ℕ → ValueType → (Journaling → Type 0) → Type 0
+ForFollowing disk writer seqno kind Holds = (j : Journaling) → IsWriting (state_in disk) writer j → CanFollow j seqno kind → Holds j
+
+-- what stands in `keyspaces` stayed
+abbrev pub KeepsKeyspaces : Meaning → Meaning → Type 0
+KeepsKeyspaces old new = (q : Name) → is_of_keyspaces q ≡ true → state_in new q ≡ state_in old q

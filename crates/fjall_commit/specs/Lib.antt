@@ -1,3 +1,4 @@
 pub mod Changes
 pub mod Removals
 pub mod Journaling
+pub mod SyncedChanges

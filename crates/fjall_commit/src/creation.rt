@@ -1,19 +1,14 @@
 //! A keyspace that is made: its folder and its first record are safe before the catalog names it.
 
-ghost use Rattle.std.specs.Prelude.{◌≡◌, ◌<◌, ◌≤◌, ◌^◌, ◌++◌, ◌∷◌, [], true, ℕ, List, IfErr, IfOk, IsTrue, OnOk, codes};
-ghost use Rattle.fjall_base.specs.Disk.{CanMakeFolder, File, Folder, IsNoFolder, LeavesOnly, OnlyFaults, folder_of, state_in};
+ghost use Rattle.std.specs.Prelude.{◌≡◌, ◌++◌, ◌∷◌, [], true, IfErr, IfOk, IsTrue, OnOk, codes};
+ghost use Rattle.fjall_base.specs.Disk.{File, Folder, LeavesOnly, OnlyFaults, folder_of, state_in};
 ghost use Rattle.fjall_files.specs.Regions.{IsMade, Within, is_under};
-ghost use Rattle.fjall_tree.specs.Records.{Fields};
 ghost use Rattle.fjall_files.specs.Tidy.{FitsAt, StaysTidy};
-ghost use Rattle.fjall_meta.specs.Keyspaces.{AreKeyspaces, Keyspaces};
-ghost use Rattle.fjall_catalog.specs.declared.catalog.Catalog.{Catalog};
 ghost use Rattle.fjall_catalog.specs.Catalog.{fields, first_of};
 ghost use Rattle.fjall_catalog.specs.Updates.{IsPreparingRefusal, IsTableGone};
-ghost use Rattle.fjall_recovery.specs.Folders.{past_record};
-ghost use Rattle.fjall_recovery.specs.Halves.{HasTree, Tree};
+ghost use Rattle.fjall_recovery.specs.Halves.{HasTree};
 ghost use Rattle.fjall_recovery.specs.Places.{HasSafeHome, LiesInTree};
-ghost use Rattle.fjall_commit.specs.Changes.{HasEither, HasRoom, IsCreation, with_home};
-ghost use Rattle.fjall_commit.specs.Removals.{IsUnused};
+ghost use Rattle.fjall_commit.specs.Changes.{HasEither, HasRoom, IsCreation, ForCreation, ForCreationOn, ForHomeOn, ForNewId, ServesFirstFile, ServesHome};
 
 use crate::change::change_tree;
 use fjall_base::{Disk, Result};
@@ -23,7 +18,7 @@ use fjall_meta::MetaKeyspace;
 use std::alloc::Global;
 
 /// All that the creation of a keyspace writes.
-#[derive(Debug, Drop)]
+#[derive(Drop)]
 pub struct Creation {
     /// The name of its folder, from the root on.
     pub folder: String,
@@ -61,9 +56,10 @@ pub fn prepare_creation(
 /// Makes a keyspace's folder, where none is, and in it a file of the first record alone, which it syncs. A file that an
 /// earlier crash left under that name is taken away first.
 fn write_home<D: Disk>(disk: &mut D, folder: &str, current: &str, record_text: &[u8]) -> Result<()>
-    ensures made { IsTrue D.honest → folder_of current.now ≡ folder.now → OnOk result (IsMade (state_in (D.meaning disk.new)) folder.now current.now record_text.now) }
+    ensures made { IsTrue D.honest → folder_of current.now ≡ folder.now
+        → OnOk result (IsMade (state_in (D.meaning disk.new)) folder.now current.now record_text.now) }
     ensures within { IsTrue D.honest → is_under folder.now current.now ≡ true → Within folder.now (D.meaning disk.old) (D.meaning disk.new) }
-    ensures served { IsTrue D.honest → folder_of current.now ≡ folder.now → CanMakeFolder (state_in (D.meaning disk.old)) folder.now → IsNoFolder (state_in (D.meaning disk.old) current.now).now → (D.meaning disk.new).misuses ≡ (D.meaning disk.old).misuses }
+    ensures served { IsTrue D.honest → ServesFirstFile (D.meaning disk.old) (D.meaning disk.new) folder.now current.now }
     ensures cause { OnlyFaults (D.meaning disk.old) (D.meaning disk.new) result }
     ensures kinds { IsTrue D.honest → FitsAt folder.now Folder → FitsAt current.now (File [] []) → StaysTidy (D.meaning disk.old) (D.meaning disk.new) }
 {
@@ -74,20 +70,18 @@ fn write_home<D: Disk>(disk: &mut D, folder: &str, current: &str, record_text: &
 
 /// Makes the home of a keyspace that the catalog doesn't name yet, and syncs it and its name.
 fn build_home<D: Disk>(disk: &mut D, creation: &Creation) -> Result<()>
-    ensures within { IsTrue D.honest → (old : Catalog) (s : Keyspaces) (id number : ℕ) → IsCreation old s id number creation.now → Within (codes "keyspaces") (D.meaning disk.old) (D.meaning disk.new) }
+    ensures within { IsTrue D.honest → ForCreation creation.now (λ old. Within (codes "keyspaces") (D.meaning disk.old) (D.meaning disk.new)) }
     // A crash at any moment of the call leaves the keyspaces that live.
-    ensures any_moment { IsTrue D.honest → (records : List Fields) (t : Tree) (old : Catalog) (s : Keyspaces) (id number : ℕ) → LiesInTree (state_in (D.meaning disk.old)) records t → IsUnused id t.keyspaces
-        → IsCreation old s id number creation.now → LeavesOnly (D.meaning disk.old) (D.meaning disk.new) (λ image. HasTree image t) }
+    ensures any_moment { IsTrue D.honest → ForHomeOn (D.meaning disk.old) creation.now (λ records t.
+        LeavesOnly (D.meaning disk.old) (D.meaning disk.new) (λ image. HasTree image t)) }
     // They lie as they did, also where the call fails.
-    ensures lies { IsTrue D.honest → (records : List Fields) (t : Tree) (old : Catalog) (s : Keyspaces) (id number : ℕ) → LiesInTree (state_in (D.meaning disk.old)) records t → IsUnused id t.keyspaces
-        → IsCreation old s id number creation.now → LiesInTree (state_in (D.meaning disk.new)) records t }
-    ensures home { IsTrue D.honest → (old : Catalog) (s : Keyspaces) (id number : ℕ) → id < 2 ^ 64 → IsCreation old s id number creation.now
-        → OnOk result (HasSafeHome (state_in (D.meaning disk.new)) id (fields (first_of number))) }
+    ensures lies { IsTrue D.honest → ForHomeOn (D.meaning disk.old) creation.now (λ records t. LiesInTree (state_in (D.meaning disk.new)) records t) }
+    ensures home { IsTrue D.honest → ForNewId creation.now (λ id number.
+        OnOk result (HasSafeHome (state_in (D.meaning disk.new)) id (fields (first_of number)))) }
     // A folder that is already there may be used; a file in its place, or a folder in that of its file, no disk can pass by.
-    ensures served { IsTrue D.honest → (records : List Fields) (t : Tree) (old : Catalog) (s : Keyspaces) (id number : ℕ) → id < 2 ^ 64 → LiesInTree (state_in (D.meaning disk.old)) records t → IsCreation old s id number creation.now
-        → HasRoom (state_in (D.meaning disk.old)) id → (D.meaning disk.new).misuses ≡ (D.meaning disk.old).misuses }
+    ensures served { IsTrue D.honest → ServesHome (D.meaning disk.old) (D.meaning disk.new) creation.now }
     ensures cause { OnlyFaults (D.meaning disk.old) (D.meaning disk.new) result }
-    ensures kinds { IsTrue D.honest → (old : Catalog) (s : Keyspaces) (id number : ℕ) → id < 2 ^ 64 → IsCreation old s id number creation.now → StaysTidy (D.meaning disk.old) (D.meaning disk.new) }
+    ensures kinds { IsTrue D.honest → ForNewId creation.now (λ id number. StaysTidy (D.meaning disk.old) (D.meaning disk.new)) }
 {
     let folder = creation.folder.as_str();
     write_home(
@@ -105,22 +99,19 @@ fn build_home<D: Disk>(disk: &mut D, creation: &Creation) -> Result<()>
 ///
 /// A call that fails may have done all of it.
 pub fn create_keyspace<D: Disk>(disk: &mut D, creation: &Creation) -> Result<()>
-    ensures within { IsTrue D.honest → (old : Catalog) (s : Keyspaces) (id number : ℕ) → IsCreation old s id number creation.now → Within (codes "keyspaces") (D.meaning disk.old) (D.meaning disk.new) }
+    ensures within { IsTrue D.honest → ForCreation creation.now (λ old. Within (codes "keyspaces") (D.meaning disk.old) (D.meaning disk.new)) }
     // A crash at any moment of the call leaves the keyspaces before or those with the new one.
-    ensures any_moment { IsTrue D.honest → (records : List Fields) (t : Tree) (name : List ℕ) (options : List (List ℕ)) (number : ℕ) → let next = with_home name options number creation.now.update.catalog t in
-        LiesInTree (state_in (D.meaning disk.old)) records t → IsCreation t.last next.keyspaces t.keyspaces.next number creation.now → AreKeyspaces next.keyspaces → past_record (fields t.last) ≤ number
-        → t.keyspaces.next < 2 ^ 64 → LeavesOnly (D.meaning disk.old) (D.meaning disk.new) (HasEither t next) }
+    ensures any_moment { IsTrue D.honest → ForCreationOn (D.meaning disk.old) creation.now (λ records t next.
+        LeavesOnly (D.meaning disk.old) (D.meaning disk.new) (HasEither t next)) }
     // At Ok only those with the new one.
-    ensures ok { IsTrue D.honest → (records : List Fields) (t : Tree) (name : List ℕ) (options : List (List ℕ)) (number : ℕ) → let next = with_home name options number creation.now.update.catalog t in
-        LiesInTree (state_in (D.meaning disk.old)) records t → IsCreation t.last next.keyspaces t.keyspaces.next number creation.now → AreKeyspaces next.keyspaces → past_record (fields t.last) ≤ number
-        → t.keyspaces.next < 2 ^ 64 → OnOk result (LiesInTree (state_in (D.meaning disk.new)) (records ++ fields creation.now.update.catalog ∷ []) next) }
-    ensures served { IsTrue D.honest → (records : List Fields) (t : Tree) (name : List ℕ) (options : List (List ℕ)) (number : ℕ) → let next = with_home name options number creation.now.update.catalog t in
-        LiesInTree (state_in (D.meaning disk.old)) records t → IsCreation t.last next.keyspaces t.keyspaces.next number creation.now → AreKeyspaces next.keyspaces → past_record (fields t.last) ≤ number
-        → t.keyspaces.next < 2 ^ 64 → HasRoom (state_in (D.meaning disk.old)) t.keyspaces.next → (D.meaning disk.new).misuses ≡ (D.meaning disk.old).misuses }
+    ensures ok { IsTrue D.honest → ForCreationOn (D.meaning disk.old) creation.now (λ records t next.
+        OnOk result (LiesInTree (state_in (D.meaning disk.new)) (records ++ fields creation.now.update.catalog ∷ []) next)) }
+    ensures served { IsTrue D.honest → ForCreationOn (D.meaning disk.old) creation.now (λ records t next.
+        HasRoom (state_in (D.meaning disk.old)) t.keyspaces.next → (D.meaning disk.new).misuses ≡ (D.meaning disk.old).misuses) }
     ensures cause { OnlyFaults (D.meaning disk.old) (D.meaning disk.new) result }
     // The old table of tree 0 is gone.
-    ensures gone { IsTrue D.honest → (old : Catalog) (s : Keyspaces) (id number : ℕ) → IsCreation old s id number creation.now → OnOk result (IsTableGone (state_in (D.meaning disk.new)) old) }
-    ensures kinds { IsTrue D.honest → (old : Catalog) (s : Keyspaces) (id number : ℕ) → id < 2 ^ 64 → IsCreation old s id number creation.now → StaysTidy (D.meaning disk.old) (D.meaning disk.new) }
+    ensures gone { IsTrue D.honest → ForCreation creation.now (λ old. OnOk result (IsTableGone (state_in (D.meaning disk.new)) old)) }
+    ensures kinds { IsTrue D.honest → ForNewId creation.now (λ id number. StaysTidy (D.meaning disk.old) (D.meaning disk.new)) }
 {
     build_home(disk, creation)?;
     change_tree(disk, &creation.update)

@@ -12,17 +12,20 @@ ghost use Rattle.fjall_commit.specs.Journaling.{IsWriting, LeavesRoot, after_per
 
 /// Where all batches are synced, a writer of the active journal with an empty buffer goes on behind them.
 pub fn a_writer_begins()
-    ensures { (state : State) (writer : Journal) (j : Journaling) → LiesInRoot state j → j.later ≡ [] → writer.name ≡ journal_name j.active → writer.buffer ≡ [] → IsWriting state writer j }
+    ensures { (state : State) (writer : Journal) (j : Journaling) → LiesInRoot state j → j.later ≡ []
+        → writer.name ≡ journal_name j.active → writer.buffer ≡ [] → IsWriting state writer j }
 {}
 
 /// A crash leaves the synced batches, and of those behind them a beginning.
 pub fn crashes_leave_some()
-    ensures { (state : State) (writer : Journal) (j : Journaling) (image : Image) → IsWriting state writer j → IsImage state image → LeavesRoot state j j.later image }
+    ensures { (state : State) (writer : Journal) (j : Journaling) (image : Image) → IsWriting state writer j
+        → IsImage state image → LeavesRoot state j j.later image }
 {}
 
 /// Where all batches are synced, a crash leaves just these.
 pub fn synced_batches_stay()
-    ensures { (state : State) (writer : Journal) (j : Journaling) (image : Image) → IsWriting state writer j → j.later ≡ [] → IsImage state image → HasRoot image (journals_with j []) }
+    ensures { (state : State) (writer : Journal) (j : Journaling) (image : Image) → IsWriting state writer j
+        → j.later ≡ [] → IsImage state image → HasRoot image (journals_with j []) }
 {}
 
 /// The journals hold the same once all was handed over, in whatever mode.

@@ -8,6 +8,7 @@ mod deletion;
 mod journaling;
 mod laws;
 mod removal;
+mod synced_changes;
 
 pub use creation::{Creation, create_keyspace, prepare_creation};
 pub use deletion::delete_keyspace;
@@ -16,3 +17,4 @@ pub use laws::{
     a_persist_keeps_all, a_writer_begins, crashes_leave_some, numbers_go_on, synced_batches_stay,
 };
 pub use removal::{Removal, prepare_removal, remove_keyspace};
+pub use synced_changes::{sync_and_create_keyspace, sync_and_delete_keyspace};

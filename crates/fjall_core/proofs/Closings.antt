@@ -11,8 +11,8 @@ use Rattle.fjall_recovery.specs.Amid.{HoldsAmid}
 use Rattle.fjall_recovery.specs.Places.{contents_with}
 use Rattle.fjall_recovery.proofs.Holding.{a_rest_holds}
 use Rattle.fjall_files.specs.Tidy.{StaysTidy}
-use Rattle.fjall_commit.proofs.Tidied.{persist_stays}
-use Rattle.fjall_commit.proofs.Leaving.{persist_apart, persist_leaves, persist_out}
+use Rattle.fjall_commit.proofs.TidyWrites.{persist_stays}
+use Rattle.fjall_commit.proofs.CrashesInWrites.{persist_apart, persist_leaves, persist_out}
 use Rattle.fjall_state.specs.declared.call.Call.TheVariants.{Persist}
 use Rattle.fjall_state.specs.declared.call.Reply.TheVariants.{Refused}
 use Rattle.fjall_state.specs.Machine as machine
@@ -20,11 +20,11 @@ use Rattle.fjall_core.specs.Holding.{Held}
 use Rattle.fjall_core.specs.Durables.{Durable, Passes}
 use Rattle.fjall_core.specs.Crashes.{BlamesDevice, attempt}
 use Rattle.fjall_core.specs.Standing.{Closes, ClosesDisk, HandsOver, OnDisk, Owes, Serves, StandsFor, StandsOn, reply_of}
-use Rattle.fjall_core.proofs.Dues.{none_due}
-use Rattle.fjall_core.proofs.Leading.{lies_rest, root_finished}
+use Rattle.fjall_core.proofs.Refusals.{none_due}
+use Rattle.fjall_core.proofs.CrashImages.{lies_rest, root_finished}
 use Rattle.fjall_core.proofs.Reopening.{a_core_holds_amid, finished_amid}
-use Rattle.fjall_core.proofs.Syncs.{HandedOut, hand_leaves, same_of, sync_empty, sync_lies, synced_passes}
-use Rattle.fjall_core.proofs.Writes.{held_on, present_of}
+use Rattle.fjall_core.proofs.Syncs.{Persisted, hand_leaves, same_of, sync_empty, sync_lies, synced_passes}
+use Rattle.fjall_core.proofs.JournalWrites.{held_on, present_of}
 
 -- what the disk took of a sync is what closing owes of it
 pub closes_disk : (old new : Held) (result : Result Unit Error) → OnDisk old (Persist SyncAll) (reply_of result) new → ClosesDisk old result new.disk
@@ -38,7 +38,7 @@ no_command s (Io kind) = refl
 no_command s error = refl
 
 -- the steps of a sync hand all over
-synced_out : (old new : Held) → HandsOver old new → Took old.disk new.disk (persist_steps old.journal SyncAll) → new.disk.misuses ≡ old.disk.misuses → HandedOut old new SyncAll true
+synced_out : (old new : Held) → HandsOver old new → Took old.disk new.disk (persist_steps old.journal SyncAll) → new.disk.misuses ≡ old.disk.misuses → Persisted old new SyncAll true
 synced_out old new hands took served = record {
   leaves = λ j writing. persist_leaves old.disk new.disk old.journal j writing SyncAll took;
   lies = λ _ j writing. persist_out old.disk new.disk old.journal j writing SyncAll new.journal took (ap (λ (w : Journal). w.name) hands.journal) (ap (λ (w : Journal). w.buffer) hands.journal);
@@ -48,7 +48,7 @@ synced_out old new hands took served = record {
 }
 
 -- nothing waits for a sync any more, so that the disk holds what it stands for
-synced_closes : (old new : Held) (s : machine.State) (base : Store) (pending : List Command) → old.memory.poisoned ≡ false → HandsOver old new → HandedOut old new SyncAll true → IsHoused (state_in new.disk) → StandsFor old s → StandsOn old (held_on old base pending)
+synced_closes : (old new : Held) (s : machine.State) (base : Store) (pending : List Command) → old.memory.poisoned ≡ false → HandsOver old new → Persisted old new SyncAll true → IsHoused (state_in new.disk) → StandsFor old s → StandsOn old (held_on old base pending)
     → Closes s (held_on old base pending) (Ok tt) new.disk
 synced_closes old new s base pending well hands out housed stands on =
     let same = same_of old new hands in

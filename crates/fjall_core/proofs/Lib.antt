@@ -1,31 +1,30 @@
-mod Dues
-mod Amids
-mod Tries
-pub mod Running
-mod Leading
-mod Along
-mod Writes
+mod Refusals
+mod CrashesInRuns
+mod AttemptedCommands
+pub mod RunsOverCrashes
+mod CrashImages
+mod KeyspacesUnchanged
+mod JournalWrites
 mod Syncs
-mod Rooted
-mod Altering
-mod Numbers
-mod Changing
-mod Ways
-mod Turned
-mod Owing
-mod Devices
-mod Serving
-mod Outcomes
-mod Doing
-mod Replies
-mod Persisting
-mod Releasing
-mod Tables
-mod Keyspacing
-mod Deleting
+mod RootUnchanged
+mod CatalogChanges
+mod NextNumbers
+mod CatalogOnDisk
+mod KeyspaceCalls
+mod OwedSteps
+mod DeviceFaults
+mod ServedCalls
+mod PartOutcomes
+mod WriteCalls
+mod CallsInMemory
+mod Persists
+mod Releases
+mod CatalogTables
+mod Creations
+mod Deletions
 mod Closings
 mod Opening
-pub mod Kept
-pub mod Lasting
+pub mod CrashedDisks
+pub mod LastSyncs
 pub mod Lives
 pub mod Reopening

@@ -26,10 +26,10 @@ use Rattle.fjall_core.specs.Crashes.{BlamesEach, Settled, Tried, at_most_one}
 use Rattle.fjall_core.specs.Openings.{OpensAmid, OpensAs}
 use Rattle.fjall_core.specs.Standing.{Closes, OwesAll, Runs, StandsOn}
 use Rattle.fjall_core.specs.Lives.{AreLeftOf, Closed, CutBehind, CutBehindSync, CutInCalls, CutInClosing, CutInOpening, Dropped, Ended, GoesOn, HoldsFold, IsLeftOf, Life, LastSync, Lived, Lives, NoLife, NoSync, OneMore, Opened, Served, Unclosed, Unopened, UpTo, all_left, begun, start_of}
-use Rattle.fjall_core.proofs.Amids.{no_more, run_blames, run_passes}
-use Rattle.fjall_core.proofs.Kept.{crash_holds}
+use Rattle.fjall_core.proofs.CrashesInRuns.{no_more, run_blames, run_passes}
+use Rattle.fjall_core.proofs.CrashedDisks.{crash_holds}
 use Rattle.fjall_core.proofs.Reopening.{a_core_holds_amid, holds_store_amid}
-use Rattle.fjall_core.proofs.Owing.{owes_run}
+use Rattle.fjall_core.proofs.OwedSteps.{owes_run}
 
 -- ---- what is left
 

@@ -15,7 +15,7 @@ use Rattle.fjall_recovery.specs.Journals.{batches_in}
 use Rattle.fjall_recovery.specs.Held.{Holds, number_held, store_held}
 use Rattle.fjall_files.specs.Names.{journal_name}
 use Rattle.fjall_recovery.specs.Places.{contents_with, texts_of}
-use Rattle.fjall_commit.proofs.Lying.{begins}
+use Rattle.fjall_commit.proofs.RootAfterWrites.{begins}
 use Rattle.fjall_repair.specs.declared.opened.Opened.{Opened}
 use Rattle.fjall_repair.specs.Opened.{ComesBack, IsOpenedFrom, IsUnopened}
 use Rattle.fjall_repair.specs.Opened as repair
@@ -26,7 +26,7 @@ use Rattle.fjall_state.proofs.Standing.{an_opening_stands}
 use Rattle.fjall_core.specs.Holding.{Held}
 use Rattle.fjall_core.specs.Durables.{Durable, Lies}
 use Rattle.fjall_core.specs.Openings.{IsAtEnd, IsDueTo, KeepsStore, Opens, OpensAs, OpensOn, parts_of}
-use Rattle.fjall_core.proofs.Leading.{lies_rest, root_finished}
+use Rattle.fjall_core.proofs.CrashImages.{lies_rest, root_finished}
 
 -- what a core holds over a folder that was opened
 abbrev pub held_of : Meaning → Opened → Remembered → Held

@@ -20,20 +20,20 @@ use Rattle.fjall_state.specs.Machine as Machine
 use Rattle.fjall_state.specs.Remembered.{Remembered}
 use Rattle.fjall_core.specs.Holding.{Held}
 use Rattle.fjall_core.specs.Durables.{Durable, Lies, Passes, Rests, StandsAmid}
-use Rattle.fjall_core.specs.Turns as turns
+use Rattle.fjall_commit.specs.SyncedChanges as on_disk
 use Rattle.fjall_core.specs.Crashes.{IsSync}
 use Rattle.fjall_core.specs.Standing.{HandsOver, Poisons, StandsOn}
 use Rattle.fjall_core.specs.Standing as standing
-use Rattle.fjall_core.proofs.Along.{tree_along}
-use Rattle.fjall_core.proofs.Leading.{kept_with, leaves_finished, root_amid}
-use Rattle.fjall_core.proofs.Writes.{Leads, Settles, held_on, leads_on, settles_on, present_of, stands_ill, stands_well}
+use Rattle.fjall_core.proofs.KeyspacesUnchanged.{tree_along}
+use Rattle.fjall_core.proofs.CrashImages.{kept_with, leaves_finished, root_amid}
+use Rattle.fjall_core.proofs.JournalWrites.{Leads, Settles, held_on, leads_on, settles_on, present_of, stands_ill, stands_well}
 
 -- what a persist did to the disk and to the journal's writer of a core
-abbrev pub HandedOut : Held → Held → PersistMode → Bool → Type 0
-HandedOut old new mode done = turns.HandedOut old.disk new.disk old.journal new.journal mode done
+abbrev pub Persisted : Held → Held → PersistMode → Bool → Type 0
+Persisted old new mode done = on_disk.Persisted old.disk new.disk old.journal new.journal mode done
 
 -- what a crash during it or after it leaves
-pub hand_leaves : (old new : Held) (mode : PersistMode) (done : Bool) (base : Store) (pending : List Command) → (lies : Lies old (held_on old base pending)) → HandedOut old new mode done → LeavesOnly old.disk new.disk (StandsAmid base [] (pending ++ []))
+pub hand_leaves : (old new : Held) (mode : PersistMode) (done : Bool) (base : Store) (pending : List Command) → (lies : Lies old (held_on old base pending)) → Persisted old new mode done → LeavesOnly old.disk new.disk (StandsAmid base [] (pending ++ []))
 hand_leaves old new mode done base pending lies out =
     root_amid base pending old.disk new.disk lies.journals lies.records lies.tree [] lies.made lies.waits lies.in_tree
     (subst (λ (l : List Written). LeavesOnly old.disk new.disk (LeavesRoot (state_in old.disk) lies.journals l)) (sym (append-nil lies.journals.later)) (out.leaves lies.journals lies.writing))
@@ -45,7 +45,7 @@ pub record StaysSame (old new : Held) : Type 0 where
   pub catalog : new.catalog ≡ old.catalog
 
 -- where base and pending lie once the bytes are in the file
-buffer_lies : (old new : Held) (base : Store) (pending : List Command) → StaysSame old new → (lies : Lies old (held_on old base pending)) → HandedOut old new Buffer true → Lies new (held_on new base pending)
+buffer_lies : (old new : Held) (base : Store) (pending : List Command) → StaysSame old new → (lies : Lies old (held_on old base pending)) → Persisted old new Buffer true → Lies new (held_on new base pending)
 buffer_lies old new base pending same lies out = record {
   journals = after_persist Buffer lies.journals;
   records = lies.records;
@@ -64,7 +64,7 @@ synced_journals : (j : Journaling) → journals_with (synced j) [] ≡ journals_
 synced_journals j = ap (λ (l : List Written). j.sealed ++ record { id = j.active; batches = l } ∷ []) (append-nil (j.whole ++ j.later))
 
 -- where they lie once all is synced: nothing is pending
-pub sync_lies : (old new : Held) (base : Store) (pending : List Command) → StaysSame old new → (lies : Lies old (held_on old base pending)) → HandedOut old new SyncAll true → Lies new (held_on new (fold base pending) [])
+pub sync_lies : (old new : Held) (base : Store) (pending : List Command) → StaysSame old new → (lies : Lies old (held_on old base pending)) → Persisted old new SyncAll true → Lies new (held_on new (fold base pending) [])
 sync_lies old new base pending same lies out =
     let j = lies.journals in
     let t = lies.tree in
@@ -82,7 +82,7 @@ sync_lies old new base pending same lies out =
       next = same.next ∙ lies.next ∙ ap (λ (l : List Journal). max (least_after 0 (map shown (batches_in l))) (past_records (fields t.last ∷ t.homes))) (sym (synced_journals j));
     }
 
-pub sync_empty : (old new : Held) (base : Store) (pending : List Command) (same : StaysSame old new) (lies : Lies old (held_on old base pending)) (out : HandedOut old new SyncAll true) → (sync_lies old new base pending same lies out).journals.later ≡ []
+pub sync_empty : (old new : Held) (base : Store) (pending : List Command) (same : StaysSame old new) (lies : Lies old (held_on old base pending)) (out : Persisted old new SyncAll true) → (sync_lies old new base pending same lies out).journals.later ≡ []
 unfolding sync_lies
 sync_empty old new base pending same lies out = refl
 
@@ -98,7 +98,7 @@ same_store : (old new : Held) → new.memory ≡ old.memory → kept (standing.s
 same_store old new is = ap (λ (m : Remembered). kept (store_of m.keyspaces m.versions)) (sym is)
 
 -- a sync that was done: nothing is pending
-pub sync_settles : (old new : Held) (d : Durable) → old.memory.poisoned ≡ false → HandsOver old new → HandedOut old new SyncAll true → StandsOn old d → Settles new d []
+pub sync_settles : (old new : Held) (d : Durable) → old.memory.poisoned ≡ false → HandsOver old new → Persisted old new SyncAll true → StandsOn old d → Settles new d []
 sync_settles old new d well hands out = settles_on old new d [] (λ base pending on.
     let lies = on.lies well in
     let after = sync_lies old new base pending (same_of old new hands) lies out in
@@ -106,7 +106,7 @@ sync_settles old new d well hands out = settles_on old new d [] (λ base pending
     (held_on new (fold base pending) [], still, synced_passes old new base pending (hand_leaves old new SyncAll true base pending lies out) still.rests, refl))
 
 -- what waited is in the file
-buffer_leads : (old new : Held) (d : Durable) → old.memory.poisoned ≡ false → HandsOver old new → HandedOut old new Buffer true → StandsOn old d → Leads new d []
+buffer_leads : (old new : Held) (d : Durable) → old.memory.poisoned ≡ false → HandsOver old new → Persisted old new Buffer true → StandsOn old d → Leads new d []
 buffer_leads old new d well hands out = leads_on old new d [] (λ base pending on.
     let lies = on.lies well in
     let after = buffer_lies old new base pending (same_of old new hands) lies out in
@@ -114,7 +114,7 @@ buffer_leads old new d well hands out = leads_on old new d [] (λ base pending o
     (held_on new base pending, still, record { leaves = hand_leaves old new Buffer true base pending lies out; safe = []; base = refl; rest = sym (append-nil pending); rests = still.rests }))
 
 -- a persist that was done, and where it synced, nothing is pending
-pub persist_leads : (old new : Held) (mode : PersistMode) (d : Durable) → old.memory.poisoned ≡ false → HandsOver old new → HandedOut old new mode true → StandsOn old d
+pub persist_leads : (old new : Held) (mode : PersistMode) (d : Durable) → old.memory.poisoned ≡ false → HandsOver old new → Persisted old new mode true → StandsOn old d
     → (e : Durable) × StandsOn new e × Passes d [] e × ((s : Machine.State) → IsSync s (Persist mode) Done → e.pending ≡ [])
 persist_leads old new Buffer d well hands out stands =
     let led = buffer_leads old new d well hands out stands in
@@ -127,7 +127,7 @@ persist_leads old new SyncAll d well hands out stands =
     (led.0, led.1, led.2, λ s _. led.3)
 
 -- a persist that a fault refused
-pub unpersist_leads : (old new : Held) (mode : PersistMode) (d : Durable) → old.memory.poisoned ≡ false → Poisons old new → HandedOut old new mode false → StandsOn old d → Leads new d []
+pub unpersist_leads : (old new : Held) (mode : PersistMode) (d : Durable) → old.memory.poisoned ≡ false → Poisons old new → Persisted old new mode false → StandsOn old d → Leads new d []
 unpersist_leads old new mode d well fault out = leads_on old new d [] (λ base pending on.
     let lies = on.lies well in
     let leaves = hand_leaves old new mode false base pending lies out in

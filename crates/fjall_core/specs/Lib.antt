@@ -1,5 +1,5 @@
 pub mod Holding
-pub mod Turns
+pub mod CallParts
 pub mod Durables
 pub mod Crashes
 pub mod Standing

@@ -1,5 +1,5 @@
 -- What opening makes of a disk.
-use Rattle.std.specs.Prelude.{◌≡◌, ◌⊎◌, ℕ, List, [], length, Option}
+use Rattle.std.specs.Prelude.{◌≡◌, ◌⊎◌, ℕ, List, [], length, Option, Err}
 use Rattle.fjall_base.specs.Store.{Store, Command, fold, kept}
 use Rattle.fjall_base.specs.Disk.{Image, LeavesOnly, Meaning, State, Took, standing, state_in}
 use Rattle.fjall_base.specs.declared.error.Error.{Error}
@@ -15,7 +15,9 @@ use Rattle.fjall_recovery.specs.Held.{IsFolder, number_held, store_held}
 use Rattle.fjall_repair.specs.Opened.{StandsForSome}
 use Rattle.fjall_state.specs.Machine.{Parts, opened_state}
 use Rattle.fjall_core.specs.Holding.{Held}
-use Rattle.fjall_core.specs.Standing.{HoldsStore, StandsFor, StandsOn}
+use Rattle.fjall_core.specs.Standing.{HoldsStore, StandsFor, StandsOn, reply_of}
+use Rattle.fjall_repair.specs.Sweeps.{IsSwept}
+use Rattle.fjall_core.specs.Crashes.{BlamesDevice}
 
 -- the parts that a core's counts speak of
 abbrev pub parts_of : Held → Parts
@@ -68,3 +70,19 @@ pub record StaysAmid (old new : Meaning) (base : Store) (pending : List Command)
   pub holds : HoldsAmid (state_in new) base pending
   pub any_moment : LeavesOnly old new (StandsAmid base [] pending)
   pub kinds : StaysTidy old new
+
+-- nothing is left on the disk that no record of the core's names
+abbrev pub Sweeps : Meaning → Held → Type 0
+Sweeps old core = IsSwept (state_in old) (state_in core.disk) core.catalog core.memory.keyspaces.living
+
+-- what stands on the disk is refused with this error
+abbrev pub RefusesFolder : Meaning → Error → Type 0
+RefusesFolder disk error = FolderRefuses (standing (state_in disk)) error
+
+-- the device is to blame where an opening was refused with `Io`
+abbrev pub RefusalBlames : Error → Meaning → Meaning → Type 0
+RefusalBlames error old new = BlamesDevice (reply_of (Err error)) old new
+
+-- for whatever base, with a beginning of which commands, the disk holds
+abbrev pub ForHeld : Meaning → (Store → List Command → Type 0) → Type 0
+ForHeld disk Holds = (base : Store) (pending : List Command) → HoldsAmid (state_in disk) base pending → Holds base pending

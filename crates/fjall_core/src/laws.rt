@@ -23,13 +23,15 @@ ghost use Rattle.fjall_core.specs.Standing as memory;
 
 /// A disk that a crash left, at whichever moment of these steps, holds the store that its image stands for.
 pub fn crash_holds()
-    ensures { (state : State) (steps : List Step) (image : Image) (store : Store) → Leaves state steps image → StandsFor image store → HoldsStore (disk_of image) store }
+    ensures { (state : State) (steps : List Step) (image : Image) (store : Store) → Leaves state steps image
+        → StandsFor image store → HoldsStore (disk_of image) store }
 {}
 
 /// What a crash leaves amid a run of calls holds the base with a beginning of all the commands, which has at least those
 /// that were safe. A core that opens on it stands for that store, and goes on from it.
 pub fn a_crash_amid_holds()
-    ensures { (state : State) (steps : List Step) (image : Image) (base : Store) (least all : List Command) → Leaves state steps image → StandsAmid base least all image
+    ensures { (state : State) (steps : List Step) (image : Image) (base : Store) (least all : List Command)
+        → Leaves state steps image → StandsAmid base least all image
         → (front : List Command) × IsBeginning least front × IsBeginning front all × HoldsStore (disk_of image) (kept (fold base front)) }
 {}
 
@@ -58,19 +60,23 @@ pub fn a_core_holds_amid()
 /// of what was pending and, behind it, a beginning of what the life tried, which has all that a sync followed that
 /// succeeded.
 pub fn a_life_holds()
-    ensures { (old : Meaning) (base : Store) (pending : List Command) (life : Life) (new : State) (next : Store) (waits : List Command) → HoldsAmid (state_in old) base pending → Lived old base pending life new next waits → GoesOn base pending life new next waits }
+    ensures { (old : Meaning) (base : Store) (pending : List Command) (life : Life) (new : State) (next : Store) (waits : List Command)
+        → HoldsAmid (state_in old) base pending → Lived old base pending life new next waits
+        → GoesOn base pending life new next waits }
 {}
 
 /// Lives one after another, each cut off at any moment, dropped or refused: what the disk holds then, and what a crash leaves
 /// of it, is the fold of a beginning of what each of them tried, in order, over all of them, and has all that a sync followed
 /// that succeeded.
 pub fn lives_hold()
-    ensures { (first : State) (start : Store) (lives : List Life) (new : State) (base : Store) (pending : List Command) → HoldsAmid first start [] → Lives first start lives new base pending → HoldsFold start lives new base pending }
+    ensures { (first : State) (start : Store) (lives : List Life) (new : State) (base : Store) (pending : List Command)
+        → HoldsAmid first start [] → Lives first start lives new base pending → HoldsFold start lives new base pending }
 {}
 
 /// What opens behind such lives stands for that fold.
 pub fn lives_open()
-    ensures { (first : State) (start : Store) (lives : List Life) (old : Meaning) (base : Store) (pending : List Command) (core : Held) → HoldsAmid first start [] → Lives first start lives (state_in old) base pending → OpensAmid old core base pending
+    ensures { (first : State) (start : Store) (lives : List Life) (old : Meaning) (base : Store) (pending : List Command) (core : Held)
+        → HoldsAmid first start [] → Lives first start lives (state_in old) base pending → OpensAmid old core base pending
         → (fronts : List (List Command)) × AreLeftOf lives fronts × OpensAs core (kept (fold start (all_left fronts))) }
 {}
 
@@ -78,7 +84,9 @@ pub fn lives_open()
 
 /// Of each run it is known which sync was the last that succeeded.
 pub fn a_last_sync()
-    ensures { (core new : Held) (store : Store) (calls : List Call) (replies : List Reply) (opens : OpensAs core store) (run : Served core store opens calls replies new) → (synced : List Command) × LastSync core new store calls replies opens run synced }
+    ensures { (core new : Held) (store : Store) (calls : List Call) (replies : List Reply) (opens : OpensAs core store)
+        (run : Served core store opens calls replies new)
+        → (synced : List Command) × LastSync core new store calls replies opens run synced }
 {}
 
 /// No call is a run too.
@@ -88,7 +96,9 @@ pub fn no_calls_run()
 
 /// One run behind another is one run.
 pub fn runs_go_on()
-    ensures { (old mid new : Held) (s : machine.State) (d : Durable) (calls more : List Call) (replies others : List Reply) → StandsOn old d → RunsOn old calls replies mid s d → RunsSafely mid more others new → RunsOn old (calls ++ more) (replies ++ others) new s d }
+    ensures { (old mid new : Held) (s : machine.State) (d : Durable) (calls more : List Call) (replies others : List Reply)
+        → StandsOn old d → RunsOn old calls replies mid s d → RunsSafely mid more others new
+        → RunsOn old (calls ++ more) (replies ++ others) new s d }
 {}
 
 // ---- what stands in the way
@@ -105,25 +115,31 @@ pub fn each_step_is_tidy()
 
 /// Where nothing stood in the way, nothing does on what a crash leaves amid such steps.
 pub fn crash_stays_tidy()
-    ensures { (state : State) (steps : List Step) (image : Image) → IsTidy state → AllByRecursion IsTidyStep steps → Leaves state steps image → IsTidy (disk_of image) }
+    ensures { (state : State) (steps : List Step) (image : Image) → IsTidy state → AllByRecursion IsTidyStep steps
+        → Leaves state steps image → IsTidy (disk_of image) }
 {}
 
 /// Nor does anything behind lives of engines, wherever they were cut off, dropped or refused.
 pub fn lives_stay_tidy()
-    ensures { (first : State) (start : Store) (lives : List Life) (new : State) (base : Store) (pending : List Command) → IsTidy first → Lives first start lives new base pending → IsTidy new }
+    ensures { (first : State) (start : Store) (lives : List Life) (new : State) (base : Store) (pending : List Command)
+        → IsTidy first → Lives first start lives new base pending → IsTidy new }
 {}
 
 /// So each `Io` of a run behind such lives is told where the device failed, where nothing stood in the way of the first.
 pub fn lives_blame_the_device()
-    ensures { (first : State) (start : Store) (lives : List Life) (old : Meaning) (base : Store) (pending : List Command) (core new : Held) (calls : List Call) (replies : List Reply) → IsTidy first → Lives first start lives (state_in old) base pending
+    ensures { (first : State) (start : Store) (lives : List Life) (old : Meaning) (base : Store) (pending : List Command)
+        (core new : Held) (calls : List Call) (replies : List Reply)
+        → IsTidy first → Lives first start lives (state_in old) base pending
         → (opened : OpensAmid old core base pending) (run : Served core (kept (fold base opened.front)) opened.opens calls replies new)
-        → BlamesEach (start_of core (kept (fold base opened.front)) opened.opens) (begun core (kept (fold base opened.front))) calls replies run.tried run.state run.durable run.run }
+        → BlamesEach (start_of core (kept (fold base opened.front)) opened.opens) (begun core (kept (fold base opened.front)))
+        calls replies run.tried run.state run.durable run.run }
 {}
 
 /// Where nothing stands in the way, each `Io` of a run is told where the device failed, and no call of the disk was one that
 /// no disk can serve.
 pub fn a_run_blames_the_device()
-    ensures { (s t : machine.State) (d e : Durable) (calls : List Call) (replies : List Reply) (tried : List Command) → IsTidy (state_in d.meaning) → (run : RunOn s d calls replies tried t e) → BlamesEach s d calls replies tried t e run }
+    ensures { (s t : machine.State) (d e : Durable) (calls : List Call) (replies : List Reply) (tried : List Command)
+        → IsTidy (state_in d.meaning) → (run : RunOn s d calls replies tried t e) → BlamesEach s d calls replies tried t e run }
 {}
 
 // ---- what calls owe

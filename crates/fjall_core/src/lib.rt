@@ -1,10 +1,16 @@
 //! The engine's one machine: calls that change keyspaces, read them and sync their journal.
 #![tactic(auto)]
 
+mod close;
 mod config;
 mod engine;
+mod keyspaces;
 mod laws;
-mod turning;
+mod open;
+mod reads;
+mod replies;
+mod run;
+mod writes;
 
 pub use config::Config;
 pub use engine::Core;

@@ -22,11 +22,11 @@ use Rattle.fjall_core.specs.Holding.{Held}
 use Rattle.fjall_core.specs.Lives.{Closed, CutBehind, Ended, Life, Lives, NoLife, OneMore, Opened, Served, Unclosed, begun, start_of}
 use Rattle.fjall_core.specs.Openings.{OpensAmid}
 use Rattle.fjall_core.specs.Standing.{OwesAll}
-use Rattle.fjall_core.proofs.Lasting.{a_last_sync}
-use Rattle.fjall_core.proofs.Kept.{new_disk_tidy}
+use Rattle.fjall_core.proofs.LastSyncs.{a_last_sync}
+use Rattle.fjall_core.proofs.CrashedDisks.{new_disk_tidy}
 use Rattle.fjall_core.proofs.Lives.{lives_blame, lives_hold, lives_open}
 use Rattle.fjall_core.proofs.Reopening.{holds_store_amid}
-use Rattle.fjall_core.proofs.Running.{no_run, runs_behind}
+use Rattle.fjall_core.proofs.RunsOverCrashes.{no_run, runs_behind}
 use Rattle.fjall_script.specs.declared.command.Command.{Command}
 use Rattle.fjall_script.specs.declared.command.Command.TheVariants.{Crash, Delete, Get, Insert, Keyspace, Len, Persist, Remove, RemoveWeak, Reopen, Scan}
 use Rattle.fjall_script.specs.Answers.{bad_line, reply_text}

@@ -5,7 +5,7 @@ use Rattle.fjall_files.specs.Names.{keyspace_folder}
 use Rattle.fjall_catalog.specs.Catalog.{fields}
 use Rattle.fjall_recovery.specs.Places.{LiesInTree}
 use Rattle.fjall_catalog.proofs.Serving.{kinds_on, safe_kind}
-use Rattle.fjall_commit.proofs.Changed as Changed
+use Rattle.fjall_commit.proofs.CatalogChange as Changed
 use Rattle.fjall_files.proofs.Tidying.{stays_both}
 use Rattle.fjall_commit.proofs.change.change_tree.Goals as goal
 

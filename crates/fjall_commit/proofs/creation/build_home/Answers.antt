@@ -4,9 +4,9 @@ use Rattle.fjall_recovery.proofs.Trees.{folder_of-home}
 use Rattle.fjall_files.proofs.Made.{within_both}
 use Rattle.fjall_files.specs.Names.{keyspace_folder, current_name}
 use Rattle.fjall_recovery.proofs.Listed.{in_keyspaces}
-use Rattle.fjall_commit.proofs.Served.{can_make_home, keyspaces_there}
-use Rattle.fjall_commit.proofs.Apart.{within_keyspaces}
-use Rattle.fjall_commit.proofs.Building as Building
+use Rattle.fjall_commit.proofs.ServableCreations.{can_make_home, keyspaces_there}
+use Rattle.fjall_commit.proofs.FolderNames.{within_keyspaces}
+use Rattle.fjall_commit.proofs.UnnamedHomes as Building
 use Rattle.fjall_files.specs.Tidy.{FitsAt}
 use Rattle.fjall_files.proofs.Tidying.{stays_both, stays_by, stays_none, stays_settling}
 use Rattle.fjall_files.proofs.Fitting.{fits_current, fits_folder}

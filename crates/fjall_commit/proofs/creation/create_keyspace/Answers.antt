@@ -4,8 +4,8 @@ use Rattle.fjall_base.proofs.Moments.{runs_on, weaken}
 use Rattle.fjall_files.proofs.Made.{within_both}
 use Rattle.fjall_recovery.specs.Halves.{HasTree}
 use Rattle.fjall_commit.specs.Changes.{HasEither, with_home}
-use Rattle.fjall_commit.proofs.Apart.{within_keyspaces}
-use Rattle.fjall_commit.proofs.Nexts.{next_unused, with_housed}
+use Rattle.fjall_commit.proofs.FolderNames.{within_keyspaces}
+use Rattle.fjall_commit.proofs.NextKeyspaces.{next_unused, with_housed}
 use Rattle.fjall_files.proofs.Tidying.{stays_both}
 use Rattle.fjall_commit.proofs.creation.create_keyspace.Goals as goal
 

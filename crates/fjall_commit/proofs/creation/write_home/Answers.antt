@@ -2,8 +2,8 @@ use Rattle.fjall_base.specs.Disk.{Folder, Meaning, removing}
 use Rattle.fjall_files.proofs.Under.{under_self}
 use Rattle.fjall_files.proofs.Made.{making_within, removing_within, within_both, within_none, can_fill}
 use Rattle.std.proofs.Common.{◌∙◌}
-use Rattle.fjall_commit.proofs.Served.{still_can}
-use Rattle.fjall_commit.proofs.Building as Building
+use Rattle.fjall_commit.proofs.ServableCreations.{still_can}
+use Rattle.fjall_commit.proofs.UnnamedHomes as Building
 use Rattle.fjall_files.proofs.Tidying.{removing_tidy, stays_both, stays_by, stays_making, stays_none}
 use Rattle.fjall_commit.proofs.creation.write_home.Goals as goal
 

@@ -6,11 +6,11 @@ use Rattle.fjall_journal.specs.Batches.{batch_text, of_item}
 use Rattle.fjall_journal.specs.Writer.{Journal, PersistTook, after_command, appending, command_steps, goes_out, persist_steps, written_out}
 use Rattle.fjall_journal.specs.declared.persist_mode.PersistMode.TheVariants.{Buffer}
 use Rattle.fjall_commit.specs.Journaling.{IsWriting, with_batch}
-use Rattle.fjall_commit.proofs.Changes.{write_part}
-use Rattle.fjall_commit.proofs.Leaving.{part_apart}
-use Rattle.fjall_commit.proofs.Filed.{writing_file, written_file}
+use Rattle.fjall_commit.proofs.AppendsAndSyncs.{write_part}
+use Rattle.fjall_commit.proofs.CrashesInWrites.{part_apart}
+use Rattle.fjall_commit.proofs.JournalFile.{writing_file, written_file}
 use Rattle.fjall_commit.proofs.Results.{either_way, on_both, on_err, on_ok}
-use Rattle.fjall_commit.proofs.Writing.{after_name, batch_leaves, batch_on, by_hand_steps, command_part, half_written, twice_out, waits_below, waits_by_hand, whole_written}
+use Rattle.fjall_commit.proofs.BatchAppends.{after_name, batch_leaves, batch_on, by_hand_steps, command_part, half_written, twice_out, waits_below, waits_by_hand, whole_written}
 use Rattle.fjall_files.proofs.Tidying.{stays_part}
 use Rattle.fjall_commit.proofs.journaling.append_batch.Goals as goal
 

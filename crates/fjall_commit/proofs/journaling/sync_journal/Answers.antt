@@ -3,11 +3,11 @@ use Rattle.fjall_base.specs.Disk.{LeavesOnly, Name, state_in}
 use Rattle.fjall_journal.specs.Writer.{Journal}
 use Rattle.fjall_recovery.specs.Halves.{is_of_keyspaces}
 use Rattle.fjall_commit.specs.Journaling.{IsWriting, LeavesRoot, after_persist}
-use Rattle.fjall_commit.proofs.Leaving.{persist_leaves, failed_leaves, persist_out, persist_apart, failed_apart}
-use Rattle.fjall_commit.proofs.Filed.{writing_file}
+use Rattle.fjall_commit.proofs.CrashesInWrites.{persist_leaves, failed_leaves, persist_out, persist_apart, failed_apart}
+use Rattle.fjall_commit.proofs.JournalFile.{writing_file}
 use Rattle.fjall_commit.proofs.Results.{either_way, on_both}
 use Rattle.fjall_files.specs.Tidy.{StaysTidy}
-use Rattle.fjall_commit.proofs.Tidied.{failed_stays, persist_stays}
+use Rattle.fjall_commit.proofs.TidyWrites.{failed_stays, persist_stays}
 use Rattle.fjall_commit.proofs.journaling.sync_journal.Goals as goal
 
 pub returns-clause-any_moment : goal.returns-clause-any_moment

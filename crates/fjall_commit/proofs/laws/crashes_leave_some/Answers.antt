@@ -1,4 +1,4 @@
-use Rattle.fjall_commit.proofs.Leaving.{root_left}
+use Rattle.fjall_commit.proofs.CrashesInWrites.{root_left}
 use Rattle.fjall_commit.proofs.laws.crashes_leave_some.Goals as goal
 
 pub returns : goal.returns

@@ -1,4 +1,4 @@
-use Rattle.fjall_commit.proofs.Leaving.{whole_left}
+use Rattle.fjall_commit.proofs.CrashesInWrites.{whole_left}
 use Rattle.fjall_commit.proofs.laws.synced_batches_stay.Goals as goal
 
 pub returns : goal.returns

@@ -1,4 +1,4 @@
-use Rattle.fjall_core.proofs.Lasting as Lasting
+use Rattle.fjall_core.proofs.LastSyncs as Lasting
 use Rattle.fjall_core.proofs.laws.a_last_sync.Goals as goal
 
 pub returns : goal.returns

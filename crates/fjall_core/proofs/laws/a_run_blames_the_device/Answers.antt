@@ -1,4 +1,4 @@
-use Rattle.fjall_core.proofs.Amids as Amids
+use Rattle.fjall_core.proofs.CrashesInRuns as Amids
 use Rattle.fjall_core.proofs.laws.a_run_blames_the_device.Goals as goal
 
 pub returns : goal.returns

@@ -1,4 +1,4 @@
-use Rattle.fjall_core.proofs.Owing.{owes_step}
+use Rattle.fjall_core.proofs.OwedSteps.{owes_step}
 use Rattle.fjall_core.proofs.laws.an_owed_call_steps.Goals as goal
 
 pub returns : goal.returns

@@ -1,4 +1,4 @@
-use Rattle.fjall_core.proofs.Kept as Kept
+use Rattle.fjall_core.proofs.CrashedDisks as Kept
 use Rattle.fjall_core.proofs.laws.crash_holds.Goals as goal
 
 pub returns : goal.returns

@@ -1,4 +1,4 @@
-use Rattle.fjall_core.proofs.Running as Running
+use Rattle.fjall_core.proofs.RunsOverCrashes as Running
 use Rattle.fjall_core.proofs.laws.no_calls_run.Goals as goal
 
 pub returns : goal.returns

@@ -3,8 +3,8 @@ use Rattle.std.proofs.lemmas.Result.{err_from_is_err_and}
 use Rattle.fjall_state.specs.Changes.{call_of, op_of}
 use Rattle.fjall_core.specs.Holding.{Held}
 use Rattle.fjall_state.specs.Remembered.{version_of}
-use Rattle.fjall_core.proofs.Doing.{found_due, op_takes, same_write, written_owes, written_serves}
-use Rattle.fjall_core.proofs.Serving.{due_owes, due_serves, memory_owes, memory_serves}
+use Rattle.fjall_core.proofs.WriteCalls.{found_due, op_takes, same_write, written_owes, written_serves}
+use Rattle.fjall_core.proofs.ServedCalls.{due_owes, due_serves, memory_owes, memory_serves}
 use Rattle.fjall_core.proofs.engine.Core.change.Goals as goal
 
 pub returns-in-Some-clause-serves : goal.returns-in-Some-clause-serves

@@ -9,8 +9,8 @@ use Rattle.fjall_state.specs.declared.call.Reply.TheVariants.{Number, Refused}
 use Rattle.fjall_state.specs.Remembered.{poisoned, with_creation}
 use Rattle.fjall_core.specs.Holding.{Held}
 use Rattle.fjall_core.specs.Standing.{Owes, Serves, held_due, is_io, store_in}
-use Rattle.fjall_core.proofs.Serving.{memory_serves}
-use Rattle.fjall_core.proofs.Keyspacing.{created_owes, created_serves, id_left, is_fresh, made_memory, numbered_of, to_raised, uncreated_owes, uncreated_serves}
+use Rattle.fjall_core.proofs.ServedCalls.{memory_serves}
+use Rattle.fjall_core.proofs.Creations.{created_owes, created_serves, id_left, is_fresh, made_memory, numbered_of, to_raised, uncreated_owes, uncreated_serves}
 use Rattle.fjall_core.proofs.engine.Core.create.Goals as goal
 
 pub returns-in_err-name-clause-serves : goal.returns-in_err-name-clause-serves

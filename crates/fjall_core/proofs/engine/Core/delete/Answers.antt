@@ -3,8 +3,8 @@ use Rattle.std.proofs.lemmas.Result.{err_from_is_err_and}
 use Rattle.fjall_state.specs.declared.call.Call.TheVariants.{DeleteKeyspace}
 use Rattle.fjall_state.specs.Remembered.{Remembered, with_deletion}
 use Rattle.fjall_core.specs.Holding.{Held}
-use Rattle.fjall_core.proofs.Serving.{memory_serves}
-use Rattle.fjall_core.proofs.Deleting.{deleted_owes, deleted_serves, undeleted_owes, undeleted_serves}
+use Rattle.fjall_core.proofs.ServedCalls.{memory_serves}
+use Rattle.fjall_core.proofs.Deletions.{deleted_owes, deleted_serves, undeleted_owes, undeleted_serves}
 use Rattle.fjall_core.proofs.engine.Core.delete.Goals as goal
 
 pub returns-in_err-lasting-clause-serves : goal.returns-in_err-lasting-clause-serves

@@ -3,8 +3,8 @@ use Rattle.fjall_state.specs.declared.call.Call.TheVariants.{DeleteKeyspace}
 use Rattle.fjall_state.specs.Machine.{is_living}
 use Rattle.fjall_core.specs.Holding.{Held}
 use Rattle.fjall_core.specs.Standing.{held_due, store_in}
-use Rattle.fjall_core.proofs.Serving.{due_serves}
-use Rattle.fjall_core.proofs.Deleting.{gone_serves}
+use Rattle.fjall_core.proofs.ServedCalls.{due_serves}
+use Rattle.fjall_core.proofs.Deletions.{gone_serves}
 use Rattle.fjall_core.proofs.engine.Core.delete_keyspace.Goals as goal
 
 pub returns-in-Some-clause-serves : goal.returns-in-Some-clause-serves

@@ -1,6 +1,6 @@
 use Rattle.std.proofs.Common.{ap}
 use Rattle.fjall_core.specs.Holding.{Held}
-use Rattle.fjall_core.proofs.Replies.{value_serves}
+use Rattle.fjall_core.proofs.CallsInMemory.{value_serves}
 use Rattle.fjall_core.proofs.engine.Core.get_at.Goals as goal
 
 pub returns-clause-serves : goal.returns-clause-serves

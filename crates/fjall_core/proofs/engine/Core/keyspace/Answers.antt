@@ -3,8 +3,8 @@ use Rattle.fjall_meta.specs.Keyspaces.{id_of}
 use Rattle.fjall_state.specs.declared.call.Call.TheVariants.{Keyspace}
 use Rattle.fjall_core.specs.Holding.{Held}
 use Rattle.fjall_core.specs.Standing.{held_due}
-use Rattle.fjall_core.proofs.Serving.{due_serves}
-use Rattle.fjall_core.proofs.Keyspacing.{found_serves}
+use Rattle.fjall_core.proofs.ServedCalls.{due_serves}
+use Rattle.fjall_core.proofs.Creations.{found_serves}
 use Rattle.fjall_core.proofs.engine.Core.keyspace.Goals as goal
 
 pub returns-in-Some-clause-serves : goal.returns-in-Some-clause-serves

@@ -3,7 +3,7 @@ use Rattle.std.specs.FinMap.{values}
 use Rattle.fjall_base.specs.Pairs.{Bytes}
 use Rattle.fjall_core.specs.Holding.{Held}
 use Rattle.fjall_core.specs.Standing.{store_in}
-use Rattle.fjall_core.proofs.Replies.{names_owes, names_serves}
+use Rattle.fjall_core.proofs.CallsInMemory.{names_owes, names_serves}
 use Rattle.fjall_core.proofs.engine.Core.list_keyspace_names.Goals as goal
 
 pub returns-clause-serves : goal.returns-clause-serves

@@ -3,7 +3,7 @@ use Rattle.fjall_base.specs.Disk.{Image, Meaning, standing, state_in}
 use Rattle.fjall_repair.specs.Sweeps.{IsSwept}
 use Rattle.fjall_state.specs.Remembered.{Remembered}
 use Rattle.fjall_core.specs.Openings.{Opens, OpensAs, OpensOn, OpensAmid}
-use Rattle.fjall_core.proofs.Devices.{risen_blames}
+use Rattle.fjall_core.proofs.DeviceFaults.{risen_blames}
 use Rattle.fjall_core.proofs.Opening.{held_of, keeps, opens_as, opens_new, opens_on}
 use Rattle.fjall_core.proofs.Reopening.{opens_amid}
 use Rattle.fjall_core.proofs.engine.Core.open.Goals as goal

@@ -1,6 +1,6 @@
 use Rattle.std.proofs.Common.{ap}
 use Rattle.fjall_core.specs.Holding.{Held}
-use Rattle.fjall_core.proofs.Replies.{pairs_serves}
+use Rattle.fjall_core.proofs.CallsInMemory.{pairs_serves}
 use Rattle.fjall_core.proofs.engine.Core.page_at.Goals as goal
 
 pub returns-clause-serves : goal.returns-clause-serves

@@ -5,9 +5,9 @@ use Rattle.fjall_base.specs.declared.error.Error.TheVariants.{Poisoned}
 use Rattle.fjall_core.specs.Holding.{Held}
 use Rattle.fjall_core.specs.Crashes.{BlamesDevice}
 use Rattle.fjall_core.specs.Standing.{Serves, StandsOn}
-use Rattle.fjall_core.proofs.Devices.{fault_blames, refusal_blames, served_on}
-use Rattle.fjall_core.proofs.Persisting.{ill_due, persisted_serves, unpersisted_serves}
-use Rattle.fjall_core.proofs.Serving.{due_serves}
+use Rattle.fjall_core.proofs.DeviceFaults.{fault_blames, refusal_blames, served_on}
+use Rattle.fjall_core.proofs.Persists.{ill_due, persisted_serves, unpersisted_serves}
+use Rattle.fjall_core.proofs.ServedCalls.{due_serves}
 use Rattle.fjall_core.proofs.engine.Core.persist.Goals as goal
 
 pub returns-then-is_poisoned-clause-serves : goal.returns-then-is_poisoned-clause-serves

@@ -3,10 +3,10 @@ use Rattle.fjall_state.specs.declared.call.Call.TheVariants.{Release}
 use Rattle.fjall_state.specs.declared.call.Reply.TheVariants.{Done}
 use Rattle.fjall_core.specs.Holding.{Held}
 use Rattle.fjall_core.specs.Standing.{Serves, held_due}
-use Rattle.fjall_core.proofs.Serving.{due_serves}
+use Rattle.fjall_core.proofs.ServedCalls.{due_serves}
 use Rattle.std.proofs.lemmas.Result.{err_from_is_err_and}
 use Rattle.fjall_state.specs.Remembered.{is_last, released}
-use Rattle.fjall_core.proofs.Releasing.{counted_serves, then_serves, unremoved_owes, unremoved_serves}
+use Rattle.fjall_core.proofs.Releases.{counted_serves, then_serves, unremoved_owes, unremoved_serves}
 use Rattle.fjall_core.proofs.engine.Core.release.Goals as goal
 use Rattle.fjall_core.proofs.engine.Core.release.Goals.{then-not-is_last-via-then-not-is_last, then-not-is_last-via-else-not-is_last+then-is_poisoned}
 

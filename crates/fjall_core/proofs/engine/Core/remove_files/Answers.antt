@@ -1,7 +1,7 @@
 use Rattle.std.proofs.Common.{◌<◌, ◌^◌, arith, IsTrue, Ok, Err, refl, subst}
 use Rattle.fjall_core.specs.Holding.{Held}
-use Rattle.fjall_core.specs.Turns.{Removes}
-use Rattle.fjall_core.proofs.Outcomes.{remove_failed}
+use Rattle.fjall_core.specs.CallParts.{Removes}
+use Rattle.fjall_core.proofs.PartOutcomes.{remove_failed}
 use Rattle.fjall_core.proofs.engine.Core.remove_files.Goals as goal
 
 pub returns-in-Ok : goal.returns-in-Ok

@@ -1,4 +1,4 @@
-use Rattle.fjall_core.proofs.Replies.{retained_serves}
+use Rattle.fjall_core.proofs.CallsInMemory.{retained_serves}
 use Rattle.fjall_core.proofs.engine.Core.retain.Goals as goal
 
 pub returns-clause-serves : goal.returns-clause-serves

@@ -3,8 +3,8 @@ use Rattle.std.proofs.lemmas.List.{take_all}
 use Rattle.std.proofs.lemmas.Iterator.Adapters.{YieldsList-from_vec}
 use Rattle.std.proofs.lemmas.Iterator.Consumers.{YieldsList-end, YieldsList-turn}
 use Rattle.fjall_core.specs.Standing.{OwesAll}
-use Rattle.fjall_core.proofs.Owing.{owes_run, owed_more}
-use Rattle.fjall_core.proofs.Running.{SoFar, none_yet, call_more, ends}
+use Rattle.fjall_core.proofs.OwedSteps.{owes_run, owed_more}
+use Rattle.fjall_core.proofs.RunsOverCrashes.{SoFar, none_yet, call_more, ends}
 use Rattle.fjall_core.proofs.engine.Core.run.Goals as goal
 
 pub loop-call-init : goal.loop-call-init

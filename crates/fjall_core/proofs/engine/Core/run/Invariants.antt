@@ -2,7 +2,7 @@ use Rattle.std.proofs.Common.{◌≡◌, ◌≤◌, IsTrue, length, take, vec_le
 use Rattle.fjall_state.specs.Machine.{State}
 use Rattle.fjall_core.specs.Durables.{Durable}
 use Rattle.fjall_core.specs.Standing.{StandsFor, StandsOn, OwesAll}
-use Rattle.fjall_core.proofs.Running.{SoFar}
+use Rattle.fjall_core.proofs.RunsOverCrashes.{SoFar}
 use Rattle.fjall_core.proofs.engine.Core.run.Given as goal
 
 abbrev pub invariant-loop-call : goal.invariant-loop-call

@@ -1,15 +1,9 @@
 use Rattle.std.proofs.Common.{rules, ◌≡◌}
-use Rattle.fjall_core.proofs.Replies.{count_serves, exists_serves, seqno_serves, space_serves, visible_serves}
+use Rattle.fjall_core.proofs.CallsInMemory.{count_serves, seqno_serves, space_serves, visible_serves}
 use Rattle.fjall_core.proofs.engine.Core.serve.Goals as goal
 
 pub returns-in-KeyspaceCount-clause-serves : goal.returns-in-KeyspaceCount-clause-serves
 returns-in-KeyspaceCount-clause-serves g c = λ _. count_serves c.args.self.now c.args.call c.keyspace_count.result c.in-KeyspaceCount.is c.keyspace_count.ensures.held
-
-pub returns-in-KeyspaceExists-clause-serves : goal.returns-in-KeyspaceExists-clause-serves
-returns-in-KeyspaceExists-clause-serves g c = λ _.
-    let given = c.deref-in-KeyspaceExists.result.now in
-    let same : given ≡ c.in-KeyspaceExists.name = search rules in
-    exists_serves c.args.self.now c.args.call c.in-KeyspaceExists.name given c.keyspace_exists.result c.in-KeyspaceExists.is same c.keyspace_exists.ensures.held
 
 pub returns-in-Seqno-clause-serves : goal.returns-in-Seqno-clause-serves
 returns-in-Seqno-clause-serves g c = λ _. seqno_serves c.args.self.now c.args.call c.seqno.result c.in-Seqno.is c.seqno.ensures.held

@@ -3,8 +3,8 @@ use Rattle.fjall_journal.specs.Batches.{of_item}
 use Rattle.fjall_state.specs.Machine.{persists_by_hand}
 use Rattle.fjall_versions.specs.Versions.{store_of}
 use Rattle.fjall_core.specs.Holding.{Held}
-use Rattle.fjall_core.specs.Turns.{Writes}
-use Rattle.fjall_core.proofs.Outcomes.{write_done, write_failed}
+use Rattle.fjall_core.specs.CallParts.{Writes}
+use Rattle.fjall_core.proofs.PartOutcomes.{write_done, write_failed}
 use Rattle.fjall_core.proofs.engine.Core.write.Goals as goal
 
 pub pop_version-requires : goal.pop_version-requires

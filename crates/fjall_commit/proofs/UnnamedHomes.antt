@@ -1,0 +1,276 @@
+-- The home of a keyspace that the catalog doesn't name, while it is made or removed.
+use Rattle.std.proofs.Common.{◌≡◌, ◌≢◌, inl, inr, ℕ, ◌<◌, ◌^◌, true, false, List, [], ◌∷◌, length, map, codes, All, IfSome, Option, Some, None, Result, Ok, Err, OnOk, OnErr, String, Global, string_bytes, refl, sym, ◌∙◌, ap, subst, arith}
+use Rattle.std.specs.Str.{bytes_eq}
+use Rattle.std.specs.List.{flat_map}
+use Rattle.std.proofs.lemmas.List.{append-nil}
+use Rattle.std.proofs.lemmas.List.Concat.{flat_map-cons}
+use Rattle.std.proofs.lemmas.List.Elements.{All-cons, All-nil}
+use Rattle.std.proofs.lemmas.Slice.Eq.{bytes_eq-Decides}
+use Rattle.fjall_base.specs.declared.error.Error.{Error}
+use Rattle.fjall_base.specs.Crash.{IsHoused}
+use Rattle.fjall_base.specs.Disk.{Name, Entry, Missing, File, Folder, Place, State, Image, IsEmpty, Meaning, LeavesOnly, Survives, SyncFolder, Took, folder_of, removing, settle, state_in}
+use Rattle.fjall_base.proofs.Moments.{started, stays, steps_on, runs_on}
+use Rattle.fjall_base.proofs.States.{settle-in}
+use Rattle.fjall_files.specs.Regions.{IsImageIn, IsMade, IsSafe, Within, is_under}
+use Rattle.fjall_files.proofs.Under.{folder_is_shorter, shorter_out, under_self}
+use Rattle.fjall_files.proofs.Changes.{SameOutside, settle-now, within_state}
+use Rattle.fjall_files.proofs.Parts.{in_region, leaves_outside}
+use Rattle.fjall_files.proofs.Made.{removing_within, safe_file, settled_within, within_both, within_none}
+use Rattle.fjall_table.specs.declared.table_info.TableInfo.{TableInfo}
+use Rattle.fjall_tree.specs.Records.{Fields, IsRecords, record_text}
+use Rattle.fjall_tree.proofs.Currents.{texts_are_records}
+use Rattle.fjall_files.specs.Names.{keyspace_folder, current_name, table_name}
+use Rattle.fjall_meta.specs.Keyspaces.{Keyspaces}
+use Rattle.fjall_catalog.specs.declared.catalog.Catalog.{Catalog}
+use Rattle.fjall_catalog.specs.declared.update.Update.{Update}
+use Rattle.fjall_catalog.specs.Catalog.{fields, first_of, is_counted, only}
+use Rattle.fjall_catalog.specs.Updates.{IsUpdate}
+use Rattle.fjall_catalog.proofs.Meanings.{regions_say}
+use Rattle.fjall_catalog.proofs.Naming.{bool_cases, table_under}
+use Rattle.fjall_catalog.proofs.Resting.{folder_left, rests_along}
+use Rattle.fjall_catalog.proofs.Runs as Runs
+use Rattle.fjall_catalog.proofs.Runs.{missing_now}
+use Rattle.fjall_catalog.proofs.Shapes.{first_fits}
+use Rattle.fjall_recovery.specs.Homes.{HasLast}
+use Rattle.fjall_recovery.proofs.Listed.{in_keyspaces}
+use Rattle.fjall_recovery.specs.Halves.{HasTree, Tree}
+use Rattle.fjall_recovery.specs.Places.{HasSafeHome, LiesInTree}
+use Rattle.fjall_commit.specs.Removals.{IsRemoved, IsUnused}
+use Rattle.fjall_commit.proofs.FolderNames.{outside, outside_test, not_under, some_home, folder_of-current, current_under, other_home, keyspaces_outside, within_keyspaces}
+use Rattle.fjall_commit.proofs.OtherFolders.{AreOthers, Beside, beside_along, beside_settled, settled_at, tree_left}
+
+-- ---- calls within the folder, and syncs
+
+module _ (id : ℕ) (records : List Fields) (t : Tree) (unused : IsUnused id t.keyspaces) where
+  abbrev P : Image → Type 0
+  P image = HasTree image t
+
+  not_zero : 0 ≢ id
+  not_zero e = let some = unused.positive in omega (arith, e, some)
+
+  -- all of tree 0 is outside
+  zero_out : (q : Name) → is_under (keyspace_folder 0) q ≡ true → is_under (keyspace_folder id) q ≡ false
+  zero_out q in_zero = other_home id 0 q unused.fits (omega arith) not_zero in_zero
+
+  counted_out : (q : Name) → is_counted q ≡ true → outside id q ≡ true
+  counted_out q counted = outside_test id q (elim (bool_cases (bytes_eq q (codes "keyspaces"))) [
+    | inl is ↦ subst (λ (n : Name). is_under (keyspace_folder id) n ≡ false) (sym ((bytes_eq-Decides q (codes "keyspaces")).0 is)) (keyspaces_outside id)
+    | inr not_it ↦ let in_zero : is_under (keyspace_folder 0) q ≡ true = rw not_it at counted in zero_out q in_zero
+  ])
+
+  module _ (state : State) (lies : LiesInTree state records t) where
+    others : AreOthers id t.keyspaces.living
+    others k d lt = let given = lies.rests.catalog.are.given k d lt in let fits = lies.rests.catalog.are.fits in (omega (arith, given, fits), unused.unused k d lt)
+
+    besides : Beside state t.keyspaces.living t.homes
+    besides = record { folder = lies.rests.catalog.keyspaces_folder; named = lies.rests.named; safe = lies.rests.homes }
+
+    tree_at : (image : Image) → IsImageIn Survives (outside id) state image → P image
+    tree_at image is =
+        let rests = lies.rests.catalog in
+        tree_left id unused.fits state image is records t others besides lies.rests.made
+        (folder_left (outside id) state image is (outside_test id (codes "keyspaces") (keyspaces_outside id)) (outside_test id (keyspace_folder 0) (zero_out (keyspace_folder 0) (under_self (keyspace_folder 0)))) rests.keyspaces_folder rests.folder)
+        (regions_say (outside id) state image records t.last t.keyspaces counted_out rests is)
+
+  lies_along : (old new : State) → SameOutside (is_under (keyspace_folder id)) old new → LiesInTree old records t → LiesInTree new records t
+  lies_along old new agree lies =
+      let besides = beside_along id unused.fits old new t.keyspaces.living t.homes agree (others old lies) (besides old lies) in
+      record {
+        rests = record {
+          named = besides.named;
+          catalog = rests_along old new records t.last t.keyspaces (record {
+            keyspaces_folder = agree (codes "keyspaces") (keyspaces_outside id);
+            folder = agree (keyspace_folder 0) (zero_out (keyspace_folder 0) (under_self (keyspace_folder 0)));
+            current = agree (current_name 0) (zero_out (current_name 0) (current_under 0));
+            table = table t.last.table;
+          }) lies.rests.catalog;
+          made = lies.rests.made;
+          homes = besides.safe;
+        };
+        free = λ i above below. ap (λ (p : Place). p.now) (agree (table_name 0 i) (zero_out (table_name 0 i) (table_under i))) ∙ lies.free i above below;
+      }
+    where
+      table : (found : Option TableInfo) → IfSome found (λ i. new (table_name 0 i.id) ≡ old (table_name 0 i.id))
+      table None = tt
+      table (Some i) = agree (table_name 0 i.id) (zero_out (table_name 0 i.id) (table_under i.id))
+
+  -- at each moment and at the end all is as it was
+  pub record Still (old new : Meaning) : Type 0 where
+    pub run : LeavesOnly old new P
+    pub lies : LiesInTree (state_in new) records t
+
+  start : (old : Meaning) → LiesInTree (state_in old) records t → Still old old
+  start old lies = record { run = started old P (λ image is. tree_at (state_in old) lies image (in_region (outside id) (state_in old) image is)); lies = lies }
+
+  within_on : (old mid new : Meaning) → Still old mid → Within (keyspace_folder id) mid new → Still old new
+  within_on old mid new so_far run = record {
+    run = runs_on old mid new P so_far.run (leaves_outside (outside id) (keyspace_folder id) (some_home id) (not_under id) mid new P run (tree_at (state_in mid) so_far.lies));
+    lies = lies_along (state_in mid) (state_in new) (within_state (keyspace_folder id) (some_home id) mid new run) so_far.lies;
+  }
+
+  lies_settled : (mid new : Meaning) (folder : Name) → Took mid new (SyncFolder folder ∷ []) → LiesInTree (state_in mid) records t → LiesInTree (state_in new) records t
+  lies_settled mid new folder took lies =
+      let besides = subst (λ (s : State). Beside s t.keyspaces.living t.homes) (sym took.state) (beside_settled (state_in mid) folder t.keyspaces.living t.homes (besides (state_in mid) lies)) in
+      record {
+        rests = record {
+          named = besides.named;
+          catalog = (Runs.synced records t.last t.keyspaces mid mid new folder (Runs.start records t.last t.keyspaces mid lies.rests.catalog) took).rests;
+          made = lies.rests.made;
+          homes = besides.safe;
+        };
+        free = λ i above below. ap (λ (s : State). (s (table_name 0 i)).now) took.state ∙ settle-now (state_in mid) folder (table_name 0 i) ∙ lies.free i above below;
+      }
+
+  settled_on : (old mid new : Meaning) (folder : Name) → Still old mid → Took mid new (SyncFolder folder ∷ []) → Still old new
+  settled_on old mid new folder so_far took =
+      let lies = lies_settled mid new folder took so_far.lies in
+      record {
+        run = steps_on old mid new P (SyncFolder folder) so_far.run took (λ image is.
+            tree_at (settle (state_in mid) folder) (subst (λ (s : State). LiesInTree s records t) took.state lies) image (in_region (outside id) (settle (state_in mid) folder) image is));
+        lies = lies;
+      }
+
+  stays_on : (old mid new : Meaning) → Still old mid → Took mid new [] → Still old new
+  stays_on old mid new so_far took = record { run = stays old mid new P so_far.run took; lies = subst (λ (s : State). LiesInTree s records t) (sym took.state) so_far.lies }
+
+  settled_or_not : (old mid new : Meaning) (folder : Name) (r : Result Unit Error) → Still old mid → OnOk r (Took mid new (SyncFolder folder ∷ [])) → OnErr r (Took mid new []) → Still old new
+  settled_or_not old mid new folder (Ok done) so_far ok err = settled_on old mid new folder so_far ok
+  settled_or_not old mid new folder (Err e) so_far ok err = stays_on old mid new so_far err
+
+  -- a first call in the folder
+  pub first_on : (old mid : Meaning) → LiesInTree (state_in old) records t → Within (keyspace_folder id) old mid → Still old mid
+  first_on old mid lies run = within_on old old mid (start old lies) run
+
+  -- and a second one that did nothing
+  pub stopped : (old mid new : Meaning) → LiesInTree (state_in old) records t → Within (keyspace_folder id) old mid → Took mid new [] → Still old new
+  stopped old mid new lies run took = stays_on old mid new (first_on old mid lies run) took
+
+  -- or two, and a sync of `keyspaces`
+  pub ended : (old m1 m2 new : Meaning) (r : Result Unit Error) → LiesInTree (state_in old) records t → Within (keyspace_folder id) old m1 → Within (keyspace_folder id) m1 m2
+      → OnOk r (Took m2 new (SyncFolder (codes "keyspaces") ∷ [])) → OnErr r (Took m2 new []) → Still old new
+  ended old m1 m2 new r lies first second ok err = settled_or_not old m2 new (codes "keyspaces") r (within_on old m1 m2 (first_on old m1 lies first) second) ok err
+
+pub stopped_within : (id : ℕ) (old mid new : Meaning) → Within (keyspace_folder id) old mid → Took mid new [] → Within (codes "keyspaces") old new
+stopped_within id old mid new run took = within_both (codes "keyspaces") old mid new (within_keyspaces id old mid run) (within_none (codes "keyspaces") mid new took)
+
+pub ended_within : (id : ℕ) (old m1 m2 new : Meaning) (r : Result Unit Error) → Within (keyspace_folder id) old m1 → Within (keyspace_folder id) m1 m2
+    → OnOk r (Took m2 new (SyncFolder (codes "keyspaces") ∷ [])) → OnErr r (Took m2 new []) → Within (codes "keyspaces") old new
+ended_within id old m1 m2 new r first second ok err =
+    within_both (codes "keyspaces") old m2 new (within_keyspaces id old m2 (within_both (keyspace_folder id) old m1 m2 first second)) (settled_within (codes "keyspaces") m2 new r ok err)
+
+-- ---- the new home
+
+pub made : (folder current : Name) (m1 m2 new : Meaning) (text : List ℕ) (r : Result Unit Error) → folder_of current ≡ folder → (folder ≡ [] → ⊥) → (state_in m1 folder).now ≡ Folder
+    → Took m1 m2 (removing current (state_in m1 current).now) → ((state_in m2 current).now ≡ Missing → OnOk r ((state_in new current).now ≡ File text [])) → Within current m2 new → OnOk r (IsMade (state_in new) folder current text)
+made folder current m1 m2 new text (Err e) inside some there taken filling run = tt
+made folder current m1 m2 new text (Ok done) inside some there taken filling run =
+    let out : is_under current folder ≡ false = shorter_out current folder (folder_is_shorter folder current some inside) in
+    let named : current ≡ [] → ⊥ = λ e. some (sym inside ∙ ap (λ (n : Name). folder_of n) e) in
+    let both = within_both current m1 m2 new (removing_within current current m1 m2 (under_self current) taken) run in
+    record {
+      folder_now = ap (λ (p : Place). p.now) (within_state current named m1 new both folder out) ∙ there;
+      file_now = filling (missing_now current m1 m2 (state_in m1 current).now refl taken);
+    }
+
+-- the number of a change has its place
+pub number_small : (old : Catalog) (s : Keyspaces) (number : ℕ) (u : Update) → IsUpdate old s number u → number < 2 ^ 63
+number_small old s number u is = subst (λ (n : Option ℕ). IfSome n (λ m. m < 2 ^ 63)) is.persisted is.is_record.consistent.persisted
+
+first_is_last : (number : ℕ) → number < 2 ^ 63 → HasLast (record_text (fields (first_of number))) (fields (first_of number))
+first_is_last number small =
+    let is = first_fits (Some number) 0 small (omega arith) in
+    let one : List Fields = fields (first_of number) ∷ [] in
+    let text : flat_map record_text one ≡ record_text (fields (first_of number)) = flat_map-cons record_text (fields (first_of number)) [] ∙ append-nil (record_text (fields (first_of number))) in
+    record {
+      records = one;
+      end = length (flat_map record_text one);
+      whole = subst (λ (l : List ℕ). IsRecords l one (length (flat_map record_text one))) text (texts_are_records one (is, tt));
+      is = refl;
+      plain = record { persisted = refl; tables = refl; clears = refl };
+    }
+
+pub home_safe : (id number : ℕ) (m1 m2 new : Meaning) (text : List ℕ) (r : Result Unit Error) → id < 2 ^ 64 → number < 2 ^ 63 → text ≡ record_text (fields (first_of number)) → IsMade (state_in m1) (keyspace_folder id) (current_name id) text
+    → Took m1 m2 (SyncFolder (keyspace_folder id) ∷ []) → OnOk r (Took m2 new (SyncFolder (codes "keyspaces") ∷ [])) → OnOk r (HasSafeHome (state_in new) id (fields (first_of number)))
+home_safe id number m1 m2 new text (Err e) small below is made first then = tt
+home_safe id number m1 m2 new text (Ok done) small below is made first then =
+    let ok : Result Unit Error = Ok done in
+    let safe : IsSafe (state_in m2) (current_name id) text = safe_file (keyspace_folder id) (current_name id) (folder_of-current id) m1 m1 m2 text ok made.file_now first in
+    let there : (state_in m2 (keyspace_folder id)).now ≡ Folder = ap (λ (s : State). (s (keyspace_folder id)).now) first.state ∙ settle-now (state_in m1) (keyspace_folder id) (keyspace_folder id) ∙ made.folder_now in
+    record {
+      folder = ap (λ (s : State). s (keyspace_folder id)) then.state ∙ settle-in (state_in m2) (codes "keyspaces") (keyspace_folder id) (in_keyspaces id small) ∙ ap (λ (e : Entry). only e) there;
+      text = text;
+      current = ap (λ (s : State). s (current_name id)) then.state ∙ settled_at (state_in m2) (codes "keyspaces") (current_name id) (File text []) safe ∙ safe;
+      last_is = subst (λ (l : List ℕ). HasLast l (fields (first_of number))) (sym is) (first_is_last number below);
+    }
+
+-- ---- names as the call has them
+
+synced_within : (folder : Name) (old new : Meaning) → Took old new (SyncFolder folder ∷ []) → Within folder old new
+synced_within folder old new took = let ok : Result Unit Error = Ok tt in settled_within folder old new ok took tt
+
+module _ (id : ℕ) (folder current : Name) (at : folder ≡ keyspace_folder id) (beside : current ≡ current_name id) where
+  inside : folder_of current ≡ folder
+  inside = ap (λ (n : Name). folder_of n) beside ∙ folder_of-current id ∙ sym at
+
+  under : is_under folder current ≡ true
+  under = ap (λ (n : Name). is_under n current) at ∙ ap (λ (n : Name). is_under (keyspace_folder id) n) beside ∙ current_under id
+
+  pub within_as : (old new : Meaning) → (is_under folder current ≡ true → Within folder old new) → Within (keyspace_folder id) old new
+  within_as old new run = subst (λ (n : Name). Within n old new) at (run under)
+
+  pub made_as : (state : State) (text : List ℕ) → (folder_of current ≡ folder → IsMade state folder current text) → IsMade state (keyspace_folder id) (current_name id) text
+  made_as state text is =
+      let made = is inside in
+      record {
+        folder_now = ap (λ (n : Name). (state n).now) (sym at) ∙ made.folder_now;
+        file_now = ap (λ (n : Name). (state n).now) (sym beside) ∙ made.file_now;
+      }
+
+pub synced_as : (id : ℕ) (folder : Name) → folder ≡ keyspace_folder id → (old new : Meaning) → Took old new (SyncFolder folder ∷ []) → Within (keyspace_folder id) old new
+synced_as id folder at old new took = subst (λ (n : Name). Within n old new) at (synced_within folder old new took)
+
+-- ---- what is removed
+
+pub files_under : (id : ℕ) (files : List (String Global)) → map string_bytes files ≡ current_name id ∷ [] → All (λ file. is_under (keyspace_folder id) (string_bytes file) ≡ true) files
+files_under id [] is = let no : [] ≡ current_name id ∷ [] = is in cc
+files_under id (file ∷ []) is =
+    let at : string_bytes file ≡ current_name id = cc in
+    let under : is_under (keyspace_folder id) (string_bytes file) ≡ true = ap (λ (n : Name). is_under (keyspace_folder id) n) at ∙ current_under id in
+    All-cons (λ (f : String Global). is_under (keyspace_folder id) (string_bytes f) ≡ true) file [] under (All-nil (λ (f : String Global). is_under (keyspace_folder id) (string_bytes f) ≡ true))
+files_under id (file ∷ other ∷ files) is = let no : string_bytes file ∷ string_bytes other ∷ map string_bytes files ≡ current_name id ∷ [] = is in cc
+
+pub removed_as : (id : ℕ) (folder : Name) → folder ≡ keyspace_folder id → (old new : Meaning) → Took old new (removing folder (state_in old folder).now) → Within (keyspace_folder id) old new
+removed_as id folder at old new took = subst (λ (n : Name). Within n old new) at (removing_within folder folder old new (under_self folder) took)
+
+pub gone_as : (id : ℕ) (folder : Name) → folder ≡ keyspace_folder id → (old mid new : Meaning) (r : Result Unit Error) → Took old mid (removing folder (state_in old folder).now) → OnOk r (Took mid new (SyncFolder (codes "keyspaces") ∷ []))
+    → OnOk r ((state_in new (keyspace_folder id)).now ≡ Missing)
+gone_as id folder at old mid new (Err e) took sync = tt
+gone_as id folder at old mid new (Ok done) took sync =
+    ap (λ (s : State). (s (keyspace_folder id)).now) sync.state ∙ settle-now (state_in mid) (codes "keyspaces") (keyspace_folder id)
+    ∙ ap (λ (n : Name). (state_in mid n).now) (sym at) ∙ missing_now folder old mid (state_in old folder).now refl took
+
+pub stays_gone_as : (id : ℕ) → id < 2 ^ 64 → (mid new : Meaning) (r : Result Unit Error) → OnOk r (Took mid new (SyncFolder (codes "keyspaces") ∷ [])) → OnOk r ((state_in new (keyspace_folder id)).now ≡ Missing)
+    → OnOk r (state_in new (keyspace_folder id) ≡ only Missing)
+stays_gone_as id small mid new (Err e) sync gone = tt
+stays_gone_as id small mid new (Ok done) sync gone =
+    let settled : state_in new (keyspace_folder id) ≡ only (state_in mid (keyspace_folder id)).now = ap (λ (s : State). s (keyspace_folder id)) sync.state ∙ settle-in (state_in mid) (codes "keyspaces") (keyspace_folder id) (in_keyspaces id small) in
+    settled ∙ ap (λ (e : Entry). only e) (sym (ap (λ (p : Place). p.now) settled) ∙ gone)
+
+-- In a folder that isn't there nothing stands.
+pub nothing_inside : (state : State) (folder : Name) → (folder ≡ [] → ⊥) → IsHoused state → (state folder).now ≡ Missing → IsEmpty state folder
+nothing_inside state folder some housed gone name inside = of (state name).now refl
+  where
+    there : (state name).now ≢ Missing → ⊥
+    there some_entry =
+        let at : (state folder).now ≡ Folder = subst (λ (f : Name). (state f).now ≡ Folder) inside (housed.each name some_entry (λ root. some (sym inside ∙ root))) in
+        let no : Missing ≡ Folder = sym gone ∙ at in cc
+
+    of : (entry : Entry) → (state name).now ≡ entry → (state name).now ≡ Missing
+    of Missing is = is
+    of (File synced unsynced) is = absurd (there (λ e. let no : File synced unsynced ≡ Missing = sym is ∙ e in cc))
+    of Folder is = absurd (there (λ e. let no : Folder ≡ Missing = sym is ∙ e in cc))
+
+-- Where the folder is missing for good, nothing of the keyspace is left.
+pub all_removed : (id : ℕ) (state : State) (r : Result Unit Error) → IsHoused state → OnOk r (state (keyspace_folder id) ≡ only Missing) → OnOk r (IsRemoved id state)
+all_removed id state (Err e) housed gone = tt
+all_removed id state (Ok done) housed gone = record { folder = gone; inside = nothing_inside state (keyspace_folder id) (some_home id) housed (ap (λ (p : Place). p.now) gone) }

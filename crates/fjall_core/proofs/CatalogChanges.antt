@@ -1,0 +1,154 @@
+-- Where a change of the keyspaces leads a core and its disk.
+use Rattle.std.proofs.Common.{◌≡◌, ◌⊎◌, inl, inr, ℕ, ◌+◌, ◌<◌, ◌≤◌, nat_lt, Bool, true, false, List, [], ◌∷◌, ◌++◌, map, Option, Some, None, All, refl, sym, ◌∙◌, ap, subst, arith, codes}
+use Rattle.std.proofs.lemmas.Bool.Decides.{nat_tests}
+use Rattle.std.proofs.lemmas.List.{append-nil}
+use Rattle.std.proofs.lemmas.List.Elements.{All-cons, All-nil}
+use Rattle.std.proofs.lemmas.Option.{none-some}
+use Rattle.std.specs.Option.{option_or}
+use Rattle.fjall_base.specs.Store.{Store, Command, apply, kept}
+use Rattle.fjall_base.specs.Disk.{Image, LeavesOnly, Meaning, state_in}
+use Rattle.fjall_base.proofs.Moments.{at_end, weaken}
+use Rattle.fjall_files.specs.Regions.{Within}
+use Rattle.fjall_journal.specs.Batches.{Shown, shown}
+use Rattle.fjall_tree.specs.Records.{Fields}
+use Rattle.fjall_versions.specs.Replays.{Unordered, journal_commands, fault_of, first_fault, least_after}
+use Rattle.fjall_versions.specs.Versions.{store_of}
+use Rattle.fjall_versions.proofs.Keeping.{nothing_to_keep}
+use Rattle.fjall_versions.proofs.Kept.{kept_along}
+use Rattle.fjall_recovery.specs.Folders.{past_record, past_records}
+use Rattle.fjall_recovery.specs.Folders as folders
+use Rattle.fjall_recovery.specs.Journals.{batches_in}
+use Rattle.fjall_recovery.specs.Halves.{HasRoot, HasTree, Tree}
+use Rattle.fjall_recovery.specs.Places.{Journaling, LiesInRoot, LiesInTree, contents_with, journals_with}
+use Rattle.fjall_recovery.proofs.Roots.{crashes_leave_the_root}
+use Rattle.fjall_recovery.proofs.Holding.{made}
+use Rattle.fjall_commit.specs.Journaling.{IsWriting}
+use Rattle.fjall_commit.specs.Changes.{HasEither}
+use Rattle.fjall_state.specs.Remembered.{Remembered}
+use Rattle.fjall_core.specs.Holding.{Held}
+use Rattle.fjall_core.specs.Durables.{Durable, Lies, Rests, StandsAmid, StaysFinished}
+use Rattle.fjall_core.specs.Standing.{Poisons, StandsOn}
+use Rattle.fjall_core.proofs.Refusals.{bool_cases}
+use Rattle.fjall_core.proofs.CrashesInRuns.{amid_more}
+use Rattle.fjall_core.proofs.CrashImages.{folder_amid}
+use Rattle.fjall_core.proofs.RootUnchanged.{leaves_beside, within_root, writing_along}
+use Rattle.fjall_core.proofs.JournalWrites.{Leads, Settles, held_on, leads_on, present_of, stands_ill, stands_well}
+
+-- ---- numbers
+
+-- sound batches lie below the least number that may follow
+fault_less : (least : ℕ) (b : Shown) → fault_of least b ≡ None → least ≤ b.number
+fault_less least b none = elim (bool_cases (nat_lt b.number least)) [
+  | inl low ↦ absurd (none-some Unordered (sym none ∙ rw low refl))
+  | inr high ↦ grind (arith, nat_tests)
+]
+
+both_none : {X : Type 0} (a b : Option X) → option_or a b ≡ None → (a ≡ None) × (b ≡ None)
+both_none (Some x) b none = absurd (none-some _ (sym none))
+both_none None b none = (refl, none)
+
+least_grows : (least : ℕ) (batches : List Shown) → first_fault least batches ≡ None → least ≤ least_after least batches
+least_grows least [] none = omega arith
+least_grows least (b ∷ batches) none =
+    let parts = both_none (fault_of least b) (first_fault (b.number + 1) batches) none in
+    let first = fault_less least b parts.0 in
+    let rest = least_grows (b.number + 1) batches parts.1 in
+    omega (arith, first, rest)
+
+pub numbers_below : (limit least : ℕ) (batches : List Shown) → first_fault least batches ≡ None → least_after least batches ≤ limit → All (λ b. b.number < limit) batches
+numbers_below limit least [] none le = All-nil (λ (b : Shown). b.number < limit)
+numbers_below limit least (b ∷ batches) none le =
+    let parts = both_none (fault_of least b) (first_fault (b.number + 1) batches) none in
+    let rest = least_grows (b.number + 1) batches parts.1 in
+    All-cons (λ (b : Shown). b.number < limit) b batches (omega (arith, rest, le)) (numbers_below limit (b.number + 1) batches parts.1 le)
+
+-- ---- what a crash leaves
+
+-- the store of the synced batches
+abbrev pub store_of_tree : Journaling → Tree → Store
+store_of_tree j t = folders.store_of (contents_with j t [])
+
+no_more : {X : Type 0} (front rest : List X) → front ++ rest ≡ [] → front ≡ []
+no_more [] rest e = refl
+no_more (x ∷ front) rest e = cc
+
+-- the images of a change: one where the tree is as before stands for the base, and one where it is the next for the
+-- command too
+change_amid : (base : Store) (j : Journaling) (t next : Tree) (command : Command) (image : Image) → kept base ≡ store_of_tree j t → store_of_tree j next ≡ kept (apply (store_of_tree j t) command)
+    → HasRoot image (journals_with j []) → HasTree image t ⊎ HasTree image next → j.later ≡ [] → StandsAmid base [] (command ∷ []) image
+change_amid base j t next command image is after root (inl tree) none =
+    amid_more base [] [] (command ∷ []) image (folder_amid base [] j t image [] [] [] is (sym (ap (λ l. journal_commands t.keyspaces (map shown l)) none)) (sym (append-nil j.later ∙ none)) root tree)
+change_amid base j t next command image is after root (inr tree) none = record {
+  front = command ∷ [];
+  holds = (command ∷ [], refl);
+  within = ([], refl);
+  stands = inl (contents_with j next [], made image (contents_with j next []) root tree, kept_along base (store_of_tree j t) (command ∷ []) (is ∙ sym (nothing_to_keep t.keyspaces (map shown (batches_in (journals_with j []))))) ∙ sym after);
+}
+
+pub change_leaves : (base : Store) (mid new : Meaning) (j : Journaling) (t next : Tree) (command : Command) → kept base ≡ store_of_tree j t → store_of_tree j next ≡ kept (apply (store_of_tree j t) command)
+    → j.later ≡ [] → LiesInRoot (state_in mid) j → Within (codes "keyspaces") mid new → LeavesOnly mid new (HasEither t next) → LeavesOnly mid new (StandsAmid base [] (command ∷ []))
+change_leaves base mid new j t next command is after none lies run leaves =
+    weaken mid new _ _ (leaves_beside mid new (HasEither t next) run leaves) (λ image left.
+    let root = crashes_leave_the_root (state_in mid) image j lies left.1 in
+    change_amid base j t next command image is after (subst (λ l. HasRoot image (journals_with j l)) (no_more root.0 root.1 (root.2 ∙ none)) root.3) left.0 none)
+
+-- a fault before a command was done, or while it was
+pub ill_leads : (old new : Held) (d : Durable) (command : Command) → old.memory.poisoned ≡ false → Poisons old new
+    → ((base : Store) (pending : List Command) → Lies old (held_on old base pending) → LeavesOnly old.disk new.disk (StandsAmid base [] (pending ++ command ∷ [])))
+    → ((base : Store) (pending : List Command) → Lies old (held_on old base pending) → StaysFinished (state_in new.disk)) → StandsOn old d → Leads new d (command ∷ [])
+ill_leads old new d command well fault leaves finished = leads_on old new d (command ∷ []) (λ base pending on.
+    let left = leaves base pending (on.lies well) in
+    let rests : Rests (held_on new base (pending ++ command ∷ [])) = at_end old.disk new.disk _ left in
+    let was = present_of old (held_on old base pending) false well on ∙ ap (λ (m : Remembered). kept (store_of m.keyspaces m.versions)) (sym fault.memory_is) in
+    let still = stands_ill new base (pending ++ command ∷ []) (ap (λ (m : Remembered). m.poisoned) fault.memory_is) rests (finished base pending (on.lies well)) (inr (pending, command, refl, was)) in
+    (held_on new base (pending ++ command ∷ []), still, record { leaves = left; safe = []; base = refl; rest = refl; rests = rests }))
+
+-- ---- a change that was done
+
+-- What is known of a change of the keyspaces by one command, from a disk on which nothing is pending: the tree after it,
+-- and that a crash meanwhile leaves the one or the other.
+pub record Changed (mid new : Held) (j : Journaling) (t : Tree) (command : Command) (done : Bool) : Type 0 where
+  pub next : Tree
+  pub after : store_of_tree j next ≡ kept (apply (store_of_tree j t) command)
+  pub run : Within (codes "keyspaces") mid.disk new.disk
+  pub leaves : LeavesOnly mid.disk new.disk (HasEither t next)
+  pub number : done ≡ true → new.memory.next ≡ folders.number_of (contents_with j next [])
+  pub records : done ≡ true → List Fields
+  pub in_tree : (is : done ≡ true) → LiesInTree (state_in new.disk) (records is) next
+  pub last : done ≡ true → next.last ≡ new.catalog
+  pub keyspaces : done ≡ true → next.keyspaces ≡ new.memory.keyspaces
+  pub journal : done ≡ true → new.journal ≡ mid.journal
+
+-- where base and pending lie after it
+changed_lies : (mid new : Held) (base : Store) (command : Command) (lies : Lies mid (held_on mid base [])) → lies.journals.later ≡ [] → Changed mid new lies.journals lies.tree command true → Lies new (held_on new (apply base command) [])
+changed_lies mid new base command lies none c =
+    let j = lies.journals in
+    record {
+      journals = j;
+      records = c.records refl;
+      tree = c.next;
+      writing = subst (λ w. IsWriting (state_in new.disk) w j) (sym (c.journal refl)) (writing_along (state_in mid.disk) (state_in new.disk) mid.journal j (within_root mid.disk new.disk c.run) lies.writing);
+      in_tree = c.in_tree refl;
+      last = c.last refl;
+      keyspaces = c.keyspaces refl;
+      made = kept_along base (store_of_tree j lies.tree) (command ∷ []) (lies.made ∙ sym (nothing_to_keep lies.tree.keyspaces (map shown (batches_in (journals_with j []))))) ∙ sym c.after;
+      waits = sym (ap (λ l. journal_commands c.next.keyspaces (map shown l)) none);
+      next = c.number refl ∙ ap (λ l. folders.number_of (contents_with j c.next l)) (sym none);
+    }
+
+-- and what passes on the way
+pub changed_settles : (mid new : Held) (base : Store) (command : Command) (lies : Lies mid (held_on mid base [])) → lies.journals.later ≡ [] → Changed mid new lies.journals lies.tree command true → new.memory.poisoned ≡ false
+    → kept (apply base command) ≡ kept (store_of new.memory.keyspaces new.memory.versions) → Settles new (held_on mid base []) (command ∷ [])
+changed_settles mid new base command lies none c well present =
+    let still = stands_well new (apply base command) [] well (changed_lies mid new base command lies none c) present in (
+      held_on new (apply base command) [],
+      still,
+      record {
+        leaves = change_leaves base mid.disk new.disk lies.journals lies.tree c.next command lies.made c.after none lies.writing.root c.run c.leaves;
+        safe = command ∷ [];
+        base = refl;
+        rest = refl;
+        rests = still.rests;
+      },
+      refl,
+    )

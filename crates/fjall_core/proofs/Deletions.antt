@@ -1,0 +1,157 @@
+-- What a deletion makes of a core.
+use Rattle.std.proofs.Common.{◌≡◌, inl, inr, ⊎_elim, MatchBool, ℕ, ◌<◌, ◌≤◌, ◌^◌, Bool, true, false, if◌then◌else◌, [], ◌∷◌, None, Ok, Err, refl, sym, ◌∙◌, ap, subst, arith}
+use Rattle.fjall_base.specs.Store.{Delete, apply, fold, kept}
+use Rattle.fjall_base.specs.Disk.{Meaning}
+use Rattle.fjall_base.specs.Errors.{Rose}
+use Rattle.fjall_base.specs.declared.error.Error.{Error}
+use Rattle.fjall_base.specs.declared.error.Error.TheVariants.{Io, NumbersUsedUp, OutOfMemory, ValueTooLong}
+use Rattle.fjall_journal.specs.declared.persist_mode.PersistMode.TheVariants.{SyncAll}
+use Rattle.fjall_meta.specs.Keyspaces.{without_keyspace}
+use Rattle.fjall_catalog.specs.declared.update.Update.{Update}
+use Rattle.fjall_catalog.specs.Updates.{IsPreparingRefusal, IsUpdate}
+use Rattle.fjall_versions.proofs.Keeping as Keeping
+use Rattle.fjall_state.specs.declared.call.Call.TheVariants.{DeleteKeyspace}
+use Rattle.fjall_state.specs.declared.call.Reply.TheVariants.{Done, Refused}
+use Rattle.fjall_state.specs.Allowed.{HasNumber}
+use Rattle.fjall_state.specs.Machine.{HasLongOption, State, is_living, present}
+use Rattle.fjall_state.specs.Remembered.{IsLawful, facts_of, poisoned, with_deletion}
+use Rattle.fjall_state.proofs.Dues.{may_delete}
+use Rattle.fjall_state.proofs.Lawful.{deletion_is_lawful}
+use Rattle.fjall_files.specs.Tidy.{StaysTidy}
+use Rattle.fjall_files.proofs.Tidying.{stays_both, stays_start}
+use Rattle.fjall_core.specs.Holding.{Held}
+use Rattle.fjall_core.specs.Durables.{Durable, Passes}
+use Rattle.fjall_core.specs.Standing.{Deletes, Owes, OwesRefusal, Poisons, ReplacesTable, Serves, StandsFor, StandsOn, held_due, is_io, store_in}
+use Rattle.fjall_commit.specs.SyncedChanges.{SyncedThenChanged}
+use Rattle.fjall_core.specs.CallParts.{Unmakes}
+use Rattle.fjall_commit.specs.SyncedChanges as on_disk
+use Rattle.fjall_core.proofs.CatalogOnDisk.{Becomes, deletion_changed, deletion_served}
+use Rattle.fjall_core.proofs.DeviceFaults.{served_on}
+use Rattle.fjall_core.proofs.Creations.{between, stays}
+use Rattle.fjall_core.proofs.ServedCalls.{Led, led_by, long_owes, long_serves, memory_owes, memory_serves, replaces_table, serves_by, still_led}
+use Rattle.std.proofs.lemmas.Bool.{true≢false}
+use Rattle.fjall_core.proofs.Syncs.{Persisted, sync_empty, sync_lies}
+use Rattle.fjall_core.proofs.JournalWrites.{held_on}
+use Rattle.fjall_core.proofs.CatalogTables.{deleted_table, long_option, some_left}
+use Rattle.fjall_commit.proofs.ChangesAfterSync.{not_done}
+use Rattle.fjall_core.proofs.KeyspaceCalls.{ChangesTo, alter_settles, unaltered_leads, unsynced_leads}
+
+module _ (old : Held) (id : ℕ) (none : held_due old (DeleteKeyspace id) ≡ None) (living : is_living (store_in old) id ≡ true) where
+  room : HasNumber (facts_of old.memory old.catalog.next_table_id)
+  room = (may_delete (facts_of old.memory old.catalog.next_table_id) id none).number living
+
+  pub room_left : old.memory.next < 2 ^ 63
+  room_left = room.numbered
+
+  changes_by : (made new : Held) (mid : Meaning) (update : Update) (done : Bool) → IsUpdate old.catalog (without_keyspace id old.memory.keyspaces) old.memory.next update
+      → on_disk.DeletedKeyspace mid new.disk update done → Becomes (between old made mid) new (with_deletion id old.memory) update.catalog done → ChangesTo (between old made mid) new (Delete id) done
+  changes_by made new mid update done is disk core base lies empty = deletion_changed (between old made mid) new base id update done lies empty is disk core
+
+  -- wherever the core stood, no call was one that no disk can serve
+  served_by : (made new : Held) (mid : Meaning) (update : Update) (done : Bool) → IsUpdate old.catalog (without_keyspace id old.memory.keyspaces) old.memory.next update
+      → on_disk.DeletedKeyspace mid new.disk update done → Persisted old (between old made mid) SyncAll true → (d : Durable) → StandsOn old d → new.disk.misuses ≡ old.disk.misuses
+  served_by made new mid update done is disk out d on =
+      let here : d ≡ held_on old d.base d.pending = λ i. record { meaning = on.same i; base = d.base; pending = d.pending } in
+      let lies = (subst (λ (x : Durable). StandsOn old x) here on).lies room.well in
+      let same = stays old made mid in
+      let after = sync_lies old (between old made mid) d.base d.pending same lies out in
+      let none = sync_empty old (between old made mid) d.base d.pending same lies out in
+      deletion_served (between old made mid) new (fold d.base d.pending) id update done after none is disk ∙ out.served lies.journals lies.writing
+
+  -- memory after it
+  abbrev pub Deleted : Held → Held → Type 0
+  Deleted made new = new ≡ record made { memory = with_deletion id old.memory }
+
+  pub deletes_of : (honest : Type 0) (made new : Held) → IsLawful old.memory → Unmakes honest old id (Ok tt) made → Deleted made new → Deletes old id new
+  deletes_of honest made new lawful all is = record {
+    memory_is = ap (λ (h : Held). h.memory) is;
+    lawful = deletion_is_lawful id old.memory lawful;
+    next_table = ap (λ (h : Held). h.catalog.next_table_id) is ∙ ap (λ (h : Held). h.catalog.next_table_id) all.2
+        ∙ deleted_table old.memory.keyspaces lawful.keyspaces old.memory.versions id living old.catalog.next_table_id _ _ _ all.1.table;
+    journal = ap (λ (h : Held). h.journal) is ∙ ap (λ (h : Held). h.journal) all.2;
+    faults = subst (λ (h : Held). old.disk.faults ≤ h.disk.faults) (sym is) all.3;
+  }
+
+  pub deleted_owes : (honest : Type 0) (made new : Held) → IsLawful old.memory → Unmakes honest old id (Ok tt) made → Deleted made new → Owes old (DeleteKeyspace id) Done new
+  deleted_owes honest made new lawful all is = (none, inr (living, deletes_of honest made new lawful all is))
+
+  asks_one : (s : State) → StandsFor old s → (if is_living (present s) id then (Delete id ∷ []) else []) ≡ Delete id ∷ []
+  asks_one s stands = ap (λ b. if b then (Delete id ∷ []) else []) ((λ i. is_living (stands.remembered.present i) id) ∙ living)
+
+  pub deleted_serves : (honest : Type 0) (made new : Held) → IsLawful old.memory → Unmakes honest old id (Ok tt) made → Deleted made new → honest → Serves old (DeleteKeyspace id) Done new
+  deleted_serves honest made new lawful all is true_ =
+      let turned = all.4 true_ in
+      let disk : new.disk ≡ made.disk = ap (λ (h : Held). h.disk) is in
+      let changed = subst (λ m. on_disk.DeletedKeyspace turned.mid m all.0 true) (sym disk) turned.changed in
+      let well = ap (λ (h : Held). h.memory.poisoned) is ∙ room.well in
+      let led : (s : State) (d : Durable) → StandsFor old s → StandsOn old d → Led new s d (DeleteKeyspace id) Done = λ s d stands on.
+      let core : Becomes (between old made turned.mid) new (with_deletion id old.memory) all.0.catalog true =
+      record { memory_is = λ _. ap (λ (h : Held). h.memory) is; catalog_is = λ _. ap (λ (h : Held). h.catalog) is ∙ ap (λ (h : Held). h.catalog) all.2; journal_is = λ _. ap (λ (h : Held). h.journal) is } in
+      let settled = alter_settles old (between old made turned.mid) new d (Delete id) room.well (stays old made turned.mid) turned.synced
+      (changes_by made new turned.mid all.0 true all.1 changed core)
+      well
+      (sym (Keeping.deletion_of_versions id old.memory.keyspaces old.memory.versions) ∙ ap (λ (h : Held). kept (store_in h)) (sym is)) on in
+      (settled.0, settled.1, (subst (λ l. Passes d l settled.0) (sym (asks_one s stands)) settled.2, λ sync. settled.3)) in
+      serves_by old new (DeleteKeyspace id) Done (deleted_owes honest made new lawful all is)
+      (subst (λ (b : Bool). MatchBool b (ReplacesTable old new) (new.disk ≡ old.disk)) (sym living)
+      (replaces_table old new (DeleteKeyspace id) Done (changed.gone refl old.catalog _ old.memory.next all.1) well led))
+      (subst (λ (m : Meaning). StaysTidy old.disk m) (sym disk) (stays_both old.disk turned.mid made.disk turned.synced.kinds turned.changed.kinds))
+      (λ s d stands on tidy. served_by made new turned.mid all.0 true all.1 changed turned.synced d on) led
+
+  -- ---- refused
+
+  abbrev pub Back : Held → Held → Error → Type 0
+  Back made new error = new ≡ (if is_io error then record made { memory = poisoned made.memory } else made)
+
+  poisons_of : (honest : Type 0) (made new : Held) (kind : _) → Unmakes honest old id (Err (Io kind)) made → Back made new (Io kind) → Poisons old new
+  poisons_of honest made new kind all back = record {
+    memory_is = ap (λ (h : Held). h.memory) back ∙ ap poisoned all.2;
+    faults = subst (λ (h : Held). Rose old.disk.faults h.disk.faults) (sym back) all.4;
+  }
+
+  too_long : IsLawful old.memory → IsPreparingRefusal old.catalog (without_keyspace id old.memory.keyspaces) old.memory.next ValueTooLong → HasLongOption (kept (apply (store_in old) (Delete id)))
+  too_long lawful long = subst HasLongOption (Keeping.deletion_of_versions id old.memory.keyspaces old.memory.versions)
+      (long_option (without_keyspace id old.memory.keyspaces) (deletion_is_lawful id old.memory lawful).keyspaces old.memory.versions long)
+
+  no_number : {A : Type 0} → IsLawful old.memory → IsPreparingRefusal old.catalog (without_keyspace id old.memory.keyspaces) old.memory.next NumbersUsedUp → A
+  no_number lawful (inl high) = let low = room.numbered in absurd (let bad : ⊥ = omega (arith, high, low) in bad)
+  no_number lawful (inr table) = absurd (room.table (some_left old.memory.keyspaces lawful.keyspaces old.memory.versions id living table.0) table.1)
+
+  pub undeleted_owes : (honest : Type 0) (made new : Held) (error : Error) → IsLawful old.memory → Unmakes honest old id (Err error) made → Back made new error → Owes old (DeleteKeyspace id) (Refused error) new
+  undeleted_owes honest made new (Io kind) lawful all back = subst (λ first. OwesRefusal first old (DeleteKeyspace id) (Io kind) new) (sym none) (tt, poisons_of honest made new kind all back)
+  undeleted_owes honest made new OutOfMemory lawful all back = subst (λ (h : Held). Owes old (DeleteKeyspace id) (Refused OutOfMemory) h) (sym (back ∙ all.0)) (memory_owes old (DeleteKeyspace id) tt none)
+  undeleted_owes honest made new ValueTooLong lawful all back = subst (λ (h : Held). Owes old (DeleteKeyspace id) (Refused ValueTooLong) h) (sym (back ∙ all.0)) (long_owes old (DeleteKeyspace id) (too_long lawful all.1) none)
+  undeleted_owes honest made new NumbersUsedUp lawful all back = no_number lawful all.1
+  undeleted_owes honest made new error lawful all back = absurd all.1
+
+  pub undeleted_serves : (honest : Type 0) (made new : Held) (error : Error) → IsLawful old.memory → Unmakes honest old id (Err error) made → Back made new error → honest → Serves old (DeleteKeyspace id) (Refused error) new
+  undeleted_serves honest made new (Io kind) lawful all back true_ =
+      let fault = poisons_of honest made new kind all back in
+      let disk : new.disk ≡ made.disk = ap (λ (h : Held). h.disk) back in
+      serves_by old new (DeleteKeyspace id) (Refused (Io kind)) (undeleted_owes honest made new (Io kind) lawful all back) tt
+      (subst (λ (m : Meaning). StaysTidy old.disk m) (sym disk) (⊎_elim (λ unsynced. unsynced.kinds) (λ turned. stays_both old.disk turned.mid made.disk turned.synced.kinds turned.changed.kinds) (all.5 true_)))
+      (λ s d stands on tidy. record {
+        rose = fault.faults;
+        served = ⊎_elim
+            (λ unsynced. served_on old new.disk d room.well (subst (λ (h : Held). on_disk.Persisted old.disk h.disk old.journal h.journal SyncAll false) (sym back) unsynced).served on)
+            (λ turned. served_by made new turned.mid all.0 false all.1 (subst (λ m. on_disk.DeletedKeyspace turned.mid m all.0 false) (sym disk) turned.changed) turned.synced d on)
+            (all.5 true_);
+      }) (λ s d stands on.
+      led_by new s d (DeleteKeyspace id) (Refused (Io kind)) (Delete id ∷ []) (asks_one s stands) (λ sync. sync)
+      (⊎_elim
+      (λ unsynced. unsynced_leads old new d (Delete id) room.well fault (subst (λ (h : Held). on_disk.Persisted old.disk h.disk old.journal h.journal SyncAll false) (sym back) unsynced) on)
+      (λ turned. unaltered_leads old (between old made turned.mid) new d (Delete id) room.well (stays old made turned.mid) turned.synced
+      (changes_by made new turned.mid all.0 false all.1 (subst (λ m. on_disk.DeletedKeyspace turned.mid m all.0 false) (sym disk) turned.changed)
+      (record { memory_is = λ e. not_done e; catalog_is = λ e. not_done e; journal_is = λ e. not_done e })) fault on)
+      (all.5 true_)))
+  undeleted_serves honest made new OutOfMemory lawful all back true_ = subst (λ (h : Held). Serves old (DeleteKeyspace id) (Refused OutOfMemory) h) (sym (back ∙ all.0)) (memory_serves old (DeleteKeyspace id) tt none)
+  undeleted_serves honest made new ValueTooLong lawful all back true_ = subst (λ (h : Held). Serves old (DeleteKeyspace id) (Refused ValueTooLong) h) (sym (back ∙ all.0)) (long_serves old (DeleteKeyspace id) (too_long lawful all.1) none)
+  undeleted_serves honest made new NumbersUsedUp lawful all back true_ = no_number lawful all.1
+  undeleted_serves honest made new error lawful all back true_ = absurd all.1
+
+-- a keyspace that is deleted already
+pub gone_serves : (core : Held) (id : ℕ) → held_due core (DeleteKeyspace id) ≡ None → is_living (store_in core) id ≡ false → Serves core (DeleteKeyspace id) Done core
+gone_serves core id none gone = serves_by core core (DeleteKeyspace id) Done (none, inl (gone, refl))
+    (subst (λ (b : Bool). MatchBool b (ReplacesTable core core) (core.disk ≡ core.disk)) (sym gone) refl) (stays_start core.disk) (λ _ _ _ _ _. refl) (λ s d stands on.
+    let here : is_living (present s) id ≡ false = (λ i. is_living (stands.remembered.present i) id) ∙ gone in
+    still_led core core s d (DeleteKeyspace id) Done (ap (λ b. if b then (Delete id ∷ []) else []) here) (λ sync. true≢false (sym sync ∙ here)) refl on)

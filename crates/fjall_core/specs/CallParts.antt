@@ -1,0 +1,95 @@
+-- What the parts of calls make of a core and of its disk.
+use Rattle.std.specs.Prelude.{◌≡◌, ℕ, ◌≤◌, Bool, true, false, List, [], ◌∷◌, ◌++◌, length, codes, Result, Ok, Err}
+use Rattle.fjall_base.specs.Disk.{LeavesOnly, Meaning, Name, Took, TookPart, state_in}
+use Rattle.fjall_base.specs.Errors.{Rose}
+use Rattle.fjall_base.specs.declared.error.Error.{Error}
+use Rattle.fjall_base.specs.declared.error.Error.TheVariants.{Io, OutOfMemory}
+use Rattle.fjall_journal.specs.declared.entry.ValueType.{ValueType}
+use Rattle.fjall_journal.specs.Batches.{Written, batch_text}
+use Rattle.fjall_files.specs.Regions.{HoldsOnly, Within}
+use Rattle.fjall_files.specs.Names.{current_name, keyspace_folder}
+use Rattle.fjall_files.specs.Tidy.{StaysTidy}
+use Rattle.fjall_journal.specs.Writer.{Journal, after_command, command_steps, goes_out, written_out}
+use Rattle.fjall_tree.specs.Records.{Fields}
+use Rattle.fjall_meta.specs.Keyspaces.{without_keyspace}
+use Rattle.fjall_catalog.specs.declared.update.Update.{Update}
+use Rattle.fjall_catalog.specs.Updates.{IsPreparingRefusal, IsUpdate}
+use Rattle.fjall_versions.specs.declared.version.Version.{Version}
+use Rattle.fjall_recovery.specs.Halves.{HasTree, Tree, is_of_keyspaces}
+use Rattle.fjall_recovery.specs.Places.{Journaling, LiesInTree}
+use Rattle.fjall_commit.specs.Journaling.{CanFollow, IsWriting, LeavesRoot, with_batch}
+use Rattle.fjall_commit.specs.declared.creation.Creation.{Creation}
+use Rattle.fjall_commit.specs.Changes.{IsCreation}
+use Rattle.fjall_commit.specs.Removals.{IsRemoved, IsUnused}
+use Rattle.fjall_state.specs.Remembered.{poisoned, with_version}
+use Rattle.fjall_core.specs.Holding.{Held, by_hand}
+use Rattle.fjall_commit.specs.SyncedChanges.{CreatedKeyspace, DeletedKeyspace, SyncedThenChanged, SyncsThenChanges}
+
+-- What came of making a keyspace that stands in memory already: it is on the disk, and the catalog knows it; or the disk
+-- failed; or nothing was changed.
+abbrev pub Makes : Type 0 → Held → ℕ → ℕ → Result Unit Error → Held → Type 0
+Makes honest old id number (Ok _) new =
+    (creation : Creation) × IsCreation old.catalog old.memory.keyspaces id number creation
+    × (new ≡ record old { disk = new.disk; catalog = creation.update.catalog; journal = written_out old.journal }) × (old.disk.faults ≤ new.disk.faults)
+    × (honest → SyncedThenChanged (λ mid now done. CreatedKeyspace mid now creation done) old.disk new.disk old.journal new.journal true)
+Makes honest old id number (Err (Io kind)) new =
+    (creation : Creation) × IsCreation old.catalog old.memory.keyspaces id number creation
+    × (new.memory ≡ old.memory) × (new.catalog ≡ old.catalog) × Rose old.disk.faults new.disk.faults
+    × (honest → SyncsThenChanges (λ mid now done. CreatedKeyspace mid now creation done) old.disk new.disk old.journal new.journal (Err (Io kind)))
+Makes honest old id number (Err error) new = (new ≡ old) × IsPreparingRefusal old.catalog old.memory.keyspaces number error
+
+-- the same of a deletion, of which memory doesn't know yet
+abbrev pub Unmakes : Type 0 → Held → ℕ → Result Unit Error → Held → Type 0
+Unmakes honest old id (Ok _) new =
+    (update : Update) × IsUpdate old.catalog (without_keyspace id old.memory.keyspaces) old.memory.next update
+    × (new ≡ record old { disk = new.disk; catalog = update.catalog; journal = written_out old.journal }) × (old.disk.faults ≤ new.disk.faults)
+    × (honest → SyncedThenChanged (λ mid now done. DeletedKeyspace mid now update done) old.disk new.disk old.journal new.journal true)
+Unmakes honest old id (Err (Io kind)) new =
+    (update : Update) × IsUpdate old.catalog (without_keyspace id old.memory.keyspaces) old.memory.next update
+    × (new.memory ≡ old.memory) × (new.catalog ≡ old.catalog) × Rose old.disk.faults new.disk.faults
+    × (honest → SyncsThenChanges (λ mid now done. DeletedKeyspace mid now update done) old.disk new.disk old.journal new.journal (Err (Io kind)))
+Unmakes honest old id (Err error) new = (new ≡ old) × IsPreparingRefusal old.catalog (without_keyspace id old.memory.keyspaces) old.memory.next error
+
+-- What a removal of a keyspace's files did to the disk: where no living keyspace has the id, a crash meanwhile leaves the
+-- tree as it is, and it lies there as before.
+pub record FilesGone (id : ℕ) (old new : Meaning) : Type 0 where
+  pub within : Within (codes "keyspaces") old new
+  pub leaves : (records : List Fields) (t : Tree) → IsUnused id t.keyspaces → LiesInTree (state_in old) records t → LeavesOnly old new (λ image. HasTree image t)
+  pub lies : (records : List Fields) (t : Tree) → IsUnused id t.keyspaces → LiesInTree (state_in old) records t → LiesInTree (state_in new) records t
+  pub served : (records : List Fields) (t : Tree) → LiesInTree (state_in old) records t → HoldsOnly (state_in old) (keyspace_folder id) (current_name id ∷ []) → new.misuses ≡ old.misuses
+  pub kinds : StaysTidy old new
+
+-- the files of a deleted keyspace are removed for good, or a fault has poisoned the core, or nothing was changed
+abbrev pub Removes : Type 0 → Held → ℕ → Result Unit Error → Held → Type 0
+Removes honest old id (Ok _) new =
+    (new ≡ record old { disk = new.disk }) × (old.disk.faults ≤ new.disk.faults) × (honest → FilesGone id old.disk new.disk) × (honest → IsRemoved id (state_in new.disk))
+Removes honest old id (Err (Io kind)) new =
+    (new ≡ record old { disk = new.disk; memory = poisoned old.memory }) × Rose old.disk.faults new.disk.faults × (honest → FilesGone id old.disk new.disk)
+Removes honest old id (Err error) new = (new ≡ old) × (error ≡ OutOfMemory)
+
+-- What a write did to the disk and to the journal's writer: a crash leaves a beginning of the batches with this one, and
+-- where it was done the writer goes on behind it, which went out or waits; what stands in `keyspaces` stayed.
+pub record WentOut (old new : Meaning) (before after : Journal) (batch : Written) (kind : ValueType) (number : ℕ) (out done : Bool) : Type 0 where
+  pub leaves : (j : Journaling) → IsWriting (state_in old) before j → CanFollow j number kind → LeavesOnly old new (LeavesRoot (state_in old) j (j.later ++ batch ∷ []))
+  pub lies : done ≡ true → (j : Journaling) → IsWriting (state_in old) before j → CanFollow j number kind → IsWriting (state_in new) after (with_batch out j batch)
+  pub elsewhere : (j : Journaling) → IsWriting (state_in old) before j → (q : Name) → is_of_keyspaces q ≡ true → state_in new q ≡ state_in old q
+  pub served : (j : Journaling) → IsWriting (state_in old) before j → new.misuses ≡ old.misuses
+
+-- the batch of a write into this keyspace goes out, and doesn't wait in the buffer
+abbrev pub is_out : Held → ℕ → Written → Bool
+is_out core id batch = goes_out (by_hand core id) (length (core.journal.buffer ++ batch_text batch))
+
+-- one version more stands in memory, and its batch in the journal; or a fault of the disk, to which the batch went, has
+-- poisoned the core; or nothing changed
+abbrev pub Writes : Type 0 → Held → Version → Written → ValueType → Result Unit Error → Held → Type 0
+Writes honest old version batch kind (Ok _) new =
+    (new ≡ record old { disk = new.disk; memory = with_version version old.memory; journal = after_command (by_hand old version.keyspace_id) old.journal (batch_text batch) }) × (old.disk.faults ≤ new.disk.faults)
+    × (honest → Took old.disk new.disk (command_steps (by_hand old version.keyspace_id) old.journal (batch_text batch)))
+    × (honest → WentOut old.disk new.disk old.journal new.journal batch kind old.memory.next (is_out old version.keyspace_id batch) true)
+    × (is_out old version.keyspace_id batch ≡ false → new.disk ≡ old.disk)
+Writes honest old version batch kind (Err (Io fault)) new =
+    (new.memory ≡ poisoned old.memory) × Rose old.disk.faults new.disk.faults
+    × (honest → TookPart old.disk new.disk old.journal.name (old.journal.buffer ++ batch_text batch))
+    × (honest → WentOut old.disk new.disk old.journal new.journal batch kind old.memory.next (is_out old version.keyspace_id batch) false)
+    × (is_out old version.keyspace_id batch ≡ true)
+Writes honest old version batch kind (Err error) new = (new ≡ old) × (error ≡ OutOfMemory)

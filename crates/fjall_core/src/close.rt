@@ -1,0 +1,43 @@
+//! A core that gives its disk back.
+
+ghost use Rattle.std.specs.Prelude.{◌≡◌, IsTrue};
+ghost use Rattle.fjall_base.specs.Crash.{IsHoused};
+ghost use Rattle.fjall_base.specs.Disk.{state_in};
+ghost use Rattle.fjall_core.specs.Standing.{OwesClosing, ClosesDisk, ClosesSafely};
+
+use crate::engine::Core;
+use fjall_base::{Disk, Result};
+use fjall_journal::PersistMode;
+
+impl<D: Disk> Core<D> {
+    /// The disk as it stands, without a call of it. What waits in the journal's buffer is lost.
+    pub fn into_disk(self) -> D
+        ensures disk { D.meaning result ≡ self.disk }
+        // The folder of each name that stands on it stands too.
+        ensures housed { IsTrue D.honest → IsHoused (state_in self.disk) }
+    {
+        let Core {
+            alloc: _,
+            disk,
+            journal,
+            catalog: _,
+            memory,
+        } = self;
+        drop(journal);
+        drop(memory);
+        disk
+    }
+
+    /// Writes the journal out and syncs it, and gives the disk back. A poisoned core writes nothing.
+    ///
+    /// Refusals: `Poisoned` and `Io`.
+    pub fn close(self) -> (D, Result<()>)
+        ensures owes { OwesClosing self result.1 (D.meaning result.0) }
+        ensures disk { IsTrue D.honest → ClosesDisk self result.1 (D.meaning result.0) }
+        ensures crash { IsTrue D.honest → ClosesSafely self result.1 (D.meaning result.0) }
+    {
+        let mut core = self;
+        let closed = core.persist(PersistMode::SyncAll);
+        (core.into_disk(), closed)
+    }
+}

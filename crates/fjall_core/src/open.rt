@@ -1,0 +1,68 @@
+//! A core that opens on a disk.
+
+ghost use Rattle.std.specs.Prelude.{◌≡◌, ◌≤◌, ℕ, IsTrue, IsErrAnd, IfOk, IfErr};
+ghost use Rattle.fjall_base.specs.Disk.{standing, state_in};
+ghost use Rattle.fjall_base.specs.declared.error.Error.{Error};
+ghost use Rattle.fjall_base.specs.Store.{Store};
+ghost use Rattle.fjall_recovery.specs.Refusals.{AreOne, HasRisen, IsDue, IsOpeningRefusal};
+ghost use Rattle.fjall_files.specs.Tidy.{IsTidy, StaysTidy};
+ghost use Rattle.fjall_core.specs.Openings.{IsDueTo, KeepsStore, Opens, OpensAs, OpensOn, OpensAmid, StaysAmid, ForHeld, RefusalBlames, RefusesFolder, Sweeps};
+ghost use Rattle.fjall_core.specs.Standing.{HoldsStore};
+
+use crate::config::Config;
+use crate::engine::Core;
+use fjall_base::{Disk, Refused, Result};
+use fjall_repair::open_folder;
+use fjall_state::EngineState;
+use std::alloc::Global;
+
+impl<D: Disk> Core<D> {
+    /// Opens the database on a disk: reads its folder whole, begins a database where none is there or goes on with one
+    /// whose making was cut short, cuts what a crash left unfinished, syncs what counts, and removes what nothing names.
+    ///
+    /// Refusals hand the disk back: `InvalidVersion`; `JournalRecovery`, `Unrecoverable` and `InvalidTag` for what
+    /// stands in journals; `Storage` for what stands in records, tables and options; `OutOfMemory`; `Io`. All is read,
+    /// and all memory got, before anything is changed, so that after each but `Io` the disk holds what it held.
+    pub fn open(alloc: Global, config: Config, disk: D) -> std::result::Result<Core<D>, Refused<D>>
+        ensures opened { IsTrue D.honest → IfOk result (λ core. OpensOn (standing (state_in (D.meaning disk))) core) }
+        ensures safe { IsTrue D.honest → (store : Store) → HoldsStore (state_in (D.meaning disk)) store → IfOk result (λ core. OpensAs core store) }
+        ensures any_moment { IsTrue D.honest → IfOk result (λ core. KeepsStore (D.meaning disk) core.disk) }
+        ensures any_moment_err { IsTrue D.honest → IfErr result (λ refused. KeepsStore (D.meaning disk) (D.meaning refused.value)) }
+        // Nothing is left that no record names.
+        ensures swept { IsTrue D.honest → IfOk result (λ core. Sweeps (D.meaning disk) core) }
+        ensures stands { IfOk result (λ core. (store : Store) × (next : ℕ) × Opens core store next) }
+        ensures later { IfOk result (λ core. (D.meaning disk).faults ≤ core.disk.faults) }
+        ensures later_err { IfErr result (λ refused. (D.meaning disk).faults ≤ (D.meaning refused.value).faults) }
+        ensures risen { IfErr result (λ refused. HasRisen (D.meaning disk).faults (D.meaning refused.value).faults refused.error) }
+        ensures due { IsTrue D.honest → IfErr result (λ refused. IsDueTo (D.meaning disk) (D.meaning refused.value) refused.error) }
+        // Where the folder is refused, this is refused with that error, unless memory runs out or the disk fails.
+        ensures refuses { IsTrue D.honest → (error : Error) → RefusesFolder (D.meaning disk) error
+            → IsErrAnd result (λ refused. IsDue (AreOne error) refused.error) }
+        // Over any disk at all it is refused with one of these alone.
+        ensures listed { IfErr result (λ refused. IsOpeningRefusal refused.error) }
+        ensures kinds { IsTrue D.honest → IfOk result (λ core. StaysTidy (D.meaning disk) core.disk) }
+        ensures kinds_err { IsTrue D.honest → IfErr result (λ refused. StaysTidy (D.meaning disk) (D.meaning refused.value)) }
+        // Where nothing stands in the way, no call of the disk was one that no disk can serve.
+        ensures served { IsTrue D.honest → IsTidy (state_in (D.meaning disk)) → IfOk result (λ core. core.disk.misuses ≡ (D.meaning disk).misuses) }
+        ensures device { IsTrue D.honest → IsTidy (state_in (D.meaning disk))
+            → IfErr result (λ refused. RefusalBlames refused.error (D.meaning disk) (D.meaning refused.value)) }
+        // The same of a disk of which a crash may leave different stores, as each core leaves it, a poisoned one too, and a
+        // closing or an opening that was refused.
+        ensures amid { IsTrue D.honest → ForHeld (D.meaning disk) (λ base pending. IfOk result (λ core. OpensAmid (D.meaning disk) core base pending)) }
+        ensures amid_err { IsTrue D.honest → ForHeld (D.meaning disk) (λ base pending.
+            IfErr result (λ refused. StaysAmid (D.meaning disk) (D.meaning refused.value) base pending)) }
+    {
+        drop(config);
+        let mut disk = disk;
+        match open_folder(alloc, &mut disk) {
+            Ok(opened) => Ok(Core {
+                alloc,
+                disk,
+                journal: opened.journal,
+                catalog: opened.catalog,
+                memory: EngineState::new(alloc, opened.keyspaces, opened.versions, opened.number),
+            }),
+            Err(error) => Err(Refused { error, value: disk }),
+        }
+    }
+}

@@ -1,0 +1,96 @@
+//! Calls that read keys and counts: they change nothing.
+
+ghost use Rattle.std.specs.Prelude.{◌≡◌, IsTrue, length};
+ghost use Rattle.std.specs.FinMap.{len};
+ghost use Rattle.fjall_state.specs.Histories.{number};
+ghost use Rattle.fjall_state.specs.Machine.{State, has_name, present};
+ghost use Rattle.fjall_state.specs.declared.call.Call.TheVariants.{GetAt, PageAt, ListKeyspaceNames};
+ghost use Rattle.fjall_core.specs.Standing.{StandsFor, Owes, Serves, names_reply, pairs_reply, store_in, value_reply};
+
+use crate::engine::Core;
+use fjall_base::{Disk, KvPair, Result, Slice, UserValue};
+use fjall_state::View;
+use fjall_versions::KeyRange;
+
+impl<D: Disk> Core<D> {
+    /// The value that a key of a keyspace has in a view. A key that no write can have has none.
+    ///
+    /// Refusals: `UnknownKeyspace`, `KeyspaceDeleted`, `OutOfMemory`. Nothing changes.
+    pub fn get_at(&mut self, view: View, id: u64, key: &[u8]) -> Result<Option<UserValue>>
+        ensures serves { IsTrue D.honest → Serves self.old (GetAt view id key.now) (value_reply result) self.new }
+        ensures owes { Owes self.old (GetAt view id key.now) (value_reply result) self.new }
+        ensures same { self.new ≡ self.old }
+    {
+        let View::Present = view;
+        self.memory.get(id, key)
+    }
+
+    /// The first pairs of a keyspace's range in a view or, where `back`, the last ones: at most `max`, in the order of
+    /// their keys.
+    ///
+    /// Refusals: `UnknownKeyspace`, `KeyspaceDeleted`, `OutOfMemory`. Nothing changes.
+    pub fn page_at(
+        &mut self,
+        view: View,
+        id: u64,
+        range: &KeyRange,
+        back: bool,
+        max: usize,
+    ) -> Result<Vec<KvPair>>
+        ensures serves { IsTrue D.honest → Serves self.old (PageAt view id range.now back max) (pairs_reply result) self.new }
+        ensures owes { Owes self.old (PageAt view id range.now back max) (pairs_reply result) self.new }
+        ensures same { self.new ≡ self.old }
+    {
+        let View::Present = view;
+        self.memory.page(self.alloc, id, range, back, max)
+    }
+
+    /// How many keyspaces live.
+    pub fn keyspace_count(&self) -> usize
+        ensures held { result ≡ length self.now.memory.keyspaces.living }
+        ensures count { (s : State) → StandsFor self.now s → result ≡ len (present s).names }
+    {
+        self.memory.keyspace_count()
+    }
+
+    /// The names of the keyspaces that live, in the order of their bytes. Refuses for want of memory alone.
+    pub fn list_keyspace_names(&mut self) -> Result<Vec<Slice>>
+        ensures serves { IsTrue D.honest → Serves self.old ListKeyspaceNames (names_reply result) self.new }
+        ensures owes { Owes self.old ListKeyspaceNames (names_reply result) self.new }
+        ensures same { self.new ≡ self.old }
+    {
+        self.memory.list_keyspace_names(self.alloc)
+    }
+
+    /// Whether a keyspace has this name.
+    pub fn keyspace_exists(&self, name: &[u8]) -> bool
+        ensures held { result ≡ has_name (store_in self.now) name.now }
+        ensures named { (s : State) → StandsFor self.now s → result ≡ has_name (present s) name.now }
+    {
+        self.memory.keyspace_exists(name)
+    }
+
+    /// The number that the next command takes.
+    pub fn seqno(&self) -> u64
+        ensures held { result ≡ self.now.memory.next }
+        ensures number { (s : State) → StandsFor self.now s → result ≡ number s.history }
+    {
+        self.memory.seqno()
+    }
+
+    /// One past the number of the last accepted command: a view at this instant shows all of them.
+    pub fn visible_seqno(&self) -> u64
+        ensures held { result ≡ self.now.memory.next }
+        ensures number { (s : State) → StandsFor self.now s → result ≡ number s.history }
+    {
+        self.memory.seqno()
+    }
+
+    /// How many bytes the active journal's file has.
+    pub fn journal_disk_space(&self) -> u64
+        ensures held { result ≡ self.now.journal.len }
+        ensures parts { (s : State) → StandsFor self.now s → result ≡ s.parts.journal }
+    {
+        self.journal.len()
+    }
+}

@@ -1,0 +1,57 @@
+//! Results of calls, as replies.
+
+ghost use Rattle.std.specs.Prelude.{◌≡◌};
+ghost use Rattle.fjall_core.specs.Standing.{names_reply, number_reply, pairs_reply, reply_of, value_reply};
+
+use fjall_base::{KvPair, Result, Slice, UserValue};
+use fjall_state::Reply;
+
+/// The reply to a change or to a sync.
+pub(crate) fn reply_of(done: Result<()>) -> Reply
+    ensures { result ≡ reply_of done }
+{
+    match done {
+        Ok(()) => Reply::Done,
+        Err(error) => Reply::Refused(error),
+    }
+}
+
+/// The reply to a read.
+pub(crate) fn value_reply(found: Result<Option<UserValue>>) -> Reply
+    ensures { result ≡ value_reply found }
+{
+    match found {
+        Ok(value) => Reply::Value(value),
+        Err(error) => Reply::Refused(error),
+    }
+}
+
+/// The reply to a read of pairs.
+pub(crate) fn pairs_reply(found: Result<Vec<KvPair>>) -> Reply
+    ensures { result ≡ pairs_reply found }
+{
+    match found {
+        Ok(pairs) => Reply::Pairs(pairs),
+        Err(error) => Reply::Refused(error),
+    }
+}
+
+/// The reply to a creation.
+pub(crate) fn number_reply(found: Result<u64>) -> Reply
+    ensures { result ≡ number_reply found }
+{
+    match found {
+        Ok(number) => Reply::Number(number),
+        Err(error) => Reply::Refused(error),
+    }
+}
+
+/// The reply to a list of names.
+pub(crate) fn names_reply(found: Result<Vec<Slice>>) -> Reply
+    ensures { result ≡ names_reply found }
+{
+    match found {
+        Ok(names) => Reply::Names(names),
+        Err(error) => Reply::Refused(error),
+    }
+}
