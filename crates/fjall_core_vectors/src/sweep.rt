@@ -1,16 +1,16 @@
 //! One script over a disk in memory, each moment of which is crashed in each way, and each call of which fails in turn.
 //! What is left always stands for a beginning of the commands, with all that a sync followed.
 
-use crate::database::opened;
 use crate::moments::{Crash, Moment};
-use crate::script::{Checked, History, Line, SCRIPT, Tried, Wrong};
-use crate::tape::{Step, Tape};
+use crate::scenarios::opened;
+use crate::script::{Checked, History, SCRIPT, Tried, Wrong};
+use crate::tape::{Kind, Step, Tape};
 use fjall_base::{Error, MemoryDisk};
 use std::alloc::Global;
 use std::test::Fail;
 
 /// The first lines of the script, so many of them.
-pub fn lines(count: usize) -> &'static [Line] {
+pub fn lines(count: usize) -> &'static [&'static str] {
     SCRIPT.get(..count).unwrap_or(&SCRIPT)
 }
 
@@ -18,10 +18,10 @@ pub fn lines(count: usize) -> &'static [Line] {
 /// fails.
 pub fn played(
     alloc: Global,
-    lines: &[Line],
+    lines: &[&'static str],
     number: usize,
     part: usize,
-) -> Checked<(History, Tape<MemoryDisk>)> {
+) -> Checked<(History, Vec<Step>)> {
     let mut disk = MemoryDisk::new(alloc);
     disk.fail_at(number as u64, part);
     let mut history = History::new(alloc);
@@ -32,7 +32,7 @@ pub fn played(
     if history.at_fault.is_some() != (number != 0) {
         return Err(Wrong::Number(number));
     }
-    Ok((history, tape))
+    Ok((history, tape.log.steps))
 }
 
 /// Crashes a moment in these ways, and opens what is left. Answers how many they are.
@@ -69,21 +69,19 @@ fn before(alloc: Global, line: usize) -> Checked<(usize, usize)> {
     if line == 0 {
         return Ok((0, 0));
     }
-    let (history, tape) = played(alloc, lines(line.saturating_sub(1)), 0, 0)?;
-    Ok((tape.log.steps.len(), history.tried.safe))
+    let (history, steps) = played(alloc, lines(line.saturating_sub(1)), 0, 0)?;
+    Ok((steps.len(), history.tried.safe))
 }
 
 /// Crashes each moment of one of the script's lines; line 0 is the first opening. What the line syncs is safe behind it.
 fn check_line(alloc: Global, line: usize) -> Checked<usize> {
     let (from, safe) = before(alloc, line)?;
-    let (history, tape) = played(alloc, lines(line), 0, 0)?;
-    let within = Tried {
-        commands: history.tried.commands.clone()?,
-        safe,
-    };
+    let (history, steps) = played(alloc, lines(line), 0, 0)?;
+    let mut within = history.tried.clone()?;
+    within.safe = safe;
     let mut moment = Moment::new(alloc);
     let mut count = 0usize;
-    for (at, step) in tape.log.steps.iter().enumerate() {
+    for (at, step) in steps.iter().enumerate() {
         if at < from {
             moment.take(alloc, step)?;
         } else {
@@ -95,55 +93,36 @@ fn check_line(alloc: Global, line: usize) -> Checked<usize> {
     Ok(count.saturating_add(behind))
 }
 
-/// Crashes each moment of these lines.
-fn check_lines(alloc: Global, from: usize, end: usize) -> Checked<usize> {
-    let mut count = 0usize;
-    for line in from..end {
-        count = count.saturating_add(check_line(alloc, line)?);
+// Lines of the script from one on, before another, and how many crashes they have at least.
+const LINES: [(usize, usize, usize); 4] = [
+    (0, 9, 700),
+    (9, 16, 550),
+    (16, 24, 350),
+    (24, 33, 1_000),
+];
+
+#[test]
+fn each_moment_is_crashed(rt: HostRuntime) -> Result<(), Fail> {
+    for (from, end, least) in LINES {
+        let mut count = 0usize;
+        for line in from..end {
+            count = count.saturating_add(check_line(rt.alloc(), line)?);
+        }
+        assert!(rt; count > least, "from {from} on {count} crashes");
     }
-    Ok(count)
-}
-
-#[test]
-fn each_moment_of_the_first_lines_is_crashed(rt: HostRuntime) -> Result<(), Fail> {
-    let count = check_lines(rt.alloc(), 0, 9)?;
-    assert!(rt; count > 700, "{count} crashes");
-    Ok(())
-}
-
-#[test]
-fn each_moment_up_to_the_first_closing_is_crashed(rt: HostRuntime) -> Result<(), Fail> {
-    let count = check_lines(rt.alloc(), 9, 16)?;
-    assert!(rt; count > 550, "{count} crashes");
-    Ok(())
-}
-
-#[test]
-fn each_moment_up_to_the_second_closing_is_crashed(rt: HostRuntime) -> Result<(), Fail> {
-    let count = check_lines(rt.alloc(), 16, 24)?;
-    assert!(rt; count > 350, "{count} crashes");
-    Ok(())
-}
-
-#[test]
-fn each_moment_of_the_last_lines_is_crashed(rt: HostRuntime) -> Result<(), Fail> {
-    let count = check_lines(rt.alloc(), 24, 33)?;
-    assert!(rt; count > 1000, "{count} crashes");
     Ok(())
 }
 
 /// Crashes the first creation at each length of its table.
 fn check_table(alloc: Global) -> Checked<usize> {
-    let (history, tape) = played(alloc, lines(1), 0, 0)?;
-    let tried = Tried {
-        commands: history.tried.commands.clone()?,
-        safe: 0,
-    };
+    let (history, steps) = played(alloc, lines(1), 0, 0)?;
+    let mut tried = history.tried.clone()?;
+    tried.safe = 0;
     let mut moment = Moment::new(alloc);
     let mut count = 0usize;
-    for step in &tape.log.steps {
+    for step in &steps {
         moment.take(alloc, step)?;
-        if matches!(step, Step::Append(name, _) if name.ends_with(".table")) {
+        if step.name.ends_with(".table") {
             let crashes = moment.cuts(alloc, step)?;
             let checked = check_crashes(alloc, &moment, crashes, &tried)?;
             count = count.saturating_add(checked);
@@ -161,13 +140,13 @@ fn a_table_is_cut_at_each_length(rt: HostRuntime) -> Result<(), Fail> {
 
 /// Lets a call of the script fail, crashes the disk at once, and again behind the last line.
 fn check_fault(alloc: Global, number: usize, part: usize) -> Checked<usize> {
-    let (history, tape) = played(alloc, &SCRIPT, number, part)?;
+    let (history, steps) = played(alloc, &SCRIPT, number, part)?;
     let Some(at_fault) = &history.at_fault else {
         return Ok(0);
     };
     let mut moment = Moment::new(alloc);
     let mut count = 0usize;
-    for (at, step) in tape.log.steps.iter().enumerate() {
+    for (at, step) in steps.iter().enumerate() {
         if at.saturating_add(1) == number {
             moment.fail(step, part)?;
             count = check_crashes(alloc, &moment, moment.crashes(alloc)?, at_fault)?;
@@ -182,55 +161,45 @@ fn check_fault(alloc: Global, number: usize, part: usize) -> Checked<usize> {
 /// Lets each of these calls of the script fail; of an append none of the bytes, half of them, and all go out. Answers how
 /// many crashes followed.
 fn check_faults(alloc: Global, from: usize, end: usize) -> Checked<usize> {
-    let (_, tape) = played(alloc, &SCRIPT, 0, 0)?;
+    let (_, steps) = played(alloc, &SCRIPT, 0, 0)?;
     let mut count = 0usize;
-    for (at, step) in tape.log.steps.iter().enumerate() {
+    for (at, step) in steps.iter().enumerate() {
         if at < from || end <= at {
             continue;
         }
         let number = at.saturating_add(1);
+        let all = step.bytes.len();
         count = count.saturating_add(check_fault(alloc, number, 0)?);
-        if let Step::Append(_, bytes) = step {
-            let half = check_fault(alloc, number, bytes.len() / 2)?;
-            let all = check_fault(alloc, number, bytes.len())?;
-            count = count.saturating_add(half).saturating_add(all);
+        if matches!(step.kind, Kind::Append) {
+            for part in [all / 2, all] {
+                count = count.saturating_add(check_fault(alloc, number, part)?);
+            }
         }
     }
     Ok(count)
 }
 
-#[test]
-fn each_call_up_to_the_54th_fails(rt: HostRuntime) -> Result<(), Fail> {
-    let count = check_faults(rt.alloc(), 0, 54)?;
-    assert!(rt; count > 400, "{count} crashes");
-    Ok(())
-}
+// Calls of the script from one on, before another, and how many crashes they have at least.
+const CALLS: [(usize, usize, usize); 4] = [
+    (0, 54, 400),
+    (54, 108, 500),
+    (108, 162, 500),
+    (162, usize::MAX, 650),
+];
 
 #[test]
-fn each_call_up_to_the_108th_fails(rt: HostRuntime) -> Result<(), Fail> {
-    let count = check_faults(rt.alloc(), 54, 108)?;
-    assert!(rt; count > 500, "{count} crashes");
-    Ok(())
-}
-
-#[test]
-fn each_call_up_to_the_162nd_fails(rt: HostRuntime) -> Result<(), Fail> {
-    let count = check_faults(rt.alloc(), 108, 162)?;
-    assert!(rt; count > 500, "{count} crashes");
-    Ok(())
-}
-
-#[test]
-fn each_call_up_to_the_last_fails(rt: HostRuntime) -> Result<(), Fail> {
-    let count = check_faults(rt.alloc(), 162, usize::MAX)?;
-    assert!(rt; count > 650, "{count} crashes");
+fn each_call_fails(rt: HostRuntime) -> Result<(), Fail> {
+    for (from, end, least) in CALLS {
+        let count = check_faults(rt.alloc(), from, end)?;
+        assert!(rt; count > least, "from {from} on {count} crashes");
+    }
     Ok(())
 }
 
 #[test]
 fn the_script_makes_24_commands_by_216_calls(rt: HostRuntime) -> Result<(), Fail> {
-    let (history, tape) = played(rt.alloc(), &SCRIPT, 0, 0)?;
-    let counts = (history.tried.commands.len(), tape.log.steps.len());
+    let (history, steps) = played(rt.alloc(), &SCRIPT, 0, 0)?;
+    let counts = (history.tried.commands.len(), steps.len());
     assert_eq!(rt; counts, (24, 216));
     Ok(())
 }
