@@ -51,7 +51,13 @@ fn page(alloc: Global, verb: &str, words: &str) -> Result<Call> {
     let (to, count) = first_word(words);
     let range = (bound(alloc, from)?, bound(alloc, to)?);
     let back = verb == "page_back";
-    Ok(Call::PageAt(View::Present, number(id), range, back, number(count) as usize))
+    Ok(Call::PageAt(
+        View::Present,
+        number(id),
+        range,
+        back,
+        number(count) as usize,
+    ))
 }
 
 fn mode(word: &str) -> PersistMode {

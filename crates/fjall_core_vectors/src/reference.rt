@@ -17,8 +17,6 @@ type Pair = (u64, &'static str, &'static str);
 pub struct Model {
     homes: Vec<Home>,
     pairs: Vec<Pair>,
-    // the last id that was given
-    last: u64,
 }
 
 /// The keyspaces but that of an id.
@@ -46,11 +44,9 @@ fn other_pairs(alloc: Global, pairs: &[Pair], id: u64, key: &str) -> Result<Vec<
 /// What these commands make of nothing. Each is a line: `keyspace NAME`, `delete ID`, `insert ID KEY VALUE`, or one that
 /// takes a key of a keyspace away.
 pub fn fold(alloc: Global, commands: &[&'static str]) -> Result<Model> {
-    let mut model = Model {
-        homes: Vec::new(alloc),
-        pairs: Vec::new(alloc),
-        last: 0,
-    };
+    let mut homes = Vec::new(alloc);
+    let mut pairs = Vec::new(alloc);
+    let mut last = 0u64;
     for line in commands {
         let (verb, words) = first_word(line);
         let (id, pair) = first_word(words);
@@ -58,19 +54,19 @@ pub fn fold(alloc: Global, commands: &[&'static str]) -> Result<Model> {
         let id = number(id);
         match verb {
             "keyspace" => {
-                model.last = model.last.saturating_add(1);
-                model.homes.push((words, model.last))?;
+                last = last.saturating_add(1);
+                homes.push((words, last))?;
             }
-            "delete" => model.homes = other_homes(alloc, &model.homes, id)?,
-            _ => model.pairs = other_pairs(alloc, &model.pairs, id, key)?,
+            "delete" => homes = other_homes(alloc, &homes, id)?,
+            _ => pairs = other_pairs(alloc, &pairs, id, key)?,
         }
         if verb == "insert" {
-            model.pairs.push((id, key, value.strip_prefix('-').unwrap_or(value)))?;
+            pairs.push((id, key, value.strip_prefix('-').unwrap_or(value)))?;
         }
     }
-    model.homes.sort()?;
-    model.pairs.sort()?;
-    Ok(model)
+    homes.sort()?;
+    pairs.sort()?;
+    Ok(Model { homes, pairs })
 }
 
 impl Model {

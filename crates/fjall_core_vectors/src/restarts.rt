@@ -2,7 +2,7 @@
 
 use crate::moments::Moment;
 use crate::scenarios::opened;
-use crate::script::{Checked, SCRIPT, Tried};
+use crate::script::{Checked, SCRIPT, Tried, exceeds};
 use crate::sweep::{lines, played};
 use crate::tape::Tape;
 use fjall_base::Result;
@@ -55,9 +55,10 @@ fn crash_opening(
 /// left: the store is always the same. Answers how many openings that were.
 fn check_openings(alloc: Global, image: Moment, tried: &Tried) -> Checked<usize> {
     let mut core = opened(alloc, image.disk(alloc)?)?;
+    let safe = tried.stand_in(alloc, &mut core)?;
     let mut same = tried.clone()?;
-    same.safe = tried.stand_in(alloc, &mut core)?;
-    same.commands.truncate(same.safe);
+    same.safe = safe;
+    same.commands.truncate(safe);
     let mut images = vec![in alloc; image]?;
     let mut count = 1usize;
     for _ in 0..3 {
@@ -75,48 +76,50 @@ fn check_openings(alloc: Global, image: Moment, tried: &Tried) -> Checked<usize>
     Ok(count.saturating_add(images.len()))
 }
 
-/// What each crash may leave of the script's lines from one on, before another, and what was tried by then. Of no line it
-/// is an empty disk.
-fn images_of(alloc: Global, from: usize, end: usize) -> Checked<(Vec<Moment>, Tried)> {
+/// Crashes the openings of what each crash may leave of the script's lines from one on, before another. They are more than
+/// so many.
+fn check_restarts(alloc: Global, from: usize, end: usize, least: usize) -> Checked<()> {
     let (_, steps) = played(alloc, lines(from), 0, 0)?;
     let from = steps.len();
     let (history, steps) = played(alloc, lines(end), 0, 0)?;
-    let mut tried = history.tried;
+    let mut tried = history.tried.clone()?;
     tried.safe = 0;
     let mut moment = Moment::new(alloc);
     let mut images = Vec::new(alloc);
-    if end == 0 {
-        images.push(moment)?;
-        return Ok((images, tried));
-    }
     for (at, step) in steps.iter().enumerate() {
         let is_other = moment.take(alloc, step)?;
         if is_other && from <= at {
             add_left(alloc, &moment, &mut images)?;
         }
     }
-    Ok((images, tried))
-}
-
-/// Crashes the openings of what each crash may leave of the script's lines from one on, before another.
-fn check_restarts(alloc: Global, from: usize, end: usize) -> Checked<usize> {
-    let (images, tried) = images_of(alloc, from, end)?;
     let mut count = 0usize;
     for image in images {
         count = count.saturating_add(check_openings(alloc, image, &tried)?);
     }
-    Ok(count)
+    exceeds(count, least)
 }
 
-// Lines of the script from one on, before another, and how many openings are crashed at least. Of no line that is the
-// first opening.
-const LINES: [(usize, usize, usize); 3] = [(0, 0, 40), (0, 16, 550), (16, SCRIPT.len(), 800)];
+/// Crashes the openings of what each crash may leave of the first opening, which are more than 40.
+fn check_first(alloc: Global) -> Checked<()> {
+    let (history, _) = played(alloc, &[], 0, 0)?;
+    exceeds(check_openings(alloc, Moment::new(alloc), &history.tried)?, 40)
+}
 
 #[test]
-fn openings_are_crashed_three_times(rt: HostRuntime) -> std::result::Result<(), Fail> {
-    for (from, end, least) in LINES {
-        let count = check_restarts(rt.alloc(), from, end)?;
-        assert!(rt; count > least, "from {from} on {count} openings");
-    }
-    Ok(())
+fn the_first_opening_is_crashed_three_times(rt: HostRuntime) -> std::result::Result<(), Fail> {
+    Ok(check_first(rt.alloc())?)
+}
+
+#[test]
+fn openings_up_to_the_first_closing_are_crashed_three_times(
+    rt: HostRuntime,
+) -> std::result::Result<(), Fail> {
+    Ok(check_restarts(rt.alloc(), 0, 16, 550)?)
+}
+
+#[test]
+fn openings_behind_it_are_crashed_three_times(
+    rt: HostRuntime,
+) -> std::result::Result<(), Fail> {
+    Ok(check_restarts(rt.alloc(), 16, SCRIPT.len(), 800)?)
 }

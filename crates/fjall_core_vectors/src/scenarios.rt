@@ -113,7 +113,10 @@ fn take(alloc: Global, disk: MemoryDisk, line: &str) -> Result<(Stage, String)> 
         });
     }
     if let Some(count) = line.strip_prefix("crash ") {
-        return Ok((Stage::Shut(disk.crash(number(count) as usize)?), String::new(alloc)));
+        return Ok((
+            Stage::Shut(disk.crash(number(count) as usize)?),
+            String::new(alloc),
+        ));
     }
     let answer = take_shut(alloc, &mut disk, line)?;
     Ok((Stage::Shut(disk), answer))

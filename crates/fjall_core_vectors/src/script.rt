@@ -57,6 +57,8 @@ pub enum Wrong {
     Line(&'static str),
     /// A call met another fault, or was refused for what is none.
     Fault(Error),
+    /// So few crashes were tried, where more than so many are due.
+    Few(usize, usize),
     /// The call of this number did not fail, or one did without being told to.
     Number(usize),
 }
@@ -79,6 +81,15 @@ impl From<AllocError> for Wrong {
 impl<T: Drop> From<AllocFailed<T>> for Wrong {
     fn from(_: AllocFailed<T>) -> Self {
         Wrong::Error(Error::OutOfMemory)
+    }
+}
+
+/// Whether more crashes were tried than so many.
+pub fn exceeds(count: usize, least: usize) -> Checked<()> {
+    if least < count {
+        Ok(())
+    } else {
+        Err(Wrong::Few(count, least))
     }
 }
 
@@ -142,7 +153,10 @@ impl History {
 
     /// The keyspaces that the accepted commands make.
     fn model(&self, alloc: Global) -> Result<Model> {
-        fold(alloc, self.tried.commands.get(..self.accepted).unwrap_or(&[]))
+        fold(
+            alloc,
+            self.tried.commands.get(..self.accepted).unwrap_or(&[]),
+        )
     }
 
     /// A call was done.
@@ -186,7 +200,11 @@ impl History {
             }
             _ => return self.fault(error, is_command.then_some(line)),
         };
-        if is_due { Ok(()) } else { Err(Wrong::Line(line)) }
+        if is_due {
+            Ok(())
+        } else {
+            Err(Wrong::Line(line))
+        }
     }
 
     /// Asks for what a line says.

@@ -3,7 +3,7 @@
 
 use crate::moments::{Crash, Moment};
 use crate::scenarios::opened;
-use crate::script::{Checked, History, SCRIPT, Tried, Wrong};
+use crate::script::{Checked, History, SCRIPT, Tried, Wrong, exceeds};
 use crate::tape::{Kind, Step, Tape};
 use fjall_base::{Error, MemoryDisk};
 use std::alloc::Global;
@@ -93,28 +93,37 @@ fn check_line(alloc: Global, line: usize) -> Checked<usize> {
     Ok(count.saturating_add(behind))
 }
 
-// Lines of the script from one on, before another, and how many crashes they have at least.
-const LINES: [(usize, usize, usize); 4] = [
-    (0, 9, 700),
-    (9, 16, 550),
-    (16, 24, 350),
-    (24, 33, 1_000),
-];
+/// Crashes each moment of these lines, which are more than so many crashes.
+fn check_lines(alloc: Global, from: usize, end: usize, least: usize) -> Checked<()> {
+    let mut count = 0usize;
+    for line in from..end {
+        count = count.saturating_add(check_line(alloc, line)?);
+    }
+    exceeds(count, least)
+}
 
 #[test]
-fn each_moment_is_crashed(rt: HostRuntime) -> Result<(), Fail> {
-    for (from, end, least) in LINES {
-        let mut count = 0usize;
-        for line in from..end {
-            count = count.saturating_add(check_line(rt.alloc(), line)?);
-        }
-        assert!(rt; count > least, "from {from} on {count} crashes");
-    }
-    Ok(())
+fn each_moment_of_the_first_lines_is_crashed(rt: HostRuntime) -> Result<(), Fail> {
+    Ok(check_lines(rt.alloc(), 0, 9, 700)?)
+}
+
+#[test]
+fn each_moment_up_to_the_first_closing_is_crashed(rt: HostRuntime) -> Result<(), Fail> {
+    Ok(check_lines(rt.alloc(), 9, 16, 550)?)
+}
+
+#[test]
+fn each_moment_up_to_the_second_closing_is_crashed(rt: HostRuntime) -> Result<(), Fail> {
+    Ok(check_lines(rt.alloc(), 16, 24, 350)?)
+}
+
+#[test]
+fn each_moment_of_the_last_lines_is_crashed(rt: HostRuntime) -> Result<(), Fail> {
+    Ok(check_lines(rt.alloc(), 24, 33, 1_000)?)
 }
 
 /// Crashes the first creation at each length of its table.
-fn check_table(alloc: Global) -> Checked<usize> {
+fn check_table(alloc: Global) -> Checked<()> {
     let (history, steps) = played(alloc, lines(1), 0, 0)?;
     let mut tried = history.tried.clone()?;
     tried.safe = 0;
@@ -128,14 +137,12 @@ fn check_table(alloc: Global) -> Checked<usize> {
             count = count.saturating_add(checked);
         }
     }
-    Ok(count)
+    exceeds(count, 1_000)
 }
 
 #[test]
 fn a_table_is_cut_at_each_length(rt: HostRuntime) -> Result<(), Fail> {
-    let count = check_table(rt.alloc())?;
-    assert!(rt; count > 1_000, "{count} crashes");
-    Ok(())
+    Ok(check_table(rt.alloc())?)
 }
 
 /// Lets a call of the script fail, crashes the disk at once, and again behind the last line.
@@ -158,9 +165,9 @@ fn check_fault(alloc: Global, number: usize, part: usize) -> Checked<usize> {
     Ok(count.saturating_add(behind))
 }
 
-/// Lets each of these calls of the script fail; of an append none of the bytes, half of them, and all go out. Answers how
-/// many crashes followed.
-fn check_faults(alloc: Global, from: usize, end: usize) -> Checked<usize> {
+/// Lets each of these calls of the script fail; of an append none of the bytes, half of them, and all go out. More than so
+/// many crashes follow.
+fn check_faults(alloc: Global, from: usize, end: usize, least: usize) -> Checked<()> {
     let (_, steps) = played(alloc, &SCRIPT, 0, 0)?;
     let mut count = 0usize;
     for (at, step) in steps.iter().enumerate() {
@@ -176,24 +183,27 @@ fn check_faults(alloc: Global, from: usize, end: usize) -> Checked<usize> {
             }
         }
     }
-    Ok(count)
+    exceeds(count, least)
 }
 
-// Calls of the script from one on, before another, and how many crashes they have at least.
-const CALLS: [(usize, usize, usize); 4] = [
-    (0, 54, 400),
-    (54, 108, 500),
-    (108, 162, 500),
-    (162, usize::MAX, 650),
-];
+#[test]
+fn each_call_up_to_the_54th_fails(rt: HostRuntime) -> Result<(), Fail> {
+    Ok(check_faults(rt.alloc(), 0, 54, 400)?)
+}
 
 #[test]
-fn each_call_fails(rt: HostRuntime) -> Result<(), Fail> {
-    for (from, end, least) in CALLS {
-        let count = check_faults(rt.alloc(), from, end)?;
-        assert!(rt; count > least, "from {from} on {count} crashes");
-    }
-    Ok(())
+fn each_call_up_to_the_108th_fails(rt: HostRuntime) -> Result<(), Fail> {
+    Ok(check_faults(rt.alloc(), 54, 108, 500)?)
+}
+
+#[test]
+fn each_call_up_to_the_162nd_fails(rt: HostRuntime) -> Result<(), Fail> {
+    Ok(check_faults(rt.alloc(), 108, 162, 500)?)
+}
+
+#[test]
+fn each_call_up_to_the_last_fails(rt: HostRuntime) -> Result<(), Fail> {
+    Ok(check_faults(rt.alloc(), 162, usize::MAX, 650)?)
 }
 
 #[test]

@@ -34,7 +34,7 @@ pub struct Log {
     alloc: Global,
 }
 
-fn step(alloc: Global, kind: Kind, name: &str, bytes: &[u8]) -> Result<Step> {
+fn step_of(alloc: Global, kind: Kind, name: &str, bytes: &[u8]) -> Result<Step> {
     Ok(Step {
         kind,
         name: String::from_str(alloc, name)?,
@@ -45,7 +45,7 @@ fn step(alloc: Global, kind: Kind, name: &str, bytes: &[u8]) -> Result<Step> {
 impl Log {
     // Adds a call.
     fn add(&mut self, kind: Kind, name: &str, bytes: &[u8]) {
-        let is_added = match step(self.alloc, kind, name, bytes) {
+        let is_added = match step_of(self.alloc, kind, name, bytes) {
             Ok(step) => self.steps.push(step).is_ok(),
             Err(_) => false,
         };

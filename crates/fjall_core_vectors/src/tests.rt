@@ -58,7 +58,11 @@ fn what_waits_goes_out_at_8192_bytes(rt: HostRuntime) -> Result<(), Fail> {
     ask(alloc, &mut core, "by_hand waiting\nkeyspace items")?;
     for count in 0..200 {
         let due = if count < 167 { "\n0\n" } else { "\n8232\n" };
-        assert_eq!(rt; ask(alloc, &mut core, "insert 1 a v\nspace")?.as_str(), due, "{count}");
+        assert_eq!(rt;
+            ask(alloc, &mut core, "insert 1 a v\nspace")?.as_str(),
+            due,
+            "{count}"
+        );
     }
     Ok(())
 }
