@@ -102,7 +102,10 @@ fn check_restarts(alloc: Global, from: usize, end: usize, least: usize) -> Check
 /// Crashes the openings of what each crash may leave of the first opening, which are more than 40.
 fn check_first(alloc: Global) -> Checked<()> {
     let (history, _) = played(alloc, &[], 0, 0)?;
-    exceeds(check_openings(alloc, Moment::new(alloc), &history.tried)?, 40)
+    exceeds(
+        check_openings(alloc, Moment::new(alloc), &history.tried)?,
+        40,
+    )
 }
 
 #[test]
@@ -118,8 +121,6 @@ fn openings_up_to_the_first_closing_are_crashed_three_times(
 }
 
 #[test]
-fn openings_behind_it_are_crashed_three_times(
-    rt: HostRuntime,
-) -> std::result::Result<(), Fail> {
+fn openings_behind_it_are_crashed_three_times(rt: HostRuntime) -> std::result::Result<(), Fail> {
     Ok(check_restarts(rt.alloc(), 16, SCRIPT.len(), 800)?)
 }
