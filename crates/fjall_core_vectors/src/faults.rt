@@ -1,7 +1,7 @@
 //! Calls of the disk that fail, and what is safe from a crash.
 
 /// How many calls of a disk the opening makes of a closed database with one keyspace and one insert.
-pub const OPENING_CALLS: u64 = 15;
+pub const OPENING_CALLS: u64 = 19;
 
 pub const SCRIPT: &str = "\
 # a part of an append poisons
@@ -9,7 +9,7 @@ open
 keyspace items => 1
 insert 1 a b
 close
-fail 16 20
+fail 20 20
 open
 insert 1 c d => Io(Other)
 persist buffer => Poisoned
@@ -36,7 +36,7 @@ open
 keyspace items => 1
 insert 1 a b
 close
-fail 16 49
+fail 20 49
 open
 insert 1 c d => Io(Other)
 persist buffer => Poisoned
@@ -63,7 +63,7 @@ open
 keyspace items => 1
 insert 1 a b
 close
-fail 16 0
+fail 20 0
 open
 persist data => Io(Other)
 persist buffer => Poisoned
@@ -83,7 +83,7 @@ open
 keyspace items => 1
 insert 1 a b
 close
-fail 16 0
+fail 20 0
 open
 persist all => Io(Other)
 persist buffer => Poisoned
@@ -103,7 +103,7 @@ open
 keyspace items => 1
 insert 1 a b
 close
-fail 16 0
+fail 20 0
 open
 keyspace more => Io(Other)
 exists more => no
@@ -128,7 +128,7 @@ open
 keyspace items => 1
 insert 1 a b
 close
-fail 16 0
+fail 20 0
 open
 delete 1 => Io(Other)
 persist buffer => Poisoned
@@ -152,7 +152,7 @@ open
 keyspace items => 1
 insert 1 a b
 close
-fail 30 0
+fail 24 0
 open
 retain 1
 delete 1
