@@ -1,7 +1,7 @@
 //! Calls that change keys, and the sync of the journal.
 
 ghost use Rattle.std.specs.Prelude.{◌≡◌, ◌<◌, ◌^◌, None, IsTrue, true};
-ghost use Rattle.fjall_journal.specs.Spelling.{item_refusal};
+ghost use Rattle.fjall_base.specs.Limits.{item_refusal};
 ghost use Rattle.fjall_journal.specs.Batches.{of_item};
 ghost use Rattle.fjall_state.specs.Changes.{op_of, call_of};
 ghost use Rattle.fjall_state.specs.Machine.{State, is_living};

@@ -18,6 +18,8 @@ mod folder_disk;
 #[cfg(test)]
 mod journaling;
 #[cfg(test)]
+mod memory;
+#[cfg(test)]
 mod mending;
 #[cfg(test)]
 mod opening;
@@ -31,3 +33,5 @@ mod repair;
 mod scripts;
 #[cfg(test)]
 mod steps;
+#[cfg(test)]
+mod words;

@@ -5,7 +5,7 @@ use Rattle.std.proofs.lemmas.Fmt.{decimal_injective}
 use Rattle.std.specs.Str.{bytes_eq}
 use Rattle.std.proofs.lemmas.Slice.Eq.{bytes_eq-Decides}
 use Rattle.fjall_base.specs.Disk.{Name}
-use Rattle.fjall_tree.proofs.Currents.{last_behind}
+use Rattle.fjall_base.proofs.Lists.{last_behind}
 use Rattle.fjall_base.specs.Lists.{last_of}
 use Rattle.fjall_files.specs.Names.{journal_name, keyspace_folder, current_name, table_name}
 pub use Rattle.fjall_files.proofs.Fitting.{folder_of-journal, folder_of-folder, folder_of-current, folder_of-table}

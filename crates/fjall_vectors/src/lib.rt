@@ -17,3 +17,5 @@ mod tree;
 mod tx;
 #[cfg(test)]
 mod versions;
+#[cfg(test)]
+mod words;
