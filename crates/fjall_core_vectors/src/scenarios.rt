@@ -3,8 +3,8 @@
 use crate::calls::ask;
 use crate::words::{first_word, number};
 use fjall_base::{Disk, Refused, Result};
-use fjall_memory::MemoryDisk;
 use fjall_core::{Config, Core};
+use fjall_memory::MemoryDisk;
 use std::alloc::Global;
 
 /// A database that is open, or its disk.

@@ -4,8 +4,8 @@ use crate::calls::ask;
 use crate::scenarios::{first_wrong, opened};
 use crate::{by_hand, faults, folders, journals, keyspaces, reads};
 use fjall_base::ClosedDisk;
-use fjall_memory::MemoryDisk;
 use fjall_core::{Config, Reply};
+use fjall_memory::MemoryDisk;
 use std::test::Fail;
 
 const SCRIPTS: [&str; 6] = [

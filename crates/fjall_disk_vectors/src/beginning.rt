@@ -2,8 +2,8 @@
 
 use crate::folder::{CURRENT, MARKER};
 use fjall_base::{Disk, Result};
-use fjall_memory::MemoryDisk;
 use fjall_catalog::first_record;
+use fjall_memory::MemoryDisk;
 use fjall_recovery::read_folder;
 use fjall_repair::{begin, plan_beginning};
 use std::alloc::Global;

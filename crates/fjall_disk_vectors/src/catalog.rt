@@ -4,9 +4,9 @@ use crate::folder::{CURRENT, created};
 use crate::steps::take_all;
 use crate::words::{first_word, number};
 use fjall_base::{Disk, Error, Result, StorageError};
-use fjall_memory::MemoryDisk;
 use fjall_catalog::{commit, prepare, read_catalog, remove_old, write_table};
 use fjall_files::make_file;
+use fjall_memory::MemoryDisk;
 use std::alloc::Global;
 use std::test::Fail;
 

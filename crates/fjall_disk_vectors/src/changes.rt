@@ -3,11 +3,11 @@
 use crate::folder::created;
 use crate::words::{first_word, number};
 use fjall_base::{Error, Result};
-use fjall_memory::MemoryDisk;
 use fjall_catalog::{Catalog, first_record_of, prepare, read_catalog};
 use fjall_commit::{
     create_keyspace, delete_keyspace, prepare_creation, prepare_removal, remove_keyspace,
 };
+use fjall_memory::MemoryDisk;
 use fjall_meta::MetaKeyspace;
 use std::alloc::Global;
 use std::test::Fail;

@@ -2,10 +2,10 @@
 
 use crate::words::{first_word, number};
 use fjall_base::{Disk, Result, Slice};
-use fjall_memory::MemoryDisk;
 use fjall_catalog::{commit, first_record, first_record_of, prepare, read_catalog, write_table};
 use fjall_files::{make_file, make_home};
 use fjall_journal::{PersistMode, ValueType, Writer};
+use fjall_memory::MemoryDisk;
 use fjall_meta::MetaKeyspace;
 use fjall_options::KeyspaceCreateOptions;
 use std::alloc::Global;

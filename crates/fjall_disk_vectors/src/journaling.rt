@@ -2,9 +2,9 @@
 
 use crate::words::{first_word, number};
 use fjall_base::{Disk, Result};
-use fjall_memory::MemoryDisk;
 use fjall_commit::{append_batch, sync_journal};
 use fjall_journal::{PersistMode, ValueType, Writer};
+use fjall_memory::MemoryDisk;
 use std::alloc::Global;
 use std::mem;
 use std::test::Fail;

@@ -2,8 +2,8 @@
 
 use crate::words::{first_word, number};
 use fjall_base::Result;
-use fjall_memory::MemoryDisk;
 use fjall_files::{append_synced, end_file, make_file, make_home, put_file, remove_home};
+use fjall_memory::MemoryDisk;
 use std::alloc::Global;
 
 const HOME: &str = "keyspaces/5";
