@@ -40,22 +40,29 @@ fn at<'a>(rt: &'a HostRuntime, path: &'a String) -> Folder<'a> {
     }
 }
 
+// The places of paths.
+fn places<'a>(rt: &'a HostRuntime, paths: &'a [String; DATABASES]) -> [Folder<'a>; DATABASES] {
+    let [order, random, sync, keyspaces, limits] = paths;
+    [
+        at(rt, order),
+        at(rt, random),
+        at(rt, sync),
+        at(rt, keyspaces),
+        at(rt, limits),
+    ]
+}
+
 // Runs the workloads over databases in folders of their own below this one.
 fn run_below(rt: &HostRuntime, folder: &str, count: u64) -> Result<()> {
     let alloc = rt.alloc();
-    let order = below(alloc, folder, "order")?;
-    let random = below(alloc, folder, "random")?;
-    let sync = below(alloc, folder, "sync")?;
-    let keyspaces = below(alloc, folder, "keyspaces")?;
-    let limits = below(alloc, folder, "limits")?;
-    let places = [
-        at(rt, &order),
-        at(rt, &random),
-        at(rt, &sync),
-        at(rt, &keyspaces),
-        at(rt, &limits),
+    let paths = [
+        below(alloc, folder, "order")?,
+        below(alloc, folder, "random")?,
+        below(alloc, folder, "sync")?,
+        below(alloc, folder, "keyspaces")?,
+        below(alloc, folder, "limits")?,
     ];
-    run(rt, alloc, &places, count)
+    run(rt, alloc, &places(rt, &paths), count)
 }
 
 fn main(rt: HostRuntime) -> Result<()> {
