@@ -1,4 +1,4 @@
-use Rattle.std.proofs.Common.{◌≡◌, Bool, true, false, IsTrue, sym, subst, ap, rules}
+use Rattle.std.proofs.Common.{true, false, IsTrue, sym, subst, ap, rules}
 use Rattle.std.proofs.lemmas.Bool.{true≢false}
 use Rattle.fjall_base.specs.Disk.{Entry, Place, IsLong}
 use Rattle.fjall_base.proofs.Names.{found_at, none_at}

@@ -1,4 +1,4 @@
-use Rattle.std.proofs.Common.{◌≡◌, Bool, List, subst, sym}
+use Rattle.std.proofs.Common.{List, subst}
 use Rattle.std.specs.Bool.{OnTrue, OnFalse}
 use Rattle.fjall_base.specs.Disk.{IsEmpty}
 use Rattle.fjall_base.specs.Memory.{state_of}
