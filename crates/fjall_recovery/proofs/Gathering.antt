@@ -13,7 +13,8 @@ use Rattle.fjall_journal.specs.declared.contents.Contents.{Contents}
 use Rattle.fjall_journal.specs.declared.batch.Tail.{Tail}
 use Rattle.fjall_journal.specs.declared.batch.Tail.TheVariants.{Clean, Torn}
 use Rattle.fjall_journal.specs.Batches.{Written, Shown, IsWhole, IsTail, shown, view}
-use Rattle.fjall_versions.specs.Replays.{Fault, fault_of, first_fault, least_after, NamesFault}
+use Rattle.fjall_versions.specs.Replays.{Fault, first_fault, least_after, NamesFault}
+use Rattle.fjall_versions.proofs.Faults.{first_fault-append, least_after-append}
 use Rattle.fjall_recovery.specs.Journals.{Journal, ReadsAs, AreRead, IsSealed, batches_in, EndsAt, Gathers, AreSealed, AreFound, IsReadAs, journal_text, tail_of}
 use Rattle.fjall_recovery.specs.Refusals.{IsDue, JournalsRefuse, TailRefuses, is_last}
 
@@ -28,20 +29,6 @@ read_as (Ok c) text other same whole tail =
 read_as (Err e) text other same whole tail = tt
 
 -- ---- batches behind batches
-
-pub least_after-append : (least : ℕ) (front behind : List Shown) → least_after least (front ++ behind) ≡ least_after (least_after least front) behind
-least_after-append least [] behind = refl
-least_after-append least (batch ∷ front) behind = least_after-append (batch.number + 1) front behind
-
-option_or-assoc : {A : Type 0} (a b c : Option A) → option_or a (option_or b c) ≡ option_or (option_or a b) c
-option_or-assoc None b c = refl
-option_or-assoc (Some x) b c = refl
-
-pub first_fault-append : (least : ℕ) (front behind : List Shown) → first_fault least (front ++ behind) ≡ option_or (first_fault least front) (first_fault (least_after least front) behind)
-first_fault-append least [] behind = refl
-first_fault-append least (batch ∷ front) behind =
-    ap (option_or (fault_of least batch)) (first_fault-append (batch.number + 1) front behind)
-    ∙ option_or-assoc (fault_of least batch) (first_fault (batch.number + 1) front) (first_fault (least_after (batch.number + 1) front) behind)
 
 pub batches-append : (front behind : List Journal) → map shown (batches_in (front ++ behind)) ≡ map shown (batches_in front) ++ map shown (batches_in behind)
 batches-append front behind = ap (map shown) (flat_map-append (λ (j : Journal). j.batches) front behind) ∙ map-append shown (batches_in front) (batches_in behind)

@@ -18,7 +18,7 @@ use Rattle.fjall_recovery.specs.Homes.{HasHome, HaveHomes}
 use Rattle.fjall_recovery.specs.Journals.{Journal, ReadsAs, AreRead, HoldsJournals, AreJournalIds, batches_in, journal_text}
 use Rattle.fjall_recovery.specs.Refusals.{HomeRefuses, HomesRefuse, JournalsRefuse, TailRefuses}
 use Rattle.fjall_recovery.proofs.Alone.{one_list_of_ids}
-use Rattle.fjall_recovery.proofs.Gathering.{first_fault-append}
+use Rattle.fjall_versions.proofs.Faults.{first_fault-append}
 use Rattle.fjall_meta.specs.declared.living.LivingKeyspace.{LivingKeyspace}
 use Rattle.fjall_tree.specs.Records.{Fields}
 

@@ -12,7 +12,7 @@ use Rattle.std.proofs.lemmas.Slice.Eq.{bytes_eq-Decides}
 use Rattle.fjall_base.specs.Disk.{Name, folder_of}
 use Rattle.fjall_files.specs.Regions.{join}
 use Rattle.fjall_files.proofs.Under.{IsPlain, folder_of-join, folder_of-plain}
-use Rattle.fjall_tree.proofs.Currents.{last_behind}
+use Rattle.fjall_base.proofs.Lists.{last_behind}
 use Rattle.fjall_base.specs.Lists.{last_of}
 use Rattle.fjall_files.specs.Names.{journal_name, keyspace_folder, current_name, table_name}
 

@@ -13,7 +13,7 @@ use Rattle.fjall_journal.specs.Batches.{Written, IsWritten, shown}
 use Rattle.fjall_table.specs.declared.table_info.TableInfo.{TableInfo}
 use Rattle.fjall_tree.specs.Records.{Fields, IsRecord, IsRecords, record_text}
 use Rattle.fjall_base.specs.Lists.{last_of}
-use Rattle.fjall_tree.proofs.Currents.{last_behind}
+use Rattle.fjall_base.proofs.Lists.{last_behind}
 use Rattle.fjall_files.specs.Marker.{marker_tells}
 use Rattle.fjall_files.specs.Names.{journal_name, keyspace_folder, current_name, table_name}
 use Rattle.fjall_meta.specs.declared.entry.MetaEntry.{MetaEntry}
