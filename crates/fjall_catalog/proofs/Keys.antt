@@ -4,9 +4,9 @@ use Rattle.std.specs.List.{flat_map}
 use Rattle.std.specs.Int.{bytes_high_first}
 use Rattle.std.proofs.lemmas.List.Elements.{All-nil, All-append, All-from_recursion, All-map, All-weaker}
 use Rattle.fjall_options.specs.declared.options.stored_option.StoredOption.{StoredOption}
-use Rattle.fjall_options.specs.Options.{option_name}
+use Rattle.fjall_options.specs.Options.{options_by_name, option_name}
 use Rattle.fjall_meta.specs.declared.living.LivingKeyspace.{LivingKeyspace}
-use Rattle.fjall_meta.specs.Entries.{entries_of, name_entry, option_entries, option_entry, options_by_name}
+use Rattle.fjall_meta.specs.Entries.{entries_of, name_entry, option_entries, option_entry}
 use Rattle.fjall_catalog.specs.Updates.{HasKey}
 
 length_high : (n x : ℕ) → length (bytes_high_first n x) ≡ n

@@ -10,7 +10,7 @@ use Rattle.fjall_journal.specs.declared.persist_mode.PersistMode.TheVariants.{Bu
 use Rattle.fjall_journal.specs.Batches.{Written, batch_text, of_item, shown}
 use Rattle.fjall_versions.specs.Replays.{Fault, Unordered, Indirect, fault_of, first_fault, is_indirection, least_after}
 use Rattle.fjall_recovery.specs.Journals.{batches_in}
-use Rattle.fjall_recovery.proofs.Gathering.{first_fault-append, least_after-append}
+use Rattle.fjall_versions.proofs.Faults.{first_fault-append, least_after-append}
 use Rattle.fjall_recovery.specs.Places.{Journaling, journals_with, texts_of}
 use Rattle.fjall_recovery.proofs.Roots.{batches_are}
 use Rattle.fjall_commit.specs.Journaling.{CanFollow, after_persist, next_number, synced, with_batch}

@@ -11,12 +11,12 @@ use Rattle.std.specs.Option.{is_some, option_map}
 use Rattle.fjall_base.specs.Pairs.{Bytes}
 use Rattle.fjall_base.specs.Store.{Options, Store, kept}
 use Rattle.fjall_table.specs.declared.table_info.TableInfo.{TableInfo}
-use Rattle.fjall_options.specs.Options.{option_name, place, stored_options, value_at}
+use Rattle.fjall_options.specs.Options.{options_by_name, option_name, place, stored_options, value_at}
 use Rattle.fjall_options.specs.declared.options.stored_option.StoredOption.{StoredOption}
 use Rattle.fjall_options.proofs.OptionTables.{place_below, placed}
 use Rattle.fjall_meta.specs.declared.entry.MetaEntry.{MetaEntry}
 use Rattle.fjall_meta.specs.declared.living.LivingKeyspace.{LivingKeyspace}
-use Rattle.fjall_meta.specs.Entries.{entries_of, name_entry, option_entries, option_entry, options_by_name}
+use Rattle.fjall_meta.specs.Entries.{entries_of, name_entry, option_entries, option_entry}
 use Rattle.fjall_meta.specs.Keyspaces.{AreKeyspaces, Keyspaces, is_name, keyspace_at, with_keyspace, without_keyspace}
 use Rattle.fjall_meta.proofs.Rising.{Rises, from_pairs}
 use Rattle.fjall_catalog.specs.declared.update.TableFile.{TableFile}

@@ -1,7 +1,7 @@
 -- What a writer's calls took of the disk, put together.
-use Rattle.std.proofs.Common.{◌≡◌, ◌≢◌, inl, inr, ℕ, ◌+◌, ◌^◌, ◌<◌, false, List, [], ◌∷◌, ◌++◌, length, Result, Ok, Err, OnOk, OnErr, refl, sym, ap, subst, ◌∙◌, append_assoc, arith}
+use Rattle.std.proofs.Common.{◌≡◌, ◌≢◌, inl, inr, ℕ, ◌+◌, ◌^◌, ◌<◌, false, List, [], ◌∷◌, ◌++◌, length, Result, OnErr, refl, sym, ap, subst, ◌∙◌, append_assoc, arith}
 use Rattle.std.proofs.lemmas.List.{append-nil}
-use Rattle.fjall_base.specs.Disk.{Name, State, Meaning, Step, Sync, IsFile, change, after, state_in, Took, TookOrNot, TookPart}
+use Rattle.fjall_base.specs.Disk.{Name, State, Meaning, Step, Sync, IsFile, after, state_in, Took, TookOrNot, TookPart}
 use Rattle.fjall_base.proofs.Moments.{after-append}
 use Rattle.fjall_base.proofs.Results.{on_err}
 use Rattle.fjall_base.proofs.Served.{file_as_was, file_stays}

@@ -1,6 +1,6 @@
 //! An entry at the front of some bytes.
 
-ghost use Rattle.std.specs.Prelude.{◌≡◌, length, drop, ℕ, IfOk, Ok};
+ghost use Rattle.std.specs.Prelude.{drop, ℕ, IfOk, Ok};
 ghost use Rattle.fjall_journal.specs.declared.entry.Entry.{Entry};
 ghost use Rattle.fjall_journal.specs.Spelling.{StandsFirst};
 ghost use Rattle.fjall_journal.specs.Reading.{Gives, compression_of, start_at, item_at, end_at, clear_at, entry_at};

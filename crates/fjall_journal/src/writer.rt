@@ -1,6 +1,6 @@
 //! The append side of a journal: batches go into a buffer, and the buffer to the end of a file.
 
-ghost use Rattle.std.specs.Prelude.{◌≡◌, ◌⊎◌, ◌+◌, ◌<◌, ◌++◌, [], ◌∷◌, length, take, OnOk, OnErr, IfOk, IfErr, IsOk, IsErrOf, IsOkUnless, IsTrue, MatchOption, None, Err};
+ghost use Rattle.std.specs.Prelude.{◌≡◌, ◌⊎◌, ◌+◌, ◌<◌, ◌++◌, [], length, take, OnOk, OnErr, IfOk, IfErr, IsOk, IsErrOf, IsOkUnless, IsTrue, MatchOption, None, Err};
 ghost use Rattle.fjall_base.specs.Disk.{CanCreate, Took, TookPart, HasCause, OnlyFaults, state_in};
 ghost use Rattle.fjall_base.specs.Limits.{item_refusal};
 ghost use Rattle.fjall_journal.specs.Batches.{of_item, item_text, IsWritten};

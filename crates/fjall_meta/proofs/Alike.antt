@@ -1,7 +1,7 @@
 -- One list of keyspaces for a list of entries.
-use Rattle.std.proofs.Common.{◌≡◌, ℕ, zero, suc, ◌+◌, ◌*◌, ◌<◌, ◌^◌, List, [], ◌∷◌, ◌++◌, length, get_or, drop, take, map, All, refl, sym, ap, ◌∙◌, arith, add-one, lit<}
-use Rattle.std.proofs.Math.Seq.{drop-cons, take-append_seam, drop-append_seam}
-use Rattle.std.proofs.lemmas.List.{get_or-map, drop_all, length-append, length-map}
+use Rattle.std.proofs.Common.{◌≡◌, ℕ, ◌+◌, ◌*◌, ◌<◌, ◌^◌, List, [], ◌∷◌, ◌++◌, length, get_or, drop, take, map, All, refl, sym, ap, ◌∙◌, arith, lit<}
+use Rattle.std.proofs.Math.Seq.{take-append_seam, drop-append_seam}
+use Rattle.std.proofs.lemmas.List.{get_or-map, length-append, length-map}
 use Rattle.std.proofs.lemmas.List.Elements.{All-head, All-tail, All-weaker}
 use Rattle.std.specs.List.{flat_map, Contains, position_or_len}
 use Rattle.std.specs.Bool.{◌==◌}

@@ -1,5 +1,5 @@
 -- Keyspaces read back from their entries.
-use Rattle.std.proofs.Common.{◌≡◌, ◌<◌, ℕ, List, map, All, AllPairs, refl, sym, ap, subst, ◌∙◌, arith, None, Result, Ok, Err}
+use Rattle.std.proofs.Common.{◌≡◌, ◌<◌, ℕ, List, map, All, AllPairs, refl, sym, ap, subst, ◌∙◌, arith, None, Result, Ok}
 use Rattle.std.proofs.lemmas.List.{get_or-map, length-map}
 use Rattle.std.proofs.lemmas.List.Elements.{All-weaker}
 use Rattle.std.proofs.lemmas.List.Kept.{AllPairs-from_increasing}

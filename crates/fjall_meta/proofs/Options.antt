@@ -1,7 +1,5 @@
 -- The pairs of a keyspace's options, by place and by name.
-use Rattle.std.proofs.Common.{◌≡◌, ℕ, ◌+◌, ◌<◌, ◌≤◌, List, [], ◌∷◌, ◌++◌, length, get_or, take, map, refl, ap, ◌∙◌, add-one}
-use Rattle.std.proofs.Math.Seq.{take-suc}
-use Rattle.std.proofs.lemmas.List.{map-append, take_all}
+use Rattle.std.proofs.Common.{◌≡◌, ℕ, List, length, get_or, refl}
 use denote.Enum.Declared.{tag_of}
 use Rattle.fjall_options.specs.contracts.options.stored_option.StoredOption.{the_type}
 use Rattle.fjall_options.specs.declared.options.stored_option.StoredOption.{StoredOption}

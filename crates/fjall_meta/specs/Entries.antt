@@ -1,5 +1,5 @@
 -- The pairs of the meta keyspace, each under the number of the change that wrote it.
-use Rattle.std.specs.Prelude.{◌≡◌, List, [], ◌∷◌, ◌++◌, map, AllPairs}
+use Rattle.std.specs.Prelude.{◌≡◌, List, ◌++◌, map, AllPairs}
 use Rattle.std.specs.List.{flat_map}
 use Rattle.std.specs.declared.cmp.Ordering.TheVariants.{Less}
 use Rattle.fjall_base.specs.Pairs.{byte_order}

@@ -4,7 +4,7 @@ ghost use Rattle.std.specs.Prelude.{◌≡◌, ◌∷◌, [], ◌++◌, length, 
 ghost use Rattle.std.specs.List.{flat_map};
 ghost use Rattle.fjall_base.specs.declared.error.Error.TheVariants.{OutOfMemory};
 ghost use Rattle.fjall_options.specs.Options.{place, value_at};
-ghost use Rattle.fjall_meta.specs.Entries.{option_entry, option_entries, name_entry};
+ghost use Rattle.fjall_meta.specs.Entries.{option_entries, name_entry};
 
 use crate::living::LivingKeyspace;
 use fjall_base::{KvPair, Result, UserKey, UserValue};

@@ -1,11 +1,11 @@
 //! The keyspaces that live.
 
-ghost use Rattle.std.specs.Prelude.{◌≡◌, ◌≢◌, ◌↔◌, ◌*◌, ◌^◌, ◌-◌, ◌<◌, ◌+◌, ◌++◌, ◌==◌, ℕ, List, true, min, position, take, drop, All, AllPairs, IsTrue, MatchOption, map, length, Ok, Some, is_some, IfOk, IfErr, OnOk, OnErr, IfSome, IfNone, IsPermutation, IsSorted};
+ghost use Rattle.std.specs.Prelude.{◌≡◌, ◌≢◌, ◌↔◌, ◌*◌, ◌^◌, ◌-◌, ◌<◌, ◌+◌, ◌++◌, ◌==◌, true, min, position, take, drop, All, AllPairs, IsTrue, map, length, Ok, Some, is_some, IfOk, IfErr, OnOk, OnErr, IfSome, IfNone, IsPermutation, IsSorted};
 ghost use Rattle.fjall_base.specs.Pairs.{byte_order};
 ghost use Rattle.fjall_base.specs.declared.error.Error.TheVariants.{OutOfMemory};
 ghost use Rattle.fjall_options.specs.Options.{value_at, AreOptions};
 ghost use Rattle.std.specs.Option.{option_map, option_copied};
-ghost use Rattle.fjall_meta.specs.Keyspaces.{AreKeyspaces, AreRestored, TakesBack, is_name, no_keyspaces, keyspace_at, id_of, creation, IsCreationRefusal, Keyspaces, with_keyspace, without_keyspace};
+ghost use Rattle.fjall_meta.specs.Keyspaces.{AreKeyspaces, AreRestored, TakesBack, is_name, no_keyspaces, keyspace_at, id_of, creation, IsCreationRefusal, Keyspaces, without_keyspace};
 ghost use Rattle.fjall_meta.specs.Entries.{entries_of, IsAscending};
 
 use crate::entry::{MetaEntry, put_all_names, put_all_options, value_of};

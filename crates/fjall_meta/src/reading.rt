@@ -1,10 +1,10 @@
 //! Keyspaces read back from the pairs that store them.
 
-ghost use Rattle.std.specs.Prelude.{◌≡◌, ◌↔◌, ℕ, ◌==◌, if◌then◌else◌, ◌∷◌, [], ◌++◌, map, filter_map, All, IsTrue, IfOk, IfErr, OnOk, MatchOption, MatchResult, None, Some, Ok};
+ghost use Rattle.std.specs.Prelude.{◌≡◌, ◌↔◌, ℕ, ◌==◌, if◌then◌else◌, ◌∷◌, [], ◌++◌, map, filter_map, All, IsTrue, IfOk, IfErr, OnOk, MatchOption, None, Some, Ok};
 ghost use Rattle.fjall_base.specs.declared.error.Error.TheVariants.{OutOfMemory};
 ghost use Rattle.fjall_options.specs.Options.{Reads, Refuses, value_of};
 ghost use Rattle.fjall_meta.specs.Reading.{key_id, AreIds, pairs_of, stored_name, stored_keyspace, first_fault, IsFirstFault, IsReadingRefusal, ReadsBack, own_entries, number_in, entries_at, IsStored};
-ghost use Rattle.fjall_meta.specs.Keyspaces.{Keyspaces, AreKeyspaces};
+ghost use Rattle.fjall_meta.specs.Keyspaces.{AreKeyspaces};
 ghost use Rattle.fjall_meta.specs.Entries.{entries_of};
 
 use crate::entry::MetaEntry;

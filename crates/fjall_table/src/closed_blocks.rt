@@ -1,6 +1,6 @@
 //! The bytes of a table in the making: its closed data blocks, and then the index and the footer.
 
-ghost use Rattle.std.specs.Prelude.{◌≡◌, ◌*◌, ◌≤◌, ◌<◌, ◌^◌, ◌++◌, ◌↔◌, [], ◌∷◌, length, IfOk, OnOk, OnErr, IsTrue, IsOkUnless};
+ghost use Rattle.std.specs.Prelude.{◌≡◌, ◌*◌, ◌<◌, ◌^◌, ◌++◌, [], ◌∷◌, length, IfOk, OnOk, OnErr, IsOkUnless};
 ghost use Rattle.fjall_table.specs.Blocks.{IsOrdered};
 ghost use Rattle.fjall_table.specs.Tables.{entries_of, handle_text, footer_text, AreFull, IsTable};
 

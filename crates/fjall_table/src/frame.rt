@@ -1,6 +1,6 @@
 //! A payload between its length and the check of both.
 
-ghost use Rattle.std.specs.Prelude.{◌≡◌, ◌⊎◌, ◌≤◌, ◌+◌, ◌++◌, length, IfSome, OnOk, OnErr, IsOkUnless};
+ghost use Rattle.std.specs.Prelude.{◌≡◌, ◌⊎◌, ◌+◌, ◌++◌, OnOk, OnErr, IsOkUnless};
 ghost use Rattle.fjall_table.specs.Frame.{framed};
 ghost use Rattle.fjall_base.specs.Fields.{Shows, number_at};
 ghost use Rattle.fjall_table.specs.Reading.{frame_at};

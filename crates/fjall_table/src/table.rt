@@ -5,7 +5,7 @@ ghost use Rattle.fjall_base.specs.declared.error.StorageError.TheVariants.{Table
 ghost use Rattle.fjall_table.specs.Reading.{DamagedWhere};
 ghost use Rattle.fjall_table.specs.Blocks.{Entry, seen, IsOrdered};
 ghost use Rattle.fjall_table.specs.Tables.{end_text, IsTable, HasIndex, versions_at};
-ghost use Rattle.fjall_table.specs.TableReading.{handle_of, part_at, HasNoIndex, IsBlockOf, IsNoBlockOf, IsNoTable};
+ghost use Rattle.fjall_table.specs.TableReading.{handle_of, HasNoIndex, IsBlockOf, IsNoBlockOf, IsNoTable};
 
 use crate::block::BLOCK_BYTES;
 use crate::footer::{FOOTER_LEN, Footer};

@@ -1,6 +1,6 @@
 //! Versions of keys, as bytes and back.
 
-ghost use Rattle.std.specs.Prelude.{◌≡◌, ◌≤◌, ◌<◌, ◌++◌, ◌↔◌, ◌^◌, length, take, Ok, Err, OnOk, OnErr, IsTrue, IsOkUnless, MatchOption};
+ghost use Rattle.std.specs.Prelude.{◌≡◌, ◌<◌, ◌++◌, ◌↔◌, ◌^◌, length, Ok, Err, OnOk, OnErr, IsTrue, IsOkUnless, MatchOption};
 ghost use Rattle.std.specs.Option.{option_map};
 ghost use Rattle.fjall_base.specs.Fields.{Shows};
 ghost use Rattle.fjall_base.specs.Limits.{item_refusal};

@@ -1,6 +1,6 @@
 //! The bytes of a table, from its versions in order.
 
-ghost use Rattle.std.specs.Prelude.{◌≡◌, ◌⊎◌, ◌≤◌, ◌<◌, ◌++◌, ◌↔◌, [], ◌∷◌, length, IfOk, IfSome, IfNone, OnOk, OnErr, Err, IsTrue, IsOkUnless, MatchOption};
+ghost use Rattle.std.specs.Prelude.{◌≡◌, ◌⊎◌, ◌<◌, ◌++◌, ◌↔◌, [], ◌∷◌, length, IfOk, IfSome, IfNone, OnOk, OnErr, Err, IsTrue, IsOkUnless, MatchOption};
 ghost use Rattle.fjall_table.specs.Blocks.{seen, payload_of, IsOrdered, refusal};
 ghost use Rattle.fjall_table.specs.Tables.{entries_of, AreFull, IsTable};
 ghost use Rattle.fjall_table.specs.Writing.{Follows, HaveReached};

@@ -1,6 +1,6 @@
 //! A record from bytes.
 
-ghost use Rattle.std.specs.Prelude.{◌≡◌, ◌≤◌, ◌<◌, ◌^◌, ℕ, List, length, IfOk, IfErr, IsOkUnless, IsTrue, ◌↔◌};
+ghost use Rattle.std.specs.Prelude.{◌≡◌, ◌<◌, ◌^◌, length, IfOk, IfErr};
 ghost use Rattle.fjall_base.specs.declared.error.StorageError.TheVariants.{RecordDamaged};
 ghost use Rattle.fjall_base.specs.Fields.{Shows, number_at, many_at};
 ghost use Rattle.fjall_table.specs.Reading.{Gives, DamagedWhere};

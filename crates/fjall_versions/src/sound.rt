@@ -1,6 +1,6 @@
 //! Which batches a journal may have.
 
-ghost use Rattle.std.specs.Prelude.{◌≡◌, ◌+◌, ◌^◌, map, None, IfOk, IfErr, OnOk};
+ghost use Rattle.std.specs.Prelude.{◌≡◌, ◌+◌, map, None, IfOk, IfErr, OnOk};
 ghost use Rattle.std.specs.List.{list_any};
 ghost use Rattle.fjall_journal.specs.Batches.{view};
 ghost use Rattle.fjall_versions.specs.Replays.{fault_of, first_fault, is_indirect, least_after, NamesFault};
