@@ -26,7 +26,7 @@ use fjall_meta::LivingKeyspace;
 use std::alloc::Global;
 
 /// What a folder holds that was made to its end.
-#[derive(Debug, Drop)]
+#[derive(Drop)]
 pub struct Finished {
     /// The ids of the journals, ascending.
     pub journal_ids: Vec<u64>,

@@ -16,7 +16,7 @@ use fjall_tree::{Current, Record, read_current};
 use std::alloc::Global;
 
 /// What the `current` of a keyspace holds.
-#[derive(Debug, Drop)]
+#[derive(Drop)]
 pub struct Home {
     /// The keyspace's id.
     pub id: u64,

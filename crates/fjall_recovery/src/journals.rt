@@ -18,7 +18,7 @@ use fjall_versions::check_batches;
 use std::alloc::Global;
 
 /// What the journals of a folder hold.
-#[derive(Debug, Drop)]
+#[derive(Drop)]
 pub struct Journals {
     /// The whole batches of all of them, in order.
     pub batches: Vec<Batch>,

@@ -10,7 +10,7 @@ use fjall_recovery::{Finished, Home};
 use std::alloc::Global;
 
 /// A file, and where it is to end.
-#[derive(Debug, Drop)]
+#[derive(Drop)]
 pub struct FileEnd {
     /// Its name.
     pub name: String,
@@ -21,7 +21,7 @@ pub struct FileEnd {
 }
 
 /// What is to be done to a folder. The root isn't named.
-#[derive(Debug, Drop)]
+#[derive(Drop)]
 pub struct MendPlan {
     /// The file of the active journal.
     pub active: String,
