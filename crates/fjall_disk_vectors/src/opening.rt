@@ -7,10 +7,10 @@ use crate::steps::Question::*;
 use crate::steps::Step::*;
 use crate::steps::{Question, Row, Start};
 use fjall_base::{Error, FormatVersion, JournalRecoveryError, MemoryDisk, Result, StorageError};
-use fjall_recovery::{Finished, read_folder};
+use fjall_recovery::{RecoveredFolder, read_folder};
 use std::alloc::Global;
 
-fn add_homes(folder: &Finished, seen: &mut Vec<u64>) -> Result<()> {
+fn add_homes(folder: &RecoveredFolder, seen: &mut Vec<u64>) -> Result<()> {
     for home in &folder.homes {
         seen.extend_from_slice(&[home.id, home.end as u64, home.len as u64])?;
     }
