@@ -21,7 +21,7 @@ use fjall_tree::{Current, read_current};
 use std::alloc::Global;
 
 /// What tree 0 says.
-#[derive(Debug, Drop)]
+#[derive(Drop)]
 pub struct LoadedCatalog {
     pub catalog: Catalog,
     /// The keyspaces that live.
@@ -33,7 +33,7 @@ pub struct LoadedCatalog {
 }
 
 /// The last record of tree 0 and where the whole records end.
-#[derive(Debug, Drop)]
+#[derive(Drop)]
 struct Last {
     catalog: Catalog,
     end: usize,

@@ -2,10 +2,10 @@
 
 use fjall_base::Result;
 use fjall_memory::MemoryDisk;
-use fjall_recovery::{Finished, read_folder};
+use fjall_recovery::{RecoveredFolder, read_folder};
 use std::alloc::Global;
 
-fn add_homes(folder: &Finished, seen: &mut Vec<u64>) -> Result<()> {
+fn add_homes(folder: &RecoveredFolder, seen: &mut Vec<u64>) -> Result<()> {
     for home in &folder.homes {
         seen.extend_from_slice(&[home.id, home.end as u64, home.len as u64])?;
     }

@@ -20,8 +20,8 @@ use Rattle.fjall_catalog.specs.declared.catalog.Catalog.{Catalog}
 use Rattle.fjall_catalog.specs.Catalog.{HasEnd, Says, records_in}
 use Rattle.fjall_catalog.specs.Refusals.{IsRefusal}
 use Rattle.fjall_base.specs.Errors.{IsFaultOrMemory}
-use Rattle.fjall_recovery.specs.declared.folder.Finished.{Finished}
-use Rattle.fjall_recovery.specs.declared.homes.Home.{Home}
+use Rattle.fjall_recovery.specs.declared.folder.RecoveredFolder.{RecoveredFolder}
+use Rattle.fjall_recovery.specs.declared.homes.KeyspaceRecords.{KeyspaceRecords}
 use Rattle.fjall_recovery.specs.Folders.{AreEmpty, AreMade, Contents, IsBegun, IsFinished, IsSound, ReadsFolder, Shows, file_bytes, marker_bytes}
 use Rattle.fjall_recovery.specs.Homes.{AreHomesRead, HaveHomes}
 use Rattle.fjall_recovery.specs.Journals.{Journal, AreFound, AreJournalIds, HoldsJournals}
@@ -71,23 +71,23 @@ catalog_refuses image old new error folder is all = absurd is
 
 -- ---- what the folder holds
 
-homes_held : (image : Image) (living : List LivingKeyspace) (homes : List Home) → AreHomesRead image living homes → HaveHomes image living (map (λ (h : Home). records.view h.record) homes)
+homes_held : (image : Image) (living : List LivingKeyspace) (homes : List KeyspaceRecords) → AreHomesRead image living homes → HaveHomes image living (map (λ (h : KeyspaceRecords). records.view h.record) homes)
 homes_held image [] [] all = tt
 homes_held image [] (h ∷ homes) all = absurd all
 homes_held image (k ∷ living) [] all = absurd all
 homes_held image (k ∷ living) (h ∷ homes) all = (record { folder = all.0.folder; last_is = all.0.read.has }, homes_held image living homes all.1)
 
 -- what was read of a sound folder is what it holds
-pub record Holds (image : Image) (f : Finished) : Type 0 where
+pub record Holds (image : Image) (f : RecoveredFolder) : Type 0 where
   pub contents : Contents
   pub sound : IsSound image contents
   pub shows : Shows f contents
 
-pub held : (image : Image) (f : Finished) → marker_tells (marker_bytes image) ≡ Ok Whole → JournalsAreNamed image → IsFinished image f → Holds image f
+pub held : (image : Image) (f : RecoveredFolder) → marker_tells (marker_bytes image) ≡ Ok Whole → JournalsAreNamed image → IsFinished image f → Holds image f
 held image f marker named finished =
     let found = finished.journals in
     record {
-      contents = record { journals = found.journals; keyspaces = f.catalog.keyspaces; last = f.catalog.catalog; homes = map (λ (h : Home). records.view h.record) f.homes.items };
+      contents = record { journals = found.journals; keyspaces = f.catalog.keyspaces; last = f.catalog.catalog; homes = map (λ (h : KeyspaceRecords). records.view h.record) f.homes.items };
       sound = record {
         marker = marker;
         journals_named = named;
@@ -117,7 +117,7 @@ folders_along a b ids others same is are = subst (AreFolderIds b) (sym is) (subs
 pub journals_along : (a b : Image) (ids others : List ℕ) → a ≡ b → others ≡ ids → AreJournalIds a ids → AreJournalIds b others
 journals_along a b ids others same is are = subst (AreJournalIds b) (sym is) (subst (λ i. AreJournalIds i ids) same are)
 
-pub finished_of : (image one two three : Image) (f : Finished) (journal_ids : List ℕ) (living : List LivingKeyspace) → one ≡ image → two ≡ image → three ≡ image
+pub finished_of : (image one two three : Image) (f : RecoveredFolder) (journal_ids : List ℕ) (living : List LivingKeyspace) → one ≡ image → two ≡ image → three ≡ image
     → journal_ids ≡ f.journal_ids.items → AreJournalIds image f.journal_ids.items
     → AreFound image journal_ids (map view f.journals.batches.items) f.journals.least f.journals.end f.journals.torn
     → AreFolderIds one f.folder_ids.items → KeyspacesAreNamed one → two (keyspace_folder 0) ≡ Folder
@@ -184,7 +184,7 @@ pub unfinished_refuses : (image other : Image) (error : Error) → other ≡ ima
 unfinished_refuses image other error same tells named due =
     due_as (UnfinishedRefuses other) (FolderRefuses image) error (λ e refused. inr (Unfinished, tells, inr (named, subst (λ i. UnfinishedRefuses i e) same refused))) due
 
-pub reads_finished : (image other : Image) (f : Finished) → other ≡ image → marker_tells (marker_bytes image) ≡ Ok Whole → JournalsAreNamed image → IsFinished other f → ReadsFolder image (Some f)
+pub reads_finished : (image other : Image) (f : RecoveredFolder) → other ≡ image → marker_tells (marker_bytes image) ≡ Ok Whole → JournalsAreNamed image → IsFinished other f → ReadsFolder image (Some f)
 reads_finished image other f same tells named finished =
     let here = subst (λ i. IsFinished i f) same finished in
     let it = held image f tells named here in

@@ -14,7 +14,7 @@ use Rattle.fjall_tree.specs.Records.{Fields, IsRecords, HasContradiction, view}
 use Rattle.fjall_base.specs.Lists.{last_of}
 use Rattle.fjall_tree.proofs.Currents.{contradiction_has_no_reading}
 use Rattle.fjall_meta.specs.declared.living.LivingKeyspace.{LivingKeyspace}
-use Rattle.fjall_recovery.specs.declared.homes.Home.{Home}
+use Rattle.fjall_recovery.specs.declared.homes.KeyspaceRecords.{KeyspaceRecords}
 use Rattle.fjall_recovery.specs.Homes.{AreHomesRead, HasHome, HasLast, HasNoRecord, IsPlain, IsRead, IsReadFrom, records_text}
 use Rattle.fjall_recovery.specs.Refusals.{HomeRefuses, HomesRefuse, IsDue}
 use Rattle.fjall_recovery.proofs.Gathering.{due}
@@ -30,7 +30,7 @@ damaged_due text other (Io kind) same bad = tt
 damaged_due text other (Storage told) same bad = (ap Storage bad.0, subst HasNoRecord same (no_record text bad.1))
 damaged_due text other error same bad = absurd bad
 
-pub read_from : (text other : List ℕ) (home : Home) (found : Option Record) → text ≡ other
+pub read_from : (text other : List ℕ) (home : KeyspaceRecords) (found : Option Record) → text ≡ other
     → (rs : List Fields) × IsRecords text rs home.end × (option_map view found ≡ last_of rs)
     → ((rs : List Fields) (end : ℕ) → IsRecords text rs end → (last_of rs ≡ option_map view found) × (end ≡ home.end))
     → found ≡ Some home.record → IsPlain (view home.record) → home.len ≡ length text → IsReadFrom other home
@@ -49,7 +49,7 @@ read_from text other home found same whole only is plain len =
 
 -- ---- keyspaces one after another
 
-homes_more : (image : Image) (front : List LivingKeyspace) (homes : List Home) (k : LivingKeyspace) (home : Home) → AreHomesRead image front homes → IsRead image k.id home → AreHomesRead image (front ++ k ∷ []) (homes ++ home ∷ [])
+homes_more : (image : Image) (front : List LivingKeyspace) (homes : List KeyspaceRecords) (k : LivingKeyspace) (home : KeyspaceRecords) → AreHomesRead image front homes → IsRead image k.id home → AreHomesRead image (front ++ k ∷ []) (homes ++ home ∷ [])
 homes_more image [] [] k home all one = (one, tt)
 homes_more image [] (h ∷ homes) k home all one = absurd all
 homes_more image (j ∷ front) [] k home all one = absurd all
@@ -57,7 +57,7 @@ homes_more image (j ∷ front) (h ∷ homes) k home all one = (all.0, homes_more
 
 module _ (image text_image : Image) (living : List LivingKeyspace) (n : ℕ) (d k : LivingKeyspace) (at : k ≡ get_or living n d) (lt : n < length living) (same : text_image ≡ image) where
   -- one more was read
-  pub home_read : (homes : List Home) (home : Home) → AreHomesRead image (take n living) homes → IsRead text_image k.id home → AreHomesRead image (take (n + 1) living) (homes ++ home ∷ [])
+  pub home_read : (homes : List KeyspaceRecords) (home : KeyspaceRecords) → AreHomesRead image (take n living) homes → IsRead text_image k.id home → AreHomesRead image (take (n + 1) living) (homes ++ home ∷ [])
   home_read homes home all one =
       subst (λ (l : List LivingKeyspace). AreHomesRead image l (homes ++ home ∷ [])) (sym (ap (λ m. take m living) (add-one n) ∙ take-suc living n d lt ∙ ap (λ (j : LivingKeyspace). take n living ++ j ∷ []) (sym at)))
       (homes_more image (take n living) homes k home all (subst (λ i. IsRead i k.id home) same one))
@@ -66,7 +66,7 @@ module _ (image text_image : Image) (living : List LivingKeyspace) (n : ℕ) (d 
   here error refused = subst (λ (l : List LivingKeyspace). HomesRefuse image l error) (sym (drop_more living n d lt ∙ ap (λ (j : LivingKeyspace). j ∷ drop (n + 1) living) (sym at))) refused
 
   -- what refuses those behind refuses all
-  pub home_passed : (home : Home) (error : Error) → IsRead text_image k.id home → HomesRefuse image (drop (n + 1) living) error → HomesRefuse image (drop n living) error
+  pub home_passed : (home : KeyspaceRecords) (error : Error) → IsRead text_image k.id home → HomesRefuse image (drop (n + 1) living) error → HomesRefuse image (drop n living) error
   home_passed home error one refused =
       let read : IsRead image k.id home = subst (λ i. IsRead i k.id home) same one in
       here error (inr ((view home.record, record { folder = read.folder; last_is = read.read.has }), refused))

@@ -12,7 +12,7 @@ use Rattle.fjall_files.specs.Names.{keyspace_folder}
 use Rattle.fjall_catalog.specs.declared.catalog.Catalog.{Catalog}
 use Rattle.fjall_catalog.specs.Catalog.{HasEnd, Says, fields, first_catalog, records_in}
 use Rattle.fjall_versions.specs.Replays.{bare, store_in, least_after}
-use Rattle.fjall_recovery.specs.declared.folder.Finished.{Finished}
+use Rattle.fjall_recovery.specs.declared.folder.RecoveredFolder.{RecoveredFolder}
 use Rattle.fjall_recovery.specs.Homes.{AreHomesRead, HaveHomes}
 use Rattle.fjall_recovery.specs.Journals.{Journal, HoldsJournals, AreFound, AreJournalIds, batches_in, journal_text}
 use Rattle.fjall_recovery.specs.Naming.{AreFolderIds, JournalsAreNamed, KeyspacesAreNamed}
@@ -98,7 +98,7 @@ StandsFor image store = ((c : Contents) × IsSound image c × (store ≡ store_o
 -- ---- as it is read
 
 -- What was read of a folder that was made to its end.
-pub record IsFinished (image : Image) (f : Finished) : Type 0 where
+pub record IsFinished (image : Image) (f : RecoveredFolder) : Type 0 where
   pub journal_ids : AreJournalIds image f.journal_ids.items
   pub journals : AreFound image f.journal_ids.items (map view f.journals.batches.items) f.journals.least f.journals.end f.journals.torn
   pub folder_ids : AreFolderIds image f.folder_ids.items
@@ -111,7 +111,7 @@ pub record IsFinished (image : Image) (f : Finished) : Type 0 where
   pub homes : AreHomesRead image f.catalog.keyspaces.living f.homes.items
 
 -- what was read is what the folder holds
-pub record Shows (f : Finished) (c : Contents) : Type 0 where
+pub record Shows (f : RecoveredFolder) (c : Contents) : Type 0 where
   pub ids : f.journal_ids.items ≡ map (λ j. j.id) c.journals
   pub batches : map view f.journals.batches.items ≡ map shown (batches_in c.journals)
   pub least : f.journals.least ≡ least_after 0 (map shown (batches_in c.journals))
@@ -120,6 +120,6 @@ pub record Shows (f : Finished) (c : Contents) : Type 0 where
   pub homes : map (λ h. records.view h.record) f.homes.items ≡ c.homes
 
 -- What was read of a folder: what it holds, or that its making was cut short.
-abbrev pub ReadsFolder : Image → Option Finished → Type 0
+abbrev pub ReadsFolder : Image → Option RecoveredFolder → Type 0
 ReadsFolder image None = IsUnfinished image
 ReadsFolder image (Some f) = IsFinished image f × ((c : Contents) × IsSound image c × Shows f c)

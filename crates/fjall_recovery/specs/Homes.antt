@@ -6,7 +6,7 @@ use Rattle.fjall_base.specs.Lists.{last_of}
 use Rattle.fjall_files.specs.Texts.{text_in}
 use Rattle.fjall_meta.specs.declared.living.LivingKeyspace.{LivingKeyspace}
 use Rattle.fjall_files.specs.Names.{keyspace_folder, current_name}
-use Rattle.fjall_recovery.specs.declared.homes.Home.{Home}
+use Rattle.fjall_recovery.specs.declared.homes.KeyspaceRecords.{KeyspaceRecords}
 
 -- the bytes of a keyspace's records in an image
 abbrev pub records_text : Image → ℕ → List ℕ
@@ -39,7 +39,7 @@ HaveHomes image (k ∷ living) (last ∷ homes) = HasHome image k.id last × Hav
 HaveHomes image living homes = ⊥
 
 -- what was read of a keyspace's records: the last one, where the whole ones end, and how many bytes there are
-pub record IsReadFrom (text : List ℕ) (home : Home) : Type 0 where
+pub record IsReadFrom (text : List ℕ) (home : KeyspaceRecords) : Type 0 where
   pub has : HasLast text (view home.record)
   pub ends : (records : List Fields) (end : ℕ) → IsRecords text records end → end ≡ home.end
   pub len : home.len ≡ length text
@@ -49,13 +49,13 @@ abbrev pub HasNoRecord : List ℕ → Type 0
 HasNoRecord text = (last : Fields) → HasLast text last → ⊥
 
 -- a keyspace's folder as it was read
-pub record IsRead (image : Image) (id : ℕ) (home : Home) : Type 0 where
+pub record IsRead (image : Image) (id : ℕ) (home : KeyspaceRecords) : Type 0 where
   pub named : home.id ≡ id
   pub folder : image (keyspace_folder id) ≡ Folder
   pub read : IsReadFrom (records_text image id) home
 
 -- all of these keyspaces, one after another
-abbrev pub AreHomesRead : Image → List LivingKeyspace → List Home → Type 0
+abbrev pub AreHomesRead : Image → List LivingKeyspace → List KeyspaceRecords → Type 0
 AreHomesRead image [] [] = Unit {0}
 AreHomesRead image (k ∷ living) (home ∷ homes) = IsRead image k.id home × AreHomesRead image living homes
 AreHomesRead image living homes = ⊥

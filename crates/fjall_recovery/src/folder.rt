@@ -15,8 +15,8 @@ ghost use Rattle.fjall_recovery.specs.Journals.{AreJournalIds};
 ghost use Rattle.fjall_recovery.specs.Naming.{AreFolderIds};
 ghost use Rattle.fjall_recovery.specs.Refusals.{FinishedRefuses, FolderRefuses, HasRisen, IsDue, IsOpeningRefusal, TreeRefuses};
 
-use crate::homes::{Home, read_homes};
-use crate::journals::{Journals, read_journals};
+use crate::homes::{KeyspaceRecords, read_homes};
+use crate::journals::{RecoveredJournals, read_journals};
 use crate::listing::{list_journals, list_keyspaces};
 use crate::unfinished::check_unfinished;
 use fjall_base::{Disk, Error, Result, StorageError};
@@ -26,17 +26,17 @@ use fjall_meta::LivingKeyspace;
 use std::alloc::Global;
 
 /// What a folder holds that was made to its end.
-#[derive(Debug, Drop)]
-pub struct Finished {
+#[derive(Drop)]
+pub struct RecoveredFolder {
     /// The ids of the journals, ascending.
     pub journal_ids: Vec<u64>,
-    pub journals: Journals,
+    pub journals: RecoveredJournals,
     /// The ids of the keyspaces that have a folder, ascending; 0 is that of tree 0.
     pub folder_ids: Vec<u64>,
     /// What tree 0 says.
     pub catalog: LoadedCatalog,
     /// The records of the keyspaces that live, by id ascending.
-    pub homes: Vec<Home>,
+    pub homes: Vec<KeyspaceRecords>,
 }
 
 /// One past the number, and 0 where there is none.
@@ -50,7 +50,7 @@ fn past(number: Option<u64>) -> u64
 }
 
 /// The greatest number that these records tell.
-fn greatest(homes: &[Home]) -> Option<u64>
+fn greatest(homes: &[KeyspaceRecords]) -> Option<u64>
     ensures { past result ≡ past_records (map (λ home. view home.record) homes.now) }
 {
     let mut greatest = None;
@@ -60,7 +60,7 @@ fn greatest(homes: &[Home]) -> Option<u64>
     greatest
 }
 
-impl Finished {
+impl RecoveredFolder {
     /// The least number that a next change may have: one past the greatest one that stands in the folder, and 0 where
     /// none does. In a sound folder it is 2^63 at most.
     pub fn number(&self) -> u64
@@ -112,7 +112,11 @@ fn read_tree<D: Disk>(alloc: Global, disk: &mut D, folder_ids: &[u64]) -> Result
 }
 
 /// Reads a folder that was made to its end: the journals of these ids, and then tree 0 and the keyspaces that it names.
-fn read_finished<D: Disk>(alloc: Global, disk: &mut D, journal_ids: Vec<u64>) -> Result<Finished>
+fn read_finished<D: Disk>(
+    alloc: Global,
+    disk: &mut D,
+    journal_ids: Vec<u64>,
+) -> Result<RecoveredFolder>
     ensures found { IsTrue D.honest → AreJournalIds (seen (D.meaning disk.old)) journal_ids.items → IfOk result (IsFinished (seen (D.meaning disk.old))) }
     ensures same { IsTrue D.honest → Took (D.meaning disk.old) (D.meaning disk.new) [] }
     ensures served { IsTrue D.honest → AllServed (D.meaning disk.old) (D.meaning disk.new) }
@@ -129,7 +133,7 @@ fn read_finished<D: Disk>(alloc: Global, disk: &mut D, journal_ids: Vec<u64>) ->
     let folder_ids = list_keyspaces(alloc, disk)?;
     let catalog = read_tree(alloc, disk, &folder_ids)?;
     let homes = read_homes(alloc, disk, &folder_ids, catalog.keyspaces.living())?;
-    Ok(Finished {
+    Ok(RecoveredFolder {
         journal_ids,
         journals,
         folder_ids,
@@ -161,7 +165,7 @@ fn read_version<D: Disk>(alloc: Global, disk: &mut D) -> Result<Marker>
 /// journals (`InvalidFileName`), the journals one after another, the names in `keyspaces` (`Unrecoverable`), tree 0 with
 /// the names and options that it stores, and each keyspace by its id. A folder without its marker into which something was
 /// written is `Unrecoverable`. `OutOfMemory` and `Io` come as ever.
-pub fn read_folder<D: Disk>(alloc: Global, disk: &mut D) -> Result<Option<Finished>>
+pub fn read_folder<D: Disk>(alloc: Global, disk: &mut D) -> Result<Option<RecoveredFolder>>
     ensures found { IsTrue D.honest → IfOk result (λ folder. ReadsFolder (seen (D.meaning disk.old)) folder) }
     ensures same { IsTrue D.honest → Took (D.meaning disk.old) (D.meaning disk.new) [] }
     ensures served { IsTrue D.honest → AllServed (D.meaning disk.old) (D.meaning disk.new) }

@@ -16,8 +16,8 @@ use fjall_tree::{Current, Record, read_current};
 use std::alloc::Global;
 
 /// What the `current` of a keyspace holds.
-#[derive(Debug, Drop)]
-pub struct Home {
+#[derive(Drop)]
+pub struct KeyspaceRecords {
     /// The keyspace's id.
     pub id: u64,
     /// The last whole record, which counts.
@@ -38,7 +38,7 @@ fn is_plain(last: &Record) -> bool
 }
 
 /// Reads the records of the keyspace of this id.
-fn read_records<D: Disk>(alloc: Global, disk: &mut D, id: u64) -> Result<Home>
+fn read_records<D: Disk>(alloc: Global, disk: &mut D, id: u64) -> Result<KeyspaceRecords>
     ensures read { IsTrue D.honest → IfOk result (λ home. IsReadFrom (records_text (seen (D.meaning disk.old)) id) home) }
     ensures named { IfOk result (λ home. home.id ≡ id) }
     ensures same { IsTrue D.honest → Took (D.meaning disk.old) (D.meaning disk.new) [] }
@@ -58,7 +58,7 @@ fn read_records<D: Disk>(alloc: Global, disk: &mut D, id: u64) -> Result<Home>
     if !is_plain(&record) {
         return Err(DAMAGED);
     }
-    Ok(Home {
+    Ok(KeyspaceRecords {
         id,
         record,
         end,
@@ -67,7 +67,12 @@ fn read_records<D: Disk>(alloc: Global, disk: &mut D, id: u64) -> Result<Home>
 }
 
 /// Reads the records of the keyspace of this id, whose folder is among those of these ids.
-fn read_home<D: Disk>(alloc: Global, disk: &mut D, folders: &[u64], id: u64) -> Result<Home>
+fn read_home<D: Disk>(
+    alloc: Global,
+    disk: &mut D,
+    folders: &[u64],
+    id: u64,
+) -> Result<KeyspaceRecords>
     ensures read { IsTrue D.honest → AreFolderIds (seen (D.meaning disk.old)) folders.now → IfOk result (IsRead (seen (D.meaning disk.old)) id) }
     ensures same { IsTrue D.honest → Took (D.meaning disk.old) (D.meaning disk.new) [] }
     ensures served { IsTrue D.honest → AllServed (D.meaning disk.old) (D.meaning disk.new) }
@@ -90,7 +95,7 @@ pub(crate) fn read_homes<D: Disk>(
     disk: &mut D,
     folders: &[u64],
     living: &[LivingKeyspace],
-) -> Result<Vec<Home>>
+) -> Result<Vec<KeyspaceRecords>>
     ensures read { IsTrue D.honest → AreFolderIds (seen (D.meaning disk.old)) folders.now
         → IfOk result (λ homes. AreHomesRead (seen (D.meaning disk.old)) living.now homes.items) }
     ensures same { IsTrue D.honest → Took (D.meaning disk.old) (D.meaning disk.new) [] }

@@ -18,8 +18,8 @@ use fjall_versions::check_batches;
 use std::alloc::Global;
 
 /// What the journals of a folder hold.
-#[derive(Debug, Drop)]
-pub struct Journals {
+#[derive(Drop)]
+pub struct RecoveredJournals {
     /// The whole batches of all of them, in order.
     pub batches: Vec<Batch>,
     /// The least number that a next batch may have.
@@ -68,15 +68,15 @@ pub(crate) fn read_one<D: Disk>(alloc: Global, disk: &mut D, id: u64) -> Result<
     read_journal(alloc, &text)
 }
 
-impl Journals {
+impl RecoveredJournals {
     /// No journal yet.
-    fn new(alloc: Global) -> Journals
+    fn new(alloc: Global) -> RecoveredJournals
         ensures batches { result.batches.items ≡ [] }
         ensures least { result.least ≡ 0 }
         ensures end { result.end ≡ 0 }
         ensures torn { result.torn ≡ false }
     {
-        Journals {
+        RecoveredJournals {
             batches: Vec::new(alloc),
             least: 0,
             end: 0,
@@ -103,7 +103,7 @@ impl Journals {
 }
 
 /// Reads sealed journals, one after another.
-fn read_sealed<D: Disk>(alloc: Global, disk: &mut D, ids: &[u64]) -> Result<Journals>
+fn read_sealed<D: Disk>(alloc: Global, disk: &mut D, ids: &[u64]) -> Result<RecoveredJournals>
     ensures found { IsTrue D.honest → IfOk result (λ found. AreSealed (seen (D.meaning disk.old)) ids.now (map view found.batches.items) found.least) }
     ensures torn { IfOk result (λ found. found.torn ≡ false) }
     ensures behind { IsTrue D.honest → (active : ℕ) (error : Error)
@@ -116,7 +116,7 @@ fn read_sealed<D: Disk>(alloc: Global, disk: &mut D, ids: &[u64]) -> Result<Jour
     ensures cause { IsTrue D.honest → (active : ℕ) → IfErr result (IsDue (JournalsRefuse (seen (D.meaning disk.old)) 0 (ids.now ++ active ∷ []))) }
     ensures listed { IfErr result IsOpeningRefusal }
 {
-    let mut journals = Journals::new(alloc);
+    let mut journals = RecoveredJournals::new(alloc);
     for id in ids {
         let contents = read_one(alloc, disk, *id)?;
         let tail = journals.take(contents)?;
@@ -130,7 +130,7 @@ fn read_sealed<D: Disk>(alloc: Global, disk: &mut D, ids: &[u64]) -> Result<Jour
 /// By the formats page numbers ascend over all their batches and lie below 2^63, and a sealed journal is whole to its
 /// end (`Unrecoverable`); no item has the value type 4 (`InvalidTag`); and a damaged tail has its name
 /// (`JournalRecovery`). The first of these in the order of the bytes refuses. Nothing of the disk changes.
-pub fn read_journals<D: Disk>(alloc: Global, disk: &mut D, ids: &[u64]) -> Result<Journals>
+pub fn read_journals<D: Disk>(alloc: Global, disk: &mut D, ids: &[u64]) -> Result<RecoveredJournals>
     ensures found { IsTrue D.honest
         → IfOk result (λ found. AreFound (seen (D.meaning disk.old)) ids.now (map view found.batches.items) found.least found.end found.torn) }
     ensures same { IsTrue D.honest → Took (D.meaning disk.old) (D.meaning disk.new) [] }
@@ -141,7 +141,7 @@ pub fn read_journals<D: Disk>(alloc: Global, disk: &mut D, ids: &[u64]) -> Resul
     ensures listed { IfErr result IsOpeningRefusal }
 {
     let [sealed @ .., active] = ids else {
-        return Ok(Journals::new(alloc));
+        return Ok(RecoveredJournals::new(alloc));
     };
     let mut journals = read_sealed(alloc, disk, sealed)?;
     let contents = read_one(alloc, disk, *active)?;

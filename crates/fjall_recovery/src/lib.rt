@@ -10,9 +10,9 @@ mod laws;
 mod listing;
 mod unfinished;
 
-pub use folder::{Finished, read_folder};
-pub use homes::Home;
-pub use journals::{Journals, read_journals};
+pub use folder::{RecoveredFolder, read_folder};
+pub use homes::KeyspaceRecords;
+pub use journals::{RecoveredJournals, read_journals};
 pub use laws::{
     a_crash_holds, a_folder_stands, a_rest_holds, a_sound_folder_has_both_halves,
     crashes_leave_the_root, crashes_leave_the_tree, journals_are_of_the_root, one_contents,

@@ -15,8 +15,8 @@ use Rattle.fjall_files.proofs.Distinct.{kept}
 use Rattle.fjall_files.proofs.Fitting.{fits_journal, folder_of-folder}
 use Rattle.fjall_files.proofs.Serving.{can_make_journal}
 use Rattle.fjall_meta.specs.declared.living.LivingKeyspace.{LivingKeyspace}
-use Rattle.fjall_recovery.specs.declared.folder.Finished.{Finished}
-use Rattle.fjall_recovery.specs.declared.homes.Home.{Home}
+use Rattle.fjall_recovery.specs.declared.folder.RecoveredFolder.{RecoveredFolder}
+use Rattle.fjall_recovery.specs.declared.homes.KeyspaceRecords.{KeyspaceRecords}
 use Rattle.fjall_recovery.specs.Folders.{Contents, IsFinished, IsSound, file_bytes}
 use Rattle.fjall_recovery.specs.Homes.{HaveHomes}
 use Rattle.fjall_recovery.specs.Journals.{Journal}
@@ -41,7 +41,7 @@ active_can state c p name tidy sound suits is =
     subst (CanCreate state) (sym (is ∙ suits.active)) (can_make_journal state id tidy (active_small (standing state) (ids_of c.journals) sound.journals.ids))
 
 -- and fits there
-pub active_fits : (image : Image) (f : Finished) (p : MendPlan) → IsFinished image f → IsMendingOf image f p → FitsAt (string_bytes p.active) (File [] [])
+pub active_fits : (image : Image) (f : RecoveredFolder) (p : MendPlan) → IsFinished image f → IsMendingOf image f p → FitsAt (string_bytes p.active) (File [] [])
 active_fits image f p finished is =
     let id = active_of f.journal_ids.items in
     subst (λ (n : Name). FitsAt n (File [] [])) (sym is.2.active) (fits_journal id (active_small image f.journal_ids.items finished.journal_ids) [] [])
@@ -165,10 +165,10 @@ module _ (id : ℕ) (small : id < 2 ^ 64) where
     no_currents ids fit.1 (λ has. dead (suc has.0, (let lt = has.1 in omega (arith, lt)), has.2)),
   )
 
-  pub home_active : (f : Finished) (tree : End) (p : MendPlan) → IsPlanOf f tree p → current_name id ≢ string_bytes p.active
+  pub home_active : (f : RecoveredFolder) (tree : End) (p : MendPlan) → IsPlanOf f tree p → current_name id ≢ string_bytes p.active
   home_active f tree p plan same = journal_current (active_of f.journal_ids.items) id (sym (same ∙ plan.active))
 
-  pub home_whole : (f : Finished) (tree : End) (p : MendPlan) → IsPlanOf f tree p → All (λ file. current_name id ≢ string_bytes file) p.whole.items
+  pub home_whole : (f : RecoveredFolder) (tree : End) (p : MendPlan) → IsPlanOf f tree p → All (λ file. current_name id ≢ string_bytes file) p.whole.items
   home_whole f tree p plan = back_map (λ (q : Name). current_name id ≢ q) string_bytes p.whole.items
       (subst (AllByRecursion (λ (q : Name). current_name id ≢ q)) (sym plan.whole) ((λ same. marker_current id (sym same)), no_journals (sealed_of f.journal_ids.items)))
 
@@ -176,12 +176,12 @@ module _ (id : ℕ) (small : id < 2 ^ 64) where
   living_fit [] next fits all = tt
   living_fit (k ∷ living) next fits all = ((let lt = all 0 k (omega arith) in omega (arith, lt, fits)), living_fit living next fits (λ i d lt. all (suc i) d (omega (arith, lt))))
 
-  pub home_ends : (image : Image) (f : Finished) (tree : End) (p : MendPlan) → 0 < id → IsFinished image f → tree.name ≡ current_name 0 → IsPlanOf f tree p → (Contains (map (λ (k : LivingKeyspace). k.id) f.catalog.keyspaces.living) id → ⊥)
+  pub home_ends : (image : Image) (f : RecoveredFolder) (tree : End) (p : MendPlan) → 0 < id → IsFinished image f → tree.name ≡ current_name 0 → IsPlanOf f tree p → (Contains (map (λ (k : LivingKeyspace). k.id) f.catalog.keyspaces.living) id → ⊥)
       → All (λ (e : FileEnd). current_name id ≢ string_bytes e.name) p.ends.items
   home_ends image f tree p some finished named plan dead =
       let are = finished.catalog.are in
       let living = f.catalog.keyspaces.living in
-      let ids : map (λ (h : Home). h.id) f.homes.items ≡ map (λ (k : LivingKeyspace). k.id) living = same_ids image living f.homes.items finished.homes in
+      let ids : map (λ (h : KeyspaceRecords). h.id) f.homes.items ≡ map (λ (k : LivingKeyspace). k.id) living = same_ids image living f.homes.items finished.homes in
       back_map (λ (q : Name). current_name id ≢ q) name_of_end p.ends.items
       (subst (AllByRecursion (λ (q : Name). current_name id ≢ q)) (sym (planned_names f tree p named plan)) (
         (λ same. journal_current (active_of f.journal_ids.items) id (sym same)),

@@ -3,7 +3,7 @@ use Rattle.std.proofs.Common.{◌≡◌, List, [], ◌∷◌, length, Some, refl
 use Rattle.fjall_base.specs.Disk.{Name, State}
 use Rattle.fjall_base.specs.Lists.{last_of}
 use Rattle.fjall_files.specs.Names.{journal_name}
-use Rattle.fjall_recovery.specs.declared.folder.Finished.{Finished}
+use Rattle.fjall_recovery.specs.declared.folder.RecoveredFolder.{RecoveredFolder}
 use Rattle.fjall_recovery.specs.Folders.{Contents}
 use Rattle.fjall_recovery.specs.Journals.{Journal, batches_in}
 use Rattle.fjall_recovery.specs.Places.{texts_of}
@@ -20,7 +20,7 @@ pub same_active : (js : List Journal) → active_of (ids_of (opened js)) ≡ act
 same_active [] = refl
 same_active (j ∷ js) = refl
 
-pub mended : (state : State) (found : Finished) (c : Contents) (active : Name) → IsRested state (with_active c) → active ≡ journal_name (active_of (ids_of c.journals))
+pub mended : (state : State) (found : RecoveredFolder) (c : Contents) (active : Name) → IsRested state (with_active c) → active ≡ journal_name (active_of (ids_of c.journals))
     → ((journal : Journal) → last_of (opened c.journals) ≡ Some journal → length (texts_of journal.batches) ≡ found.journals.end) → IsMended state found c active
 mended state found c active rest is ends =
     let p = opened_parted c.journals in

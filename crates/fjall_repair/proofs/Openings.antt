@@ -24,8 +24,8 @@ use Rattle.fjall_meta.specs.declared.living.LivingKeyspace.{LivingKeyspace}
 use Rattle.fjall_catalog.specs.Catalog.{fields}
 use Rattle.fjall_catalog.proofs.Resting.{last_has}
 use Rattle.fjall_recovery.specs.Folders.{Contents, IsFinished, IsSound, IsUnfinished, Shows, StandsFor, number_of, past_record, past_records, store_of}
-use Rattle.fjall_recovery.specs.declared.folder.Finished.{Finished}
-use Rattle.fjall_recovery.specs.declared.homes.Home.{Home}
+use Rattle.fjall_recovery.specs.declared.folder.RecoveredFolder.{RecoveredFolder}
+use Rattle.fjall_recovery.specs.declared.homes.KeyspaceRecords.{KeyspaceRecords}
 use Rattle.fjall_recovery.specs.Homes.{AreHomesRead}
 use Rattle.fjall_recovery.specs.Refusals.{FolderRefuses, HasRisen, IsDue}
 use Rattle.fjall_recovery.proofs.Alone.{one_contents}
@@ -60,7 +60,7 @@ stands_now old folder holds = started old (λ image. StandsFor image (store_held
 -- ---- what was opened
 
 -- what was read is what the folder holds
-pub takes_contents : (found : Finished) (contents : Contents) (o : Opened) (active : Name) (end : ℕ) → Shows found contents → Takes o active end found.catalog.catalog found.catalog.keyspaces (map view found.journals.batches.items)
+pub takes_contents : (found : RecoveredFolder) (contents : Contents) (o : Opened) (active : Name) (end : ℕ) → Shows found contents → Takes o active end found.catalog.catalog found.catalog.keyspaces (map view found.journals.batches.items)
     → Takes o active end contents.last contents.keyspaces (map shown (batches_in contents.journals))
 takes_contents found contents o active end shows takes = record {
   journal = takes.journal;
@@ -110,14 +110,14 @@ module _ (state : State) (contents : Contents) (active : Name) (end : ℕ) (is :
 record_numbers : (records : List Fields) (r : Fields) → AllByRecursion IsRecord records → last_of records ≡ Some r → HasNumbers r
 record_numbers records r each last = let is = last_has IsRecord records r each last in (is.consistent.persisted, is.consistent.highest)
 
-home_numbers : (image : Image) (living : List LivingKeyspace) (homes : List Home) → AreHomesRead image living homes → AllByRecursion HasNumbers (map (λ h. records.view h.record) homes)
+home_numbers : (image : Image) (living : List LivingKeyspace) (homes : List KeyspaceRecords) → AreHomesRead image living homes → AllByRecursion HasNumbers (map (λ h. records.view h.record) homes)
 home_numbers image [] [] read = tt
 home_numbers image [] (home ∷ homes) read = absurd read
 home_numbers image (k ∷ living) [] read = absurd read
 home_numbers image (k ∷ living) (home ∷ homes) read =
     let has = read.0.read.has in (record_numbers has.records (records.view home.record) has.whole.each has.is, home_numbers image living homes read.1)
 
-module _ (image : Image) (found : Finished) (read : IsFinished image found) where
+module _ (image : Image) (found : RecoveredFolder) (read : IsFinished image found) where
   pub numbers : All HasNumbers (records_of found)
   numbers = All-from_recursion HasNumbers (records_of found)
       (record_numbers read.records (fields found.catalog.catalog) read.catalog.whole.each read.catalog.last_is, home_numbers image found.catalog.keyspaces.living found.homes.items read.homes)

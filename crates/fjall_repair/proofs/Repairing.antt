@@ -14,7 +14,7 @@ use Rattle.fjall_base.specs.Store.{Store}
 use Rattle.fjall_meta.specs.Keyspaces.{Keyspaces}
 use Rattle.fjall_catalog.specs.declared.catalog.Catalog.{Catalog}
 use Rattle.fjall_versions.specs.Replays.{store_in}
-use Rattle.fjall_recovery.specs.declared.folder.Finished.{Finished}
+use Rattle.fjall_recovery.specs.declared.folder.RecoveredFolder.{RecoveredFolder}
 use Rattle.fjall_recovery.specs.Folders.{Contents, Shows, StandsFor, store_of}
 use Rattle.fjall_recovery.specs.Journals.{batches_in}
 use Rattle.fjall_recovery.specs.Places.{Journaling, LiesInRoot, LiesInTree, RestsInTree, journals_with, texts_of}
@@ -68,12 +68,12 @@ module _ (contents : Contents) (mid new : Meaning) (plan : SweepPlan) (records :
   }
 
 -- a plan by what was read is one by what the folder holds
-pub plan_of : (found : Finished) (contents : Contents) (plan : SweepPlan) → Shows found contents → IsPlan (option_map (λ table. table.id) found.catalog.catalog.table) found.catalog.keyspaces.living plan → IsPlan (named_in (tree_of contents)) contents.keyspaces.living plan
+pub plan_of : (found : RecoveredFolder) (contents : Contents) (plan : SweepPlan) → Shows found contents → IsPlan (option_map (λ table. table.id) found.catalog.catalog.table) found.catalog.keyspaces.living plan → IsPlan (named_in (tree_of contents)) contents.keyspaces.living plan
 plan_of found contents plan shows is =
     subst (λ (s : Keyspaces). IsPlan (named_in (tree_of contents)) s.living plan) shows.keyspaces
     (subst (λ (last : Catalog). IsPlan (option_map (λ table. table.id) last.table) found.catalog.keyspaces.living plan) shows.last is)
 
-pub finds_of : (state : State) (found : Finished) (contents : Contents) (names : List Name) → Shows found contents → FindsTables state (option_map (λ table. table.id) found.catalog.catalog.table) names → FindsTables state (named_in (tree_of contents)) names
+pub finds_of : (state : State) (found : RecoveredFolder) (contents : Contents) (names : List Name) → Shows found contents → FindsTables state (option_map (λ table. table.id) found.catalog.catalog.table) names → FindsTables state (named_in (tree_of contents)) names
 finds_of state found contents names shows finds = subst (λ (last : Catalog). FindsTables state (option_map (λ table. table.id) last.table) names) shows.last finds
 
 -- journals without batches end where they begin

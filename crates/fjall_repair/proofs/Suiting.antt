@@ -12,8 +12,8 @@ use Rattle.fjall_tree.proofs.Currents.{one_reading, records_apart}
 use Rattle.fjall_files.specs.Names.{journal_name, current_name}
 use Rattle.fjall_meta.specs.Keyspaces.{Keyspaces}
 use Rattle.fjall_meta.specs.declared.living.LivingKeyspace.{LivingKeyspace}
-use Rattle.fjall_recovery.specs.declared.folder.Finished.{Finished}
-use Rattle.fjall_recovery.specs.declared.homes.Home.{Home}
+use Rattle.fjall_recovery.specs.declared.folder.RecoveredFolder.{RecoveredFolder}
+use Rattle.fjall_recovery.specs.declared.homes.KeyspaceRecords.{KeyspaceRecords}
 use Rattle.fjall_recovery.specs.Folders.{Contents, IsFinished, IsSound, Shows}
 use Rattle.fjall_recovery.specs.Homes.{AreHomesRead}
 use Rattle.fjall_recovery.specs.Journals.{Journal, AreJournalIds, EndsAt, HoldsJournals, journal_text, tail_of}
@@ -36,7 +36,7 @@ use Rattle.fjall_repair.proofs.Carrying.{name_of_end}
 -- ---- journals
 
 -- the journals that were read are those of the folder, and they end there
-pub ends_found : (image : Image) (f : Finished) (c : Contents) → IsSound image c → IsFinished image f → EndsAt image c.journals f.journals.end f.journals.torn
+pub ends_found : (image : Image) (f : RecoveredFolder) (c : Contents) → IsSound image c → IsFinished image f → EndsAt image c.journals f.journals.end f.journals.torn
 ends_found image f c sound finished =
     let found = finished.journals in
     let holds : HoldsJournals image found.journals = record { ids = subst (AreJournalIds image) (sym found.named) finished.journal_ids; read = found.read; sound = found.gathers.sound } in
@@ -140,7 +140,7 @@ module _ (image made : Image) (active : Name) (is : IsOpened image made active) 
     last_file e last [] end whole is = let bad : ⊥ = cc in absurd bad
     last_file e last (r ∷ rs) end whole is = some_file e r rs end whole
 
-    homes_right : (c : Contents) (living : List LivingKeyspace) (homes : List Home) → AreHomesRead image living homes → AllByRecursion (IsRightEnd made c) (map home_end homes)
+    homes_right : (c : Contents) (living : List LivingKeyspace) (homes : List KeyspaceRecords) → AreHomesRead image living homes → AllByRecursion (IsRightEnd made c) (map home_end homes)
     homes_right c [] [] all = tt
     homes_right c [] (h ∷ homes) all = absurd all
     homes_right c (k ∷ living) [] all = absurd all
@@ -156,22 +156,22 @@ module _ (image made : Image) (active : Name) (is : IsOpened image made active) 
 
 -- ---- names
 
-pub same_ids : (image : Image) (living : List LivingKeyspace) (homes : List Home) → AreHomesRead image living homes → map (λ (h : Home). h.id) homes ≡ map (λ (k : LivingKeyspace). k.id) living
+pub same_ids : (image : Image) (living : List LivingKeyspace) (homes : List KeyspaceRecords) → AreHomesRead image living homes → map (λ (h : KeyspaceRecords). h.id) homes ≡ map (λ (k : LivingKeyspace). k.id) living
 same_ids image [] [] all = refl
 same_ids image [] (h ∷ homes) all = absurd all
 same_ids image (k ∷ living) [] all = absurd all
-same_ids image (k ∷ living) (h ∷ homes) all = ap (λ id. id ∷ map (λ (g : Home). g.id) homes) all.0.named ∙ ap (λ ids. k.id ∷ ids) (same_ids image living homes all.1)
+same_ids image (k ∷ living) (h ∷ homes) all = ap (λ id. id ∷ map (λ (g : KeyspaceRecords). g.id) homes) all.0.named ∙ ap (λ ids. k.id ∷ ids) (same_ids image living homes all.1)
 
 names_of : (ends : List FileEnd) → map name_of_end ends ≡ map (λ (e : End). e.name) (map end_of ends)
 names_of [] = refl
 names_of (e ∷ ends) = ap (λ ns. string_bytes e.name ∷ ns) (names_of ends)
 
-home_names : (homes : List Home) → map (λ (e : End). e.name) (map home_end homes) ≡ map current_name (map (λ (h : Home). h.id) homes)
+home_names : (homes : List KeyspaceRecords) → map (λ (e : End). e.name) (map home_end homes) ≡ map current_name (map (λ (h : KeyspaceRecords). h.id) homes)
 home_names [] = refl
 home_names (h ∷ homes) = ap (λ ns. current_name h.id ∷ ns) (home_names homes)
 
 -- the names of all files that are ended
-pub planned_names : (f : Finished) (tree : End) (p : MendPlan) → tree.name ≡ current_name 0 → IsPlanOf f tree p → map name_of_end p.ends.items ≡ ended_names (active_of f.journal_ids.items) (map (λ (h : Home). h.id) f.homes.items)
+pub planned_names : (f : RecoveredFolder) (tree : End) (p : MendPlan) → tree.name ≡ current_name 0 → IsPlanOf f tree p → map name_of_end p.ends.items ≡ ended_names (active_of f.journal_ids.items) (map (λ (h : KeyspaceRecords). h.id) f.homes.items)
 planned_names f tree p named plan =
     names_of p.ends.items ∙ ap (map (λ (e : End). e.name)) plan.ends
     ∙ ap (λ (n : Name). journal_name (active_of f.journal_ids.items) ∷ n ∷ map (λ (e : End). e.name) (map home_end f.homes.items)) named
@@ -184,7 +184,7 @@ not_torn : (torn : Bool) (end len : ℕ) → torn ≡ false → (IsTrue torn ↔
 not_torn torn end len not is = grind (arith, nat_tests)
 
 -- the end of tree 0's records that was read is right
-tree_ends : (image : Image) (f : Finished) → IsFinished image f → IsTreeEnd image (tree_end f.catalog)
+tree_ends : (image : Image) (f : RecoveredFolder) → IsFinished image f → IsTreeEnd image (tree_end f.catalog)
 tree_ends image f read = record {
   named = refl;
   is = λ records end whole. (one_reading (records_in image) records read.end.records end f.catalog.end whole read.end.whole).1;
@@ -192,21 +192,21 @@ tree_ends image f read = record {
 }
 
 -- so a plan for the folder that was read is one of the image
-pub plan_is : (image : Image) (f : Finished) (result : Result MendPlan Error) → IsFinished image f → IfOk result (IsPlanOf f (tree_end f.catalog)) → IfOk result (IsMendingOf image f)
+pub plan_is : (image : Image) (f : RecoveredFolder) (result : Result MendPlan Error) → IsFinished image f → IfOk result (IsPlanOf f (tree_end f.catalog)) → IfOk result (IsMendingOf image f)
 plan_is image f (Ok p) read is = (tree_end f.catalog, tree_ends image f read, is)
 plan_is image f (Err e) read is = tt
 
-pub suits : (image : Image) (f : Finished) (c : Contents) (tree : End) (p : MendPlan) → IsSound image c → IsFinished image f → Shows f c → IsTreeEnd image tree → IsPlanOf f tree p → Suits image c p
+pub suits : (image : Image) (f : RecoveredFolder) (c : Contents) (tree : End) (p : MendPlan) → IsSound image c → IsFinished image f → Shows f c → IsTreeEnd image tree → IsPlanOf f tree p → Suits image c p
 suits image f c tree p sound finished shows tree_end plan =
     let ids : f.journal_ids.items ≡ ids_of c.journals = shows.ids in
-    let living : map (λ (h : Home). h.id) f.homes.items ≡ map (λ (k : LivingKeyspace). k.id) c.keyspaces.living =
+    let living : map (λ (h : KeyspaceRecords). h.id) f.homes.items ≡ map (λ (k : LivingKeyspace). k.id) c.keyspaces.living =
     same_ids image f.catalog.keyspaces.living f.homes.items finished.homes ∙ ap (λ (s : Keyspaces). map (λ (k : LivingKeyspace). k.id) s.living) shows.keyspaces in
     let active : string_bytes p.active ≡ journal_name (active_of (ids_of c.journals)) = plan.active ∙ ap (λ l. journal_name (active_of l)) ids in
     record {
       active = active;
       folders = plan.folders ∙ ap folder_names living;
       whole = plan.whole ∙ ap whole_names ids;
-      ended = planned_names f tree p tree_end.named plan ∙ ap (λ l. ended_names (active_of l) (map (λ (h : Home). h.id) f.homes.items)) ids ∙ ap (λ l. ended_names (active_of (ids_of c.journals)) l) living;
+      ended = planned_names f tree p tree_end.named plan ∙ ap (λ l. ended_names (active_of l) (map (λ (h : KeyspaceRecords). h.id) f.homes.items)) ids ∙ ap (λ l. ended_names (active_of (ids_of c.journals)) l) living;
       right = λ made is. subst (AllByRecursion (IsRightEnd made (with_active c))) (sym plan.ends) (
         subst (λ (n : Name). IsRightEnd made (with_active c) (let e : End = record { name = n; cut = f.journals.torn; len = f.journals.end } in e)) plan.active
             (journal_right image made (string_bytes p.active) is (with_active c) c.journals f.journals.end f.journals.torn refl active sound.journals.ids (ends_found image f c sound finished)),

@@ -11,7 +11,7 @@ use Rattle.fjall_meta.specs.Keyspaces.{AreKeyspaces, Keyspaces, no_keyspaces}
 use Rattle.fjall_catalog.specs.declared.catalog.Catalog.{Catalog}
 use Rattle.fjall_catalog.specs.Catalog.{fields, first_catalog}
 use Rattle.fjall_versions.specs.Versions.{store_of as store_behind, versions_behind}
-use Rattle.fjall_recovery.specs.declared.folder.Finished.{Finished}
+use Rattle.fjall_recovery.specs.declared.folder.RecoveredFolder.{RecoveredFolder}
 use Rattle.fjall_base.specs.Store.{Store}
 use Rattle.fjall_recovery.specs.Folders.{Contents, StandsFor, number_of, store_of}
 use Rattle.fjall_recovery.specs.Journals.{batches_in}
@@ -87,7 +87,7 @@ abbrev pub HasNumbers : Fields → Type 0
 HasNumbers r = IfSome r.persisted (λ n. n < 2 ^ 63) × IfSome r.highest (λ n. n < 2 ^ 63)
 
 -- the last records of tree 0 and of each keyspace, as they were read
-abbrev pub records_of : Finished → List Fields
+abbrev pub records_of : RecoveredFolder → List Fields
 records_of f = fields f.catalog.catalog ∷ map (λ h. records.view h.record) f.homes.items
 
 -- ---- why it isn't opened

@@ -4,7 +4,7 @@ use Rattle.std.specs.Option.{option_map}
 use Rattle.fjall_base.specs.Disk.{Meaning, Name, State}
 use Rattle.fjall_files.specs.Calls.{seen}
 use Rattle.fjall_journal.specs.Batches.{view}
-use Rattle.fjall_recovery.specs.declared.folder.Finished.{Finished}
+use Rattle.fjall_recovery.specs.declared.folder.RecoveredFolder.{RecoveredFolder}
 use Rattle.fjall_recovery.specs.Folders.{Contents, IsFinished, IsSound, Shows}
 use Rattle.fjall_repair.specs.declared.opened.Opened.{Opened}
 use Rattle.fjall_repair.specs.declared.plan.SweepPlan.{SweepPlan}
@@ -12,29 +12,29 @@ use Rattle.fjall_repair.specs.Opened.{Takes}
 use Rattle.fjall_repair.specs.Sweeps.{FindsAll, FindsTables, IsPlan}
 
 -- P is so of what the folder on the disk holds, where it was read as this
-abbrev pub WhereRead : Meaning → Finished → (Contents → Type 0) → Type 0
+abbrev pub WhereRead : Meaning → RecoveredFolder → (Contents → Type 0) → Type 0
 WhereRead disk found P = (c : Contents) → IsFinished (seen disk) found → Shows found c → P c
 
 -- the same where the folder is sound
-abbrev pub WhereSound : Meaning → Finished → (Contents → Type 0) → Type 0
+abbrev pub WhereSound : Meaning → RecoveredFolder → (Contents → Type 0) → Type 0
 WhereSound disk found P = (c : Contents) → IsFinished (seen disk) found → Shows found c → IsSound (seen disk) c → P c
 
 -- the id of the table that the last record of tree 0 names, as it was read
-abbrev pub table_of : Finished → Option ℕ
+abbrev pub table_of : RecoveredFolder → Option ℕ
 table_of found = option_map (λ table. table.id) found.catalog.catalog.table
 
 -- the plan is of what no record of the folder that was read names
-abbrev pub IsSweepOf : Finished → SweepPlan → Type 0
+abbrev pub IsSweepOf : RecoveredFolder → SweepPlan → Type 0
 IsSweepOf found plan = IsPlan (table_of found) found.catalog.keyspaces.living plan
 
 -- each table of tree 0's folder is the one that is named, or one that the plan removes
-abbrev pub FindsNamed : State → Finished → SweepPlan → Type 0
+abbrev pub FindsNamed : State → RecoveredFolder → SweepPlan → Type 0
 FindsNamed state found plan = FindsTables state (table_of found) (map string_bytes plan.tables.items)
 
 -- the plan has all that no record of the folder that was read names
-abbrev pub FindsUnnamed : State → Finished → SweepPlan → Type 0
+abbrev pub FindsUnnamed : State → RecoveredFolder → SweepPlan → Type 0
 FindsUnnamed state found plan = FindsAll state (table_of found) found.catalog.keyspaces.living found.folder_ids.items plan
 
 -- this is opened of the folder that was read, with that active journal
-abbrev pub TakesRead : Opened → Name → Finished → Type 0
+abbrev pub TakesRead : Opened → Name → RecoveredFolder → Type 0
 TakesRead o active found = Takes o active found.journals.end found.catalog.catalog found.catalog.keyspaces (map view found.journals.batches.items)

@@ -8,8 +8,8 @@ use Rattle.fjall_files.specs.Texts.{text_in}
 use Rattle.fjall_files.specs.Calls.{seen}
 use Rattle.fjall_files.specs.Names.{journal_name, keyspace_folder, current_name}
 use Rattle.fjall_catalog.specs.declared.reading.LoadedCatalog.{LoadedCatalog}
-use Rattle.fjall_recovery.specs.declared.folder.Finished.{Finished}
-use Rattle.fjall_recovery.specs.declared.homes.Home.{Home}
+use Rattle.fjall_recovery.specs.declared.folder.RecoveredFolder.{RecoveredFolder}
+use Rattle.fjall_recovery.specs.declared.homes.KeyspaceRecords.{KeyspaceRecords}
 use Rattle.fjall_recovery.specs.Folders.{Contents, IsSound}
 use Rattle.fjall_recovery.specs.Journals.{Journal}
 use Rattle.fjall_recovery.specs.Places.{texts_of}
@@ -45,7 +45,7 @@ abbrev pub whole_names : List ℕ → List Name
 whole_names ids = codes "version" ∷ map journal_name (sealed_of ids)
 
 -- the end of a keyspace's records as they were read
-abbrev pub home_end : Home → End
+abbrev pub home_end : KeyspaceRecords → End
 home_end h = record { name = current_name h.id; cut = nat_lt h.end h.len; len = h.end }
 
 -- the end of tree 0's records as they were read
@@ -131,13 +131,13 @@ pub record IsTreeEnd (image : Image) (e : End) : Type 0 where
   pub uncut : e.cut ≡ false → length (text_in (image (current_name 0))) ≤ e.len
 
 -- the end of the active journal as it was read
-abbrev pub journal_end : Finished → End
+abbrev pub journal_end : RecoveredFolder → End
 journal_end f = record { name = journal_name (active_of f.journal_ids.items); cut = f.journals.torn; len = f.journals.end }
 
 -- the plan for the folder that was read, whose tree 0 has this end
-pub record IsPlanOf (f : Finished) (tree : End) (p : MendPlan) : Type 0 where
+pub record IsPlanOf (f : RecoveredFolder) (tree : End) (p : MendPlan) : Type 0 where
   pub active : string_bytes p.active ≡ journal_name (active_of f.journal_ids.items)
-  pub folders : map string_bytes p.folders.items ≡ folder_names (map (λ (h : Home). h.id) f.homes.items)
+  pub folders : map string_bytes p.folders.items ≡ folder_names (map (λ (h : KeyspaceRecords). h.id) f.homes.items)
   pub whole : map string_bytes p.whole.items ≡ whole_names f.journal_ids.items
   pub ends : map end_of p.ends.items ≡ journal_end f ∷ tree ∷ map home_end f.homes.items
 

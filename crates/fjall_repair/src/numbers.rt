@@ -8,7 +8,7 @@ ghost use Rattle.fjall_repair.specs.Opened.{HasNumbers, records_of};
 
 use fjall_base::{Error, Result, StorageError};
 use fjall_meta::LivingKeyspace;
-use fjall_recovery::Finished;
+use fjall_recovery::RecoveredFolder;
 
 /// One past the number, and 0 where there is none.
 fn past(number: Option<u64>) -> u64
@@ -21,7 +21,7 @@ fn past(number: Option<u64>) -> u64
 }
 
 /// One past the greatest number that a folder tells: of its batches, and of its last records.
-pub(crate) fn number_of(found: &Finished) -> u64
+pub(crate) fn number_of(found: &RecoveredFolder) -> u64
     ensures { All HasNumbers (records_of found.now) → result ≡ max found.now.journals.least (past_records (records_of found.now)) }
 {
     let catalog = &found.catalog.catalog;

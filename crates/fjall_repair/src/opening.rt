@@ -21,7 +21,7 @@ use crate::opened::Opened;
 use crate::ready::{ToBegin, ToMend, ready_to_begin, ready_to_mend};
 use crate::repair::{begin_and_sweep, mend_and_sweep};
 use fjall_base::{Disk, Result};
-use fjall_recovery::{Finished, read_folder};
+use fjall_recovery::{RecoveredFolder, read_folder};
 use std::alloc::Global;
 
 /// Opens a folder in which no database was made to its end.
@@ -54,7 +54,7 @@ fn open_unfinished<D: Disk>(alloc: Global, disk: &mut D) -> Result<Opened>
 }
 
 /// Opens a folder that was made to its end and read.
-fn open_finished<D: Disk>(alloc: Global, disk: &mut D, found: Finished) -> Result<Opened>
+fn open_finished<D: Disk>(alloc: Global, disk: &mut D, found: RecoveredFolder) -> Result<Opened>
     ensures opened { IsTrue D.honest
         → WhereRead (D.meaning disk.old) found (λ contents. Holds (state_in (D.meaning disk.old)) (Some contents)
         → IfOk result (Opens (state_in (D.meaning disk.new)) (Some contents))) }

@@ -15,7 +15,7 @@ use fjall_meta::LivingKeyspace;
 use std::alloc::Global;
 
 /// The folder of a keyspace that doesn't live.
-#[derive(Debug, Drop)]
+#[derive(Drop)]
 pub struct UnnamedHome {
     /// Its name, as `keyspaces/7`.
     pub folder: String,
@@ -24,7 +24,7 @@ pub struct UnnamedHome {
 }
 
 /// What no record names, and is to be removed.
-#[derive(Debug, Drop)]
+#[derive(Drop)]
 pub struct SweepPlan {
     /// The names of tables, as `keyspaces/0/3.table`.
     pub tables: Vec<String>,

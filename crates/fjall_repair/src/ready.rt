@@ -27,7 +27,7 @@ use fjall_catalog::Catalog;
 use fjall_files::journal_name;
 use fjall_journal::{Batch, Writer};
 use fjall_meta::MetaKeyspace;
-use fjall_recovery::{Finished, list_keyspaces};
+use fjall_recovery::{RecoveredFolder, list_keyspaces};
 use fjall_versions::{Version, replay};
 use std::alloc::Global;
 
@@ -117,7 +117,7 @@ fn replayed(alloc: Global, keyspaces: &MetaKeyspace, batches: Vec<Batch>) -> Res
 }
 
 /// What a folder opens as that was read, and whose journal goes on at the end of this file.
-fn database_of(alloc: Global, found: Finished, active: &str) -> Result<Opened>
+fn database_of(alloc: Global, found: RecoveredFolder, active: &str) -> Result<Opened>
     ensures opened { IfOk result (λ o. TakesRead o active.now found) }
     ensures number { All HasNumbers (records_of found) → IfOk result (λ o. o.number ≡ max found.journals.least (past_records (records_of found))) }
     ensures lawful { IfOk result IsLawful }
@@ -128,7 +128,7 @@ fn database_of(alloc: Global, found: Finished, active: &str) -> Result<Opened>
     let number = number_of(&found);
     check_made(found.catalog.keyspaces.living(), number)?;
     let journal = Writer::from_file(alloc, active, found.journals.end as u64)?;
-    let Finished {
+    let RecoveredFolder {
         journals,
         catalog,
         ..
@@ -144,7 +144,11 @@ fn database_of(alloc: Global, found: Finished, active: &str) -> Result<Opened>
 }
 
 /// Gets ready to mend the folder that was read.
-pub(crate) fn ready_to_mend<D: Disk>(alloc: Global, disk: &mut D, found: Finished) -> Result<ToMend>
+pub(crate) fn ready_to_mend<D: Disk>(
+    alloc: Global,
+    disk: &mut D,
+    found: RecoveredFolder,
+) -> Result<ToMend>
     ensures mending { (image : Image) → IsFinished image found → IfOk result (λ r. IsMendingOf image found r.mending) }
     ensures sweep { IsTrue D.honest → IfOk result (λ r. IsSweepOf found r.sweep) }
     ensures finds { IsTrue D.honest → IfOk result (λ r. FindsUnnamed (state_in (D.meaning disk.old)) found r.sweep) }

@@ -8,7 +8,7 @@ ghost use Rattle.fjall_files.specs.Names.{journal_name};
 ghost use Rattle.fjall_files.specs.Tidy.{IsTidy, StaysTidy};
 ghost use Rattle.fjall_versions.specs.Replays.{bare};
 ghost use Rattle.fjall_recovery.specs.Amid.{LeavesAmid, KeepsAmid, WhereAmid};
-ghost use Rattle.fjall_recovery.specs.declared.folder.Finished.{Finished};
+ghost use Rattle.fjall_recovery.specs.declared.folder.RecoveredFolder.{RecoveredFolder};
 ghost use Rattle.fjall_recovery.specs.Folders.{IsFinished, IsUnfinished, StandsFor, store_of};
 ghost use Rattle.fjall_recovery.specs.Held.{Holds};
 ghost use Rattle.fjall_repair.specs.Readings.{WhereRead, WhereSound, IsSweepOf, FindsNamed};
@@ -29,31 +29,31 @@ pub(crate) fn mend_and_sweep<D: Disk>(
     mending: &MendPlan,
     plan: &SweepPlan,
 ) -> Result<()>
-    ensures any_moment { IsTrue D.honest → (found : Finished)
+    ensures any_moment { IsTrue D.honest → (found : RecoveredFolder)
         → WhereRead (D.meaning disk.old) found (λ contents. Holds (state_in (D.meaning disk.old)) (Some contents)
         → IsMendingOf (seen (D.meaning disk.old)) found mending.now → IsSweepOf found plan.now
         → LeavesOnly (D.meaning disk.old) (D.meaning disk.new) (λ image. StandsFor image (store_of contents))) }
-    ensures ok { IsTrue D.honest → (found : Finished) → WhereRead (D.meaning disk.old) found (λ contents. Holds (state_in (D.meaning disk.old)) (Some contents)
+    ensures ok { IsTrue D.honest → (found : RecoveredFolder) → WhereRead (D.meaning disk.old) found (λ contents. Holds (state_in (D.meaning disk.old)) (Some contents)
         → IsMendingOf (seen (D.meaning disk.old)) found mending.now → IsSweepOf found plan.now → FindsNamed (state_in (D.meaning disk.old)) found plan.now
         → OnOk result (IsRepaired (state_in (D.meaning disk.new)) contents (string_bytes mending.now.active) found.journals.end)) }
     ensures gone { IsTrue D.honest → OnOk result (AreGone (state_in (D.meaning disk.new)) (planned plan.now)) }
     ensures cause { OnlyFaults (D.meaning disk.old) (D.meaning disk.new) result }
-    ensures tables { IsTrue D.honest → (found : Finished) → IsMendingOf (seen (D.meaning disk.old)) found mending.now
+    ensures tables { IsTrue D.honest → (found : RecoveredFolder) → IsMendingOf (seen (D.meaning disk.old)) found mending.now
         → BringsNoTable (state_in (D.meaning disk.old)) (state_in (D.meaning disk.new)) }
     // The same where a crash of the disk leaves different stores.
-    ensures amid { IsTrue D.honest → (found : Finished)
+    ensures amid { IsTrue D.honest → (found : RecoveredFolder)
         → WhereSound (D.meaning disk.old) found (λ contents. IsMendingOf (seen (D.meaning disk.old)) found mending.now
         → IsSweepOf found plan.now → LeavesAmid (D.meaning disk.old) (D.meaning disk.new)) }
-    ensures repaired { IsTrue D.honest → (found : Finished)
+    ensures repaired { IsTrue D.honest → (found : RecoveredFolder)
         → WhereSound (D.meaning disk.old) found (λ contents. IsMendingOf (seen (D.meaning disk.old)) found mending.now → IsSweepOf found plan.now
         → WhereAmid (D.meaning disk.old) (FindsNamed (state_in (D.meaning disk.old)) found plan.now
         → OnOk result (IsRepaired (state_in (D.meaning disk.new)) contents (string_bytes mending.now.active) found.journals.end))) }
-    ensures held { IsTrue D.honest → (found : Finished)
+    ensures held { IsTrue D.honest → (found : RecoveredFolder)
         → WhereSound (D.meaning disk.old) found (λ contents. IsMendingOf (seen (D.meaning disk.old)) found mending.now
         → IsSweepOf found plan.now → KeepsAmid (D.meaning disk.old) (D.meaning disk.new)) }
-    ensures kinds { IsTrue D.honest → (found : Finished) → IsFinished (seen (D.meaning disk.old)) found
+    ensures kinds { IsTrue D.honest → (found : RecoveredFolder) → IsFinished (seen (D.meaning disk.old)) found
         → IsMendingOf (seen (D.meaning disk.old)) found mending.now → StaysTidy (D.meaning disk.old) (D.meaning disk.new) }
-    ensures served { IsTrue D.honest → IsTidy (state_in (D.meaning disk.old)) → (found : Finished)
+    ensures served { IsTrue D.honest → IsTidy (state_in (D.meaning disk.old)) → (found : RecoveredFolder)
         → WhereSound (D.meaning disk.old) found (λ contents. IsMendingOf (seen (D.meaning disk.old)) found mending.now
         → IsSweepOf found plan.now → All (HasAll (state_in (D.meaning disk.old))) plan.now.homes.items → AllServed (D.meaning disk.old) (D.meaning disk.new)) }
 {

@@ -30,7 +30,7 @@ pub enum FileState {
 }
 
 /// What a database's making comes to.
-#[derive(Debug, Drop)]
+#[derive(Drop)]
 pub struct BeginPlan {
     /// The names of the journals, by id ascending.
     pub journals: Vec<String>,

@@ -6,11 +6,11 @@ ghost use Rattle.fjall_repair.specs.Steps.{IsPlanOf, active_of, end_of, folder_n
 use fjall_base::{Error, Result};
 use fjall_catalog::LoadedCatalog;
 use fjall_files::{KEYSPACES_FOLDER, MARKER_FILE, current_name, journal_name, keyspace_folder};
-use fjall_recovery::{Finished, Home};
+use fjall_recovery::{KeyspaceRecords, RecoveredFolder};
 use std::alloc::Global;
 
 /// A file, and where it is to end.
-#[derive(Debug, Drop)]
+#[derive(Drop)]
 pub struct FileEnd {
     /// Its name.
     pub name: String,
@@ -21,7 +21,7 @@ pub struct FileEnd {
 }
 
 /// What is to be done to a folder. The root isn't named.
-#[derive(Debug, Drop)]
+#[derive(Drop)]
 pub struct MendPlan {
     /// The file of the active journal.
     pub active: String,
@@ -44,7 +44,7 @@ fn active_id(ids: &[u64]) -> u64
 }
 
 /// The folders of all keyspaces, of tree 0 and of these keyspaces.
-fn folders_of(alloc: Global, homes: &[Home]) -> Result<Vec<String>>
+fn folders_of(alloc: Global, homes: &[KeyspaceRecords]) -> Result<Vec<String>>
     ensures names { IfOk result (λ folders. map string_bytes folders.items ≡ folder_names (map (λ h. h.id) homes.now)) }
     ensures only { IsOkUnless result Error.OutOfMemory }
 {
@@ -73,7 +73,7 @@ fn whole_files(alloc: Global, ids: &[u64]) -> Result<Vec<String>>
 }
 
 /// The end of the records of this keyspace.
-fn end_of_home(alloc: Global, home: &Home) -> Result<FileEnd>
+fn end_of_home(alloc: Global, home: &KeyspaceRecords) -> Result<FileEnd>
     ensures end { IfOk result (λ end. end_of end ≡ home_end home.now) }
     ensures only { IsOkUnless result Error.OutOfMemory }
 {
@@ -85,7 +85,12 @@ fn end_of_home(alloc: Global, home: &Home) -> Result<FileEnd>
 }
 
 /// These two ends, and those of the records of these keyspaces.
-fn ends_of(alloc: Global, journal: FileEnd, tree: FileEnd, homes: &[Home]) -> Result<Vec<FileEnd>>
+fn ends_of(
+    alloc: Global,
+    journal: FileEnd,
+    tree: FileEnd,
+    homes: &[KeyspaceRecords],
+) -> Result<Vec<FileEnd>>
     ensures ends { IfOk result (λ ends. map end_of ends.items ≡ end_of journal ∷ end_of tree ∷ map home_end homes.now) }
     ensures only { IsOkUnless result Error.OutOfMemory }
 {
@@ -111,7 +116,7 @@ fn end_of_tree(alloc: Global, catalog: &LoadedCatalog) -> Result<FileEnd>
 }
 
 /// What is to be done to the folder that was read.
-pub(crate) fn plan_of(alloc: Global, found: &Finished) -> Result<MendPlan>
+pub(crate) fn plan_of(alloc: Global, found: &RecoveredFolder) -> Result<MendPlan>
     ensures plan { IfOk result (IsPlanOf found.now (tree_end found.now.catalog)) }
     ensures only { IsOkUnless result Error.OutOfMemory }
 {

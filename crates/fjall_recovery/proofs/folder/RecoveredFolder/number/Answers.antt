@@ -1,6 +1,6 @@
 use Rattle.std.proofs.Common.{rules, ◌^◌, ◌≤◌, arith, subst, sym}
 use Rattle.fjall_recovery.proofs.Numbers.{number_is_low}
-use Rattle.fjall_recovery.proofs.folder.Finished.number.Goals as goal
+use Rattle.fjall_recovery.proofs.folder.RecoveredFolder.number.Goals as goal
 
 pub returns-clause-number : goal.returns-clause-number
 returns-clause-number c = search rules
