@@ -1,74 +1,99 @@
-//! Keyspaces whose writes are persisted by hand. An insert has 49 bytes in the journal, and a removal 48.
+//! Keyspaces whose writes are persisted by hand.
 
-pub const SCRIPT: &str = "\
-# what waits goes out by hand or with another write
-open
-by_hand waiting => 1
-keyspace items => 2
-insert 1 a b
-space => 0
-persist buffer
-space => 49
-remove 1 a
-space => 49
-remove_weak 1 a
-space => 49
-insert 2 a b
-space => 194
-# a crash loses what waits
-open
-by_hand waiting => 1
-keyspace items => 2
-insert 1 a b
-leave
-crash 1000
-open
-get 1 a => -
-# it loses what isn't synced
-open
-by_hand waiting => 1
-keyspace items => 2
-insert 1 a b
-persist buffer
-leave
-crash 0
-open
-get 1 a => -
-# it may keep what went out
-open
-by_hand waiting => 1
-keyspace items => 2
-insert 1 a b
-persist buffer
-leave
-crash 1000
-open
-get 1 a => b
-# it keeps what is synced
-open
-by_hand waiting => 1
-keyspace items => 2
-insert 1 a b
-persist data
-leave
-crash 0
-open
-get 1 a => b
-# the option comes back
-open
-by_hand waiting => 1
-keyspace items => 2
-close
-open
-insert 1 a b
-space => 0
-insert 2 a b
-space => 98
-insert 1 a b
-space => 98
-close
-open
-seqno => 5
-space => 147
-get 1 a => b
-";
+use crate::acts::Act::*;
+use crate::acts::{Row, Scenario, first_wrong};
+use crate::database::opened;
+use crate::script::Line::*;
+use fjall_core::PersistMode;
+use fjall_memory::MemoryDisk;
+use std::test::Fail;
+
+// The writes of keyspace 1 are persisted by hand, and those of keyspace 2 aren't.
+const BOTH: &[Row] = &[
+    (Open, ""),
+    (ByHand("by hand"), "1"),
+    (Ask(Create("items")), "2"),
+];
+
+// An insert has 49 bytes, and a removal 48.
+const WAITING: &[Row] = &[
+    (Ask(Insert(1, "a", "b")), ""),
+    (Space, "0"),
+    (Ask(Persist(PersistMode::Buffer)), ""),
+    (Space, "49"),
+    (Ask(Remove(1, "a")), ""),
+    (Space, "49"),
+    (Ask(RemoveWeak(1, "a")), ""),
+    (Space, "49"),
+    (Ask(Insert(2, "a", "b")), ""),
+    (Space, "194"),
+];
+
+const WRITE: &[Row] = &[(Ask(Insert(1, "a", "b")), "")];
+
+const BUFFER: &[Row] = &[(Ask(Persist(PersistMode::Buffer)), "")];
+
+const SYNC: &[Row] = &[(Ask(Persist(PersistMode::SyncData)), "")];
+
+const LOSE: &[Row] = &[(Leave, ""), (Crash(0), ""), (Open, "")];
+
+const KEEP: &[Row] = &[(Leave, ""), (Crash(1_000), ""), (Open, "")];
+
+const GONE: &[Row] = &[(Get(1, "a"), "-")];
+
+const THERE: &[Row] = &[(Get(1, "a"), "b")];
+
+const COMES_BACK: &[Row] = &[
+    (Close, ""),
+    (Open, ""),
+    (Ask(Insert(1, "a", "b")), ""),
+    (Space, "0"),
+    (Ask(Insert(2, "a", "b")), ""),
+    (Space, "98"),
+    (Ask(Insert(1, "a", "b")), ""),
+    (Space, "98"),
+    (Close, ""),
+    (Open, ""),
+    (Seqno, "5"),
+    (Space, "147"),
+    (Get(1, "a"), "b"),
+];
+
+const SCENARIOS: &[Scenario] = &[
+    (
+        "what waits goes out by hand or with another write",
+        &[BOTH, WAITING],
+    ),
+    ("a crash loses what waits", &[BOTH, WRITE, KEEP, GONE]),
+    (
+        "it loses what isn't synced",
+        &[BOTH, WRITE, BUFFER, LOSE, GONE],
+    ),
+    (
+        "it may keep what went out",
+        &[BOTH, WRITE, BUFFER, KEEP, THERE],
+    ),
+    ("it keeps what is synced", &[BOTH, WRITE, SYNC, LOSE, THERE]),
+    ("the option comes back", &[BOTH, COMES_BACK]),
+];
+
+#[test]
+fn writes_wait_until_they_are_persisted(rt: HostRuntime) -> Result<(), Fail> {
+    assert_eq!(rt; first_wrong(rt.alloc(), SCENARIOS)?, None);
+    Ok(())
+}
+
+// 167 inserts have 8,183 bytes, and 168 have 8,232.
+#[test]
+fn what_waits_goes_out_at_8192_bytes(rt: HostRuntime) -> Result<(), Fail> {
+    let alloc = rt.alloc();
+    let mut core = opened(alloc, MemoryDisk::new(alloc))?;
+    core.keyspace_by_hand(b"by hand")?;
+    core.keyspace(b"items")?;
+    for key in 0..200u8 {
+        core.insert(1, &[key], b"v")?;
+        let due = if key < 167 { 0 } else { 8_232 };
+        assert_eq!(rt; core.journal_disk_space(), due, "{key}");
+    }
+    Ok(())
+}

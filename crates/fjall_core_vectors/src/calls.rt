@@ -1,155 +1,184 @@
-//! The calls of a database as lines, and what it replies.
+//! Reads, writes and lists of calls.
 
-use crate::words::{first_word, number, slice};
-use fjall_base::{Disk, Result, Slice};
-use fjall_core::{Call, Core, PersistMode, Reply, View};
+use crate::acts::Act::*;
+use crate::acts::{ITEMS, Row, Scenario, first_wrong, names_text};
+use crate::database::{Database, items, opened};
+use crate::script::Line::*;
+use fjall_base::{ClosedDisk, Disk, Error, Result, Slice};
+use fjall_core::{Call, Config, PersistMode, Reply, View};
+use fjall_memory::MemoryDisk;
 use fjall_options::KeyspaceCreateOptions;
 use std::alloc::Global;
-use std::ops::Bound;
+use std::ops::Bound::{Excluded, Included, Unbounded};
+use std::test::Fail;
 
-/// `keyspace NAME`, and `by_hand NAME`, whose writes are persisted by hand.
-fn keyspace(alloc: Global, verb: &str, name: &str) -> Result<Call> {
-    let by_hand = verb == "by_hand";
-    let options = KeyspaceCreateOptions::default(alloc)?.manual_journal_persist(by_hand);
-    Ok(Call::Keyspace(slice(alloc, name)?, options))
+const REMOVALS: &[Row] = &[
+    (Ask(Insert(1, "a", "v")), ""),
+    (Ask(Insert(1, "b", "w")), ""),
+    (Ask(Remove(1, "a")), ""),
+    (Page(1, Unbounded, Unbounded, false, 9), "b"),
+    (Ask(RemoveWeak(1, "b")), ""),
+    (Page(1, Unbounded, Unbounded, false, 9), ""),
+    (Ask(Remove(1, "")), "KeyEmpty"),
+    (Ask(RemoveWeak(2, "a")), "UnknownKeyspace"),
+    (Seqno, "5"),
+    (Space, "194"),
+    (Leave, ""),
+    (Crash(193), ""),
+    (Open, ""),
+    (Get(1, "b"), "w"),
+    (Seqno, "4"),
+    (Space, "146"),
+];
+
+const PAGES: &[Row] = &[
+    (Ask(Insert(1, "d", "v")), ""),
+    (Ask(Insert(1, "b", "v")), ""),
+    (Ask(Insert(1, "a", "v")), ""),
+    (Ask(Insert(1, "c", "v")), ""),
+    (Ask(Insert(1, "b", "v")), ""),
+    (Ask(Insert(1, "e", "v")), ""),
+    (Ask(Remove(1, "e")), ""),
+    (Page(1, Unbounded, Unbounded, false, 9), "abcd"),
+    (Page(1, Unbounded, Unbounded, false, 2), "ab"),
+    (Page(1, Unbounded, Unbounded, true, 2), "cd"),
+    (Page(1, Unbounded, Unbounded, true, 9), "abcd"),
+    (Page(1, Unbounded, Unbounded, false, 0), ""),
+    (Page(1, Included("b"), Unbounded, false, 9), "bcd"),
+    (Page(1, Excluded("a"), Excluded("d"), true, 1), "c"),
+    (Page(1, Included("c"), Included("b"), false, 9), ""),
+    (Page(2, Unbounded, Unbounded, false, 9), "UnknownKeyspace"),
+];
+
+const SCENARIOS: &[Scenario] = &[
+    ("removals take keys away", &[ITEMS, REMOVALS]),
+    ("pages are cut from either end", &[ITEMS, PAGES]),
+];
+
+#[test]
+fn keys_are_read_and_taken_away(rt: HostRuntime) -> std::result::Result<(), Fail> {
+    assert_eq!(rt; first_wrong(rt.alloc(), SCENARIOS)?, None);
+    Ok(())
 }
 
-/// `insert ID KEY VALUE`.
-fn insert(alloc: Global, words: &str) -> Result<Call> {
-    let (id, pair) = first_word(words);
-    let (key, value) = first_word(pair);
-    let key = slice(alloc, key)?;
-    Ok(Call::Insert(number(id), key, slice(alloc, value)?))
+/// Gives a key a value, and reads it: why the first is refused, whether a value is read, and the next number.
+fn put(core: &mut Database<MemoryDisk>, id: u64, key: &[u8]) -> (Option<Error>, Result<bool>, u64) {
+    let refused = core.insert(id, key, b"v").err();
+    let found = match core.get(id, key) {
+        Ok(found) => Ok(found.is_some()),
+        Err(error) => Err(error),
+    };
+    (refused, found, core.seqno())
 }
 
-/// `get ID KEY`, `remove ID KEY` and `remove_weak ID KEY`.
-fn of_key(alloc: Global, verb: &str, words: &str) -> Result<Call> {
-    let (id, key) = first_word(words);
-    let key = slice(alloc, key)?;
-    Ok(match verb {
-        "get" => Call::GetAt(View::Present, number(id), key),
-        "remove" => Call::Remove(number(id), key),
-        _ => Call::RemoveWeak(number(id), key),
+#[test]
+fn a_key_has_one_to_65535_bytes(rt: HostRuntime) -> std::result::Result<(), Fail> {
+    let mut core = items(rt.alloc(), MemoryDisk::new(rt.alloc()))?;
+    let unknown = Error::UnknownKeyspace;
+    for (len, id, refused, found, next) in [
+        (0, 1, Some(Error::KeyEmpty), Ok(false), 1),
+        (1, 1, None, Ok(true), 2),
+        (65_535, 1, None, Ok(true), 3),
+        (65_536, 1, Some(Error::KeyTooLong), Ok(false), 3),
+        (0, 2, Some(Error::KeyEmpty), Err(unknown), 3),
+        (65_536, 2, Some(Error::KeyTooLong), Err(unknown), 3),
+        (1, 0, Some(unknown), Err(unknown), 3),
+        (1, 2, Some(unknown), Err(unknown), 3),
+    ] {
+        let key = vec![in rt.alloc(); 7u8; len]?;
+        let seen = put(&mut core, id, &key);
+        assert_eq!(rt; seen, (refused, found, next), "length {len}, id {id}");
+    }
+    Ok(())
+}
+
+/// Changes, and what may be asked between them, for a new database.
+fn changes(alloc: Global) -> Result<Vec<Call>> {
+    let name = Slice::new(alloc, b"items")?;
+    let key = Slice::new(alloc, b"a")?;
+    let value = Slice::new(alloc, b"b")?;
+    Ok(vec![in alloc;
+        Call::Seqno,
+        Call::Keyspace(name, KeyspaceCreateOptions::default(alloc)?),
+        Call::Insert(1, key.clone()?, value.clone()?),
+        Call::Insert(2, key.clone()?, value),
+        Call::GetAt(View::Present, 1, key),
+        Call::Persist(PersistMode::SyncAll),
+        Call::VisibleSeqno,
+        Call::JournalDiskSpace,
+    ]?)
+}
+
+/// A list of each call, for a new database.
+fn each_call(alloc: Global) -> Result<Vec<Call>> {
+    let name = Slice::new(alloc, b"items")?;
+    let key = Slice::new(alloc, b"a")?;
+    let everywhere = (Unbounded, Unbounded);
+    let mut calls = changes(alloc)?;
+    calls.extend(vec![in alloc;
+        Call::Remove(1, key.clone()?),
+        Call::RemoveWeak(1, key),
+        Call::PageAt(View::Present, 1, everywhere, false, 1),
+        Call::KeyspaceCount,
+        Call::KeyspaceExists(name),
+        Call::ListKeyspaceNames,
+        Call::Retain(1),
+        Call::DeleteKeyspace(1),
+        Call::Release(1),
+    ]?)?;
+    Ok(calls)
+}
+
+/// What a reply tells.
+fn told(alloc: Global, reply: &Reply) -> Result<String> {
+    Ok(match reply {
+        Reply::Done => String::from_str(alloc, "done")?,
+        Reply::Value(Some(value)) => format!(in alloc; "value {:?}", value.as_slice())?,
+        Reply::Value(None) => String::from_str(alloc, "no value")?,
+        Reply::Pairs(pairs) => format!(in alloc; "{} pairs", pairs.len())?,
+        Reply::Number(number) => format!(in alloc; "number {number}")?,
+        Reply::Names(names) => format!(in alloc; "names {}", names_text(alloc, names)?)?,
+        Reply::Flag(is_so) => format!(in alloc; "flag {is_so}")?,
+        Reply::Refused(error) => format!(in alloc; "refused {error:?}")?,
     })
 }
 
-/// A bound of a page: `=a` is included, `!a` excluded, and `..` is none.
-fn bound(alloc: Global, word: &str) -> Result<Bound<Slice>> {
-    if let Some(key) = word.strip_prefix('=') {
-        return Ok(Bound::Included(slice(alloc, key)?));
-    }
-    match word.strip_prefix('!') {
-        Some(key) => Ok(Bound::Excluded(slice(alloc, key)?)),
-        None => Ok(Bound::Unbounded),
-    }
-}
-
-/// `page ID FROM TO COUNT`, and `page_back` likewise from behind.
-fn page(alloc: Global, verb: &str, words: &str) -> Result<Call> {
-    let (id, words) = first_word(words);
-    let (from, words) = first_word(words);
-    let (to, count) = first_word(words);
-    let range = (bound(alloc, from)?, bound(alloc, to)?);
-    let back = verb == "page_back";
-    Ok(Call::PageAt(
-        View::Present,
-        number(id),
-        range,
-        back,
-        number(count) as usize,
-    ))
-}
-
-fn mode(word: &str) -> PersistMode {
-    match word {
-        "data" => PersistMode::SyncData,
-        "all" => PersistMode::SyncAll,
-        _ => PersistMode::Buffer,
-    }
-}
-
-/// The call that a line spells.
-fn call_of(alloc: Global, line: &str) -> Result<Call> {
-    let (verb, words) = first_word(line);
-    Ok(match verb {
-        "insert" => insert(alloc, words)?,
-        "get" | "remove" | "remove_weak" => of_key(alloc, verb, words)?,
-        "page" | "page_back" => page(alloc, verb, words)?,
-        "keyspace" | "by_hand" => keyspace(alloc, verb, words)?,
-        "exists" => Call::KeyspaceExists(slice(alloc, words)?),
-        "delete" => Call::DeleteKeyspace(number(words)),
-        "retain" => Call::Retain(number(words)),
-        "release" => Call::Release(number(words)),
-        "persist" => Call::Persist(mode(words)),
-        _ => question(verb),
-    })
-}
-
-/// `names`, `count`, `seqno`, `visible`, and else how many bytes the journal has.
-fn question(verb: &str) -> Call {
-    match verb {
-        "names" => Call::ListKeyspaceNames,
-        "count" => Call::KeyspaceCount,
-        "seqno" => Call::Seqno,
-        "visible" => Call::VisibleSeqno,
-        _ => Call::JournalDiskSpace,
-    }
-}
-
-/// Adds what bytes spell.
-fn spell(text: &mut String, bytes: &[u8]) -> Result<()> {
-    text.push_str(str::from_utf8(bytes).unwrap_or("no text"))?;
-    Ok(())
-}
-
-/// Adds pairs, each as `KEY=VALUE` with a blank behind it.
-fn spell_pairs(text: &mut String, pairs: &[(Slice, Slice)]) -> Result<()> {
-    for (key, value) in pairs {
-        spell(text, key)?;
-        text.push_str("=")?;
-        spell(text, value)?;
-        text.push_str(" ")?;
-    }
-    Ok(())
-}
-
-/// Adds what a reply tells: nothing of a call that is done, and of a value that isn't there a dash.
-fn tell(text: &mut String, reply: &Reply) -> Result<()> {
-    match reply {
-        Reply::Done => {}
-        Reply::Value(Some(value)) => spell(text, value)?,
-        Reply::Value(None) => text.push_str("-")?,
-        Reply::Pairs(pairs) => spell_pairs(text, pairs)?,
-        Reply::Names(names) => {
-            for name in names {
-                spell(text, name)?;
-                text.push_str(" ")?;
-            }
-        }
-        Reply::Number(number) => write!(text, "{number}")?,
-        Reply::Flag(is_so) => text.push_str(if *is_so { "yes" } else { "no" })?,
-        Reply::Refused(error) => write!(text, "{error:?}")?,
-    }
-    Ok(())
-}
-
-/// What a database replies to a list of calls, each of them a line.
-pub fn replies<D: Disk>(alloc: Global, core: &mut Core<D>, lines: &str) -> Result<Vec<Reply>> {
-    let mut calls = Vec::new(alloc);
-    for line in lines.lines() {
-        calls.push(call_of(alloc, line)?)?;
-    }
-    core.run(calls)
-}
-
-/// What the replies tell, a line for each of them.
-pub fn ask<D: Disk>(alloc: Global, core: &mut Core<D>, lines: &str) -> Result<String> {
+/// What a new database on a disk replies to each call, and how many replies there are to none.
+fn replies<D: Disk + Drop>(alloc: Global, disk: D) -> Result<(String, usize)> {
+    let mut core = opened(alloc, disk)?;
     let mut text = String::new(alloc);
-    for reply in &replies(alloc, core, lines)? {
-        let mut line = String::new(alloc);
-        tell(&mut line, reply)?;
-        text.push_str(line.trim_end())?;
-        text.push_str("\n")?;
+    for reply in &core.run(each_call(alloc)?)? {
+        text.push_str(&told(alloc, reply)?)?;
+        text.push_str("; ")?;
     }
-    Ok(text)
+    let none = core.run(Vec::new(alloc))?.len();
+    Ok((text, none))
+}
+
+const REPLIES: &str =
+    "number 0; number 1; done; refused UnknownKeyspace; value [98]; done; number 2; \
+    number 49; done; done; 0 pairs; number 1; flag true; names items; done; done; done; ";
+
+// The second disk keeps nothing, so that what is answered stands in memory alone.
+#[test]
+fn lists_of_calls_are_served_in_order(rt: HostRuntime) -> std::result::Result<(), Fail> {
+    let honest = replies(rt.alloc(), MemoryDisk::new(rt.alloc()))?;
+    let lying = replies(rt.alloc(), ClosedDisk)?;
+    for (text, none) in [honest, lying] {
+        assert_eq!(rt; (text.as_str(), none), (REPLIES, 0));
+    }
+    Ok(())
+}
+
+const SETTINGS: &str =
+    "Config { path: \"a/db\", max_journaling_size: 536870912, worker_threads: 4 } \
+    Refused(KeyEmpty)";
+
+#[test]
+fn settings_have_their_defaults(rt: HostRuntime) -> std::result::Result<(), Fail> {
+    let config = Config::new(rt.alloc(), "a/db")?;
+    let reply = Reply::Refused(Error::KeyEmpty);
+    let text = format!(in rt.alloc(); "{config:?} {reply:?}")?;
+    assert_eq!(rt; text.as_str(), SETTINGS);
+    Ok(())
 }

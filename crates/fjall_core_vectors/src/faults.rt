@@ -1,245 +1,232 @@
 //! Calls of the disk that fail, and what is safe from a crash.
 
-/// How many calls of a disk the opening makes of a closed database with one keyspace and one insert.
-pub const OPENING_CALLS: u64 = 19;
+use crate::acts::Act::*;
+use crate::acts::{Row, Scenario, WRITTEN, calls, first_wrong, written};
+use crate::database::{Database, opened};
+use crate::script::Line::*;
+use fjall_base::{Error, Refused, Result};
+use fjall_core::PersistMode;
+use fjall_memory::MemoryDisk;
+use std::alloc::Global;
+use std::io::ErrorKind;
+use std::test::Fail;
 
-pub const SCRIPT: &str = "\
-# a part of an append poisons
-open
-keyspace items => 1
-insert 1 a b
-close
-fail 20 20
-open
-insert 1 c d => Io(Other)
-persist buffer => Poisoned
-persist data => Poisoned
-persist all => Poisoned
-insert 1 e f => Poisoned
-delete 1 => Poisoned
-keyspace other => Poisoned
-keyspace items => 1
-insert 1 - f => KeyEmpty
-insert 2 e f => UnknownKeyspace
-visible => 2
-get 1 a => b
-get 1 c => -
-close => Poisoned
-crash 98
-open
-get 1 a => b
-get 1 c => -
-seqno => 2
-space => 49
-# a whole append poisons
-open
-keyspace items => 1
-insert 1 a b
-close
-fail 20 49
-open
-insert 1 c d => Io(Other)
-persist buffer => Poisoned
-persist data => Poisoned
-persist all => Poisoned
-insert 1 e f => Poisoned
-delete 1 => Poisoned
-keyspace other => Poisoned
-keyspace items => 1
-insert 1 - f => KeyEmpty
-insert 2 e f => UnknownKeyspace
-visible => 2
-get 1 a => b
-get 1 c => -
-close => Poisoned
-crash 98
-open
-get 1 a => b
-get 1 c => d
-seqno => 3
-space => 98
-# a sync of the data poisons
-open
-keyspace items => 1
-insert 1 a b
-close
-fail 20 0
-open
-persist data => Io(Other)
-persist buffer => Poisoned
-persist data => Poisoned
-persist all => Poisoned
-insert 1 e f => Poisoned
-delete 1 => Poisoned
-keyspace other => Poisoned
-keyspace items => 1
-insert 1 - f => KeyEmpty
-insert 2 e f => UnknownKeyspace
-visible => 2
-get 1 a => b
-get 1 c => -
-# a sync of all poisons
-open
-keyspace items => 1
-insert 1 a b
-close
-fail 20 0
-open
-persist all => Io(Other)
-persist buffer => Poisoned
-persist data => Poisoned
-persist all => Poisoned
-insert 1 e f => Poisoned
-delete 1 => Poisoned
-keyspace other => Poisoned
-keyspace items => 1
-insert 1 - f => KeyEmpty
-insert 2 e f => UnknownKeyspace
-visible => 2
-get 1 a => b
-get 1 c => -
-# a creation poisons
-open
-keyspace items => 1
-insert 1 a b
-close
-fail 20 0
-open
-keyspace more => Io(Other)
-exists more => no
-persist buffer => Poisoned
-persist data => Poisoned
-persist all => Poisoned
-insert 1 e f => Poisoned
-delete 1 => Poisoned
-keyspace other => Poisoned
-keyspace items => 1
-insert 1 - f => KeyEmpty
-insert 2 e f => UnknownKeyspace
-visible => 2
-get 1 a => b
-get 1 c => -
-leave
-open
-names => items
-keyspace more => 2
-# a deletion poisons
-open
-keyspace items => 1
-insert 1 a b
-close
-fail 20 0
-open
-delete 1 => Io(Other)
-persist buffer => Poisoned
-persist data => Poisoned
-persist all => Poisoned
-insert 1 e f => Poisoned
-delete 1 => Poisoned
-keyspace other => Poisoned
-keyspace items => 1
-insert 1 - f => KeyEmpty
-insert 2 e f => UnknownKeyspace
-visible => 2
-get 1 a => b
-get 1 c => -
-leave
-open
-names => items
-get 1 a => b
-# a failing release keeps the handle
-open
-keyspace items => 1
-insert 1 a b
-close
-fail 24 0
-open
-retain 1
-delete 1
-release 1 => Io(Other)
-keyspace more => Poisoned
-get 1 a => b
-release 1
-get 1 a => KeyspaceDeleted
-leave
-open
-names
-visible => 3
-# a buffer does not outlive a crash
-open
-keyspace items => 1
-insert 1 a b
-close
-open
-insert 1 c d
-persist buffer
-leave
-crash 0
-open
-get 1 c => -
-# a sync of the data outlives it
-open
-keyspace items => 1
-insert 1 a b
-close
-open
-insert 1 c d
-persist data
-leave
-crash 0
-open
-get 1 c => d
-# a sync of all outlives it
-open
-keyspace items => 1
-insert 1 a b
-close
-open
-insert 1 c d
-persist all
-leave
-crash 0
-open
-get 1 c => d
-# a closing syncs what came before
-open
-keyspace items => 1
-insert 1 a b
-close
-open
-keyspace more => 2
-insert 1 c d
-close
-crash 0
-open
-get 1 c => d
-visible => 4
-# a creation syncs it
-open
-keyspace items => 1
-insert 1 a b
-close
-open
-keyspace more => 2
-insert 1 c d
-keyspace other => 3
-leave
-crash 0
-open
-get 1 c => d
-visible => 5
-# a deletion syncs it
-open
-keyspace items => 1
-insert 1 a b
-close
-open
-keyspace more => 2
-insert 1 c d
-delete 2
-leave
-crash 0
-open
-get 1 c => d
-visible => 5
-";
+// It reads a=b alone, and takes no change.
+const POISONED: &[Row] = &[
+    (Ask(Persist(PersistMode::Buffer)), "Poisoned"),
+    (Ask(Persist(PersistMode::SyncData)), "Poisoned"),
+    (Ask(Persist(PersistMode::SyncAll)), "Poisoned"),
+    (Ask(Insert(1, "e", "f")), "Poisoned"),
+    (Ask(Delete(1)), "Poisoned"),
+    (Ask(Create("other")), "Poisoned"),
+    (Ask(Create("items")), "1"),
+    (Ask(Insert(1, "", "f")), "KeyEmpty"),
+    (Ask(Insert(2, "e", "f")), "UnknownKeyspace"),
+    (Visible, "2"),
+    (Get(1, "a"), "b"),
+    (Get(1, "c"), "-"),
+];
+
+const APPEND_20: &[Row] = &[
+    (Fail(&[], 20), ""),
+    (Open, ""),
+    (Ask(Insert(1, "c", "d")), "Io(Other)"),
+];
+
+const APPEND_49: &[Row] = &[
+    (Fail(&[], 49), ""),
+    (Open, ""),
+    (Ask(Insert(1, "c", "d")), "Io(Other)"),
+];
+
+const CRASHED: &[Row] = &[
+    (Close, "Poisoned"),
+    (Crash(98), ""),
+    (Open, ""),
+    (Get(1, "a"), "b"),
+];
+
+const LOST: &[Row] = &[(Get(1, "c"), "-"), (Seqno, "2"), (Space, "49")];
+
+const KEPT: &[Row] = &[(Get(1, "c"), "d"), (Seqno, "3"), (Space, "98")];
+
+const SYNC_DATA: &[Row] = &[
+    (Fail(&[], 0), ""),
+    (Open, ""),
+    (Ask(Persist(PersistMode::SyncData)), "Io(Other)"),
+];
+
+const SYNC_ALL: &[Row] = &[
+    (Fail(&[], 0), ""),
+    (Open, ""),
+    (Ask(Persist(PersistMode::SyncAll)), "Io(Other)"),
+];
+
+const CREATION: &[Row] = &[
+    (Fail(&[], 0), ""),
+    (Open, ""),
+    (Ask(Create("more")), "Io(Other)"),
+    (Exists("more"), "no"),
+];
+
+const NOT_CREATED: &[Row] = &[
+    (Leave, ""),
+    (Open, ""),
+    (Names, "items"),
+    (Ask(Create("more")), "2"),
+];
+
+const DELETION: &[Row] = &[
+    (Fail(&[], 0), ""),
+    (Open, ""),
+    (Ask(Delete(1)), "Io(Other)"),
+];
+
+const NOT_DELETED: &[Row] = &[
+    (Leave, ""),
+    (Open, ""),
+    (Names, "items"),
+    (Get(1, "a"), "b"),
+];
+
+const RELEASE: &[Row] = &[
+    (Fail(&[Delete(1)], 0), ""),
+    (Open, ""),
+    (Ask(Retain(1)), ""),
+    (Ask(Delete(1)), ""),
+    (Ask(Release(1)), "Io(Other)"),
+    (Ask(Create("more")), "Poisoned"),
+    (Get(1, "a"), "b"),
+    (Ask(Release(1)), ""),
+    (Get(1, "a"), "KeyspaceDeleted"),
+    (Leave, ""),
+    (Open, ""),
+    (Names, ""),
+    (Visible, "3"),
+];
+
+const OPENED: &[Row] = &[(Open, "")];
+
+const BUFFERED: &[Row] = &[
+    (Ask(Insert(1, "c", "d")), ""),
+    (Ask(Persist(PersistMode::Buffer)), ""),
+    (Leave, ""),
+    (Crash(0), ""),
+    (Open, ""),
+    (Get(1, "c"), "-"),
+];
+
+const DATA_SYNCED: &[Row] = &[
+    (Ask(Insert(1, "c", "d")), ""),
+    (Ask(Persist(PersistMode::SyncData)), ""),
+    (Leave, ""),
+    (Crash(0), ""),
+    (Open, ""),
+    (Get(1, "c"), "d"),
+];
+
+const ALL_SYNCED: &[Row] = &[
+    (Ask(Insert(1, "c", "d")), ""),
+    (Ask(Persist(PersistMode::SyncAll)), ""),
+    (Leave, ""),
+    (Crash(0), ""),
+    (Open, ""),
+    (Get(1, "c"), "d"),
+];
+
+const MORE: &[Row] = &[(Ask(Create("more")), "2"), (Ask(Insert(1, "c", "d")), "")];
+
+const CLOSING: &[Row] = &[
+    (Close, ""),
+    (Crash(0), ""),
+    (Open, ""),
+    (Get(1, "c"), "d"),
+    (Visible, "4"),
+];
+
+const ANOTHER_CREATION: &[Row] = &[
+    (Ask(Create("other")), "3"),
+    (Leave, ""),
+    (Crash(0), ""),
+    (Open, ""),
+    (Get(1, "c"), "d"),
+    (Visible, "5"),
+];
+
+const ANOTHER_DELETION: &[Row] = &[
+    (Ask(Delete(2)), ""),
+    (Leave, ""),
+    (Crash(0), ""),
+    (Open, ""),
+    (Get(1, "c"), "d"),
+    (Visible, "5"),
+];
+
+const SCENARIOS: &[Scenario] = &[
+    (
+        "a part of an append poisons",
+        &[APPEND_20, POISONED, CRASHED, LOST],
+    ),
+    (
+        "a whole append poisons",
+        &[APPEND_49, POISONED, CRASHED, KEPT],
+    ),
+    ("a sync of the data poisons", &[SYNC_DATA, POISONED]),
+    ("a sync of all poisons", &[SYNC_ALL, POISONED]),
+    ("a creation poisons", &[CREATION, POISONED, NOT_CREATED]),
+    ("a deletion poisons", &[DELETION, POISONED, NOT_DELETED]),
+    ("a failing release keeps the handle", &[RELEASE]),
+    (
+        "a buffer does not outlive a crash",
+        &[WRITTEN, OPENED, BUFFERED],
+    ),
+    (
+        "a sync of the data outlives it",
+        &[WRITTEN, OPENED, DATA_SYNCED],
+    ),
+    ("a sync of all outlives it", &[WRITTEN, OPENED, ALL_SYNCED]),
+    (
+        "a closing syncs what came before",
+        &[WRITTEN, OPENED, MORE, CLOSING],
+    ),
+    (
+        "a creation syncs it",
+        &[WRITTEN, OPENED, MORE, ANOTHER_CREATION],
+    ),
+    (
+        "a deletion syncs it",
+        &[WRITTEN, OPENED, MORE, ANOTHER_DELETION],
+    ),
+];
+
+#[test]
+fn faults_poison_and_syncs_are_safe(rt: HostRuntime) -> std::result::Result<(), Fail> {
+    assert_eq!(rt; first_wrong(rt.alloc(), SCENARIOS)?, None);
+    Ok(())
+}
+
+/// Opens `written`, whose call of this number fails, and opens it again: why it is refused, and whether a=b is read then.
+fn opened_twice(alloc: Global, number: u64) -> Result<(Option<Error>, bool)> {
+    let mut disk: MemoryDisk = written(alloc)?;
+    disk.fail_at(number, 0);
+    match Database::open(alloc, disk) {
+        Ok(_) => Ok((None, false)),
+        Err(Refused { error, value }) => {
+            let found = opened(alloc, value)?.get(1, b"a")?;
+            let is_read = match &found {
+                Some(value) => value.as_slice() == b"b".as_slice(),
+                None => false,
+            };
+            Ok((Some(error), is_read))
+        }
+    }
+}
+
+#[test]
+fn a_failing_opening_hands_the_disk_back(rt: HostRuntime) -> std::result::Result<(), Fail> {
+    let due = (Some(Error::Io(ErrorKind::Other)), true);
+    for number in 1..=calls(rt.alloc(), &[])? {
+        assert_eq!(rt; opened_twice(rt.alloc(), number)?, due, "call {number}");
+    }
+    Ok(())
+}

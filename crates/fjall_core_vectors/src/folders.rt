@@ -1,99 +1,118 @@
 //! Folders that no database made, or that something was added to.
 
-pub const SCRIPT: &str = "\
-# version 1 is refused
-append version 464a4c01
-open => InvalidVersion(Some(V1))
-read version => 464a4c01
-len version => 4
-# version 2 is refused
-append version 464a4c02
-open => InvalidVersion(Some(V2))
-read version => 464a4c02
-len version => 4
-# version 4 is refused
-append version 464a4c04
-open => InvalidVersion(None)
-read version => 464a4c04
-len version => 4
-# what is no version is refused
-append version 464a58
-open => InvalidVersion(None)
-read version => 464a58
-len version => 3
-# a creation cut short goes on
-append version 464a
-append 0.jnl
-open
-visible => 0
-space => 0
-names
-leave
-read version => 464a4c03
-# 0.JNL is nearly a journal
-open
-keyspace items => 1
-insert 1 a b
-close
-append 0.JNL
-open => JournalRecovery(InvalidFileName)
-len 0.JNL => 0
-# 00.jnl is nearly a journal
-open
-keyspace items => 1
-insert 1 a b
-close
-append 00.jnl
-open => JournalRecovery(InvalidFileName)
-len 00.jnl => 0
-# x.jnl is nearly a journal
-open
-keyspace items => 1
-insert 1 a b
-close
-append x.jnl
-open => JournalRecovery(InvalidFileName)
-len x.jnl => 0
-# other files are passed over
-open
-keyspace items => 1
-insert 1 a b
-close
-append notes.txt
-append .jnl
-append keyspaces/notes
-append keyspaces/1/notes
-open
-get 1 a => b
-leave
-len notes.txt => 0
-len .jnl => 0
-len keyspaces/notes => 0
-len keyspaces/1/notes => 0
-# a torn journal before the last is refused
-open
-keyspace items => 1
-insert 1 a b
-close
-append 0.jnl 01746f726e
-append 1.jnl
-open => Unrecoverable
-len 1.jnl => 0
-# the last journal goes on
-open
-keyspace items => 1
-insert 1 a b
-close
-append 10.jnl
-append 9.jnl
-open
-insert 1 c d
-space => 49
-close
-len 0.jnl => 49
-len 9.jnl => 0
-len 10.jnl => 49
-open
-get 1 a => b
-get 1 c => d
-";
+use crate::acts::Act::*;
+use crate::acts::{Row, Scenario, WRITTEN, first_wrong};
+use crate::script::Line::*;
+use std::test::Fail;
+
+const VERSION_1: &[Row] = &[
+    (Add("version", b"FJL\x01"), ""),
+    (Refuse("version"), "InvalidVersion(Some(V1))"),
+    (Len("version"), "4"),
+];
+
+const VERSION_2: &[Row] = &[
+    (Add("version", b"FJL\x02"), ""),
+    (Refuse("version"), "InvalidVersion(Some(V2))"),
+    (Len("version"), "4"),
+];
+
+const VERSION_4: &[Row] = &[
+    (Add("version", b"FJL\x04"), ""),
+    (Refuse("version"), "InvalidVersion(None)"),
+    (Len("version"), "4"),
+];
+
+const NO_VERSION: &[Row] = &[
+    (Add("version", b"FJX"), ""),
+    (Refuse("version"), "InvalidVersion(None)"),
+    (Len("version"), "3"),
+];
+
+const CUT_SHORT: &[Row] = &[
+    (Add("version", b"FJ"), ""),
+    (Add("0.jnl", b""), ""),
+    (Open, ""),
+    (Visible, "0"),
+    (Space, "0"),
+    (Names, ""),
+    (Leave, ""),
+    (Holds("version", b"FJL\x03"), "yes"),
+];
+
+const UPPER: &[Row] = &[
+    (Add("0.JNL", b""), ""),
+    (Refuse("0.JNL"), "JournalRecovery(InvalidFileName)"),
+    (Len("0.JNL"), "0"),
+];
+
+const TWO_ZEROS: &[Row] = &[
+    (Add("00.jnl", b""), ""),
+    (Refuse("00.jnl"), "JournalRecovery(InvalidFileName)"),
+    (Len("00.jnl"), "0"),
+];
+
+const LETTER: &[Row] = &[
+    (Add("x.jnl", b""), ""),
+    (Refuse("x.jnl"), "JournalRecovery(InvalidFileName)"),
+    (Len("x.jnl"), "0"),
+];
+
+const OTHERS: &[Row] = &[
+    (Add("notes.txt", b""), ""),
+    (Add(".jnl", b""), ""),
+    (Add("keyspaces/notes", b""), ""),
+    (Add("keyspaces/1/notes", b""), ""),
+    (Open, ""),
+    (Get(1, "a"), "b"),
+    (Leave, ""),
+    (Len("notes.txt"), "0"),
+    (Len(".jnl"), "0"),
+    (Len("keyspaces/notes"), "0"),
+    (Len("keyspaces/1/notes"), "0"),
+];
+
+const TORN: &[Row] = &[
+    (Add("0.jnl", b"\x01torn"), ""),
+    (Add("1.jnl", b""), ""),
+    (Refuse("1.jnl"), "Unrecoverable"),
+    (Len("1.jnl"), "0"),
+];
+
+const LAST: &[Row] = &[
+    (Add("10.jnl", b""), ""),
+    (Add("9.jnl", b""), ""),
+    (Open, ""),
+    (Ask(Insert(1, "c", "d")), ""),
+    (Space, "49"),
+    (Close, ""),
+    (Len("0.jnl"), "49"),
+    (Len("9.jnl"), "0"),
+    (Len("10.jnl"), "49"),
+    (Open, ""),
+    (Get(1, "a"), "b"),
+    (Get(1, "c"), "d"),
+];
+
+const SCENARIOS: &[Scenario] = &[
+    ("version 1 is refused", &[VERSION_1]),
+    ("version 2 is refused", &[VERSION_2]),
+    ("version 4 is refused", &[VERSION_4]),
+    ("what is no version is refused", &[NO_VERSION]),
+    ("a creation cut short goes on", &[CUT_SHORT]),
+    ("0.JNL is nearly a journal", &[WRITTEN, UPPER]),
+    ("00.jnl is nearly a journal", &[WRITTEN, TWO_ZEROS]),
+    ("x.jnl is nearly a journal", &[WRITTEN, LETTER]),
+    ("other files are passed over", &[WRITTEN, OTHERS]),
+    (
+        "a torn journal before the last is refused",
+        &[WRITTEN, TORN],
+    ),
+    ("the last journal goes on", &[WRITTEN, LAST]),
+];
+
+#[test]
+fn folders_open_or_are_refused(rt: HostRuntime) -> Result<(), Fail> {
+    assert_eq!(rt; first_wrong(rt.alloc(), SCENARIOS)?, None);
+    Ok(())
+}

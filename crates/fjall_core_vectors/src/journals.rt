@@ -1,238 +1,249 @@
-//! Journals that a crash cut, or that something was added to.
-//!
-//! An insert of one byte under one byte has 49 bytes. A batch begins and ends with 13 bytes each, an item has 23, and a clear 9.
-//! Their checks were computed apart from this repository, and agree with the journal that the first scenario leaves.
+//! Journals that a crash cut, or that something damaged.
 
-/// An insert of a=b into keyspace 1 under number 1.
-pub const ONE: &str =
-    "0101000000010000000000000002000001000000000000000100010000000100000061620312d7409183c20000464a4c03";
+use crate::acts::Act::*;
+use crate::acts::{Change, ITEMS, ONE, Row, Scenario, first_wrong, wrong_act};
+use crate::script::Line::*;
+use fjall_journal::ValueType;
+use std::test::Fail;
 
-pub const SCRIPT: &str = "\
-# an insert is one batch
-open
-keyspace items => 1
-insert 1 a b
-visible => 2
-space => 49
-leave
-read 0.jnl => 0101000000010000000000000002000001000000000000000100010000000100000061620312d7409183c20000464a4c03
-open
-insert 1 a c
-get 1 a => c
-visible => 3
-space => 98
-# a crash keeps a beginning
-open
-keyspace items => 1
-insert 1 a v
-insert 1 b v
-insert 1 c v
-space => 147
-leave
-crash 100
-open
-get 1 a => v
-get 1 b => v
-get 1 c => -
-visible => 3
-space => 98
-# a whole batch is read
-open
-keyspace items => 1
-close
-append 0.jnl 0101000000010000000000000002000001000000000000000100010000000100000061620312d7409183c20000464a4c03
-open
-get 1 a => b
-visible => 2
-space => 49
-# one item where two are due
-open
-keyspace items => 1
-close
-append 0.jnl 0102000000010000000000000002000001000000000000000100010000000100000061620312d7409183c20000464a4c03
-open => JournalRecovery(InsufficientLength)
-read 0.jnl => 0102000000010000000000000002000001000000000000000100010000000100000061620312d7409183c20000464a4c03
-# one item where none is due
-open
-keyspace items => 1
-close
-append 0.jnl 0100000000010000000000000002000001000000000000000100010000000100000061620312d7409183c20000464a4c03
-open => JournalRecovery(TooManyItems)
-read 0.jnl => 0100000000010000000000000002000001000000000000000100010000000100000061620312d7409183c20000464a4c03
-# another number
-open
-keyspace items => 1
-close
-append 0.jnl 0101000000020000000000000002000001000000000000000100010000000100000061620312d7409183c20000464a4c03
-open => JournalRecovery(ChecksumMismatch)
-read 0.jnl => 0101000000020000000000000002000001000000000000000100010000000100000061620312d7409183c20000464a4c03
-# another value
-open
-keyspace items => 1
-close
-append 0.jnl 0101000000010000000000000002000001000000000000000100010000000100000061630312d7409183c20000464a4c03
-open => JournalRecovery(ChecksumMismatch)
-read 0.jnl => 0101000000010000000000000002000001000000000000000100010000000100000061630312d7409183c20000464a4c03
-# another last byte
-open
-keyspace items => 1
-close
-append 0.jnl 0101000000010000000000000002000001000000000000000100010000000100000061620312d7409183c20000464a4c04
-open
-visible => 1
-space => 0
-# number 0 behind 1
-open
-keyspace items => 1
-close
-append 0.jnl 0101000000010000000000000002000001000000000000000100010000000100000061620312d7409183c20000464a4c03
-append 0.jnl 0101000000000000000000000002000001000000000000000100010000000100000061770350d53eb3fb6fe9d2464a4c03
-open => Unrecoverable
-read 0.jnl => 0101000000010000000000000002000001000000000000000100010000000100000061620312d7409183c20000464a4c030101000000000000000000000002000001000000000000000100010000000100000061770350d53eb3fb6fe9d2464a4c03
-# number 1 behind 1
-open
-keyspace items => 1
-close
-append 0.jnl 0101000000010000000000000002000001000000000000000100010000000100000061620312d7409183c20000464a4c03
-append 0.jnl 0101000000010000000000000002000001000000000000000100010000000100000061770326a5c8e1735faba2464a4c03
-open => Unrecoverable
-read 0.jnl => 0101000000010000000000000002000001000000000000000100010000000100000061620312d7409183c20000464a4c030101000000010000000000000002000001000000000000000100010000000100000061770326a5c8e1735faba2464a4c03
-# a number too high
-open
-keyspace items => 1
-close
-append 0.jnl 0101000000010000000000000002000001000000000000000100010000000100000061620312d7409183c20000464a4c03
-append 0.jnl 01010000000000000000000080020000010000000000000001000100000001000000617703f6ff3b07972d12c4464a4c03
-open => Unrecoverable
-read 0.jnl => 0101000000010000000000000002000001000000000000000100010000000100000061620312d7409183c20000464a4c0301010000000000000000000080020000010000000000000001000100000001000000617703f6ff3b07972d12c4464a4c03
-# an indirection
-open
-keyspace items => 1
-close
-append 0.jnl 0101000000010000000000000002000001000000000000000100010000000100000061620312d7409183c20000464a4c03
-append 0.jnl 01010000000200000000000000020400010000000000000001000100000001000000617703525a141dea517460464a4c03
-open => InvalidTag((\"ValueType\", 4))
-read 0.jnl => 0101000000010000000000000002000001000000000000000100010000000100000061620312d7409183c20000464a4c0301010000000200000000000000020400010000000000000001000100000001000000617703525a141dea517460464a4c03
-# a value
-open
-keyspace items => 1
-close
-append 0.jnl 0101000000010000000000000002000001000000000000000100010000000100000061620312d7409183c20000464a4c03
-append 0.jnl 010100000002000000000000000200000100000000000000010001000000010000006177037593351b91e11866464a4c03
-len 0.jnl => 98
-open
-visible => 3
-space => 98
-get 1 a => w
-# a removal
-open
-keyspace items => 1
-close
-append 0.jnl 0101000000010000000000000002000001000000000000000100010000000100000061620312d7409183c20000464a4c03
-append 0.jnl 01010000000200000000000000020100010000000000000001000100000001000000617703aa3184b43577e749464a4c03
-len 0.jnl => 98
-open
-visible => 3
-space => 98
-get 1 a => -
-# a weak removal
-open
-keyspace items => 1
-close
-append 0.jnl 0101000000010000000000000002000001000000000000000100010000000100000061620312d7409183c20000464a4c03
-append 0.jnl 010100000002000000000000000202000100000000000000010001000000010000006177032fbc6979fdc856c6464a4c03
-len 0.jnl => 98
-open
-visible => 3
-space => 98
-get 1 a => -
-# another keyspace's value
-open
-keyspace items => 1
-close
-append 0.jnl 0101000000010000000000000002000001000000000000000100010000000100000061620312d7409183c20000464a4c03
-append 0.jnl 01010000000200000000000000020000020000000000000001000100000001000000617703fcb9751ff68c31eb464a4c03
-len 0.jnl => 98
-open
-visible => 3
-space => 98
-get 1 a => b
-# another keyspace's removal
-open
-keyspace items => 1
-close
-append 0.jnl 0101000000010000000000000002000001000000000000000100010000000100000061620312d7409183c20000464a4c03
-append 0.jnl 0101000000020000000000000002010002000000000000000100010000000100000061770389b8488d02d11874464a4c03
-len 0.jnl => 98
-open
-visible => 3
-space => 98
-get 1 a => b
-# another keyspace's weak removal
-open
-keyspace items => 1
-close
-append 0.jnl 0101000000010000000000000002000001000000000000000100010000000100000061620312d7409183c20000464a4c03
-append 0.jnl 010100000002000000000000000202000200000000000000010001000000010000006177031a6c8599295a367d464a4c03
-len 0.jnl => 98
-open
-visible => 3
-space => 98
-get 1 a => b
-# a clear
-open
-keyspace items => 1
-close
-append 0.jnl 0101000000010000000000000002000001000000000000000100010000000100000061620312d7409183c20000464a4c03
-append 0.jnl 0101000000020000000000000004010000000000000003038e26a1b7d2a334464a4c03
-len 0.jnl => 84
-open
-visible => 3
-space => 84
-get 1 a => -
-# another keyspace's clear
-open
-keyspace items => 1
-close
-append 0.jnl 0101000000010000000000000002000001000000000000000100010000000100000061620312d7409183c20000464a4c03
-append 0.jnl 01010000000200000000000000040200000000000000031421cfd5371e00c1464a4c03
-len 0.jnl => 84
-open
-visible => 3
-space => 84
-get 1 a => b
-# a clear and a value
-open
-keyspace items => 1
-close
-append 0.jnl 0101000000010000000000000002000001000000000000000100010000000100000061620312d7409183c20000464a4c03
-append 0.jnl 01020000000200000000000000040100000000000000020000010000000000000001000100000001000000617703fa9d88d50256ddee464a4c03
-len 0.jnl => 107
-open
-visible => 3
-space => 107
-get 1 a => w
-# a batch of a keyspace's own number is passed over
-open
-keyspace items => 1
-close
-append 0.jnl 0101000000000000000000000002000001000000000000000100010000000100000061770350d53eb3fb6fe9d2464a4c03
-open
-get 1 a => -
-visible => 1
-space => 49
-# numbers end
-open
-keyspace items => 1
-close
-append 0.jnl 0101000000010000000000000002000001000000000000000100010000000100000061620312d7409183c20000464a4c03
-append 0.jnl 0101000000ffffffffffffff7f02000001000000000000000100010000000100000061770346a7607fc06b6bc8464a4c03
-open
-insert 1 a x => NumbersUsedUp
-delete 1 => NumbersUsedUp
-keyspace more => NumbersUsedUp
-keyspace items => 1
-get 1 a => w
-visible => 9223372036854775808
-space => 98
-";
+const ONE_BATCH: &[Row] = &[
+    (Ask(Insert(1, "a", "b")), ""),
+    (Visible, "2"),
+    (Space, "49"),
+    (Leave, ""),
+    (Holds("0.jnl", ONE), "yes"),
+    (Open, ""),
+    (Ask(Insert(1, "a", "c")), ""),
+    (Get(1, "a"), "c"),
+    (Visible, "3"),
+    (Space, "98"),
+];
+
+const BEGINNING: &[Row] = &[
+    (Ask(Insert(1, "a", "v")), ""),
+    (Ask(Insert(1, "b", "v")), ""),
+    (Ask(Insert(1, "c", "v")), ""),
+    (Space, "147"),
+    (Leave, ""),
+    (Crash(100), ""),
+    (Open, ""),
+    (Get(1, "a"), "v"),
+    (Get(1, "b"), "v"),
+    (Get(1, "c"), "-"),
+    (Visible, "3"),
+    (Space, "98"),
+];
+
+const CLOSED: &[Row] = &[(Close, "")];
+
+const INSERT: &[Row] = &[(One(49), "")];
+
+const READ: &[Row] = &[
+    (Open, ""),
+    (Get(1, "a"), "b"),
+    (Visible, "2"),
+    (Space, "49"),
+];
+
+const FEWER_BYTES: &[Row] = &[
+    (Damage("0.jnl", 1, 2), ""),
+    (Refuse("0.jnl"), "JournalRecovery(InsufficientLength)"),
+];
+
+const MORE_ITEMS: &[Row] = &[
+    (Damage("0.jnl", 1, 0), ""),
+    (Refuse("0.jnl"), "JournalRecovery(TooManyItems)"),
+];
+
+const OTHER_NUMBER: &[Row] = &[
+    (Damage("0.jnl", 5, 2), ""),
+    (Refuse("0.jnl"), "JournalRecovery(ChecksumMismatch)"),
+];
+
+const OTHER_VALUE: &[Row] = &[
+    (Damage("0.jnl", 35, 99), ""),
+    (Refuse("0.jnl"), "JournalRecovery(ChecksumMismatch)"),
+];
+
+const NO_END: &[Row] = &[
+    (Damage("0.jnl", 48, 4), ""),
+    (Open, ""),
+    (Visible, "1"),
+    (Space, "0"),
+];
+
+const PUT: &[Change] = &[Change::Item(1, ValueType::Value)];
+
+const NUMBER_0: &[Row] = &[(Batch(0, PUT), ""), (Refuse("0.jnl"), "Unrecoverable")];
+
+const NUMBER_1: &[Row] = &[(Batch(1, PUT), ""), (Refuse("0.jnl"), "Unrecoverable")];
+
+const NUMBER_TOO_HIGH: &[Row] = &[
+    (Batch(1 << 63, PUT), ""),
+    (Refuse("0.jnl"), "Unrecoverable"),
+];
+
+const INDIRECTION: &[Row] = &[
+    (Batch(2, &[Change::Item(1, ValueType::Indirection)]), ""),
+    (Refuse("0.jnl"), "InvalidTag((\"ValueType\", 4))"),
+];
+
+const OWN_VALUE: &[Row] = &[(Batch(2, PUT), "")];
+
+const OWN_REMOVAL: &[Row] = &[(Batch(2, &[Change::Item(1, ValueType::Tombstone)]), "")];
+
+const OWN_WEAK_REMOVAL: &[Row] = &[(Batch(2, &[Change::Item(1, ValueType::WeakTombstone)]), "")];
+
+const OTHERS_VALUE: &[Row] = &[(Batch(2, &[Change::Item(2, ValueType::Value)]), "")];
+
+const OTHERS_REMOVAL: &[Row] = &[(Batch(2, &[Change::Item(2, ValueType::Tombstone)]), "")];
+
+const OTHERS_WEAK_REMOVAL: &[Row] = &[(Batch(2, &[Change::Item(2, ValueType::WeakTombstone)]), "")];
+
+const OWN_CLEAR: &[Row] = &[(Batch(2, &[Change::Clear(1)]), "")];
+
+const OTHERS_CLEAR: &[Row] = &[(Batch(2, &[Change::Clear(2)]), "")];
+
+const CLEAR_AND_VALUE: &[Row] = &[(
+    Batch(2, &[Change::Clear(1), Change::Item(1, ValueType::Value)]),
+    "",
+)];
+
+// The insert has 49 bytes. A batch begins and ends with 13 bytes each, an item has 23, and a clear 9.
+const ITEM_MORE: &[Row] = &[
+    (Len("0.jnl"), "98"),
+    (Open, ""),
+    (Visible, "3"),
+    (Space, "98"),
+];
+
+const CLEAR_MORE: &[Row] = &[
+    (Len("0.jnl"), "84"),
+    (Open, ""),
+    (Visible, "3"),
+    (Space, "84"),
+];
+
+const BOTH_MORE: &[Row] = &[
+    (Len("0.jnl"), "107"),
+    (Open, ""),
+    (Visible, "3"),
+    (Space, "107"),
+];
+
+const NEW: &[Row] = &[(Get(1, "a"), "w")];
+
+const OLD: &[Row] = &[(Get(1, "a"), "b")];
+
+const NONE: &[Row] = &[(Get(1, "a"), "-")];
+
+// The keyspace was made under number 0, so that nothing of that number is in it.
+const OWN_NUMBER: &[Row] = &[
+    (Batch(0, PUT), ""),
+    (Open, ""),
+    (Get(1, "a"), "-"),
+    (Visible, "1"),
+    (Space, "49"),
+];
+
+const NUMBERS_END: &[Row] = &[
+    (Batch((1 << 63) - 1, PUT), ""),
+    (Open, ""),
+    (Ask(Insert(1, "a", "x")), "NumbersUsedUp"),
+    (Ask(Delete(1)), "NumbersUsedUp"),
+    (Ask(Create("more")), "NumbersUsedUp"),
+    (Ask(Create("items")), "1"),
+    (Get(1, "a"), "w"),
+    (Visible, "9223372036854775808"),
+    (Space, "98"),
+];
+
+const SCENARIOS: &[Scenario] = &[
+    ("an insert is one batch", &[ITEMS, ONE_BATCH]),
+    ("a crash keeps a beginning", &[ITEMS, BEGINNING]),
+    ("a whole batch is read", &[ITEMS, CLOSED, INSERT, READ]),
+    (
+        "one item where two are due",
+        &[ITEMS, CLOSED, INSERT, FEWER_BYTES],
+    ),
+    (
+        "one item where none is due",
+        &[ITEMS, CLOSED, INSERT, MORE_ITEMS],
+    ),
+    ("another number", &[ITEMS, CLOSED, INSERT, OTHER_NUMBER]),
+    ("another value", &[ITEMS, CLOSED, INSERT, OTHER_VALUE]),
+    ("another last byte", &[ITEMS, CLOSED, INSERT, NO_END]),
+    ("number 0 behind 1", &[ITEMS, CLOSED, INSERT, NUMBER_0]),
+    ("number 1 behind 1", &[ITEMS, CLOSED, INSERT, NUMBER_1]),
+    (
+        "a number too high",
+        &[ITEMS, CLOSED, INSERT, NUMBER_TOO_HIGH],
+    ),
+    ("an indirection", &[ITEMS, CLOSED, INSERT, INDIRECTION]),
+    (
+        "a value",
+        &[ITEMS, CLOSED, INSERT, OWN_VALUE, ITEM_MORE, NEW],
+    ),
+    (
+        "a removal",
+        &[ITEMS, CLOSED, INSERT, OWN_REMOVAL, ITEM_MORE, NONE],
+    ),
+    (
+        "a weak removal",
+        &[ITEMS, CLOSED, INSERT, OWN_WEAK_REMOVAL, ITEM_MORE, NONE],
+    ),
+    (
+        "another keyspace's value",
+        &[ITEMS, CLOSED, INSERT, OTHERS_VALUE, ITEM_MORE, OLD],
+    ),
+    (
+        "another keyspace's removal",
+        &[ITEMS, CLOSED, INSERT, OTHERS_REMOVAL, ITEM_MORE, OLD],
+    ),
+    (
+        "another keyspace's weak removal",
+        &[ITEMS, CLOSED, INSERT, OTHERS_WEAK_REMOVAL, ITEM_MORE, OLD],
+    ),
+    (
+        "a clear",
+        &[ITEMS, CLOSED, INSERT, OWN_CLEAR, CLEAR_MORE, NONE],
+    ),
+    (
+        "another keyspace's clear",
+        &[ITEMS, CLOSED, INSERT, OTHERS_CLEAR, CLEAR_MORE, OLD],
+    ),
+    (
+        "a clear and a value",
+        &[ITEMS, CLOSED, INSERT, CLEAR_AND_VALUE, BOTH_MORE, NEW],
+    ),
+    (
+        "a batch of a keyspace's own number is passed over",
+        &[ITEMS, CLOSED, OWN_NUMBER],
+    ),
+    ("numbers end", &[ITEMS, CLOSED, INSERT, NUMBERS_END]),
+];
+
+#[test]
+fn journals_are_read_or_refused(rt: HostRuntime) -> Result<(), Fail> {
+    assert_eq!(rt; first_wrong(rt.alloc(), SCENARIOS)?, None);
+    Ok(())
+}
+
+const TORN: &[Row] = &[
+    (Open, ""),
+    (Get(1, "a"), "-"),
+    (Visible, "1"),
+    (Space, "0"),
+    (Leave, ""),
+    (Len("0.jnl"), "0"),
+];
+
+#[test]
+fn a_torn_batch_is_cut(rt: HostRuntime) -> Result<(), Fail> {
+    for len in 0..49usize {
+        let part = [(One(len), "")];
+        let wrong = wrong_act(rt.alloc(), &[ITEMS, CLOSED, &part, TORN])?;
+        assert_eq!(rt; wrong, None, "at {len}");
+    }
+    Ok(())
+}

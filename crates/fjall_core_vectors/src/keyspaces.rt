@@ -1,119 +1,163 @@
 //! Keyspaces made, deleted and made anew.
 
-pub const SCRIPT: &str = "\
-# names are listed in the order of their bytes
-open
-visible => 0
-count => 0
-keyspace b => 1
-keyspace a => 2
-names => a b
-visible => 2
-count => 2
-keyspace a => 2
-visible => 2
-exists b => yes
-exists c => no
-# a keyspace is deleted once
-open
-keyspace b => 1
-keyspace a => 2
-delete 0 => UnknownKeyspace
-delete 3 => UnknownKeyspace
-delete 18446744073709551615 => UnknownKeyspace
-delete 1
-delete 1
-visible => 3
-names => a
-# a creation writes a record to each tree
-open
-keyspace items => 1
-leave
-len version => 4
-len 0.jnl => 0
-len keyspaces/0/current => 135
-len keyspaces/1/current => 55
-len keyspaces/2/current => -
-# numbers outlast a closing
-open
-keyspace items => 1
-visible => 1
-close
-open
-seqno => 1
-visible => 1
-delete 1
-visible => 2
-close
-open
-seqno => 2
-visible => 2
-names
-# a deleted keyspace is read while it is retained
-open
-keyspace default => 1
-insert 1 a b
-retain 1
-delete 1
-insert 1 c d => KeyspaceDeleted
-get 1 a => b
-release 1
-get 1 a => KeyspaceDeleted
-retain 1 => KeyspaceDeleted
-release 1 => UnknownKeyspace
-# a keyspace made anew is another one
-open
-keyspace default => 1
-insert 1 a b
-retain 1
-delete 1
-release 1
-leave
-list keyspaces => keyspaces/0
-open
-keyspace default => 2
-close
-list keyspaces => keyspaces/0 keyspaces/2
-open
-names => default
-get 2 a => -
-visible => 4
-# a deleted keyspace's folder goes at the next opening, where it has no handle
-open
-keyspace items => 1
-delete 1
-leave
-len keyspaces/1/current => 55
-open
-leave
-list keyspaces => keyspaces/0
-# a living keyspace outlasts its handles
-open
-keyspace items => 1
-retain 1
-release 1
-release 1 => UnknownKeyspace
-insert 1 a b
-get 1 a => b
-# a name has one to 255 bytes
-open
-keyspace - => InvalidName
-keyspace 256* => InvalidName
-visible => 0
-keyspace 255* => 1
-close
-open
-names => nnnnnnnnnnnnnnnnnnnnnnnnnnnnnnnnnnnnnnnnnnnnnnnnnnnnnnnnnnnnnnnnnnnnnnnnnnnnnnnnnnnnnnnnnnnnnnnnnnnnnnnnnnnnnnnnnnnnnnnnnnnnnnnnnnnnnnnnnnnnnnnnnnnnnnnnnnnnnnnnnnnnnnnnnnnnnnnnnnnnnnnnnnnnnnnnnnnnnnnnnnnnnnnnnnnnnnnnnnnnnnnnnnnnnnnnnnnnnnnnnnnnnnnnnnnnnnn
-# keyspaces hold the same keys apart
-open
-keyspace items => 1
-keyspace more => 2
-insert 1 k one
-insert 2 k two
-remove 1 k
-close
-open
-get 1 k => -
-get 2 k => two
-visible => 5
-";
+use crate::acts::Act::*;
+use crate::acts::{ITEMS, Row, Scenario, first_wrong};
+use crate::script::Line::*;
+use std::test::Fail;
+
+const TWO: &[Row] = &[(Open, ""), (Ask(Create("b")), "1"), (Ask(Create("a")), "2")];
+
+const NAMES: &[Row] = &[
+    (Open, ""),
+    (Visible, "0"),
+    (Count, "0"),
+    (Ask(Create("b")), "1"),
+    (Ask(Create("a")), "2"),
+    (Names, "a b"),
+    (Visible, "2"),
+    (Count, "2"),
+    (Ask(Create("a")), "2"),
+    (Visible, "2"),
+    (Exists("b"), "yes"),
+    (Exists("c"), "no"),
+];
+
+const DELETED_ONCE: &[Row] = &[
+    (Ask(Delete(0)), "UnknownKeyspace"),
+    (Ask(Delete(3)), "UnknownKeyspace"),
+    (Ask(Delete(u64::MAX)), "UnknownKeyspace"),
+    (Ask(Delete(1)), ""),
+    (Ask(Delete(1)), ""),
+    (Visible, "3"),
+    (Names, "a"),
+];
+
+const RECORDS: &[Row] = &[
+    (Leave, ""),
+    (Len("version"), "4"),
+    (Len("0.jnl"), "0"),
+    (Len("keyspaces/0/current"), "135"),
+    (Len("keyspaces/1/current"), "55"),
+    (Len("keyspaces/2/current"), "-"),
+];
+
+const NUMBERS: &[Row] = &[
+    (Visible, "1"),
+    (Close, ""),
+    (Open, ""),
+    (Seqno, "1"),
+    (Visible, "1"),
+    (Ask(Delete(1)), ""),
+    (Visible, "2"),
+    (Close, ""),
+    (Open, ""),
+    (Seqno, "2"),
+    (Visible, "2"),
+    (Names, ""),
+];
+
+const RETAINED: &[Row] = &[
+    (Open, ""),
+    (Ask(Create("default")), "1"),
+    (Ask(Insert(1, "a", "b")), ""),
+    (Ask(Retain(1)), ""),
+    (Ask(Delete(1)), ""),
+    (Ask(Insert(1, "c", "d")), "KeyspaceDeleted"),
+    (Get(1, "a"), "b"),
+    (Ask(Release(1)), ""),
+    (Get(1, "a"), "KeyspaceDeleted"),
+    (Ask(Retain(1)), "KeyspaceDeleted"),
+    (Ask(Release(1)), "UnknownKeyspace"),
+];
+
+const MADE_ANEW: &[Row] = &[
+    (Open, ""),
+    (Ask(Create("default")), "1"),
+    (Ask(Insert(1, "a", "b")), ""),
+    (Ask(Retain(1)), ""),
+    (Ask(Delete(1)), ""),
+    (Ask(Release(1)), ""),
+    (Leave, ""),
+    (Lists("keyspaces", "keyspaces/1"), "no"),
+    (Open, ""),
+    (Ask(Create("default")), "2"),
+    (Close, ""),
+    (Lists("keyspaces", "keyspaces/2"), "yes"),
+    (Open, ""),
+    (Names, "default"),
+    (Get(2, "a"), "-"),
+    (Visible, "4"),
+];
+
+// Without a handle nothing removes its folder but the next opening.
+const FOLDER: &[Row] = &[
+    (Ask(Delete(1)), ""),
+    (Leave, ""),
+    (Len("keyspaces/1/current"), "55"),
+    (Open, ""),
+    (Leave, ""),
+    (Lists("keyspaces", "keyspaces/1"), "no"),
+];
+
+const HANDLES: &[Row] = &[
+    (Ask(Retain(1)), ""),
+    (Ask(Release(1)), ""),
+    (Ask(Release(1)), "UnknownKeyspace"),
+    (Ask(Insert(1, "a", "b")), ""),
+    (Get(1, "a"), "b"),
+];
+
+// 255 letters, and 256.
+const LONG: &str =
+    "nnnnnnnnnnnnnnnnnnnnnnnnnnnnnnnnnnnnnnnnnnnnnnnnnnnnnnnnnnnnnnnnnnnnnnnnnnnnnnnnnnnnnnnnnnnnnnnnnnnnnnnnnnnnnnnnnnnnnnnnnnnnnnnnnnnnnnnnnnnnnnnnnnnnnnnnnnnnnnnnnnnnnnnnnnnnnnnnnnnnnnnnnnnnnnnnnnnnnnnnnnnnnnnnnnnnnnnnnnnnnnnnnnnnnnnnnnnnnnnnnnnnnnnnnnnnnnn";
+
+const TOO_LONG: &str =
+    "nnnnnnnnnnnnnnnnnnnnnnnnnnnnnnnnnnnnnnnnnnnnnnnnnnnnnnnnnnnnnnnnnnnnnnnnnnnnnnnnnnnnnnnnnnnnnnnnnnnnnnnnnnnnnnnnnnnnnnnnnnnnnnnnnnnnnnnnnnnnnnnnnnnnnnnnnnnnnnnnnnnnnnnnnnnnnnnnnnnnnnnnnnnnnnnnnnnnnnnnnnnnnnnnnnnnnnnnnnnnnnnnnnnnnnnnnnnnnnnnnnnnnnnnnnnnnnnn";
+
+const NAME_LENGTHS: &[Row] = &[
+    (Open, ""),
+    (Ask(Create("")), "InvalidName"),
+    (Ask(Create(TOO_LONG)), "InvalidName"),
+    (Visible, "0"),
+    (Ask(Create(LONG)), "1"),
+    (Close, ""),
+    (Open, ""),
+    (Names, LONG),
+];
+
+const SAME_KEYS: &[Row] = &[
+    (Ask(Create("more")), "2"),
+    (Ask(Insert(1, "k", "one")), ""),
+    (Ask(Insert(2, "k", "two")), ""),
+    (Ask(Remove(1, "k")), ""),
+    (Close, ""),
+    (Open, ""),
+    (Get(1, "k"), "-"),
+    (Get(2, "k"), "two"),
+    (Visible, "5"),
+];
+
+const SCENARIOS: &[Scenario] = &[
+    ("names are listed in the order of their bytes", &[NAMES]),
+    ("a keyspace is deleted once", &[TWO, DELETED_ONCE]),
+    ("a creation writes a record to each tree", &[ITEMS, RECORDS]),
+    ("numbers outlast a closing", &[ITEMS, NUMBERS]),
+    (
+        "a deleted keyspace is read while it is retained",
+        &[RETAINED],
+    ),
+    ("a keyspace made anew is another one", &[MADE_ANEW]),
+    (
+        "a deleted keyspace's folder goes at the next opening",
+        &[ITEMS, FOLDER],
+    ),
+    ("a living keyspace outlasts its handles", &[ITEMS, HANDLES]),
+    ("a name has one to 255 bytes", &[NAME_LENGTHS]),
+    ("keyspaces hold the same keys apart", &[ITEMS, SAME_KEYS]),
+];
+
+#[test]
+fn keyspaces_are_made_deleted_and_made_anew(rt: HostRuntime) -> Result<(), Fail> {
+    assert_eq!(rt; first_wrong(rt.alloc(), SCENARIOS)?, None);
+    Ok(())
+}

@@ -2,9 +2,13 @@
 #![tactic(auto)]
 
 #[cfg(test)]
+mod acts;
+#[cfg(test)]
 mod by_hand;
 #[cfg(test)]
 mod calls;
+#[cfg(test)]
+mod database;
 #[cfg(test)]
 mod faults;
 #[cfg(test)]
@@ -16,20 +20,12 @@ mod keyspaces;
 #[cfg(test)]
 mod moments;
 #[cfg(test)]
-mod reads;
-#[cfg(test)]
 mod reference;
 #[cfg(test)]
 mod restarts;
-#[cfg(test)]
-mod scenarios;
 #[cfg(test)]
 mod script;
 #[cfg(test)]
 mod sweep;
 #[cfg(test)]
 mod tape;
-#[cfg(test)]
-mod tests;
-#[cfg(test)]
-mod words;

@@ -2,30 +2,23 @@
 
 ghost use Rattle.std.specs.Prelude.{◌<◌};
 
-use crate::tape::{Kind, Step};
+use crate::tape::Step;
 use fjall_base::{Disk, Result};
 use fjall_memory::MemoryDisk;
 use std::alloc::Global;
 use std::mem;
 
 /// What stands at a name.
-#[derive(Clone, Copy, PartialEq, Eq)]
-enum Form {
-    Nothing,
+#[derive(Clone, PartialEq, Eq, Drop)]
+enum Entry {
+    Missing,
     Folder,
-    File,
-}
-
-/// What stands at a name: of a file its bytes, and how many of them are synced; else there are none.
-#[derive(Drop)]
-struct Entry {
-    form: Form,
-    bytes: Vec<u8>,
-    synced: usize,
+    /// Its bytes, and how many of them are synced.
+    File(Vec<u8>, usize),
 }
 
 /// What stands at a name, and what else a crash may bring back there.
-#[derive(Drop)]
+#[derive(Clone, PartialEq, Eq, Drop)]
 struct Place {
     name: String,
     now: Entry,
@@ -33,7 +26,7 @@ struct Place {
 }
 
 /// What a disk holds at a moment: names in an order in which each one's folder comes before it.
-#[derive(Drop)]
+#[derive(Clone, PartialEq, Eq, Drop)]
 pub struct Moment {
     places: Vec<Place>,
 }
@@ -50,45 +43,79 @@ pub struct Crash {
     others: usize,
 }
 
-/// Each file keeps so many of its unsynced bytes.
-fn keeping(pick: usize, others: usize) -> Crash {
-    Crash {
-        pick,
-        file: usize::MAX,
-        keep: 0,
-        others,
+impl Crash {
+    /// Each file keeps so many of its unsynced bytes.
+    fn keeping(pick: usize, others: usize) -> Crash {
+        Crash {
+            pick,
+            file: usize::MAX,
+            keep: 0,
+            others,
+        }
     }
 }
 
 /// The folder that a name is in.
 fn folder_of(name: &str) -> &str {
-    name.rsplit_once('/').unwrap_or(("", name)).0
+    match name.rsplit_once('/') {
+        Some((folder, _)) => folder,
+        None => "",
+    }
 }
 
 impl Entry {
-    fn new(alloc: Global, form: Form) -> Entry {
-        Entry {
-            form,
-            bytes: Vec::new(alloc),
-            synced: 0,
+    /// Whether both are files, both folders, or both nothing.
+    fn is_like(&self, other: &Entry) -> bool {
+        matches!(
+            (self, other),
+            (Entry::Missing, Entry::Missing)
+                | (Entry::Folder, Entry::Folder)
+                | (Entry::File(_, _), Entry::File(_, _))
+        )
+    }
+
+    /// How many unsynced bytes a file has.
+    fn loose_len(&self) -> usize {
+        match self {
+            Entry::File(bytes, synced) => bytes.len().saturating_sub(*synced),
+            _ => 0,
         }
     }
 
-    /// How many unsynced bytes it has.
-    fn loose_len(&self) -> usize {
-        self.bytes.len().saturating_sub(self.synced)
+    /// What a crash leaves of it, where a file keeps so many unsynced bytes.
+    fn left(&self, keep: usize) -> Result<Entry> {
+        let mut left = self.clone()?;
+        if let Entry::File(bytes, synced) = &mut left {
+            bytes.truncate(synced.saturating_add(keep));
+            *synced = bytes.len();
+        }
+        Ok(left)
     }
 
-    /// What a crash leaves of it, where so many unsynced bytes are kept.
-    fn left(&self, alloc: Global, keep: usize) -> Result<Entry> {
-        let mut bytes = Vec::from_slice(alloc, &self.bytes)?;
-        bytes.truncate(self.synced.saturating_add(keep));
-        let synced = bytes.len();
-        Ok(Entry {
-            form: self.form,
-            bytes,
-            synced,
-        })
+    /// A file gets these bytes at its end.
+    fn append(&mut self, added: &[u8]) -> Result<()> {
+        if let Entry::File(bytes, _) = self {
+            bytes.extend_from_slice(added)?;
+        }
+        Ok(())
+    }
+
+    /// A file ends at this length at most, and is synced.
+    fn cut(&mut self, len: usize) {
+        if let Entry::File(bytes, synced) = self {
+            bytes.truncate(len);
+            *synced = bytes.len();
+        }
+    }
+
+    /// No byte of a file from this length on is safe; answers whether one was.
+    fn loosen(&mut self, len: usize) -> bool {
+        let Entry::File(_, synced) = self else {
+            return false;
+        };
+        let is_other = len < *synced;
+        *synced = len.min(*synced);
+        is_other
     }
 }
 
@@ -117,55 +144,70 @@ impl Moment {
         }
     }
 
-    /// Whether there is such a folder; the root always is.
-    fn has_folder(&self, name: &str) -> bool {
-        let mut is_there = name.is_empty();
-        for place in &self.places {
-            is_there = is_there || (place.name.as_str() == name && place.now.form == Form::Folder);
-        }
-        is_there
-    }
-
-    /// Puts an entry at a name, unless one of its form stands there; answers whether it did.
-    fn put(&mut self, alloc: Global, name: &str, form: Form) -> Result<bool> {
-        for place in &mut self.places {
+    /// Where a name is among the places.
+    fn find(&self, name: &str) -> Option<usize> {
+        for (at, place) in self.places.iter().enumerate() {
             if place.name.as_str() == name {
-                let is_other = place.now.form != form;
-                if is_other {
-                    let before = mem::replace(&mut place.now, Entry::new(alloc, form));
-                    place.older.push(before)?;
-                }
-                return Ok(is_other);
+                return Some(at);
             }
         }
-        self.places.push(Place {
-            name: String::from_str(alloc, name)?,
-            now: Entry::new(alloc, form),
-            older: vec![in alloc; Entry::new(alloc, Form::Nothing)]?,
-        })?;
+        None
+    }
+
+    fn place(&self, name: &str) -> Option<&Place> {
+        self.places.get(self.find(name)?)
+    }
+
+    /// Whether there is such a folder; the root always is.
+    fn has_folder(&self, name: &str) -> bool {
+        match self.place(name) {
+            Some(place) => place.now == Entry::Folder,
+            None => name.is_empty(),
+        }
+    }
+
+    /// Puts an entry at a name, unless one like it stands there; answers whether it did.
+    fn put(&mut self, alloc: Global, name: &str, entry: Entry) -> Result<bool> {
+        let Some(at) = self.find(name) else {
+            self.places.push(Place {
+                name: String::from_str(alloc, name)?,
+                now: entry,
+                older: vec![in alloc; Entry::Missing]?,
+            })?;
+            return Ok(true);
+        };
+        let Some(place) = self.places.get_mut(at) else {
+            return Ok(false);
+        };
+        if place.now.is_like(&entry) {
+            return Ok(false);
+        }
+        let before = mem::replace(&mut place.now, entry);
+        place.older.push(before)?;
         Ok(true)
+    }
+
+    /// The entry of a name, where something was put there.
+    fn at(&mut self, name: &str) -> Option<&mut Entry> {
+        let at = self.find(name)?;
+        Some(&mut self.places.get_mut(at)?.now)
     }
 
     /// A file gets these bytes at its end; answers whether there are any.
     fn append(&mut self, name: &str, bytes: &[u8]) -> Result<bool> {
-        for place in &mut self.places {
-            if place.name.as_str() == name {
-                place.now.bytes.extend_from_slice(bytes)?;
-            }
+        if let Some(entry) = self.at(name) {
+            entry.append(bytes)?;
         }
         Ok(!bytes.is_empty())
     }
 
     /// A file ends at this length at most, and is synced; answers whether it held bytes that were not safe.
     fn cut(&mut self, name: &str, len: usize) -> bool {
-        let mut is_other = false;
-        for place in &mut self.places {
-            if place.name.as_str() == name {
-                is_other = place.now.loose_len() > 0;
-                place.now.bytes.truncate(len);
-                place.now.synced = place.now.bytes.len();
-            }
-        }
+        let Some(entry) = self.at(name) else {
+            return false;
+        };
+        let is_other = entry.loose_len() > 0;
+        entry.cut(len);
         is_other
     }
 
@@ -184,36 +226,34 @@ impl Moment {
     /// The disk begins a step: where that is a cut, no byte from there on is safe. Answers whether a crash may leave
     /// something else from then on.
     pub fn begin(&mut self, step: &Step) -> bool {
-        let mut is_other = false;
-        if let Kind::Cut(len) = step.kind {
-            for place in &mut self.places {
-                if place.name == step.name {
-                    is_other = len < place.now.synced;
-                    place.now.synced = len.min(place.now.synced);
-                }
-            }
+        let Step::Cut(name, len) = step else {
+            return false;
+        };
+        match self.at(name) {
+            Some(entry) => entry.loosen(*len),
+            None => false,
         }
-        is_other
     }
 
     /// The disk takes a step; answers whether a crash may leave something else from then on.
     pub fn take(&mut self, alloc: Global, step: &Step) -> Result<bool> {
-        let name = step.name.as_str();
-        match step.kind {
-            Kind::Read => Ok(false),
-            Kind::Create => self.put(alloc, name, Form::File),
-            Kind::MakeFolder => self.put(alloc, name, Form::Folder),
-            Kind::Remove => self.put(alloc, name, Form::Nothing),
-            Kind::Append => self.append(name, &step.bytes),
-            Kind::Sync => Ok(self.cut(name, usize::MAX)),
-            Kind::Cut(len) => Ok(self.cut(name, len)),
-            Kind::SyncFolder => Ok(self.settle(name)),
+        match step {
+            Step::Read => Ok(false),
+            Step::Create(name) => self.put(alloc, name, Entry::File(Vec::new(alloc), 0)),
+            Step::MakeFolder(name) => self.put(alloc, name, Entry::Folder),
+            Step::Remove(name) => self.put(alloc, name, Entry::Missing),
+            Step::Append(name, bytes) => self.append(name, bytes),
+            Step::Sync(name) => Ok(self.cut(name, usize::MAX)),
+            Step::Cut(name, len) => Ok(self.cut(name, *len)),
+            Step::SyncFolder(folder) => Ok(self.settle(folder)),
         }
     }
 
     /// The disk fails at a step, and where that is an append so many of its bytes go out.
     pub fn fail(&mut self, step: &Step, part: usize) -> Result<()> {
-        self.append(&step.name, step.bytes.get(..part).unwrap_or(&step.bytes))?;
+        if let Step::Append(name, bytes) = step {
+            self.append(name, &bytes[..part.min(bytes.len())])?;
+        }
         Ok(())
     }
 }
@@ -243,9 +283,9 @@ impl Moment {
         }
         let mut crashes = Vec::new(alloc);
         for pick in self.picks(alloc)? {
-            crashes.push(keeping(pick, 0))?;
+            crashes.push(Crash::keeping(pick, 0))?;
             if is_loose {
-                crashes.push(keeping(pick, usize::MAX))?;
+                crashes.push(Crash::keeping(pick, usize::MAX))?;
             }
         }
         Ok(crashes)
@@ -254,25 +294,29 @@ impl Moment {
     /// Two of these: nothing of what isn't synced is left, or all.
     pub fn ends(&self, alloc: Global) -> Result<Vec<Crash>> {
         let last = self.picks(alloc)?.last().copied().unwrap_or(0);
-        Ok(vec![in alloc; keeping(last, 0), keeping(0, usize::MAX)]?)
+        Ok(vec![in alloc; Crash::keeping(last, 0), Crash::keeping(0, usize::MAX)]?)
     }
 
     /// Ways to crash behind an append in which all names stay, and a part of its bytes is kept, of each length.
     pub fn cuts(&self, alloc: Global, step: &Step) -> Result<Vec<Crash>> {
         let mut crashes = Vec::new(alloc);
-        for (file, place) in self.places.iter().enumerate() {
-            if place.name != step.name {
-                continue;
-            }
-            let before = place.now.loose_len().saturating_sub(step.bytes.len());
-            for len in 1..step.bytes.len() {
-                crashes.push(Crash {
-                    pick: 0,
-                    file,
-                    keep: before.saturating_add(len),
-                    others: usize::MAX,
-                })?;
-            }
+        let Step::Append(name, bytes) = step else {
+            return Ok(crashes);
+        };
+        let Some(file) = self.find(name) else {
+            return Ok(crashes);
+        };
+        let Some(place) = self.places.get(file) else {
+            return Ok(crashes);
+        };
+        let before = place.now.loose_len().saturating_sub(bytes.len());
+        for len in 1..bytes.len() {
+            crashes.push(Crash {
+                pick: 0,
+                file,
+                keep: before.saturating_add(len),
+                others: usize::MAX,
+            })?;
         }
         Ok(crashes)
     }
@@ -285,7 +329,7 @@ impl Moment {
             let ways = place.ways();
             let entry = place.entry(pick % ways);
             pick /= ways;
-            if entry.form == Form::Nothing || !left.has_folder(folder_of(&place.name)) {
+            if *entry == Entry::Missing || !left.has_folder(folder_of(&place.name)) {
                 continue;
             }
             let keep = if at == crash.file {
@@ -295,41 +339,23 @@ impl Moment {
             };
             left.places.push(Place {
                 name: place.name.clone()?,
-                now: entry.left(alloc, keep)?,
+                now: entry.left(keep)?,
                 older: Vec::new(alloc),
             })?;
         }
         Ok(left)
     }
 
-    /// The same, where all of it is synced.
-    pub fn synced(&self, alloc: Global) -> Result<Moment> {
-        self.left(alloc, keeping(0, usize::MAX))
-    }
-
-    /// Whether another one that is synced holds the same, where this one is synced.
-    pub fn is_same(&self, other: &Moment) -> bool {
-        for (place, same) in self.places.iter().zip(&other.places) {
-            if place.name != same.name
-                || place.now.form != same.now.form
-                || place.now.bytes != same.now.bytes
-            {
-                return false;
-            }
-        }
-        self.places.len() == other.places.len()
-    }
-
     /// A disk that holds what stands at this moment, all of it synced.
     pub fn disk(&self, alloc: Global) -> Result<MemoryDisk> {
         let mut disk = MemoryDisk::new(alloc);
         for place in &self.places {
-            match place.now.form {
-                Form::Nothing => {}
-                Form::Folder => disk.make_folder(&place.name)?,
-                Form::File => {
+            match &place.now {
+                Entry::Missing => {}
+                Entry::Folder => disk.make_folder(&place.name)?,
+                Entry::File(bytes, _) => {
                     disk.create(&place.name)?;
-                    disk.append(&place.name, &place.now.bytes)?;
+                    disk.append(&place.name, bytes)?;
                 }
             }
         }

@@ -1,118 +1,114 @@
 //! The keyspaces that commands make, and those that a database shows.
 
-use crate::calls::ask;
-use crate::words::{first_word, number};
-use fjall_base::{Disk, Result};
-use fjall_core::Core;
+use crate::database::Database;
+use fjall_base::{Disk, KvPair, Result, Slice};
 use std::alloc::Global;
+use std::mem;
+use std::ops::Bound;
 
-/// The name of a keyspace that lives, and its id.
-type Home = (&'static str, u64);
+/// What takes a number of its own.
+#[derive(Clone, Drop)]
+pub enum Command {
+    /// Makes a keyspace of this name, under the next id.
+    Create(Slice),
+    /// Deletes the keyspace of this id.
+    Delete(u64),
+    /// Gives a key of a keyspace a value.
+    Put(u64, Slice, Slice),
+    /// Takes a key of a keyspace away.
+    Take(u64, Slice),
+}
 
-/// The id of a keyspace, and a key and its value there.
-type Pair = (u64, &'static str, &'static str);
+/// A keyspace that lives, with its pairs in the order of their keys.
+#[derive(Debug, PartialEq, Eq, PartialOrd, Ord, Drop)]
+pub struct Home {
+    pub name: Slice,
+    pub id: u64,
+    pub pairs: Vec<KvPair>,
+}
 
-/// The keyspaces that commands make of nothing.
-#[derive(Drop)]
-pub struct Model {
-    homes: Vec<Home>,
-    pairs: Vec<Pair>,
+/// The pairs but those of a key.
+fn without(alloc: Global, pairs: Vec<KvPair>, key: &Slice) -> Result<Vec<KvPair>> {
+    let mut left = Vec::new(alloc);
+    for pair in pairs {
+        if pair.0 != *key {
+            left.push(pair)?;
+        }
+    }
+    Ok(left)
+}
+
+/// A key of a keyspace has this value from now on, or none.
+fn alter(alloc: Global, home: &mut Home, key: &Slice, value: Option<&Slice>) -> Result<()> {
+    let pairs = mem::replace(&mut home.pairs, Vec::new(alloc));
+    home.pairs = without(alloc, pairs, key)?;
+    if let Some(value) = value {
+        home.pairs.push((key.clone()?, value.clone()?))?;
+    }
+    Ok(())
 }
 
 /// The keyspaces but that of an id.
-fn other_homes(alloc: Global, homes: &[Home], id: u64) -> Result<Vec<Home>> {
-    let mut others = Vec::new(alloc);
+fn deleted(alloc: Global, homes: Vec<Home>, id: u64) -> Result<Vec<Home>> {
+    let mut left = Vec::new(alloc);
     for home in homes {
-        if home.1 != id {
-            others.push(*home)?;
+        if home.id != id {
+            left.push(home)?;
         }
     }
-    Ok(others)
+    Ok(left)
 }
 
-/// The pairs but that of a key of a keyspace.
-fn other_pairs(alloc: Global, pairs: &[Pair], id: u64, key: &str) -> Result<Vec<Pair>> {
-    let mut others = Vec::new(alloc);
-    for pair in pairs {
-        if pair.0 != id || pair.1 != key {
-            others.push(*pair)?;
+/// A key of the keyspace of this id, where it lives, has this value from now on, or none.
+fn write(
+    alloc: Global,
+    homes: &mut Vec<Home>,
+    id: u64,
+    key: &Slice,
+    value: Option<&Slice>,
+) -> Result<()> {
+    for home in homes {
+        if home.id == id {
+            alter(alloc, home, key, value)?;
         }
     }
-    Ok(others)
+    Ok(())
 }
 
-/// What these commands make of nothing. Each is a line: `keyspace NAME`, `delete ID`, `insert ID KEY VALUE`, or one that
-/// takes a key of a keyspace away.
-pub fn fold(alloc: Global, commands: &[&'static str]) -> Result<Model> {
+/// The keyspaces that these commands make of nothing, in the order of their names.
+pub fn fold(alloc: Global, commands: &[Command]) -> Result<Vec<Home>> {
     let mut homes = Vec::new(alloc);
-    let mut pairs = Vec::new(alloc);
     let mut last = 0u64;
-    for line in commands {
-        let (verb, words) = first_word(line);
-        let (id, pair) = first_word(words);
-        let (key, value) = first_word(pair);
-        let id = number(id);
-        match verb {
-            "keyspace" => {
+    for command in commands {
+        match command {
+            Command::Create(name) => {
                 last = last.saturating_add(1);
-                homes.push((words, last))?;
+                homes.push(Home {
+                    name: name.clone()?,
+                    id: last,
+                    pairs: Vec::new(alloc),
+                })?;
             }
-            "delete" => homes = other_homes(alloc, &homes, id)?,
-            _ => pairs = other_pairs(alloc, &pairs, id, key)?,
+            Command::Delete(id) => homes = deleted(alloc, homes, *id)?,
+            Command::Put(id, key, value) => write(alloc, &mut homes, *id, key, Some(value))?,
+            Command::Take(id, key) => write(alloc, &mut homes, *id, key, None)?,
         }
-        if verb == "insert" {
-            pairs.push((id, key, value.strip_prefix('-').unwrap_or(value)))?;
-        }
+    }
+    for home in &mut homes {
+        home.pairs.sort()?;
     }
     homes.sort()?;
-    pairs.sort()?;
-    Ok(Model { homes, pairs })
+    Ok(homes)
 }
 
-impl Model {
-    /// Whether a line is a command: whether it makes a keyspace that isn't there, or its keyspace lives.
-    pub fn has_room_for(&self, line: &str) -> bool {
-        let (verb, words) = first_word(line);
-        let id = number(first_word(words).0);
-        let (mut is_named, mut is_living) = (false, false);
-        for (name, home) in &self.homes {
-            is_named = is_named || *name == words;
-            is_living = is_living || *home == id;
-        }
-        match verb {
-            "keyspace" => !is_named,
-            "delete" | "insert" | "remove" | "remove_weak" => is_living,
-            _ => false,
-        }
+/// The keyspaces that a database shows, in the order in which it lists their names.
+pub fn shown<D: Disk>(alloc: Global, core: &mut Database<D>) -> Result<Vec<Home>> {
+    let everywhere = (Bound::Unbounded, Bound::Unbounded);
+    let mut homes = Vec::new(alloc);
+    for name in core.names()? {
+        let id = core.keyspace(&name)?;
+        let pairs = core.page(id, &everywhere, false, usize::MAX)?;
+        homes.push(Home { name, id, pairs })?;
     }
-
-    /// A line for each keyspace in the order of their names: its name, its id and its pairs in the order of their keys.
-    pub fn text(&self, alloc: Global) -> Result<String> {
-        let mut text = String::new(alloc);
-        for (name, id) in &self.homes {
-            write!(text, "{name} {id}")?;
-            for (home, key, value) in &self.pairs {
-                if home == id {
-                    write!(text, " {key}={value}")?;
-                }
-            }
-            text.push_str("\n")?;
-        }
-        Ok(text)
-    }
-}
-
-/// The same of the keyspaces that a database shows.
-pub fn shown<D: Disk>(alloc: Global, core: &mut Core<D>) -> Result<String> {
-    let mut text = String::new(alloc);
-    let names = ask(alloc, core, "names")?;
-    for name in names.split_whitespace() {
-        let id = ask(alloc, core, &format!(in alloc; "keyspace {name}")?)?;
-        let id = id.trim_end();
-        let pairs = ask(alloc, core, &format!(in alloc; "page {id} .. .. 99")?)?;
-        let shown = format!(in alloc; "{name} {id} {pairs}")?;
-        text.push_str(shown.trim_end())?;
-        text.push_str("\n")?;
-    }
-    Ok(text)
+    Ok(homes)
 }

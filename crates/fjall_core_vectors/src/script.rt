@@ -1,47 +1,61 @@
 //! A script of calls, and what it must leave.
 
-use crate::calls::replies;
-use crate::reference::{Model, fold, shown};
-use crate::scenarios::{open, opened};
-use fjall_base::{Disk, Error, Refused, Result};
-use fjall_core::{Core, Reply};
+use crate::database::{Database, opened};
+use crate::reference::{Command, Home, fold, shown};
+use fjall_base::{Disk, Error, Refused, Result, Slice};
+use fjall_core::PersistMode;
 use std::alloc::{AllocError, AllocFailed, Global};
 
-/// Keyspaces that are made, written and deleted, some of them made anew. Each line is a call; by `reopen` the database is
-/// closed, and opened again.
-pub const SCRIPT: [&str; 32] = [
-    "keyspace b",
-    "keyspace a",
-    "insert 1 k 1",
-    "insert 2 k 2",
-    "persist data",
-    "insert 1 l 333333333333333333333333333333",
-    "remove 1 k",
-    "retain 1",
-    "delete 1",
-    "insert 2 l 44",
-    "release 1",
-    "keyspace b",
-    "insert 3 k 5",
-    "remove_weak 2 l",
-    "persist buffer",
-    "reopen",
-    "insert 3 m 66",
-    "insert 2 k -",
-    "persist all",
-    "insert 2 n 888",
-    "delete 2",
-    "insert 3 k 9",
-    "reopen",
-    "keyspace a",
-    "insert 4 z 0000000000000000000000000000000000000000",
-    "remove 3 missing",
-    "delete 3",
-    "keyspace b",
-    "insert 5 k 1",
-    "insert 4 z 2",
-    "reopen",
-    "insert 5 l 3",
+/// A call of the script.
+#[derive(Clone, Copy, Debug)]
+pub enum Line {
+    Create(&'static str),
+    Delete(u64),
+    Retain(u64),
+    Release(u64),
+    /// Keyspace, key and value.
+    Insert(u64, &'static str, &'static str),
+    Remove(u64, &'static str),
+    RemoveWeak(u64, &'static str),
+    Persist(PersistMode),
+    /// The database is closed, and opened again.
+    Reopen,
+}
+
+/// Keyspaces that are made, written and deleted, some of them made anew.
+pub const SCRIPT: [Line; 32] = [
+    Line::Create("b"),
+    Line::Create("a"),
+    Line::Insert(1, "k", "1"),
+    Line::Insert(2, "k", "2"),
+    Line::Persist(PersistMode::SyncData),
+    Line::Insert(1, "l", "333333333333333333333333333333"),
+    Line::Remove(1, "k"),
+    Line::Retain(1),
+    Line::Delete(1),
+    Line::Insert(2, "l", "44"),
+    Line::Release(1),
+    Line::Create("b"),
+    Line::Insert(3, "k", "5"),
+    Line::RemoveWeak(2, "l"),
+    Line::Persist(PersistMode::Buffer),
+    Line::Reopen,
+    Line::Insert(3, "m", "66"),
+    Line::Insert(2, "k", ""),
+    Line::Persist(PersistMode::SyncAll),
+    Line::Insert(2, "n", "888"),
+    Line::Delete(2),
+    Line::Insert(3, "k", "9"),
+    Line::Reopen,
+    Line::Create("a"),
+    Line::Insert(4, "z", "0000000000000000000000000000000000000000"),
+    Line::Remove(3, "missing"),
+    Line::Delete(3),
+    Line::Create("b"),
+    Line::Insert(5, "k", "1"),
+    Line::Insert(4, "z", "2"),
+    Line::Reopen,
+    Line::Insert(5, "l", "3"),
 ];
 
 /// What isn't as it must be.
@@ -52,13 +66,13 @@ pub enum Wrong {
     /// A database stands for so many commands, of which so many are safe, and so many were tried.
     Count(usize, usize, usize),
     /// A database shows these keyspaces.
-    Shown(String),
+    Homes(Vec<Home>),
     /// A line was done, or refused, or left other keyspaces behind it.
-    Line(&'static str),
+    Line(Line),
+    /// A closing was refused.
+    Closing,
     /// A call met another fault, or was refused for what is none.
     Fault(Error),
-    /// So few crashes were tried, where more than so many are due.
-    Few(usize, usize),
     /// The call of this number did not fail, or one did without being told to.
     Number(usize),
 }
@@ -84,19 +98,10 @@ impl<T: Drop> From<AllocFailed<T>> for Wrong {
     }
 }
 
-/// Whether more crashes were tried than so many.
-pub fn exceeds(count: usize, least: usize) -> Checked<()> {
-    if least < count {
-        Ok(())
-    } else {
-        Err(Wrong::Few(count, least))
-    }
-}
-
 /// Which commands were tried, and how many of them no crash may take.
 #[derive(Clone, Drop)]
 pub struct Tried {
-    pub commands: Vec<&'static str>,
+    pub commands: Vec<Command>,
     pub safe: usize,
 }
 
@@ -113,28 +118,65 @@ pub struct History {
 
 impl Tried {
     /// A database stands for a beginning of the commands, with all that are safe; answers how many they are.
-    pub fn stand_in<D: Disk>(&self, alloc: Global, core: &mut Core<D>) -> Checked<usize> {
+    pub fn stand_in<D: Disk>(&self, alloc: Global, core: &mut Database<D>) -> Checked<usize> {
         let count = core.visible_seqno() as usize;
         let beginning = match self.commands.get(..count) {
             Some(beginning) if self.safe <= count => beginning,
             _ => return Err(Wrong::Count(count, self.safe, self.commands.len())),
         };
-        let shown = shown(alloc, core)?;
-        if shown == fold(alloc, beginning)?.text(alloc)? {
+        let homes = shown(alloc, core)?;
+        if homes == fold(alloc, beginning)? {
             Ok(count)
         } else {
-            Err(Wrong::Shown(shown))
+            Err(Wrong::Homes(homes))
         }
     }
 }
 
-/// Whether a line syncs what was accepted before it, where it is done. What a creation or a deletion itself does is safe
-/// then, too.
-fn is_sync(line: &str, is_command: bool) -> bool {
-    match line {
-        "persist data" | "persist all" => true,
-        _ => is_command && (line.starts_with("keyspace") || line.starts_with("delete")),
+impl Line {
+    /// Whether it syncs what was accepted before it, where it is done. What a creation or a deletion itself does is
+    /// safe then, too.
+    fn is_sync(&self, is_command: bool) -> bool {
+        match self {
+            Line::Create(_) | Line::Delete(_) => is_command,
+            Line::Persist(mode) => !matches!(mode, PersistMode::Buffer),
+            _ => false,
+        }
     }
+
+    /// Asks for it; answers the id of what it creates.
+    pub fn ask<D: Disk>(&self, core: &mut Database<D>) -> Result<Option<u64>> {
+        match self {
+            Line::Create(name) => return Ok(Some(core.keyspace(name.as_bytes())?)),
+            Line::Delete(id) => core.delete_keyspace(*id)?,
+            Line::Retain(id) => core.retain(*id)?,
+            Line::Release(id) => core.release(*id)?,
+            Line::Insert(id, key, value) => core.insert(*id, key.as_bytes(), value.as_bytes())?,
+            Line::Remove(id, key) => core.remove(*id, key.as_bytes())?,
+            Line::RemoveWeak(id, key) => core.remove_weak(*id, key.as_bytes())?,
+            Line::Persist(mode) => core.persist(*mode)?,
+            Line::Reopen => {}
+        }
+        Ok(None)
+    }
+}
+
+/// Whether a keyspace of this id lives.
+fn lives(homes: &[Home], id: u64) -> bool {
+    let mut is_living = false;
+    for home in homes {
+        is_living = is_living || home.id == id;
+    }
+    is_living
+}
+
+/// Whether a keyspace of this name lives.
+fn is_named(homes: &[Home], name: &Slice) -> bool {
+    let mut is_named = false;
+    for home in homes {
+        is_named = is_named || home.name == *name;
+    }
+    is_named
 }
 
 impl History {
@@ -152,33 +194,50 @@ impl History {
     }
 
     /// The keyspaces that the accepted commands make.
-    fn model(&self, alloc: Global) -> Result<Model> {
-        fold(
-            alloc,
-            self.tried.commands.get(..self.accepted).unwrap_or(&[]),
-        )
+    fn homes(&self, alloc: Global) -> Result<Vec<Home>> {
+        let accepted = self.tried.commands.get(..self.accepted).unwrap_or(&[]);
+        fold(alloc, accepted)
+    }
+
+    /// Which command a line is, where its keyspace lives or is to be made.
+    fn command(&self, alloc: Global, line: Line) -> Result<Option<Command>> {
+        let homes = self.homes(alloc)?;
+        Ok(match line {
+            Line::Create(name) => {
+                let name = Slice::new(alloc, name.as_bytes())?;
+                let is_new = !is_named(&homes, &name);
+                is_new.then_some(Command::Create(name))
+            }
+            Line::Delete(id) if lives(&homes, id) => Some(Command::Delete(id)),
+            Line::Insert(id, key, value) if lives(&homes, id) => {
+                let key = Slice::new(alloc, key.as_bytes())?;
+                Some(Command::Put(id, key, Slice::new(alloc, value.as_bytes())?))
+            }
+            Line::Remove(id, key) | Line::RemoveWeak(id, key) if lives(&homes, id) => {
+                Some(Command::Take(id, Slice::new(alloc, key.as_bytes())?))
+            }
+            _ => None,
+        })
     }
 
     /// A call was done.
-    fn accept(&mut self, line: &'static str, is_command: bool) -> Checked<()> {
+    fn accept(&mut self, line: Line, command: Option<Command>) -> Checked<()> {
+        let is_command = command.is_some();
         if is_command && self.is_poisoned {
             return Err(Wrong::Line(line));
         }
-        if is_command {
-            self.tried.commands.push(line)?;
-        }
+        self.tried.commands.extend(command)?;
         if !self.is_poisoned {
             self.accepted = self.tried.commands.len();
         }
-        if is_sync(line, is_command) {
+        if line.is_sync(is_command) {
             self.tried.safe = self.accepted;
         }
         Ok(())
     }
 
-    /// A call met the fault, and a crash may leave its command, if it is one, or not; or it found no memory, and then
-    /// nothing was tried.
-    fn fault(&mut self, error: Error, command: Option<&'static str>) -> Checked<()> {
+    /// A call met the fault, and a crash may leave its command or not; or it found no memory, and then nothing was tried.
+    fn fault(&mut self, error: Error, command: Option<Command>) -> Checked<()> {
         match error {
             Error::OutOfMemory if self.at_fault.is_none() => {}
             Error::Io(_) if self.at_fault.is_none() => {
@@ -192,13 +251,13 @@ impl History {
     }
 
     /// A call was refused, for the fault or since one before it was.
-    fn refuse(&mut self, line: &'static str, error: Error, is_command: bool) -> Checked<()> {
+    fn refuse(&mut self, line: Line, error: Error, command: Option<Command>) -> Checked<()> {
         let is_due = match error {
             Error::Poisoned => self.is_poisoned,
             Error::UnknownKeyspace | Error::KeyspaceDeleted => {
-                !is_command && self.at_fault.is_some()
+                command.is_none() && self.at_fault.is_some()
             }
-            _ => return self.fault(error, is_command.then_some(line)),
+            _ => return self.fault(error, command),
         };
         if is_due {
             Ok(())
@@ -208,20 +267,13 @@ impl History {
     }
 
     /// Asks for what a line says.
-    fn serve<D: Disk>(
-        &mut self,
-        alloc: Global,
-        core: &mut Core<D>,
-        line: &'static str,
-    ) -> Checked<()> {
-        let is_command = self.model(alloc)?.has_room_for(line);
-        for reply in replies(alloc, core, line)? {
-            match reply {
-                Reply::Refused(error) => self.refuse(line, error, is_command)?,
-                _ => self.accept(line, is_command)?,
-            }
+    fn serve<D: Disk>(&mut self, alloc: Global, core: &mut Database<D>, line: Line) -> Checked<()> {
+        let command = self.command(alloc, line)?;
+        match line.ask(core) {
+            Ok(_) => self.accept(line, command)?,
+            Err(error) => self.refuse(line, error, command)?,
         }
-        if shown(alloc, core)? == self.model(alloc)?.text(alloc)? {
+        if shown(alloc, core)? == self.homes(alloc)? {
             Ok(())
         } else {
             Err(Wrong::Line(line))
@@ -229,8 +281,8 @@ impl History {
     }
 
     /// Opens a database, with a second try where the first meets the fault. From then on all that it shows is safe.
-    fn open<D: Disk + Drop>(&mut self, alloc: Global, disk: D) -> Checked<Core<D>> {
-        let mut core = match open(alloc, disk) {
+    fn open<D: Disk + Drop>(&mut self, alloc: Global, disk: D) -> Checked<Database<D>> {
+        let mut core = match Database::open(alloc, disk) {
             Ok(core) => core,
             Err(Refused { error, value }) => {
                 self.fault(error, None)?;
@@ -246,30 +298,26 @@ impl History {
     }
 
     /// Closes a database.
-    fn close<D: Disk + Drop>(&mut self, core: Core<D>) -> Checked<D> {
+    fn close<D: Disk + Drop>(&mut self, core: Database<D>) -> Checked<D> {
         let (disk, closed) = core.close();
         match closed {
             Ok(()) => self.tried.safe = self.accepted,
             Err(Error::Poisoned) if self.is_poisoned => {}
+            Err(Error::Poisoned) => return Err(Wrong::Closing),
             Err(error) => self.fault(error, None)?,
         }
         Ok(disk)
     }
 
     /// Opens a database, and asks for what these lines say.
-    pub fn play<D: Disk + Drop>(
-        &mut self,
-        alloc: Global,
-        disk: D,
-        lines: &[&'static str],
-    ) -> Checked<D> {
+    pub fn play<D: Disk + Drop>(&mut self, alloc: Global, disk: D, lines: &[Line]) -> Checked<D> {
         let mut core = self.open(alloc, disk)?;
         for line in lines {
-            if *line == "reopen" {
+            if let Line::Reopen = line {
                 let disk = self.close(core)?;
                 core = self.open(alloc, disk)?;
             } else {
-                self.serve(alloc, &mut core, line)?;
+                self.serve(alloc, &mut core, *line)?;
             }
         }
         Ok(core.into_disk())

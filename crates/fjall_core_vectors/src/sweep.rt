@@ -1,17 +1,17 @@
 //! One script over a disk in memory, each moment of which is crashed in each way, and each call of which fails in turn.
 //! What is left always stands for a beginning of the commands, with all that a sync followed.
 
+use crate::database::opened;
 use crate::moments::{Crash, Moment};
-use crate::scenarios::opened;
-use crate::script::{Checked, History, SCRIPT, Tried, Wrong, exceeds};
-use crate::tape::{Kind, Step, Tape};
+use crate::script::{Checked, History, Line, SCRIPT, Tried, Wrong};
+use crate::tape::{Step, Tape};
 use fjall_base::Error;
 use fjall_memory::MemoryDisk;
 use std::alloc::Global;
 use std::test::Fail;
 
 /// The first lines of the script, so many of them.
-pub fn lines(count: usize) -> &'static [&'static str] {
+pub fn lines(count: usize) -> &'static [Line] {
     SCRIPT.get(..count).unwrap_or(&SCRIPT)
 }
 
@@ -19,10 +19,10 @@ pub fn lines(count: usize) -> &'static [&'static str] {
 /// fails.
 pub fn played(
     alloc: Global,
-    lines: &[&'static str],
+    lines: &[Line],
     number: usize,
     part: usize,
-) -> Checked<(History, Vec<Step>)> {
+) -> Checked<(History, Tape<MemoryDisk>)> {
     let mut disk = MemoryDisk::new(alloc);
     disk.fail_at(number as u64, part);
     let mut history = History::new(alloc);
@@ -33,7 +33,7 @@ pub fn played(
     if history.at_fault.is_some() != (number != 0) {
         return Err(Wrong::Number(number));
     }
-    Ok((history, tape.log.steps))
+    Ok((history, tape))
 }
 
 /// Crashes a moment in these ways, and opens what is left. Answers how many they are.
@@ -70,19 +70,21 @@ fn before(alloc: Global, line: usize) -> Checked<(usize, usize)> {
     if line == 0 {
         return Ok((0, 0));
     }
-    let (history, steps) = played(alloc, lines(line.saturating_sub(1)), 0, 0)?;
-    Ok((steps.len(), history.tried.safe))
+    let (history, tape) = played(alloc, lines(line.saturating_sub(1)), 0, 0)?;
+    Ok((tape.log.steps.len(), history.tried.safe))
 }
 
 /// Crashes each moment of one of the script's lines; line 0 is the first opening. What the line syncs is safe behind it.
 fn check_line(alloc: Global, line: usize) -> Checked<usize> {
     let (from, safe) = before(alloc, line)?;
-    let (history, steps) = played(alloc, lines(line), 0, 0)?;
-    let mut within = history.tried.clone()?;
-    within.safe = safe;
+    let (history, tape) = played(alloc, lines(line), 0, 0)?;
+    let within = Tried {
+        commands: history.tried.commands.clone()?,
+        safe,
+    };
     let mut moment = Moment::new(alloc);
     let mut count = 0usize;
-    for (at, step) in steps.iter().enumerate() {
+    for (at, step) in tape.log.steps.iter().enumerate() {
         if at < from {
             moment.take(alloc, step)?;
         } else {
@@ -94,67 +96,79 @@ fn check_line(alloc: Global, line: usize) -> Checked<usize> {
     Ok(count.saturating_add(behind))
 }
 
-/// Crashes each moment of these lines, which are more than so many crashes.
-fn check_lines(alloc: Global, from: usize, end: usize, least: usize) -> Checked<()> {
+/// Crashes each moment of these lines.
+fn check_lines(alloc: Global, from: usize, end: usize) -> Checked<usize> {
     let mut count = 0usize;
     for line in from..end {
         count = count.saturating_add(check_line(alloc, line)?);
     }
-    exceeds(count, least)
+    Ok(count)
 }
 
 #[test]
 fn each_moment_of_the_first_lines_is_crashed(rt: HostRuntime) -> Result<(), Fail> {
-    Ok(check_lines(rt.alloc(), 0, 9, 700)?)
+    let count = check_lines(rt.alloc(), 0, 9)?;
+    assert!(rt; count > 700, "{count} crashes");
+    Ok(())
 }
 
 #[test]
 fn each_moment_up_to_the_first_closing_is_crashed(rt: HostRuntime) -> Result<(), Fail> {
-    Ok(check_lines(rt.alloc(), 9, 16, 550)?)
+    let count = check_lines(rt.alloc(), 9, 16)?;
+    assert!(rt; count > 550, "{count} crashes");
+    Ok(())
 }
 
 #[test]
 fn each_moment_up_to_the_second_closing_is_crashed(rt: HostRuntime) -> Result<(), Fail> {
-    Ok(check_lines(rt.alloc(), 16, 24, 350)?)
+    let count = check_lines(rt.alloc(), 16, 24)?;
+    assert!(rt; count > 350, "{count} crashes");
+    Ok(())
 }
 
 #[test]
 fn each_moment_of_the_last_lines_is_crashed(rt: HostRuntime) -> Result<(), Fail> {
-    Ok(check_lines(rt.alloc(), 24, 33, 1_000)?)
+    let count = check_lines(rt.alloc(), 24, 33)?;
+    assert!(rt; count > 1000, "{count} crashes");
+    Ok(())
 }
 
 /// Crashes the first creation at each length of its table.
-fn check_table(alloc: Global) -> Checked<()> {
-    let (history, steps) = played(alloc, lines(1), 0, 0)?;
-    let mut tried = history.tried.clone()?;
-    tried.safe = 0;
+fn check_table(alloc: Global) -> Checked<usize> {
+    let (history, tape) = played(alloc, lines(1), 0, 0)?;
+    let tried = Tried {
+        commands: history.tried.commands.clone()?,
+        safe: 0,
+    };
     let mut moment = Moment::new(alloc);
     let mut count = 0usize;
-    for step in &steps {
+    for step in &tape.log.steps {
         moment.take(alloc, step)?;
-        if step.name.ends_with(".table") {
+        if matches!(step, Step::Append(name, _) if name.ends_with(".table")) {
             let crashes = moment.cuts(alloc, step)?;
             let checked = check_crashes(alloc, &moment, crashes, &tried)?;
             count = count.saturating_add(checked);
         }
     }
-    exceeds(count, 1_000)
+    Ok(count)
 }
 
 #[test]
 fn a_table_is_cut_at_each_length(rt: HostRuntime) -> Result<(), Fail> {
-    Ok(check_table(rt.alloc())?)
+    let count = check_table(rt.alloc())?;
+    assert!(rt; count > 1_000, "{count} crashes");
+    Ok(())
 }
 
 /// Lets a call of the script fail, crashes the disk at once, and again behind the last line.
 fn check_fault(alloc: Global, number: usize, part: usize) -> Checked<usize> {
-    let (history, steps) = played(alloc, &SCRIPT, number, part)?;
+    let (history, tape) = played(alloc, &SCRIPT, number, part)?;
     let Some(at_fault) = &history.at_fault else {
         return Ok(0);
     };
     let mut moment = Moment::new(alloc);
     let mut count = 0usize;
-    for (at, step) in steps.iter().enumerate() {
+    for (at, step) in tape.log.steps.iter().enumerate() {
         if at.saturating_add(1) == number {
             moment.fail(step, part)?;
             count = check_crashes(alloc, &moment, moment.crashes(alloc)?, at_fault)?;
@@ -166,51 +180,58 @@ fn check_fault(alloc: Global, number: usize, part: usize) -> Checked<usize> {
     Ok(count.saturating_add(behind))
 }
 
-/// Lets each of these calls of the script fail; of an append none of the bytes, half of them, and all go out. More than so
-/// many crashes follow.
-fn check_faults(alloc: Global, from: usize, end: usize, least: usize) -> Checked<()> {
-    let (_, steps) = played(alloc, &SCRIPT, 0, 0)?;
+/// Lets each of these calls of the script fail; of an append none of the bytes, half of them, and all go out. Answers how
+/// many crashes followed.
+fn check_faults(alloc: Global, from: usize, end: usize) -> Checked<usize> {
+    let (_, tape) = played(alloc, &SCRIPT, 0, 0)?;
     let mut count = 0usize;
-    for (at, step) in steps.iter().enumerate() {
+    for (at, step) in tape.log.steps.iter().enumerate() {
         if at < from || end <= at {
             continue;
         }
         let number = at.saturating_add(1);
-        let all = step.bytes.len();
         count = count.saturating_add(check_fault(alloc, number, 0)?);
-        if matches!(step.kind, Kind::Append) {
-            for part in [all / 2, all] {
-                count = count.saturating_add(check_fault(alloc, number, part)?);
-            }
+        if let Step::Append(_, bytes) = step {
+            let half = check_fault(alloc, number, bytes.len() / 2)?;
+            let all = check_fault(alloc, number, bytes.len())?;
+            count = count.saturating_add(half).saturating_add(all);
         }
     }
-    exceeds(count, least)
+    Ok(count)
 }
 
 #[test]
 fn each_call_up_to_the_54th_fails(rt: HostRuntime) -> Result<(), Fail> {
-    Ok(check_faults(rt.alloc(), 0, 54, 400)?)
+    let count = check_faults(rt.alloc(), 0, 54)?;
+    assert!(rt; count > 400, "{count} crashes");
+    Ok(())
 }
 
 #[test]
 fn each_call_up_to_the_108th_fails(rt: HostRuntime) -> Result<(), Fail> {
-    Ok(check_faults(rt.alloc(), 54, 108, 500)?)
+    let count = check_faults(rt.alloc(), 54, 108)?;
+    assert!(rt; count > 500, "{count} crashes");
+    Ok(())
 }
 
 #[test]
 fn each_call_up_to_the_162nd_fails(rt: HostRuntime) -> Result<(), Fail> {
-    Ok(check_faults(rt.alloc(), 108, 162, 500)?)
+    let count = check_faults(rt.alloc(), 108, 162)?;
+    assert!(rt; count > 500, "{count} crashes");
+    Ok(())
 }
 
 #[test]
 fn each_call_up_to_the_last_fails(rt: HostRuntime) -> Result<(), Fail> {
-    Ok(check_faults(rt.alloc(), 162, usize::MAX, 650)?)
+    let count = check_faults(rt.alloc(), 162, usize::MAX)?;
+    assert!(rt; count > 650, "{count} crashes");
+    Ok(())
 }
 
 #[test]
 fn the_script_makes_24_commands_by_216_calls(rt: HostRuntime) -> Result<(), Fail> {
-    let (history, steps) = played(rt.alloc(), &SCRIPT, 0, 0)?;
-    let counts = (history.tried.commands.len(), steps.len());
+    let (history, tape) = played(rt.alloc(), &SCRIPT, 0, 0)?;
+    let counts = (history.tried.commands.len(), tape.log.steps.len());
     assert_eq!(rt; counts, (24, 216));
     Ok(())
 }

@@ -1,28 +1,19 @@
 //! A disk that tells which calls it got.
 
 use fjall_base::{DirEntry, Disk, Result};
-use std::alloc::Global;
+use std::alloc::{AllocError, Global};
 
-/// What a call of a disk does.
-#[derive(Clone, Copy)]
-pub enum Kind {
-    Read,
-    Create,
-    Append,
-    Sync,
-    /// At this length.
-    Cut(usize),
-    Remove,
-    MakeFolder,
-    SyncFolder,
-}
-
-/// A call of a disk: a name, and the bytes that are appended there.
+/// A call of a disk.
 #[derive(Drop)]
-pub struct Step {
-    pub kind: Kind,
-    pub name: String,
-    pub bytes: Vec<u8>,
+pub enum Step {
+    Read,
+    Create(String),
+    Append(String, Vec<u8>),
+    Sync(String),
+    Cut(String, usize),
+    Remove(String),
+    MakeFolder(String),
+    SyncFolder(String),
 }
 
 /// The calls of a disk, in their order.
@@ -34,22 +25,29 @@ pub struct Log {
     alloc: Global,
 }
 
-fn step_of(alloc: Global, kind: Kind, name: &str, bytes: &[u8]) -> Result<Step> {
-    Ok(Step {
-        kind,
-        name: String::from_str(alloc, name)?,
-        bytes: Vec::from_slice(alloc, bytes)?,
-    })
-}
-
 impl Log {
     // Adds a call.
-    fn add(&mut self, kind: Kind, name: &str, bytes: &[u8]) {
-        let is_added = match step_of(self.alloc, kind, name, bytes) {
+    fn add(&mut self, step: std::result::Result<Step, AllocError>) {
+        let added = match step {
             Ok(step) => self.steps.push(step).is_ok(),
             Err(_) => false,
         };
-        self.is_whole = self.is_whole && is_added;
+        self.is_whole = self.is_whole && added;
+    }
+
+    // The name of a call.
+    fn name(&self, name: &str) -> std::result::Result<String, AllocError> {
+        String::from_str(self.alloc, name)
+    }
+
+    // A cut at this length.
+    fn cut(&self, name: &str, len: usize) -> std::result::Result<Step, AllocError> {
+        Ok(Step::Cut(self.name(name)?, len))
+    }
+
+    // An append of these bytes.
+    fn append(&self, name: &str, bytes: &[u8]) -> std::result::Result<Step, AllocError> {
+        Ok(Step::Append(self.name(name)?, Vec::from_slice(self.alloc, bytes)?))
     }
 }
 
@@ -84,7 +82,7 @@ impl<D: Disk> Disk for Tape<D> {
     }
 
     fn read(&mut self, alloc: Global, name: &str) -> Result<Option<Vec<u8>>> {
-        self.log.add(Kind::Read, name, &[]);
+        self.log.add(Ok(Step::Read));
         self.disk.read(alloc, name)
     }
 
@@ -95,52 +93,52 @@ impl<D: Disk> Disk for Tape<D> {
         at: usize,
         len: usize,
     ) -> Result<Option<Vec<u8>>> {
-        self.log.add(Kind::Read, name, &[]);
+        self.log.add(Ok(Step::Read));
         self.disk.read_at(alloc, name, at, len)
     }
 
     fn list(&mut self, alloc: Global, folder: &str) -> Result<Vec<DirEntry>> {
-        self.log.add(Kind::Read, folder, &[]);
+        self.log.add(Ok(Step::Read));
         self.disk.list(alloc, folder)
     }
 
     fn create(&mut self, name: &str) -> Result<()> {
-        self.log.add(Kind::Create, name, &[]);
+        self.log.add(self.log.name(name).map(Step::Create));
         self.disk.create(name)
     }
 
     fn append(&mut self, name: &str, bytes: &[u8]) -> Result<()> {
-        self.log.add(Kind::Append, name, bytes);
+        self.log.add(self.log.append(name, bytes));
         self.disk.append(name, bytes)
     }
 
     fn sync(&mut self, name: &str) -> Result<()> {
-        self.log.add(Kind::Sync, name, &[]);
+        self.log.add(self.log.name(name).map(Step::Sync));
         self.disk.sync(name)
     }
 
     fn cut_sync(&mut self, name: &str, len: usize) -> Result<()> {
-        self.log.add(Kind::Cut(len), name, &[]);
+        self.log.add(self.log.cut(name, len));
         self.disk.cut_sync(name, len)
     }
 
     fn remove(&mut self, name: &str) -> Result<()> {
-        self.log.add(Kind::Remove, name, &[]);
+        self.log.add(self.log.name(name).map(Step::Remove));
         self.disk.remove(name)
     }
 
     fn remove_folder(&mut self, name: &str) -> Result<()> {
-        self.log.add(Kind::Remove, name, &[]);
+        self.log.add(self.log.name(name).map(Step::Remove));
         self.disk.remove_folder(name)
     }
 
     fn make_folder(&mut self, name: &str) -> Result<()> {
-        self.log.add(Kind::MakeFolder, name, &[]);
+        self.log.add(self.log.name(name).map(Step::MakeFolder));
         self.disk.make_folder(name)
     }
 
     fn sync_folder(&mut self, name: &str) -> Result<()> {
-        self.log.add(Kind::SyncFolder, name, &[]);
+        self.log.add(self.log.name(name).map(Step::SyncFolder));
         self.disk.sync_folder(name)
     }
 }

@@ -1,89 +1,92 @@
 //! Folders begun, at once and in two parts.
 
-use crate::folder::{CURRENT, MARKER};
-use fjall_base::{Disk, Result};
+use crate::calls::Call::*;
+use crate::calls::{DONE, FAULT, YES};
+use crate::folder::{CURRENT, MARKER, TORN};
+use crate::steps::Question::*;
+use crate::steps::Step::*;
+use crate::steps::{Row, Start};
+use fjall_base::{Disk, Error, JournalRecoveryError, Result};
 use fjall_catalog::first_record;
 use fjall_memory::MemoryDisk;
 use fjall_recovery::read_folder;
 use fjall_repair::{begin, plan_beginning};
 use std::alloc::Global;
 
-/// `begin` begins a database, or goes on with it, and adds the id of its active journal.
+/// Begins a database, or goes on with it, and adds the id of its active journal.
 pub fn begin_folder(alloc: Global, disk: &mut MemoryDisk, seen: &mut Vec<u64>) -> Result<()> {
     let plan = plan_beginning(alloc, disk)?;
     begin(disk, &plan)?;
-    Ok(seen.push(plan.active)?)
+    seen.push(plan.active)?;
+    Ok(())
 }
 
 // Whether the file of this name has just these bytes.
 fn holds(alloc: Global, disk: &mut MemoryDisk, name: &str, bytes: &[u8]) -> Result<bool> {
-    Ok(match disk.read(alloc, name)? {
+    let found = disk.read(alloc, name)?;
+    Ok(match found {
         Some(text) => text.as_slice() == bytes,
         None => false,
     })
 }
 
-/// `is_begun JOURNALS` adds whether a database without keyspaces is there, whose journals of these names hold nothing.
-pub fn add_is_begun(
-    alloc: Global,
-    disk: &mut MemoryDisk,
-    journals: &str,
-    seen: &mut Vec<u64>,
-) -> Result<()> {
+/// Whether a database without keyspaces is there, whose journals of these names hold nothing.
+pub fn is_begun(alloc: Global, disk: &mut MemoryDisk, journals: &[&str]) -> Result<bool> {
     let first = first_record(alloc)?;
     let mut all = holds(alloc, disk, "version", MARKER)?;
     all = holds(alloc, disk, CURRENT, &first)? && all;
-    for name in journals.split_whitespace() {
+    for name in journals {
         all = holds(alloc, disk, name, b"")? && all;
     }
-    let is_read = read_folder(alloc, disk)?.is_some();
-    Ok(seen.push(u64::from(all && is_read))?)
+    Ok(all && read_folder(alloc, disk)?.is_some())
 }
 
-pub const SCRIPT: &str = "\
-# An empty folder
-new nothing
-begin => 0
-is_begun 0.jnl => 1
-crash 0
-is_begun 0.jnl => 1
-journals => 0
-folders => 0
-next_id => 1
-homes
-# The greatest journal is active
-new nothing
-create version
-append version FJ
-create 10.jnl
-create 9.jnl
-append 9.jnl \x01torn
-begin => 10
-crash 0
-is_begun 9.jnl 10.jnl => 1
-len 0.jnl
-# A torn record is written anew
-new torn 0
-begin => 0
-crash 0
-is_begun 0.jnl => 1
-new torn 1
-begin => 0
-crash 0
-is_begun 0.jnl => 1
-new torn 54
-begin => 0
-crash 0
-is_begun 0.jnl => 1
-new torn 55
-begin => 0
-crash 0
-is_begun 0.jnl => 1
-# What is in the way
-new nothing
-create keyspaces
-begin => Io(Other)
-new nothing
-create 00.jnl
-begin => JournalRecovery(InvalidFileName)
-";
+const MISNAMED: Error = Error::JournalRecovery(JournalRecoveryError::InvalidFileName);
+
+pub const SCRIPT: &[Row] = &[
+    // An empty folder.
+    (New(Start::Nothing), DONE),
+    (Begin, Ok(&[0])),
+    (Ask(IsBegun(&["0.jnl"])), YES),
+    (Crash(0), DONE),
+    (Ask(IsBegun(&["0.jnl"])), YES),
+    (Ask(Journals), Ok(&[0])),
+    (Ask(Folders), Ok(&[0])),
+    (Ask(NextId), Ok(&[1])),
+    (Ask(Homes), DONE),
+    // The greatest journal is active.
+    (New(Start::Nothing), DONE),
+    (On(Create("version")), DONE),
+    (On(Append("version", b"FJ")), DONE),
+    (On(Create("10.jnl")), DONE),
+    (On(Create("9.jnl")), DONE),
+    (On(Append("9.jnl", TORN)), DONE),
+    (Begin, Ok(&[10])),
+    (Crash(0), DONE),
+    (Ask(IsBegun(&["9.jnl", "10.jnl"])), YES),
+    (On(Len("0.jnl")), DONE),
+    // A torn record is written anew.
+    (New(Start::Torn(0)), DONE),
+    (Begin, Ok(&[0])),
+    (Crash(0), DONE),
+    (Ask(IsBegun(&["0.jnl"])), YES),
+    (New(Start::Torn(1)), DONE),
+    (Begin, Ok(&[0])),
+    (Crash(0), DONE),
+    (Ask(IsBegun(&["0.jnl"])), YES),
+    (New(Start::Torn(54)), DONE),
+    (Begin, Ok(&[0])),
+    (Crash(0), DONE),
+    (Ask(IsBegun(&["0.jnl"])), YES),
+    (New(Start::Torn(55)), DONE),
+    (Begin, Ok(&[0])),
+    (Crash(0), DONE),
+    (Ask(IsBegun(&["0.jnl"])), YES),
+    // What is in the way.
+    (New(Start::Nothing), DONE),
+    (On(Create("keyspaces")), DONE),
+    (Begin, FAULT),
+    (New(Start::Nothing), DONE),
+    (On(Create("00.jnl")), DONE),
+    (Begin, Err(MISNAMED)),
+];

@@ -1,120 +1,139 @@
-//! Calls of a disk as lines, and looks at what it holds.
+//! Calls of a disk as rows, and looks at what it holds.
 
-use crate::words::{first_word, number};
-use fjall_base::{Disk, Result};
+use fjall_base::{DirEntry, Disk, Error, Result};
 use std::alloc::Global;
+use std::io::ErrorKind;
 
-/// The name that a word spells: a dash is that of the root.
-fn name_of(word: &str) -> &str {
-    word.strip_prefix('-').unwrap_or(word)
+/// The numbers that are seen, or the refusal. A question is answered by 1 or 0, and what is missing by no number.
+pub type Answer = Result<&'static [u64]>;
+
+pub const DONE: Answer = Ok(&[]);
+
+pub const NO: Answer = Ok(&[0]);
+
+pub const YES: Answer = Ok(&[1]);
+
+/// A fault of a disk in memory.
+pub const FAULT: Answer = Err(Error::Io(ErrorKind::Other));
+
+/// A call of a disk, or a look at it. Each file and folder goes by its name.
+#[derive(Clone, Copy)]
+pub enum Call {
+    Create(&'static str),
+    Append(&'static str, &'static [u8]),
+    Sync(&'static str),
+    Cut(&'static str, usize),
+    Remove(&'static str),
+    RemoveFolder(&'static str),
+    MakeFolder(&'static str),
+    SyncFolder(&'static str),
+    /// How many bytes the file has.
+    Len(&'static str),
+    /// Whether the file has just these bytes.
+    Holds(&'static str, &'static [u8]),
+    /// How many bytes a read of so many from this place on answers.
+    PartLen(&'static str, usize, usize),
+    /// Whether the file has these bytes from this place on.
+    HoldsPart(&'static str, usize, &'static [u8]),
+    /// Whether a file has the name.
+    IsFile(&'static str),
+    /// How many files and folders are right in the folder.
+    Count(&'static str),
+    /// Whether these are right in the folder, in order, each with a blank behind it, and folders with a slash.
+    Lists(&'static str, &'static str),
+    /// How many faults the disk has met.
+    Faults,
 }
 
-/// The bytes of a text, or those that it spells in hexadecimal behind `0x`.
-fn bytes_of(alloc: Global, text: &str) -> Result<Vec<u8>> {
-    match text.strip_prefix("0x") {
-        Some(spelled) => Ok(hex::decode(alloc, spelled).unwrap_or(Vec::new(alloc))),
-        None => Ok(Vec::from_slice(alloc, text.as_bytes())?),
+use Call::*;
+
+/// How many bytes the file of this name has, where there is one.
+pub fn len_of<D: Disk>(alloc: Global, disk: &mut D, name: &str) -> Result<Option<usize>> {
+    match disk.read(alloc, name)? {
+        Some(bytes) => Ok(Some(bytes.len())),
+        None => Ok(None),
     }
 }
 
-/// Adds how many bytes were read, where there are any.
-fn add_len(seen: &mut Vec<u64>, read: Option<Vec<u8>>) -> Result<()> {
-    if let Some(bytes) = read {
-        seen.push(bytes.len() as u64)?;
+/// Whether a call answers what it should.
+pub fn is_answer(answer: &Result<Vec<u64>>, wanted: Answer) -> bool {
+    match (answer, wanted) {
+        (Ok(seen), Ok(numbers)) => seen.as_slice() == numbers,
+        (Err(error), Err(refusal)) => *error == refusal,
+        _ => false,
+    }
+}
+
+/// Adds this number to those that are seen, where there is one.
+pub fn add_some(seen: &mut Vec<u64>, number: Option<usize>) -> Result<()> {
+    if let Some(number) = number {
+        seen.push(number as u64)?;
     }
     Ok(())
 }
 
-/// Adds whether bytes that were read are these, where there are any: 1 if they are, else 0.
+/// Adds the answer to a question.
+pub fn add_answer(seen: &mut Vec<u64>, answer: bool) -> Result<()> {
+    seen.push(u64::from(answer))?;
+    Ok(())
+}
+
+// Adds whether bytes that were read are these, where there are any.
 fn compare(seen: &mut Vec<u64>, read: Option<Vec<u8>>, bytes: &[u8]) -> Result<()> {
     if let Some(read) = read {
-        seen.push(u64::from(read.as_slice() == bytes))?;
+        add_answer(seen, read.as_slice() == bytes)?;
     }
     Ok(())
 }
 
-/// The names right in a folder, in order, with a blank between two of them, and a slash behind that of a folder.
+// The names right in a folder, in order.
 fn list<D: Disk>(alloc: Global, disk: &mut D, folder: &str) -> Result<String> {
     let mut listed = Vec::new(alloc);
-    for entry in disk.list(alloc, folder)? {
-        let slash = if entry.is_folder { "/" } else { "" };
-        listed.push(format!(in alloc; "{}{slash}", entry.name)?)?;
+    for DirEntry { name, is_folder } in disk.list(alloc, folder)? {
+        let slash = if is_folder { "/" } else { "" };
+        listed.push(format!(in alloc; "{name}{slash} ")?)?;
     }
     listed.sort()?;
     let mut text = String::new(alloc);
     for name in &listed {
-        if !text.is_empty() {
-            text.push_str(" ")?;
-        }
         text.push_str(name)?;
     }
     Ok(text)
 }
 
-/// Looks at a part of a file: `part FILE PLACE LENGTH` adds how many bytes are read there, and `holds_part FILE PLACE TEXT`
-/// whether they are these.
-fn look_at<D: Disk>(
-    alloc: Global,
-    disk: &mut D,
-    verb: &str,
-    words: &str,
-    seen: &mut Vec<u64>,
-) -> Result<()> {
-    let (word, words) = first_word(words);
-    let (at, rest) = first_word(words);
-    let (name, at) = (name_of(word), number(at) as usize);
-    match verb {
-        "part" => add_len(seen, disk.read_at(alloc, name, at, number(rest) as usize)?),
-        _ => compare(
-            seen,
-            disk.read_at(alloc, name, at, rest.len())?,
-            rest.as_bytes(),
-        ),
-    }
-}
-
-/// Takes a line that looks at a disk, or changes it, and adds what is seen. `len FILE` adds how many bytes a file has,
-/// `holds FILE TEXT` whether they are these, `count FOLDER` how many names are right in a folder, and
-/// `lists FOLDER NAMES` whether they are these.
-pub fn make<D: Disk>(alloc: Global, disk: &mut D, line: &str, seen: &mut Vec<u64>) -> Result<()> {
-    let (verb, words) = first_word(line);
-    let (word, rest) = first_word(words);
-    let name = name_of(word);
-    match verb {
-        "len" => add_len(seen, disk.read(alloc, name)?),
-        "holds" => compare(seen, disk.read(alloc, name)?, rest.as_bytes()),
-        "lists" => Ok(seen.push(u64::from(list(alloc, disk, name)?.as_str() == rest))?),
-        "count" => Ok(seen.push(disk.list(alloc, name)?.len() as u64)?),
-        "part" | "holds_part" => look_at(alloc, disk, verb, words, seen),
-        "append" => disk.append(name, &bytes_of(alloc, rest)?),
-        "cut" => disk.cut_sync(name, number(rest) as usize),
-        "faults" => Ok(seen.push(disk.faults())?),
-        _ => change(disk, verb, name_of(words)),
-    }
-}
-
-/// Makes a call that takes a name alone, blanks and all.
-fn change<D: Disk>(disk: &mut D, verb: &str, name: &str) -> Result<()> {
-    match verb {
-        "create" => disk.create(name),
-        "sync" => disk.sync(name),
-        "remove" => disk.remove(name),
-        "remove_folder" => disk.remove_folder(name),
-        "make_folder" => disk.make_folder(name),
-        _ => disk.sync_folder(name),
-    }
-}
-
-/// What came of a line: the numbers that are seen, or why it failed.
-pub fn told(alloc: Global, ended: Result<()>, seen: &[u64]) -> Result<String> {
-    let mut text = String::new(alloc);
-    match ended {
-        Ok(()) => {
-            for number in seen {
-                write!(text, "{number} ")?;
-            }
+/// Makes a call, and adds what is seen.
+pub fn make<D: Disk>(alloc: Global, disk: &mut D, call: Call, seen: &mut Vec<u64>) -> Result<()> {
+    match call {
+        Len(name) => add_some(seen, len_of(alloc, disk, name)?),
+        Holds(name, bytes) => compare(seen, disk.read(alloc, name)?, bytes),
+        PartLen(name, at, len) => match disk.read_at(alloc, name, at, len)? {
+            Some(part) => add_some(seen, Some(part.len())),
+            None => Ok(()),
+        },
+        HoldsPart(name, at, bytes) => {
+            compare(seen, disk.read_at(alloc, name, at, bytes.len())?, bytes)
         }
-        Err(error) => write!(text, "{error:?}")?,
+        IsFile(name) => add_answer(seen, disk.read(alloc, name)?.is_some()),
+        Count(folder) => add_some(seen, Some(disk.list(alloc, folder)?.len())),
+        Lists(folder, text) => add_answer(seen, list(alloc, disk, folder)?.as_str() == text),
+        _ => change(disk, call, seen),
     }
-    Ok(text)
+}
+
+// Makes a call that changes something, or counts the faults.
+fn change<D: Disk>(disk: &mut D, call: Call, seen: &mut Vec<u64>) -> Result<()> {
+    match call {
+        Create(name) => disk.create(name),
+        Append(name, bytes) => disk.append(name, bytes),
+        Sync(name) => disk.sync(name),
+        Cut(name, len) => disk.cut_sync(name, len),
+        Remove(name) => disk.remove(name),
+        RemoveFolder(name) => disk.remove_folder(name),
+        MakeFolder(name) => disk.make_folder(name),
+        SyncFolder(name) => disk.sync_folder(name),
+        _ => {
+            seen.push(disk.faults())?;
+            Ok(())
+        }
+    }
 }

@@ -1,41 +1,65 @@
 //! Changes of the catalog, and what damages it.
 
-use crate::folder::{CURRENT, created};
-use crate::steps::take_all;
-use crate::words::{first_word, number};
-use fjall_base::{Disk, Error, Result, StorageError};
-use fjall_catalog::{commit, prepare, read_catalog, remove_old, write_table};
+use crate::calls::Call::*;
+use crate::calls::{DONE, YES, add_some, len_of};
+use crate::folder::{CURRENT, TREE};
+use crate::steps::Question::*;
+use crate::steps::Step::*;
+use crate::steps::{Row, Start, Step, take_all};
+use fjall_base::{Disk, Error, Result, Slice, StorageError};
+use fjall_catalog::{Catalog, commit, prepare, read_catalog, remove_old, write_table};
 use fjall_files::make_file;
 use fjall_memory::MemoryDisk;
+use fjall_meta::MetaKeyspace;
+use fjall_options::KeyspaceCreateOptions;
 use std::alloc::Global;
 use std::test::Fail;
 
-/// A change of the catalog alone: `add_entry NAME NUMBER` makes a keyspace under this number, and `remove_entry ID NUMBER`
-/// removes one.
-pub fn change(alloc: Global, disk: &mut MemoryDisk, verb: &str, words: &str) -> Result<()> {
-    let (word, under) = first_word(words);
-    let mut found = read_catalog(alloc, disk)?;
-    match verb {
-        "add_entry" => {
-            created(alloc, &mut found.keyspaces, word, number(under))?;
-        }
-        _ => found.keyspaces.remove_keyspace(number(word)),
-    }
-    let update = prepare(alloc, &found.catalog, &found.keyspaces, number(under))?;
+/// The table of the first change.
+const TABLE: &str = "keyspaces/0/1.table";
+
+/// A number that isn't there.
+const NONE: u64 = u64::MAX;
+
+// Makes the change of this number, whole.
+fn change(
+    alloc: Global,
+    disk: &mut MemoryDisk,
+    catalog: &Catalog,
+    keyspaces: &MetaKeyspace,
+    number: u64,
+) -> Result<()> {
+    let update = prepare(alloc, catalog, keyspaces, number)?;
     write_table(disk, &update)?;
     commit(disk, &update)?;
     remove_old(disk, &update)
 }
 
-/// `catalog` adds how many keyspaces live, the end of the records, whether they are torn, and the fields of the catalog: the
-/// next ids of a table and of a keyspace, the numbers that are persisted and highest, and the count of the table's entries.
-/// What isn't there is the greatest number.
-fn describe(alloc: Global, disk: &mut MemoryDisk, seen: &mut Vec<u64>) -> Result<()> {
+/// Creates a keyspace of this name.
+pub fn add_entry(alloc: Global, disk: &mut MemoryDisk, name: &[u8], number: u64) -> Result<()> {
+    let mut found = read_catalog(alloc, disk)?;
+    let options = KeyspaceCreateOptions::default(alloc)?;
+    found
+        .keyspaces
+        .create_keyspace(Slice::new(alloc, name)?, options, number)?;
+    change(alloc, disk, &found.catalog, &found.keyspaces, number)
+}
+
+/// Removes the keyspace of this id.
+pub fn remove_entry(alloc: Global, disk: &mut MemoryDisk, id: u64, number: u64) -> Result<()> {
+    let mut found = read_catalog(alloc, disk)?;
+    found.keyspaces.remove_keyspace(id);
+    change(alloc, disk, &found.catalog, &found.keyspaces, number)
+}
+
+/// Adds how many keyspaces live, the end of the records, whether they are torn, and the fields of the catalog: the next
+/// ids of a table and of a keyspace, the numbers that are persisted and highest, and the count of the table's entries.
+pub fn describe(alloc: Global, disk: &mut MemoryDisk, seen: &mut Vec<u64>) -> Result<()> {
     let found = read_catalog(alloc, disk)?;
     let catalog = &found.catalog;
     let entry_count = match &catalog.table {
         Some(table) => table.entry_count,
-        None => u64::MAX,
+        None => NONE,
     };
     seen.extend_from_slice(&[
         found.keyspaces.keyspace_count() as u64,
@@ -43,92 +67,102 @@ fn describe(alloc: Global, disk: &mut MemoryDisk, seen: &mut Vec<u64>) -> Result
         u64::from(found.is_torn),
         catalog.next_table_id,
         catalog.next_keyspace_id,
-        catalog.persisted.unwrap_or(u64::MAX),
-        catalog.highest.unwrap_or(u64::MAX),
+        catalog.persisted.unwrap_or(NONE),
+        catalog.highest.unwrap_or(NONE),
         entry_count,
     ])?;
     Ok(())
 }
 
-/// `keyspaces` adds how many live, `id NAME` the id of one, and `number_of ID` the number under which it was made.
-pub fn ask(
-    alloc: Global,
-    disk: &mut MemoryDisk,
-    verb: &str,
-    words: &str,
-    seen: &mut Vec<u64>,
-) -> Result<()> {
-    if verb == "catalog" {
-        return describe(alloc, disk, seen);
-    }
-    let keyspaces = read_catalog(alloc, disk)?.keyspaces;
-    let found = match verb {
-        "keyspaces" => Some(keyspaces.keyspace_count() as u64),
-        "id" => keyspaces.resolve_id(words.as_bytes()),
-        _ => match keyspaces.get(number(words)) {
-            Some(keyspace) => Some(keyspace.number),
-            None => None,
-        },
-    };
-    Ok(seen.extend(found)?)
+/// Adds how many keyspaces live.
+pub fn add_count(alloc: Global, disk: &mut MemoryDisk, seen: &mut Vec<u64>) -> Result<()> {
+    let count = read_catalog(alloc, disk)?.keyspaces.keyspace_count();
+    add_some(seen, Some(count))
 }
 
-pub const SCRIPT: &str = "\
-# The first records
-new tree
-len keyspaces/0/current => 55
-first_len 7 => 55
-catalog => 0 55 0 1 1 18446744073709551615 18446744073709551615 18446744073709551615
-# Creations and deletions
-add_entry a 4
-len keyspaces/0/current => 135
-add_entry b 9
-id a => 1
-id b => 2
-catalog => 2 215 0 3 3 9 9 42
-lists keyspaces/0 keyspaces/0/2.table keyspaces/0/current => 1
-remove_entry 1 10
-id a
-number_of 2 => 9
-remove_entry 2 11
-catalog => 0 350 0 4 3 11 11 18446744073709551615
-count keyspaces/0 => 1
-# No record
-new torn 0
-catalog => Storage(RecordDamaged)
-remove keyspaces/0/current
-catalog => Storage(RecordDamaged)
-# A table that is too long, and none
-new tree
-add_entry a 4
-append keyspaces/0/1.table x
-catalog => Storage(TableDamaged)
-remove keyspaces/0/1.table
-catalog => Storage(TableDamaged)
-";
+/// Adds the id of the keyspace of this name, where there is one.
+pub fn add_id(
+    alloc: Global,
+    disk: &mut MemoryDisk,
+    name: &[u8],
+    seen: &mut Vec<u64>,
+) -> Result<()> {
+    if let Some(id) = read_catalog(alloc, disk)?.keyspaces.resolve_id(name) {
+        seen.push(id)?;
+    }
+    Ok(())
+}
+
+/// Adds the number under which the keyspace of this id was made, where there is one.
+pub fn add_number(
+    alloc: Global,
+    disk: &mut MemoryDisk,
+    id: u64,
+    seen: &mut Vec<u64>,
+) -> Result<()> {
+    if let Some(keyspace) = read_catalog(alloc, disk)?.keyspaces.get(id) {
+        seen.push(keyspace.number)?;
+    }
+    Ok(())
+}
+
+const RECORD_DAMAGED: Error = Error::Storage(StorageError::RecordDamaged);
+
+const TABLE_DAMAGED: Error = Error::Storage(StorageError::TableDamaged);
+
+pub const SCRIPT: &[Row] = &[
+    // The first records.
+    (New(Start::Tree), DONE),
+    (On(Len(CURRENT)), Ok(&[55])),
+    (Ask(FirstLen(7)), Ok(&[55])),
+    (Ask(State), Ok(&[0, 55, 0, 1, 1, NONE, NONE, NONE])),
+    // Creations and deletions.
+    (AddEntry(b"a", 4), DONE),
+    (On(Len(CURRENT)), Ok(&[135])),
+    (AddEntry(b"b", 9), DONE),
+    (Ask(Id(b"a")), Ok(&[1])),
+    (Ask(Id(b"b")), Ok(&[2])),
+    (Ask(State), Ok(&[2, 215, 0, 3, 3, 9, 9, 42])),
+    (
+        On(Lists(TREE, "keyspaces/0/2.table keyspaces/0/current ")),
+        YES,
+    ),
+    (RemoveEntry(1, 10), DONE),
+    (Ask(Id(b"a")), DONE),
+    (Ask(NumberOf(2)), Ok(&[9])),
+    (RemoveEntry(2, 11), DONE),
+    (Ask(State), Ok(&[0, 350, 0, 4, 3, 11, 11, NONE])),
+    (On(Count(TREE)), Ok(&[1])),
+    // No record.
+    (New(Start::Torn(0)), DONE),
+    (Ask(State), Err(RECORD_DAMAGED)),
+    (On(Remove(CURRENT)), DONE),
+    (Ask(State), Err(RECORD_DAMAGED)),
+    // A table that is too long, and none.
+    (New(Start::Tree), DONE),
+    (AddEntry(b"a", 4), DONE),
+    (On(Append(TABLE, b"x")), DONE),
+    (Ask(State), Err(TABLE_DAMAGED)),
+    (On(Remove(TABLE)), DONE),
+    (Ask(State), Err(TABLE_DAMAGED)),
+];
 
 // Changes the byte at this place of a file, or changes it back.
 fn damage(alloc: Global, disk: &mut MemoryDisk, name: &str, at: usize) -> Result<()> {
-    let mut bytes = disk.read(alloc, name)?.unwrap_or(Vec::new(alloc));
-    if let Some(byte) = bytes.get_mut(at) {
-        *byte ^= 1;
+    let mut copy = Vec::new(alloc);
+    if let Some(bytes) = disk.read(alloc, name)? {
+        for (i, byte) in bytes.iter().enumerate() {
+            copy.push(if i == at { *byte ^ 1 } else { *byte })?;
+        }
     }
     disk.remove(name)?;
-    make_file(disk, name, &bytes)
+    make_file(disk, name, &copy)
 }
 
-// Steps, and a file that is damaged at each byte.
-const DAMAGED: [(&str, &str, Error); 2] = [
-    (
-        "new tree",
-        CURRENT,
-        Error::Storage(StorageError::RecordDamaged),
-    ),
-    (
-        "new tree\nadd_entry a 4",
-        "keyspaces/0/1.table",
-        Error::Storage(StorageError::TableDamaged),
-    ),
+// Each file is damaged at every byte.
+const DAMAGED: [(&[Step], &str, Error); 2] = [
+    (&[New(Start::Tree)], CURRENT, RECORD_DAMAGED),
+    (&[New(Start::Tree), AddEntry(b"a", 4)], TABLE, TABLE_DAMAGED),
 ];
 
 #[test]
@@ -138,7 +172,7 @@ fn each_damaged_byte_is_seen(rt: HostRuntime) -> std::result::Result<(), Fail> {
     for (steps, file, error) in DAMAGED {
         let mut disk = MemoryDisk::new(alloc);
         take_all(alloc, &mut disk, steps, &mut seen)?;
-        let len = disk.read(alloc, file)?.ok_or("missing")?.len();
+        let len = len_of(alloc, &mut disk, file)?.ok_or("missing")?;
         for at in 0..len {
             damage(alloc, &mut disk, file, at)?;
             let refusal = read_catalog(alloc, &mut disk).err();

@@ -1,7 +1,7 @@
 //! What no contract says: what the calls of a disk over a folder do to real files.
 
-use crate::calls::{make, told};
-use crate::words::first_word;
+use crate::calls::Call::*;
+use crate::calls::{Answer, Call, DONE, YES, is_answer, make};
 use fjall_base::{Disk, Error, Result};
 use fjall_folder::{FolderDisk, LockedFileGuard};
 use std::alloc::Global;
@@ -20,117 +20,138 @@ fn fresh(rt: &HostRuntime, test: &str) -> std::result::Result<String, Fail> {
     Ok(path)
 }
 
-// Makes a call, and tells what came of it.
-fn tell(alloc: Global, disk: &mut FolderDisk, call: &str) -> Result<String> {
+// Makes a call, and answers what it sees.
+fn answer(alloc: Global, disk: &mut FolderDisk, call: Call) -> Result<Vec<u64>> {
     let mut seen = Vec::new(alloc);
-    let ended = make(alloc, disk, call, &mut seen);
-    told(alloc, ended, &seen)
+    make(alloc, disk, call, &mut seen)?;
+    Ok(seen)
 }
 
-// The first of these lines that doesn't answer what it should, and its answer.
-fn first_wrong(alloc: Global, disk: &mut FolderDisk, lines: &str) -> Result<Option<String>> {
-    for line in lines.lines() {
-        let (call, due) = line.split_once(" => ").unwrap_or((line, ""));
-        let answer = tell(alloc, disk, call)?;
-        if answer.trim_end() != due {
-            return Ok(Some(format!(in alloc; "{line}: {answer}")?));
+/// A row that doesn't answer what it should, and its answer.
+type Wrong = (usize, Result<Vec<u64>>);
+
+// The first wrong one of these rows.
+fn first_wrong(alloc: Global, disk: &mut FolderDisk, rows: &[(Call, Answer)]) -> Option<Wrong> {
+    for (row, (call, wanted)) in rows.iter().enumerate() {
+        let answer = answer(alloc, disk, *call);
+        if !is_answer(&answer, *wanted) {
+            return Some((row, answer));
         }
     }
-    Ok(None)
+    None
 }
 
-const APPENDED: &str = "\
-create 0.jnl
-holds 0.jnl => 1
-append 0.jnl abc
-append 0.jnl
-append 0.jnl defg
-sync 0.jnl
-create 0.jnl
-holds 0.jnl abcdefg => 1
-holds_part 0.jnl 2 cdefg => 1
-part 0.jnl 3 5
-part 0.jnl 7 0 => 0
-part 0.jnl 18446744073709551615 18446744073709551615
-cut 0.jnl 4
-append 0.jnl x
-";
+const NO_SUCH: Answer = Err(Error::Io(ErrorKind::NotFound));
 
-const OPENED_AGAIN: &str = "\
-holds 0.jnl abcdx => 1
-holds_part 0.jnl 1 bc => 1
-faults => 0
-";
+const INVALID: Answer = Err(Error::Io(ErrorKind::InvalidInput));
 
-const LISTS: &str = "\
-lists - => 1
-make_folder keyspaces
-make_folder keyspaces
-make_folder keyspaces/1
-create keyspaces/1/current
-create keyspaces/1/lock
-create version
-sync_folder keyspaces/1
-sync_folder -
-lists - keyspaces/ version => 1
-lists keyspaces keyspaces/1/ => 1
-lists keyspaces/1 keyspaces/1/current keyspaces/1/lock => 1
-lists keyspaces/2 => 1
-lists keyspaces/1/current => 1
-lists version/1 => 1
-remove keyspaces/1/current
-remove keyspaces/1/current
-remove keyspaces/1/lock
-remove_folder keyspaces/1
-remove_folder keyspaces/1
-remove version/1
-remove_folder version/1
-lists keyspaces => 1
-len keyspaces/1/current
-part keyspaces/1/current 0 0
-len none
-part none 0 0
-len none/1
-part none/1 0 0
-len version/1
-part version/1 0 0
-len keyspaces
-part keyspaces 0 0
-faults => 0
-";
+const A_FOLDER: Answer = Err(Error::Io(ErrorKind::IsADirectory));
 
-const FAULTS: &str = "\
-make_folder folder
-create folder/file
-append folder/file ab
-append none a => Io(NotFound)
-sync none => Io(NotFound)
-cut none 0 => Io(NotFound)
-cut folder/file 3 => Io(InvalidInput)
-append folder a => Io(IsADirectory)
-create folder => Io(IsADirectory)
-create none/file => Io(NotFound)
-make_folder none/folder => Io(NotFound)
-make_folder folder/file => Io(AlreadyExists)
-remove folder => Io(IsADirectory)
-remove_folder folder => Io(DirectoryNotEmpty)
-remove_folder folder/file => Io(NotADirectory)
-sync_folder none => Io(NotFound)
-sync_folder folder/file => Io(NotADirectory)
-create a\0b => Io(InvalidInput)
-faults => 15
-holds folder/file ab => 1
-";
+const NO_FOLDER: Answer = Err(Error::Io(ErrorKind::NotADirectory));
+
+const FULL: Answer = Err(Error::Io(ErrorKind::StorageFull));
+
+const APPENDED: &[(Call, Answer)] = &[
+    (Create("0.jnl"), DONE),
+    (Holds("0.jnl", b""), YES),
+    (Append("0.jnl", b"abc"), DONE),
+    (Append("0.jnl", b""), DONE),
+    (Append("0.jnl", b"defg"), DONE),
+    (Sync("0.jnl"), DONE),
+    (Create("0.jnl"), DONE),
+    (Holds("0.jnl", b"abcdefg"), YES),
+    (HoldsPart("0.jnl", 2, b"cdefg"), YES),
+    (PartLen("0.jnl", 3, 5), DONE),
+    (PartLen("0.jnl", 7, 0), Ok(&[0])),
+    (PartLen("0.jnl", usize::MAX, usize::MAX), DONE),
+    (Cut("0.jnl", 4), DONE),
+    (Append("0.jnl", b"x"), DONE),
+];
+
+const OPENED_AGAIN: &[(Call, Answer)] = &[
+    (Holds("0.jnl", b"abcdx"), YES),
+    (HoldsPart("0.jnl", 1, b"bc"), YES),
+    (Faults, Ok(&[0])),
+];
+
+const LISTS: &[(Call, Answer)] = &[
+    (Lists("", ""), YES),
+    (MakeFolder("keyspaces"), DONE),
+    (MakeFolder("keyspaces"), DONE),
+    (MakeFolder("keyspaces/1"), DONE),
+    (Create("keyspaces/1/current"), DONE),
+    (Create("keyspaces/1/lock"), DONE),
+    (Create("version"), DONE),
+    (SyncFolder("keyspaces/1"), DONE),
+    (SyncFolder(""), DONE),
+    (Lists("", "keyspaces/ version "), YES),
+    (Lists("keyspaces", "keyspaces/1/ "), YES),
+    (
+        Lists("keyspaces/1", "keyspaces/1/current keyspaces/1/lock "),
+        YES,
+    ),
+    (Lists("keyspaces/2", ""), YES),
+    (Lists("keyspaces/1/current", ""), YES),
+    (Lists("version/1", ""), YES),
+    (Remove("keyspaces/1/current"), DONE),
+    (Remove("keyspaces/1/current"), DONE),
+    (Remove("keyspaces/1/lock"), DONE),
+    (RemoveFolder("keyspaces/1"), DONE),
+    (RemoveFolder("keyspaces/1"), DONE),
+    (Remove("version/1"), DONE),
+    (RemoveFolder("version/1"), DONE),
+    (Lists("keyspaces", ""), YES),
+    (Len("keyspaces/1/current"), DONE),
+    (PartLen("keyspaces/1/current", 0, 0), DONE),
+    (Len("none"), DONE),
+    (PartLen("none", 0, 0), DONE),
+    (Len("none/1"), DONE),
+    (PartLen("none/1", 0, 0), DONE),
+    (Len("version/1"), DONE),
+    (PartLen("version/1", 0, 0), DONE),
+    (Len("keyspaces"), DONE),
+    (PartLen("keyspaces", 0, 0), DONE),
+    (Faults, Ok(&[0])),
+];
+
+const FAULTS: &[(Call, Answer)] = &[
+    (MakeFolder("folder"), DONE),
+    (Create("folder/file"), DONE),
+    (Append("folder/file", b"ab"), DONE),
+    (Append("none", b"a"), NO_SUCH),
+    (Sync("none"), NO_SUCH),
+    (Cut("none", 0), NO_SUCH),
+    (Cut("folder/file", 3), INVALID),
+    (Append("folder", b"a"), A_FOLDER),
+    (Create("folder"), A_FOLDER),
+    (Create("none/file"), NO_SUCH),
+    (MakeFolder("none/folder"), NO_SUCH),
+    (
+        MakeFolder("folder/file"),
+        Err(Error::Io(ErrorKind::AlreadyExists)),
+    ),
+    (Remove("folder"), A_FOLDER),
+    (
+        RemoveFolder("folder"),
+        Err(Error::Io(ErrorKind::DirectoryNotEmpty)),
+    ),
+    (RemoveFolder("folder/file"), NO_FOLDER),
+    (SyncFolder("none"), NO_SUCH),
+    (SyncFolder("folder/file"), NO_FOLDER),
+    (Create("a\0b"), INVALID),
+    (Faults, Ok(&[15])),
+    (Holds("folder/file", b"ab"), YES),
+];
 
 // A device without room, by a link.
-const WITHOUT_ROOM: &str = "\
-append full a => Io(StorageFull)
-append full a => Io(StorageFull)
-faults => 2
-";
+const WITHOUT_ROOM: &[(Call, Answer)] = &[
+    (Append("full", b"a"), FULL),
+    (Append("full", b"a"), FULL),
+    (Faults, Ok(&[2])),
+];
 
 // A folder below that of the test, and what is done to it; each row opens it anew.
-const SESSIONS: [(&str, &str); 5] = [
+const SESSIONS: [(&str, &[(Call, Answer)]); 5] = [
     ("appended", APPENDED),
     ("appended", OPENED_AGAIN),
     ("lists", LISTS),
@@ -142,17 +163,20 @@ const SESSIONS: [(&str, &str); 5] = [
 fn sessions(rt: HostRuntime) -> std::result::Result<(), Fail> {
     let alloc = rt.alloc();
     let path = fresh(&rt, "sessions")?;
-    for (folder, lines) in SESSIONS {
-        let place = format!(in alloc; "{path}/{folder}")?;
-        let mut disk = FolderDisk::open(&rt, alloc, place.as_str())?;
+    for (folder, calls) in SESSIONS {
+        let mut disk = FolderDisk::open(
+            &rt,
+            alloc,
+            format!(in alloc; "{path}/{folder}")?.as_str(),
+        )?;
         if folder == "full" {
             symlink(
                 &rt,
                 "/dev/full",
-                format!(in alloc; "{place}/full")?.as_str(),
+                format!(in alloc; "{path}/full/full")?.as_str(),
             )?;
         }
-        assert_eq!(rt; first_wrong(alloc, &mut disk, lines)?, None, "{folder}");
+        assert_eq!(rt; first_wrong(alloc, &mut disk, calls), None, "{folder}");
     }
     fs::remove_dir_all(&rt, path.as_str())?;
     Ok(())
@@ -160,7 +184,7 @@ fn sessions(rt: HostRuntime) -> std::result::Result<(), Fail> {
 
 // Names that lead nowhere below the folder, or to the disk's own file.
 const REFUSED: [&str; 12] = [
-    "-",
+    "",
     "/",
     ".",
     "..",
@@ -175,19 +199,28 @@ const REFUSED: [&str; 12] = [
 ];
 
 // The calls that a name may be refused by; the last two take the name of the root.
-const VERBS: [&str; 11] = [
-    "create",
-    "append",
-    "sync",
-    "cut",
-    "remove",
-    "remove_folder",
-    "make_folder",
-    "len",
-    "part",
-    "sync_folder",
-    "count",
-];
+fn calls_with(name: &'static str) -> [Call; 11] {
+    [
+        Create(name),
+        Append(name, b"x"),
+        Sync(name),
+        Cut(name, 0),
+        Remove(name),
+        RemoveFolder(name),
+        MakeFolder(name),
+        Len(name),
+        PartLen(name, 0, 0),
+        SyncFolder(name),
+        Count(name),
+    ]
+}
+
+// How a call ends, and how many faults came by then.
+fn refusal(alloc: Global, disk: &mut FolderDisk, call: Call) -> (Result<()>, u64) {
+    let mut seen = Vec::new(alloc);
+    let ended = make(alloc, disk, call, &mut seen);
+    (ended, disk.faults())
+}
 
 #[test]
 fn no_name_leaves_the_folder(rt: HostRuntime) -> std::result::Result<(), Fail> {
@@ -202,14 +235,13 @@ fn no_name_leaves_the_folder(rt: HostRuntime) -> std::result::Result<(), Fail> {
     disk.make_folder("a")?;
     let mut faults = 0u64;
     for name in REFUSED {
-        let count = if name == "-" { 9 } else { 11 };
-        for verb in &VERBS[..count] {
+        let count = if name.is_empty() { 9 } else { 11 };
+        for call in &calls_with(name)[..count] {
             faults = faults.saturating_add(1);
-            let answer = tell(alloc, &mut disk, &format!(in alloc; "{verb} {name}")?)?;
             assert_eq!(rt;
-                (answer.as_str(), disk.faults()),
-                ("Io(InvalidInput)", faults),
-                "{verb} {name}"
+                refusal(alloc, &mut disk, *call),
+                (Err(Error::Io(ErrorKind::InvalidInput)), faults),
+                "at {name}"
             );
         }
     }
@@ -234,49 +266,63 @@ enum Owner {
     Locked(LockedFileGuard),
 }
 
-// Tries something at a path below the folder, and answers the new owner's count of faults: `open` opens it, `open_at` the
-// folder of this whole path, `lock` takes the lock of a file, and by `leave` the owner leaves.
-fn make_attempt(rt: &HostRuntime, path: &str, owner: &mut Owner, line: &str) -> Result<u64> {
+/// What is tried at a path below the folder.
+#[derive(Clone, Copy)]
+enum Attempt {
+    /// Opens it, as the owner where there is none.
+    Open(&'static str),
+    /// Opens the folder of this whole path.
+    OpenAt(&'static str),
+    /// Takes the lock of the file, likewise.
+    Lock(&'static str),
+    /// The owner leaves.
+    Leave,
+}
+
+use Attempt::*;
+
+// Tries it, and answers the new owner's count of faults.
+fn make_attempt(rt: &HostRuntime, path: &str, owner: &mut Owner, attempt: Attempt) -> Result<u64> {
     let alloc = rt.alloc();
-    let (verb, name) = first_word(line);
-    let whole = match verb {
-        "open_at" => String::from_str(alloc, name)?,
-        _ => format!(in alloc; "{path}{name}")?,
-    };
     let mut faults = 0;
-    match verb {
-        "open" | "open_at" => {
+    match attempt {
+        Open(folder) => {
+            let whole = format!(in alloc; "{path}{folder}")?;
             let disk = sent(FolderDisk::open(rt, alloc, whole.as_str())?);
             faults = disk.faults();
             *owner = Owner::Opened(disk);
         }
-        "lock" => *owner = Owner::Locked(LockedFileGuard::lock(rt, Path::new(whole.as_str()))?),
-        _ => *owner = Owner::Nobody,
+        OpenAt(whole) => *owner = Owner::Opened(FolderDisk::open(rt, alloc, whole)?),
+        Lock(file) => {
+            let whole = format!(in alloc; "{path}{file}")?;
+            *owner = Owner::Locked(LockedFileGuard::lock(rt, Path::new(whole.as_str()))?);
+        }
+        Leave => *owner = Owner::Nobody,
     }
     Ok(faults)
 }
 
-const ATTEMPTS: [(&str, Result<u64>); 12] = [
-    ("open", Ok(0)),
-    ("open", Err(Error::Locked)),
-    ("lock /lock", Err(Error::Locked)),
-    ("leave", Ok(0)),
-    ("open", Ok(0)),
-    ("leave", Ok(0)),
-    ("lock /lock", Ok(0)),
-    ("open", Err(Error::Locked)),
-    ("leave", Ok(0)),
-    ("open_at", Err(Error::Io(ErrorKind::NotFound))),
-    ("open /lock", Err(Error::Io(ErrorKind::AlreadyExists))),
-    ("open_at a\0b", Err(Error::Io(ErrorKind::InvalidInput))),
+const ATTEMPTS: [(Attempt, Result<u64>); 12] = [
+    (Open(""), Ok(0)),
+    (Open(""), Err(Error::Locked)),
+    (Lock("/lock"), Err(Error::Locked)),
+    (Leave, Ok(0)),
+    (Open(""), Ok(0)),
+    (Leave, Ok(0)),
+    (Lock("/lock"), Ok(0)),
+    (Open(""), Err(Error::Locked)),
+    (Leave, Ok(0)),
+    (OpenAt(""), Err(Error::Io(ErrorKind::NotFound))),
+    (Open("/lock"), Err(Error::Io(ErrorKind::AlreadyExists))),
+    (OpenAt("a\0b"), Err(Error::Io(ErrorKind::InvalidInput))),
 ];
 
 #[test]
 fn a_folder_has_one_owner(rt: HostRuntime) -> std::result::Result<(), Fail> {
     let path = fresh(&rt, "owner")?;
     let mut owner = Owner::Nobody;
-    for (row, (line, wanted)) in ATTEMPTS.iter().enumerate() {
-        let answer = make_attempt(&rt, path.as_str(), &mut owner, line);
+    for (row, (tried, wanted)) in ATTEMPTS.iter().enumerate() {
+        let answer = make_attempt(&rt, path.as_str(), &mut owner, *tried);
         assert_eq!(rt; answer, *wanted, "row {row}");
     }
     fs::remove_dir_all(&rt, path.as_str())?;
@@ -296,6 +342,18 @@ fn append_in_turn(alloc: Global, disk: &mut FolderDisk) -> Result<()> {
     Ok(())
 }
 
+// The file's bytes, and those that it has when it was removed and made anew.
+fn texts(
+    alloc: Global,
+    disk: &mut FolderDisk,
+    name: &str,
+) -> Result<(Option<Vec<u8>>, Option<Vec<u8>>)> {
+    let whole = disk.read(alloc, name)?;
+    disk.remove(name)?;
+    disk.create(name)?;
+    Ok((whole, disk.read(alloc, name)?))
+}
+
 #[test]
 fn many_files_are_appended_to_in_turn(rt: HostRuntime) -> std::result::Result<(), Fail> {
     let alloc = rt.alloc();
@@ -303,10 +361,16 @@ fn many_files_are_appended_to_in_turn(rt: HostRuntime) -> std::result::Result<()
     let mut disk = FolderDisk::open(&rt, alloc, path.as_str())?;
     append_in_turn(alloc, &mut disk)?;
     for file in 0..20 {
-        let lines = format!(in alloc;
-            "holds {file}.jnl {file} 0,{file} 1,{file} 2, => 1\nremove {file}.jnl\ncreate {file}.jnl\nlen {file}.jnl => 0"
-        )?;
-        assert_eq!(rt; first_wrong(alloc, &mut disk, &lines)?, None, "{file}");
+        let name = format!(in alloc; "{file}.jnl")?;
+        let text = format!(in alloc; "{file} 0,{file} 1,{file} 2,")?;
+        assert_eq!(rt;
+            texts(alloc, &mut disk, &name)?,
+            (
+                Some(Vec::from_slice(alloc, text.as_bytes())?),
+                Some(Vec::new(alloc))
+            ),
+            "at {name}"
+        );
     }
     drop(disk);
     fs::remove_dir_all(&rt, path.as_str())?;

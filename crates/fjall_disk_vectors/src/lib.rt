@@ -18,8 +18,6 @@ mod folder_disk;
 #[cfg(test)]
 mod journaling;
 #[cfg(test)]
-mod memory;
-#[cfg(test)]
 mod mending;
 #[cfg(test)]
 mod opening;
@@ -33,5 +31,3 @@ mod repair;
 mod scripts;
 #[cfg(test)]
 mod steps;
-#[cfg(test)]
-mod words;

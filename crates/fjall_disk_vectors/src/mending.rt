@@ -1,44 +1,45 @@
 //! Torn folders, mended.
 
+use crate::calls::Call::*;
+use crate::calls::{DONE, YES};
+use crate::folder::{CURRENT, TORN};
+use crate::steps::Question::*;
+use crate::steps::Step::*;
+use crate::steps::{Row, Start};
 use fjall_base::{Error, Result};
 use fjall_memory::MemoryDisk;
 use fjall_recovery::read_folder;
 use fjall_repair::{mend, plan_mending};
 use std::alloc::Global;
 
-/// `mend JOURNAL` reads the folder and mends it, and adds whether this is the file of its active journal.
-pub fn mend_folder(
-    alloc: Global,
-    disk: &mut MemoryDisk,
-    journal: &str,
-    seen: &mut Vec<u64>,
-) -> Result<()> {
+/// Reads the folder and mends it, and answers whether this is the file of its active journal.
+pub fn mend_folder(alloc: Global, disk: &mut MemoryDisk, journal: &str) -> Result<bool> {
     let found = read_folder(alloc, disk)?.ok_or(Error::Unrecoverable)?;
     let plan = plan_mending(alloc, &found)?;
     mend(disk, &plan)?;
-    Ok(seen.push(u64::from(plan.active.as_str() == journal))?)
+    Ok(plan.active.as_str() == journal)
 }
 
-pub const SCRIPT: &str = "\
-# Torn files are cut
-new items
-insert 0.jnl 1
-insert 3.jnl 2
-len keyspaces/0/current => 135
-append 3.jnl \x01torn
-append keyspaces/0/current 0x000000ff20746f726e
-append keyspaces/1/current \0\0
-mend 3.jnl => 1
-crash 0
-len 0.jnl => 49
-len 3.jnl => 49
-len keyspaces/0/current => 135
-len keyspaces/1/current => 55
-mend 3.jnl => 1
-# The first journal is made
-new items
-mend 1.jnl => 1
-crash 0
-len 1.jnl => 0
-journals => 1
-";
+pub const SCRIPT: &[Row] = &[
+    // Torn files are cut.
+    (New(Start::Items), DONE),
+    (Insert("0.jnl", 1), DONE),
+    (Insert("3.jnl", 2), DONE),
+    (On(Len(CURRENT)), Ok(&[135])),
+    (On(Append("3.jnl", TORN)), DONE),
+    (On(Append(CURRENT, b"\x00\x00\x00\xff torn")), DONE),
+    (On(Append("keyspaces/1/current", b"\x00\x00")), DONE),
+    (Mend("3.jnl"), YES),
+    (Crash(0), DONE),
+    (On(Len("0.jnl")), Ok(&[49])),
+    (On(Len("3.jnl")), Ok(&[49])),
+    (On(Len(CURRENT)), Ok(&[135])),
+    (On(Len("keyspaces/1/current")), Ok(&[55])),
+    (Mend("3.jnl"), YES),
+    // The first journal is made.
+    (New(Start::Items), DONE),
+    (Mend("1.jnl"), YES),
+    (Crash(0), DONE),
+    (On(Len("1.jnl")), Ok(&[0])),
+    (Ask(Journals), Ok(&[1])),
+];

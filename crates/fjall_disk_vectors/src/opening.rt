@@ -1,6 +1,12 @@
 //! Folders read, sound and faulty.
 
-use fjall_base::Result;
+use crate::calls::Call::*;
+use crate::calls::{Answer, DONE};
+use crate::folder::{CURRENT, MARKER, TORN};
+use crate::steps::Question::*;
+use crate::steps::Step::*;
+use crate::steps::{Question, Row, Start};
+use fjall_base::{Error, FormatVersion, JournalRecoveryError, Result, StorageError};
 use fjall_memory::MemoryDisk;
 use fjall_recovery::{RecoveredFolder, read_folder};
 use std::alloc::Global;
@@ -12,112 +18,120 @@ fn add_homes(folder: &RecoveredFolder, seen: &mut Vec<u64>) -> Result<()> {
     Ok(())
 }
 
-// How many batches there are, their least next number, and the end of the last journal, and whether it is torn.
-fn add_batches(folder: &Finished, seen: &mut Vec<u64>) -> Result<()> {
-    let journals = &folder.journals;
-    Ok(seen.extend_from_slice(&[
-        journals.batches.len() as u64,
-        journals.least,
-        journals.end as u64,
-        u64::from(journals.torn),
-    ])?)
+fn add_some_id(seen: &mut Vec<u64>, id: Option<u64>) -> Result<()> {
+    if let Some(id) = id {
+        seen.push(id)?;
+    }
+    Ok(())
 }
 
-/// Reads a folder, and adds what is seen; of an unfinished one nothing is. `number` adds the next one, `journals`, `folders`
-/// and `next_id` the ids, `named NAME` the id of a keyspace, `batches` how many there are, their least next number, the end
-/// of the last journal, and whether it is torn, and `homes` each keyspace's id, the end of its records, and the length of
-/// their file.
+/// Asks a question of a finished folder, and adds what is seen; of an unfinished one nothing is.
 pub fn ask(
     alloc: Global,
     disk: &mut MemoryDisk,
-    verb: &str,
-    words: &str,
+    question: Question,
     seen: &mut Vec<u64>,
 ) -> Result<()> {
     let Some(folder) = read_folder(alloc, disk)? else {
         return Ok(());
     };
+    let journals = &folder.journals;
     let keyspaces = &folder.catalog.keyspaces;
-    match verb {
-        "number" => Ok(seen.push(folder.number())?),
-        "journals" => Ok(seen.extend_from_slice(&folder.journal_ids)?),
-        "folders" => Ok(seen.extend_from_slice(&folder.folder_ids)?),
-        "named" => Ok(seen.extend(keyspaces.resolve_id(words.as_bytes()))?),
-        "next_id" => Ok(seen.push(keyspaces.next_id())?),
-        "batches" => add_batches(&folder, seen),
-        _ => add_homes(&folder, seen),
+    match question {
+        Number => seen.push(folder.number())?,
+        Journals => seen.extend_from_slice(&folder.journal_ids)?,
+        Folders => seen.extend_from_slice(&folder.folder_ids)?,
+        Named(name) => add_some_id(seen, keyspaces.resolve_id(name))?,
+        NextId => seen.push(keyspaces.next_id())?,
+        Batches => seen.extend_from_slice(&[
+            journals.batches.len() as u64,
+            journals.least,
+            journals.end as u64,
+            u64::from(journals.torn),
+        ])?,
+        _ => add_homes(&folder, seen)?,
     }
+    Ok(())
 }
 
-pub const SCRIPT: &str = "\
-# A sound folder
-new sound
-append 1.jnl \x01torn
-journals => 0 1
-folders => 0 1
-batches => 2 3 49 1
-named items => 1
-homes => 1 55 55
-# Numbers
-new marked FJL\x03
-number => 0
-keyspace items 7
-number => 8
-insert 0.jnl 9
-number => 10
-keyspace more 20
-number => 21
-# Markers
-new marked FJL\x02
-number => InvalidVersion(Some(V2))
-new marked FJX\x01
-number => InvalidVersion(None)
-new marked FJ
-create 0.jnl
-number
-insert 0.jnl 1
-number => Unrecoverable
-new nothing
-number
-new marked
-keyspace a 0
-number => Unrecoverable
-# Names of journals and of keyspaces
-new sound
-create 0.JNL
-number => JournalRecovery(InvalidFileName)
-new sound
-create 00.jnl
-number => JournalRecovery(InvalidFileName)
-new sound
-create x.jnl
-number => JournalRecovery(InvalidFileName)
-new sound
-create notes.txt
-create .jnl
-create keyspaces/a file
-number => 3
-make_folder keyspaces/01
-number => Unrecoverable
-# Faults of journals
-new sound
-append 0.jnl \x01torn
-number => Unrecoverable
-new sound
-insert 2.jnl 2
-number => Unrecoverable
-# Faults of keyspaces
-new sound
-cut keyspaces/1/current 54
-number => Storage(RecordDamaged)
-new sound
-remove keyspaces/1/current
-remove_folder keyspaces/1
-number => Unrecoverable
-new sound
-cut keyspaces/0/current 54
-number => Storage(RecordDamaged)
-new sound
-remove keyspaces/0/1.table
-number => Storage(TableDamaged)
-";
+const UNREADABLE: Answer = Err(Error::Unrecoverable);
+
+const MISNAMED: Answer = Err(Error::JournalRecovery(JournalRecoveryError::InvalidFileName));
+
+const RECORD_DAMAGED: Answer = Err(Error::Storage(StorageError::RecordDamaged));
+
+pub const SCRIPT: &[Row] = &[
+    // A sound folder.
+    (New(Start::Sound), DONE),
+    (On(Append("1.jnl", TORN)), DONE),
+    (Ask(Journals), Ok(&[0, 1])),
+    (Ask(Folders), Ok(&[0, 1])),
+    (Ask(Batches), Ok(&[2, 3, 49, 1])),
+    (Ask(Named(b"items")), Ok(&[1])),
+    (Ask(Homes), Ok(&[1, 55, 55])),
+    // Numbers.
+    (New(Start::Marked(MARKER)), DONE),
+    (Ask(Number), Ok(&[0])),
+    (Keyspace(b"items", 7), DONE),
+    (Ask(Number), Ok(&[8])),
+    (Insert("0.jnl", 9), DONE),
+    (Ask(Number), Ok(&[10])),
+    (Keyspace(b"more", 20), DONE),
+    (Ask(Number), Ok(&[21])),
+    // Markers.
+    (New(Start::Marked(b"FJL\x02")), DONE),
+    (
+        Ask(Number),
+        Err(Error::InvalidVersion(Some(FormatVersion::V2))),
+    ),
+    (New(Start::Marked(b"FJX\x01")), DONE),
+    (Ask(Number), Err(Error::InvalidVersion(None))),
+    (New(Start::Marked(b"FJ")), DONE),
+    (On(Create("0.jnl")), DONE),
+    (Ask(Number), DONE),
+    (Insert("0.jnl", 1), DONE),
+    (Ask(Number), UNREADABLE),
+    (New(Start::Nothing), DONE),
+    (Ask(Number), DONE),
+    (New(Start::Marked(b"")), DONE),
+    (Keyspace(b"a", 0), DONE),
+    (Ask(Number), UNREADABLE),
+    // Names of journals and of keyspaces.
+    (New(Start::Sound), DONE),
+    (On(Create("0.JNL")), DONE),
+    (Ask(Number), MISNAMED),
+    (New(Start::Sound), DONE),
+    (On(Create("00.jnl")), DONE),
+    (Ask(Number), MISNAMED),
+    (New(Start::Sound), DONE),
+    (On(Create("x.jnl")), DONE),
+    (Ask(Number), MISNAMED),
+    (New(Start::Sound), DONE),
+    (On(Create("notes.txt")), DONE),
+    (On(Create(".jnl")), DONE),
+    (On(Create("keyspaces/a file")), DONE),
+    (Ask(Number), Ok(&[3])),
+    (On(MakeFolder("keyspaces/01")), DONE),
+    (Ask(Number), UNREADABLE),
+    // Faults of journals.
+    (New(Start::Sound), DONE),
+    (On(Append("0.jnl", TORN)), DONE),
+    (Ask(Number), UNREADABLE),
+    (New(Start::Sound), DONE),
+    (Insert("2.jnl", 2), DONE),
+    (Ask(Number), UNREADABLE),
+    // Faults of keyspaces.
+    (New(Start::Sound), DONE),
+    (On(Cut("keyspaces/1/current", 54)), DONE),
+    (Ask(Number), RECORD_DAMAGED),
+    (New(Start::Sound), DONE),
+    (On(Remove("keyspaces/1/current")), DONE),
+    (On(RemoveFolder("keyspaces/1")), DONE),
+    (Ask(Number), UNREADABLE),
+    (New(Start::Sound), DONE),
+    (On(Cut(CURRENT, 54)), DONE),
+    (Ask(Number), RECORD_DAMAGED),
+    (New(Start::Sound), DONE),
+    (On(Remove("keyspaces/0/1.table")), DONE),
+    (Ask(Number), Err(Error::Storage(StorageError::TableDamaged))),
+];

@@ -1,6 +1,11 @@
 //! Folders opened, and swept.
 
+use crate::calls::Call::*;
+use crate::calls::{DONE, FAULT, NO, YES};
 use crate::folder::TREE;
+use crate::steps::Question::*;
+use crate::steps::Step::*;
+use crate::steps::{Row, Start};
 use fjall_base::{Disk, Error, Result};
 use fjall_memory::MemoryDisk;
 use fjall_recovery::read_folder;
@@ -35,8 +40,8 @@ fn count_in(alloc: Global, disk: &mut MemoryDisk, folder: &str, names: &[&str]) 
     Ok(count)
 }
 
-// How many of the names are there that nothing names in the swollen folder.
-fn unnamed(alloc: Global, disk: &mut MemoryDisk) -> Result<usize> {
+/// How many of the names are there that nothing names in the swollen folder.
+pub fn unnamed(alloc: Global, disk: &mut MemoryDisk) -> Result<usize> {
     let mut count = 0usize;
     for folder in ["keyspaces", "keyspaces/0", "keyspaces/1", "keyspaces/7"] {
         count = count.saturating_add(count_in(alloc, disk, folder, &UNNAMED)?);
@@ -44,22 +49,12 @@ fn unnamed(alloc: Global, disk: &mut MemoryDisk) -> Result<usize> {
     Ok(count)
 }
 
-/// `unnamed` adds how many of the names are there that nothing names in the swollen folder, and `kept` how many of those in
-/// the folder of tree 0 that stay.
-pub fn add_names(
-    alloc: Global,
-    disk: &mut MemoryDisk,
-    verb: &str,
-    seen: &mut Vec<u64>,
-) -> Result<()> {
-    let count = match verb {
-        "unnamed" => unnamed(alloc, disk)?,
-        _ => count_in(alloc, disk, TREE, &KEPT)?,
-    };
-    Ok(seen.push(count as u64)?)
+/// How many of those names in the folder of tree 0 are there that stay.
+pub fn kept(alloc: Global, disk: &mut MemoryDisk) -> Result<usize> {
+    count_in(alloc, disk, TREE, &KEPT)
 }
 
-/// `open` opens the folder, and adds the journal's length, the number of the next change, how many versions there are, the next
+/// Opens the folder, and adds the journal's length, the number of the next change, how many versions there are, the next
 /// ids of a table and of a keyspace, how many keyspaces live, and the id of "items", where there is one.
 pub fn open(alloc: Global, disk: &mut MemoryDisk, seen: &mut Vec<u64>) -> Result<()> {
     let opened = open_folder(alloc, disk)?;
@@ -71,7 +66,10 @@ pub fn open(alloc: Global, disk: &mut MemoryDisk, seen: &mut Vec<u64>) -> Result
         opened.keyspaces.next_id(),
         opened.keyspaces.living().len() as u64,
     ])?;
-    Ok(seen.extend(opened.keyspaces.resolve_id(b"items"))?)
+    if let Some(id) = opened.keyspaces.resolve_id(b"items") {
+        seen.push(id)?;
+    }
+    Ok(())
 }
 
 // How many of these names a plan has.
@@ -85,7 +83,7 @@ fn count_named(tables: &[String]) -> usize {
     count
 }
 
-/// `sweep` sweeps the folder, and adds how many tables the plan has, and how many of the two that nothing names, how many
+/// Sweeps the folder, and adds how many tables the plan has, and how many of the two that nothing names, how many
 /// folders it has, and how many names are there when it is made.
 pub fn sweep_unnamed(alloc: Global, disk: &mut MemoryDisk, seen: &mut Vec<u64>) -> Result<()> {
     let found = read_folder(alloc, disk)?.ok_or(Error::Unrecoverable)?;
@@ -99,44 +97,44 @@ pub fn sweep_unnamed(alloc: Global, disk: &mut MemoryDisk, seen: &mut Vec<u64>) 
     sweep(disk, &plan)
 }
 
-pub const SCRIPT: &str = "\
-# An empty folder is opened twice
-new nothing
-open => 0 0 0 1 1 0
-crash 0
-open => 0 0 0 1 1 0
-crash 0
-# What nothing names is removed
-new swollen
-unnamed => 6
-open => 49 6 1 2 2 1 1
-unnamed => 0
-kept => 3
-len 0.jnl => 49
-open => 49 6 1 2 2 1 1
-unnamed => 0
-kept => 3
-len 0.jnl => 49
-# A folder without journals gets one
-new items
-open => 0 1 0 2 2 1 1
-len 1.jnl => 0
-# An unfinished folder is swept
-new unmarked
-create keyspaces/0/1.table
-make_folder keyspaces/7
-create keyspaces/7/notes
-open => 0 0 0 1 1 0
-len 0.jnl => 0
-unnamed => 0
-lists keyspaces/0 keyspaces/0/current => 1
-# A folder that is named like a table is a fault
-new items
-make_folder keyspaces/0/9.table
-open => Io(Other)
-faults => 1
-# A plan changes nothing
-new swollen
-sweep => 2 2 1 6
-unnamed => 0
-";
+pub const SCRIPT: &[Row] = &[
+    // An empty folder is opened twice.
+    (New(Start::Nothing), DONE),
+    (Open, Ok(&[0, 0, 0, 1, 1, 0])),
+    (Crash(0), DONE),
+    (Open, Ok(&[0, 0, 0, 1, 1, 0])),
+    (Crash(0), DONE),
+    // What nothing names is removed.
+    (New(Start::Swollen), DONE),
+    (Ask(Unnamed), Ok(&[6])),
+    (Open, Ok(&[49, 6, 1, 2, 2, 1, 1])),
+    (Ask(Unnamed), Ok(&[0])),
+    (Ask(Kept), Ok(&[3])),
+    (On(Len("0.jnl")), Ok(&[49])),
+    (Open, Ok(&[49, 6, 1, 2, 2, 1, 1])),
+    (Ask(Unnamed), Ok(&[0])),
+    (Ask(Kept), Ok(&[3])),
+    (On(Len("0.jnl")), Ok(&[49])),
+    // A folder without journals gets one.
+    (New(Start::Items), DONE),
+    (Open, Ok(&[0, 1, 0, 2, 2, 1, 1])),
+    (On(Len("1.jnl")), Ok(&[0])),
+    // An unfinished folder is swept.
+    (New(Start::Unmarked), DONE),
+    (On(Create("keyspaces/0/1.table")), DONE),
+    (On(MakeFolder("keyspaces/7")), DONE),
+    (On(Create("keyspaces/7/notes")), DONE),
+    (Open, Ok(&[0, 0, 0, 1, 1, 0])),
+    (On(Len("0.jnl")), Ok(&[0])),
+    (Ask(Unnamed), Ok(&[0])),
+    (On(Lists(TREE, "keyspaces/0/current ")), YES),
+    // A folder that is named like a table is a fault.
+    (New(Start::Items), DONE),
+    (On(MakeFolder("keyspaces/0/9.table")), DONE),
+    (Open, FAULT),
+    (On(Faults), Ok(&[1])),
+    // A plan changes nothing.
+    (New(Start::Swollen), DONE),
+    (SweepPlan, Ok(&[2, 2, 1, 6])),
+    (Ask(Unnamed), Ok(&[0])),
+];

@@ -1,82 +1,147 @@
-//! What no contract says of errors and byte slices: printed texts, and that calls succeed.
+//! What no contract says of errors, byte slices and disks: printed texts, that calls succeed, and that a disk fails
+//! where it was told to.
 
 use fjall_base::{
-    CompressionType, Error, FormatVersion, JournalRecoveryError, Refused, Slice, StorageError,
+    ClosedDisk, CompressionType, Disk, Error, FormatVersion, JournalRecoveryError, Refused, Result,
+    Slice, StorageError,
 };
-use std::alloc::{AllocError, AllocFailed};
+use fjall_memory::MemoryDisk;
+use std::alloc::{AllocError, AllocFailed, Global};
 use std::hash::{DefaultHasher, Hash, Hasher};
 use std::io::{self, ErrorKind};
 use std::test::Fail;
 
 const MISMATCH: JournalRecoveryError = JournalRecoveryError::ChecksumMismatch;
 
-const ERRORS: [Error; 22] = [
-    Error::Io(ErrorKind::NotFound),
-    Error::Storage(StorageError::TableDamaged),
-    Error::JournalRecovery(MISMATCH),
-    Error::InvalidVersion(Some(FormatVersion::V2)),
-    Error::Decompress(CompressionType::None),
-    Error::InvalidTrailer,
-    Error::InvalidTag(("ValueType", 4)),
-    Error::Poisoned,
-    Error::KeyspaceDeleted,
-    Error::Locked,
-    Error::Unrecoverable,
-    Error::KeyEmpty,
-    Error::KeyTooLong,
-    Error::ValueTooLong,
-    Error::InvalidName,
-    Error::KeyOrder,
-    Error::OutOfMemory,
-    Error::NumbersUsedUp,
-    Error::UnknownKeyspace,
-    Error::SnapshotClosed,
-    Error::TransactionOpen,
-    Error::TooManyItems,
+const ERRORS: [(Error, u8, &str, &str); 22] = [
+    (
+        Error::Io(ErrorKind::NotFound),
+        1,
+        "Io",
+        "FjallError: Io(NotFound)",
+    ),
+    (
+        Error::Storage(StorageError::TableDamaged),
+        2,
+        "Storage",
+        "FjallError: Storage(TableDamaged)",
+    ),
+    (
+        Error::JournalRecovery(MISMATCH),
+        3,
+        "JournalRecovery",
+        "FjallError: JournalRecovery(ChecksumMismatch)",
+    ),
+    (
+        Error::InvalidVersion(Some(FormatVersion::V2)),
+        4,
+        "InvalidVersion",
+        "FjallError: InvalidVersion(Some(V2))",
+    ),
+    (
+        Error::Decompress(CompressionType::None),
+        5,
+        "Decompress",
+        "FjallError: Decompress(None)",
+    ),
+    (
+        Error::InvalidTrailer,
+        6,
+        "InvalidTrailer",
+        "FjallError: InvalidTrailer",
+    ),
+    (
+        Error::InvalidTag(("ValueType", 4)),
+        7,
+        "InvalidTag",
+        "FjallError: InvalidTag((\"ValueType\", 4))",
+    ),
+    (Error::Poisoned, 8, "Poisoned", "FjallError: Poisoned"),
+    (
+        Error::KeyspaceDeleted,
+        9,
+        "KeyspaceDeleted",
+        "FjallError: KeyspaceDeleted",
+    ),
+    (Error::Locked, 10, "Locked", "FjallError: Locked"),
+    (
+        Error::Unrecoverable,
+        11,
+        "Unrecoverable",
+        "FjallError: Unrecoverable",
+    ),
+    (Error::KeyEmpty, 12, "KeyEmpty", "FjallError: KeyEmpty"),
+    (
+        Error::KeyTooLong,
+        13,
+        "KeyTooLong",
+        "FjallError: KeyTooLong",
+    ),
+    (
+        Error::ValueTooLong,
+        14,
+        "ValueTooLong",
+        "FjallError: ValueTooLong",
+    ),
+    (
+        Error::InvalidName,
+        15,
+        "InvalidName",
+        "FjallError: InvalidName",
+    ),
+    (Error::KeyOrder, 16, "KeyOrder", "FjallError: KeyOrder"),
+    (
+        Error::OutOfMemory,
+        17,
+        "OutOfMemory",
+        "FjallError: OutOfMemory",
+    ),
+    (
+        Error::NumbersUsedUp,
+        18,
+        "NumbersUsedUp",
+        "FjallError: NumbersUsedUp",
+    ),
+    (
+        Error::UnknownKeyspace,
+        19,
+        "UnknownKeyspace",
+        "FjallError: UnknownKeyspace",
+    ),
+    (
+        Error::SnapshotClosed,
+        20,
+        "SnapshotClosed",
+        "FjallError: SnapshotClosed",
+    ),
+    (
+        Error::TransactionOpen,
+        21,
+        "TransactionOpen",
+        "FjallError: TransactionOpen",
+    ),
+    (
+        Error::TooManyItems,
+        22,
+        "TooManyItems",
+        "FjallError: TooManyItems",
+    ),
 ];
-
-// The number, the name and the text of each of them.
-const TEXTS: &str = "\
-1 Io FjallError: Io(NotFound)
-2 Storage FjallError: Storage(TableDamaged)
-3 JournalRecovery FjallError: JournalRecovery(ChecksumMismatch)
-4 InvalidVersion FjallError: InvalidVersion(Some(V2))
-5 Decompress FjallError: Decompress(None)
-6 InvalidTrailer FjallError: InvalidTrailer
-7 InvalidTag FjallError: InvalidTag((\"ValueType\", 4))
-8 Poisoned FjallError: Poisoned
-9 KeyspaceDeleted FjallError: KeyspaceDeleted
-10 Locked FjallError: Locked
-11 Unrecoverable FjallError: Unrecoverable
-12 KeyEmpty FjallError: KeyEmpty
-13 KeyTooLong FjallError: KeyTooLong
-14 ValueTooLong FjallError: ValueTooLong
-15 InvalidName FjallError: InvalidName
-16 KeyOrder FjallError: KeyOrder
-17 OutOfMemory FjallError: OutOfMemory
-18 NumbersUsedUp FjallError: NumbersUsedUp
-19 UnknownKeyspace FjallError: UnknownKeyspace
-20 SnapshotClosed FjallError: SnapshotClosed
-21 TransactionOpen FjallError: TransactionOpen
-22 TooManyItems FjallError: TooManyItems
-";
 
 #[test]
 fn errors_have_numbers_names_and_texts(rt: HostRuntime) -> std::result::Result<(), Fail> {
-    let mut text = String::new(rt.alloc());
-    for error in ERRORS {
-        let (number, name) = (error.number(), error.name());
-        write!(text, "{number} {name} {error}\n")?;
-    }
-    assert_eq!(rt; text.as_str(), TEXTS);
-    Ok(())
-}
-
-#[test]
-fn versions_and_damages_have_texts(rt: HostRuntime) -> std::result::Result<(), Fail> {
     let [one, two, three] = [FormatVersion::V1, FormatVersion::V2, FormatVersion::V3];
-    let text = format!(in rt.alloc(); "{one} {two} {three} {MISMATCH}")?;
-    assert_eq!(rt; text.as_str(), "1 2 3 RecoveryError(ChecksumMismatch)");
+    let others = format!(in rt.alloc(); "{one} {two} {three} {MISMATCH}")?;
+    let are_others = others.as_str() == "1 2 3 RecoveryError(ChecksumMismatch)";
+    for (error, number, name, text) in ERRORS {
+        let printed = format!(in rt.alloc(); "{error}")?;
+        let is_printed = printed.as_str() == text;
+        assert_eq!(rt;
+            (error.number(), error.name() == name, is_printed, are_others),
+            (number, true, true, true),
+            "error {number}"
+        );
+    }
     Ok(())
 }
 
@@ -159,4 +224,242 @@ fn slices_go_by_their_bytes(rt: HostRuntime) -> std::result::Result<(), Fail> {
         );
     }
     Ok(())
+}
+
+/// A call of a disk, or what is done to a disk in memory.
+#[derive(Clone, Copy)]
+enum Step {
+    MakeFolder(&'static str),
+    Create(&'static str),
+    Append(&'static str, &'static [u8]),
+    Sync(&'static str),
+    CutSync(&'static str, usize),
+    Read(&'static str),
+    ReadAt(&'static str, usize, usize),
+    List(&'static str),
+    SyncFolder(&'static str),
+    Remove(&'static str),
+    RemoveFolder(&'static str),
+    /// A new run begins with a folder "k" and a file of three synced bytes in it.
+    New,
+    FailAt(u64, usize),
+    Crash(usize),
+}
+
+use Step::*;
+
+/// The names in a folder, each with a "/" if it is one, and a blank behind it.
+fn names_in<D: Disk>(alloc: Global, disk: &mut D, folder: &str) -> Result<Vec<u8>> {
+    let mut names = Vec::new(alloc);
+    for entry in &disk.list(alloc, folder)? {
+        names.extend_from_slice(entry.name.as_bytes())?;
+        names.extend_from_slice(if entry.is_folder { b"/ " } else { b" " })?;
+    }
+    Ok(names)
+}
+
+/// Makes a call, and answers the bytes that a read found, or the names in a folder.
+fn call<D: Disk>(alloc: Global, disk: &mut D, step: Step) -> Result<Option<Vec<u8>>> {
+    match step {
+        MakeFolder(name) => disk.make_folder(name)?,
+        Create(name) => disk.create(name)?,
+        Append(name, bytes) => disk.append(name, bytes)?,
+        Sync(name) => disk.sync(name)?,
+        CutSync(name, len) => disk.cut_sync(name, len)?,
+        Read(name) => return disk.read(alloc, name),
+        ReadAt(name, at, len) => return disk.read_at(alloc, name, at, len),
+        List(folder) => return Ok(Some(names_in(alloc, disk, folder)?)),
+        SyncFolder(name) => disk.sync_folder(name)?,
+        Remove(name) => disk.remove(name)?,
+        RemoveFolder(name) => disk.remove_folder(name)?,
+        New | FailAt(_, _) | Crash(_) => {}
+    }
+    Ok(None)
+}
+
+const FILL: [Step; 6] = [
+    MakeFolder("k"),
+    Create("k/c"),
+    Append("k/c", b"abc"),
+    Sync("k/c"),
+    SyncFolder("k"),
+    SyncFolder(""),
+];
+
+fn filled(alloc: Global) -> Result<MemoryDisk> {
+    let mut disk = MemoryDisk::new(alloc);
+    for step in FILL {
+        call(alloc, &mut disk, step)?;
+    }
+    Ok(disk)
+}
+
+/// The disk before the step's call.
+fn prepared(alloc: Global, disk: MemoryDisk, step: Step) -> Result<MemoryDisk> {
+    match step {
+        New => filled(alloc),
+        Crash(keep) => disk.crash(keep),
+        FailAt(number, part) => {
+            let mut failing = disk;
+            failing.fail_at(number, part);
+            Ok(failing)
+        }
+        _ => Ok(disk),
+    }
+}
+
+type Answer<'a> = Result<Option<&'a [u8]>>;
+
+fn bytes_of(answer: &Result<Option<Vec<u8>>>) -> Answer<'_> {
+    match answer {
+        Ok(Some(bytes)) => Ok(Some(bytes.as_slice())),
+        Ok(None) => Ok(None),
+        Err(error) => Err(*error),
+    }
+}
+
+const DONE: Answer<'static> = Ok(None);
+
+const FAULT: Answer<'static> = Err(Error::Io(ErrorKind::Other));
+
+// Each step, its answer, and the faults up to it.
+const STEPS: [(Step, Answer<'static>, u64); 54] = [
+    // A crash keeps names and synced bytes.
+    (New, DONE, 0),
+    (Append("k/c", b"def"), DONE, 0),
+    (Create("unsynced"), DONE, 0),
+    (Crash(2), DONE, 0),
+    (Read("k/c"), Ok(Some(b"abcde")), 0),
+    (Read("unsynced"), Ok(Some(b"")), 0),
+    (Append("k/c", b"f"), DONE, 0),
+    (Crash(0), DONE, 0),
+    (Read("k/c"), Ok(Some(b"abcde")), 0),
+    // An append that fails adds its part.
+    (New, DONE, 0),
+    (Append("k/c", b"def"), DONE, 0),
+    (FailAt(1, 2), DONE, 0),
+    (Append("k/c", b"ghi"), FAULT, 1),
+    (Crash(4), DONE, 1),
+    (Read("k/c"), Ok(Some(b"abcdefg")), 1),
+    // The call after the one that failed does not.
+    (New, DONE, 0),
+    (Create("a"), DONE, 0),
+    (FailAt(1, 0), DONE, 0),
+    (Read("a"), FAULT, 1),
+    (Read("a"), Ok(Some(b"")), 1),
+    // Reads tell what stands.
+    (New, DONE, 0),
+    (Append("k/c", b"de"), DONE, 0),
+    (MakeFolder("k/f"), DONE, 0),
+    (ReadAt("k/c", 2, 3), Ok(Some(b"cde")), 0),
+    (ReadAt("k/c", 3, 3), DONE, 0),
+    (ReadAt("k/d", 0, 0), DONE, 0),
+    (Read("k"), DONE, 0),
+    (List("k"), Ok(Some(b"k/c k/f/ ")), 0),
+    (List("m"), Ok(Some(b"")), 0),
+    (List(""), Ok(Some(b"k/ ")), 0),
+    // Changes that no disk can make are faults.
+    (New, DONE, 0),
+    (Create(""), FAULT, 1),
+    (MakeFolder(""), FAULT, 2),
+    (Create("m/x"), FAULT, 3),
+    (MakeFolder("m/x"), FAULT, 4),
+    (Create("k"), FAULT, 5),
+    (MakeFolder("k/c"), FAULT, 6),
+    (Append("k/d", b"x"), FAULT, 7),
+    (Append("k", b"x"), FAULT, 8),
+    (Sync("k/d"), FAULT, 9),
+    (SyncFolder("m"), FAULT, 10),
+    (CutSync("k/c", 4), FAULT, 11),
+    (Remove("k"), FAULT, 12),
+    (RemoveFolder("k/c"), FAULT, 13),
+    (RemoveFolder("k"), FAULT, 14),
+    (Read("k/c"), Ok(Some(b"abc")), 14),
+    // What is already so is none.
+    (Remove("k/d"), DONE, 14),
+    (RemoveFolder("m"), DONE, 14),
+    (Create("k/c"), DONE, 14),
+    (MakeFolder("k"), DONE, 14),
+    (CutSync("k/c", 1), DONE, 14),
+    (Remove("k/c"), DONE, 14),
+    (RemoveFolder("k"), DONE, 14),
+    (List(""), Ok(Some(b"")), 14),
+];
+
+#[test]
+fn a_disk_goes_by_its_steps(rt: HostRuntime) -> std::result::Result<(), Fail> {
+    let mut disk = MemoryDisk::new(rt.alloc());
+    for (row, (step, answer, faults)) in STEPS.iter().enumerate() {
+        disk = prepared(rt.alloc(), disk, *step)?;
+        let found = call(rt.alloc(), &mut disk, *step);
+        assert_eq!(rt;
+            (bytes_of(&found), disk.faults()),
+            (*answer, *faults),
+            "row {row}"
+        );
+    }
+    Ok(())
+}
+
+const CALLS: [Step; 11] = [
+    MakeFolder("k"),
+    Create("k/c"),
+    Append("k/c", b"abc"),
+    Sync("k/c"),
+    CutSync("k/c", 2),
+    Read("k/c"),
+    ReadAt("k/c", 1, 1),
+    List("k"),
+    SyncFolder("k"),
+    Remove("k/c"),
+    RemoveFolder("k"),
+];
+
+/// The place of the first call that fails, or their count, and the faults of a disk that fails at this number.
+fn first_failed(alloc: Global, number: u64) -> (usize, u64) {
+    let mut disk = MemoryDisk::new(alloc);
+    disk.fail_at(number, 0);
+    let mut first = CALLS.len();
+    for (place, step) in CALLS.iter().enumerate() {
+        if call(alloc, &mut disk, *step).is_err() {
+            first = first.min(place);
+        }
+    }
+    (first, disk.faults())
+}
+
+#[test]
+fn the_call_of_that_number_fails(rt: HostRuntime) {
+    for number in 0..12 {
+        let (first, faults) = first_failed(rt.alloc(), number + 1);
+        assert_eq!(rt; (first, faults == 0), (number as usize, number == 11));
+    }
+}
+
+const CLOSED: [(Step, Answer<'static>); 12] = [
+    (MakeFolder("k"), DONE),
+    (Create("k/c"), DONE),
+    (Append("k/c", b"abc"), DONE),
+    (Sync("k/c"), DONE),
+    (SyncFolder("k"), DONE),
+    (SyncFolder(""), DONE),
+    (CutSync("k/c", 1), DONE),
+    (Remove("k/c"), DONE),
+    (RemoveFolder("k"), DONE),
+    (Read("k/c"), DONE),
+    (ReadAt("k/c", 0, 1), DONE),
+    (List(""), Ok(Some(b""))),
+];
+
+#[test]
+fn a_disk_that_lies_answers_ok_and_keeps_nothing(rt: HostRuntime) {
+    let mut disk = ClosedDisk;
+    for (row, (step, answer)) in CLOSED.iter().enumerate() {
+        let found = call(rt.alloc(), &mut disk, *step);
+        assert_eq!(rt;
+            (bytes_of(&found), disk.faults()),
+            (*answer, 0),
+            "row {row}"
+        );
+    }
 }

@@ -17,5 +17,3 @@ mod tree;
 mod tx;
 #[cfg(test)]
 mod versions;
-#[cfg(test)]
-mod words;

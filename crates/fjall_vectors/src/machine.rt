@@ -1,6 +1,5 @@
 //! What an engine holds in memory: keyspaces made, written, deleted and read, and refusals in their order.
 
-use crate::words::{first_word, number};
 use fjall_base::{Error, Result, Slice};
 use fjall_journal::{PersistMode, ValueType};
 use fjall_meta::MetaKeyspace;
@@ -68,207 +67,383 @@ fn two(alloc: Global) -> Result<EngineState> {
     Ok(memory)
 }
 
-/// Takes a step: `new` begins a new run without keyspaces, and `ask` does nothing. Answers the id that a creation answers,
-/// else 0.
-fn take(alloc: Global, memory: &mut EngineState, step: &str) -> Result<u64> {
-    let (verb, words) = first_word(step);
-    let (word, pair) = first_word(words);
-    let (key, value) = first_word(pair);
-    let (id, key) = (number(word), key.as_bytes());
-    match verb {
-        "new" => *memory = EngineState::new(alloc, MetaKeyspace::new(alloc), Vec::new(alloc), 1),
-        "create" => return create(alloc, memory, word.as_bytes()),
-        "put" => change(alloc, memory, id, key, Change::Put(value.as_bytes()))?,
-        "remove_weak" => change(alloc, memory, id, key, Change::RemoveWeak)?,
-        "delete" => delete(alloc, memory, id)?,
-        "retain" => memory.retain(id)?,
-        "release" => release(memory, id)?,
-        _ => {}
+/// The same, where the first one is deleted, and read by one handle.
+fn one_deleted(alloc: Global) -> Result<EngineState> {
+    let mut memory = two(alloc)?;
+    memory.retain(1)?;
+    delete(alloc, &mut memory, 1)?;
+    Ok(memory)
+}
+
+#[derive(Clone, Copy)]
+enum Step {
+    /// A new run begins without keyspaces.
+    New,
+    Create(&'static [u8]),
+    Change(u64, &'static [u8], Change<'static>),
+    Delete(u64),
+    Retain(u64),
+    Release(u64),
+    Ask,
+}
+
+/// Takes a step, and answers the id that a creation answers, else 0.
+fn take(alloc: Global, memory: &mut EngineState, step: Step) -> Result<u64> {
+    match step {
+        Step::New => *memory = EngineState::new(
+            alloc,
+            MetaKeyspace::new(alloc),
+            Vec::new(alloc),
+            1,
+        ),
+        Step::Create(name) => return create(alloc, memory, name),
+        Step::Change(id, key, what) => change(alloc, memory, id, key, what)?,
+        Step::Delete(id) => delete(alloc, memory, id)?,
+        Step::Retain(id) => memory.retain(id)?,
+        Step::Release(id) => release(memory, id)?,
+        Step::Ask => {}
     }
     Ok(0)
 }
 
-/// Counts: keyspaces, the next id, the next number, versions, and pairs of the meta keyspace. And of a keyspace: whether it
-/// lives, whether it is read, whether its next release is the last one, and its handles.
-fn tell_counts(alloc: Global, memory: &EngineState, id: u64) -> Result<String> {
-    let counts = (
+/// Whether just these names are there, in their order, with these ids, and no "c".
+fn are_named(alloc: Global, memory: &EngineState, wanted: &[(&[u8], u64)]) -> Result<bool> {
+    let names = memory.list_keyspace_names(alloc)?;
+    for (name, (named, id)) in names.iter().zip(wanted) {
+        if name.as_slice() != *named || memory.resolve(named) != Some(*id) {
+            return Ok(false);
+        }
+    }
+    Ok(names.len() == wanted.len() && memory.resolve(b"c").is_none())
+}
+
+/// What is counted: keyspaces, the next id, the next number, versions, and pairs of the meta keyspace.
+type Counts = (usize, u64, u64, usize, usize);
+
+fn counts_of(memory: &EngineState) -> Counts {
+    (
         memory.keyspace_count(),
         memory.next_id(),
         memory.seqno(),
         memory.versions().len(),
         memory.keyspaces().len(),
-    );
-    let state = (
+    )
+}
+
+/// Whether a keyspace lives, whether it is read, whether its next release is the last one, and its handles.
+type State = (bool, bool, bool, u64);
+
+fn state_of(memory: &EngineState, id: u64) -> State {
+    (
         memory.is_living(id),
         memory.is_read(id),
         memory.is_last(id),
         memory.handle_count(id),
-    );
-    Ok(format!(in alloc; "{counts:?} {state:?}")?)
+    )
 }
 
-/// The names that are listed, each with its id, and the id of "c".
-fn tell_names(alloc: Global, memory: &EngineState) -> Result<String> {
-    let mut text = String::new(alloc);
-    for name in &memory.list_keyspace_names(alloc)? {
-        let id = memory.resolve(name).unwrap_or(0);
-        text.push_str(str::from_utf8(name).unwrap_or("no text"))?;
-        write!(text, " {id}, ")?;
-    }
-    let missing = memory.resolve(b"c");
-    write!(text, "{missing:?}")?;
-    Ok(text)
-}
-
-/// The value of "k" in a keyspace, where it has one, and how many keys the keyspace has.
-fn tell_value(alloc: Global, memory: &EngineState, id: u64) -> Result<String> {
+/// The value of a key, and how many keys its keyspace has.
+fn read(
+    alloc: Global,
+    memory: &EngineState,
+    id: u64,
+    key: &[u8],
+) -> Result<(Option<Slice>, usize)> {
     let everywhere = (Bound::Unbounded, Bound::Unbounded);
-    let value = memory.get(id, b"k")?;
-    let count = memory.page(alloc, id, &everywhere, false, 9)?.len();
-    Ok(match value {
-        Some(value) => {
-            let text = str::from_utf8(&value).unwrap_or("no text");
-            format!(in alloc; "{text} {count}")?
-        }
-        None => format!(in alloc; "{count}")?,
-    })
+    let value = memory.get(id, key)?;
+    Ok((value, memory.page(alloc, id, &everywhere, false, 9)?.len()))
 }
 
-/// What a step answers, and what is there then; the id before the step is that of a keyspace that is asked for.
-fn tell(alloc: Global, memory: &mut EngineState, line: &str) -> Result<String> {
-    let (id, step) = line.split_once(": ").unwrap_or((line, ""));
-    let answer = take(alloc, memory, step);
-    let counts = tell_counts(alloc, memory, number(id))?;
-    let names = tell_names(alloc, memory)?;
-    Ok(match tell_value(alloc, memory, number(id)) {
-        Ok(value) => format!(in alloc; "{answer:?} {counts} [{names}] {value}")?,
-        Err(error) => format!(in alloc; "{answer:?} {counts} [{names}] {error:?}")?,
-    })
+type Bytes<'a> = Result<(Option<&'a [u8]>, usize)>;
+
+fn bytes_of(found: &Result<(Option<Slice>, usize)>) -> Bytes<'_> {
+    match found {
+        Ok((Some(value), count)) => Ok((Some(value.as_slice()), *count)),
+        Ok((None, count)) => Ok((None, *count)),
+        Err(error) => Err(*error),
+    }
 }
 
-// A keyspace and a step; then what the step answers, counts, what the keyspace is, the names, and the value and the keys of
-// the keyspace.
-const STEPS: &str = "\
-# The newest version answers
-1: new => Ok(0) (0, 1, 1, 0, 0) (false, false, false, 0) [None] UnknownKeyspace
-1: create b => Ok(1) (1, 2, 2, 0, 21) (true, true, false, 0) [b 1, None] 0
-1: create a => Ok(2) (2, 3, 3, 0, 42) (true, true, false, 0) [a 2, b 1, None] 0
-2: create a => Ok(2) (2, 3, 3, 0, 42) (true, true, false, 0) [a 2, b 1, None] 0
-1: put 1 k v => Ok(0) (2, 3, 4, 1, 42) (true, true, false, 0) [a 2, b 1, None] v 1
-1: put 1 k w => Ok(0) (2, 3, 5, 2, 42) (true, true, false, 0) [a 2, b 1, None] w 1
-2: ask => Ok(0) (2, 3, 5, 2, 42) (true, true, false, 0) [a 2, b 1, None] 0
-1: remove_weak 1 k => Ok(0) (2, 3, 6, 3, 42) (true, true, false, 0) [a 2, b 1, None] 0
-# A deleted keyspace goes with its last handle
-1: new => Ok(0) (0, 1, 1, 0, 0) (false, false, false, 0) [None] UnknownKeyspace
-1: create b => Ok(1) (1, 2, 2, 0, 21) (true, true, false, 0) [b 1, None] 0
-1: create a => Ok(2) (2, 3, 3, 0, 42) (true, true, false, 0) [a 2, b 1, None] 0
-1: put 1 k v => Ok(0) (2, 3, 4, 1, 42) (true, true, false, 0) [a 2, b 1, None] v 1
-1: retain 1 => Ok(0) (2, 3, 4, 1, 42) (true, true, false, 1) [a 2, b 1, None] v 1
-1: delete 1 => Ok(0) (1, 3, 5, 1, 21) (false, true, true, 1) [a 2, None] v 1
-1: release 1 => Ok(0) (1, 3, 5, 0, 21) (false, false, false, 0) [a 2, None] KeyspaceDeleted
-1: release 1 => Err(UnknownKeyspace) (1, 3, 5, 0, 21) (false, false, false, 0) [a 2, None] KeyspaceDeleted
-2: ask => Ok(0) (1, 3, 5, 0, 21) (true, true, false, 0) [a 2, None] 0
-";
+const PUT_V: Step = Step::Change(1, b"k", Change::Put(b"v"));
+
+const PUT_W: Step = Step::Change(1, b"k", Change::Put(b"w"));
+
+const AWAY: Step = Step::Change(1, b"k", Change::RemoveWeak);
+
+const UNKNOWN: Bytes<'static> = Err(Error::UnknownKeyspace);
+
+const LIVES: State = (true, true, false, 0);
+
+const GONE: State = (false, false, false, 0);
+
+const BOTH: &[(&[u8], u64)] = &[(b"a", 2), (b"b", 1)];
+
+// Each step and its answer; the counts and names then; a keyspace, its state, and what is read there at "k".
+type Row = (
+    Step,
+    Result<u64>,
+    Counts,
+    &'static [(&'static [u8], u64)],
+    u64,
+    State,
+    Bytes<'static>,
+);
+
+const ROWS: [Row; 17] = [
+    // The newest version answers.
+    (Step::New, Ok(0), (0, 1, 1, 0, 0), &[], 1, GONE, UNKNOWN),
+    (
+        Step::Create(b"b"),
+        Ok(1),
+        (1, 2, 2, 0, 21),
+        &[(b"b", 1)],
+        1,
+        LIVES,
+        Ok((None, 0)),
+    ),
+    (
+        Step::Create(b"a"),
+        Ok(2),
+        (2, 3, 3, 0, 42),
+        BOTH,
+        1,
+        LIVES,
+        Ok((None, 0)),
+    ),
+    (
+        Step::Create(b"a"),
+        Ok(2),
+        (2, 3, 3, 0, 42),
+        BOTH,
+        2,
+        LIVES,
+        Ok((None, 0)),
+    ),
+    (
+        PUT_V,
+        Ok(0),
+        (2, 3, 4, 1, 42),
+        BOTH,
+        1,
+        LIVES,
+        Ok((Some(b"v"), 1)),
+    ),
+    (
+        PUT_W,
+        Ok(0),
+        (2, 3, 5, 2, 42),
+        BOTH,
+        1,
+        LIVES,
+        Ok((Some(b"w"), 1)),
+    ),
+    (
+        Step::Ask,
+        Ok(0),
+        (2, 3, 5, 2, 42),
+        BOTH,
+        2,
+        LIVES,
+        Ok((None, 0)),
+    ),
+    (AWAY, Ok(0), (2, 3, 6, 3, 42), BOTH, 1, LIVES, Ok((None, 0))),
+    // A deleted keyspace goes with its last handle.
+    (Step::New, Ok(0), (0, 1, 1, 0, 0), &[], 1, GONE, UNKNOWN),
+    (
+        Step::Create(b"b"),
+        Ok(1),
+        (1, 2, 2, 0, 21),
+        &[(b"b", 1)],
+        1,
+        LIVES,
+        Ok((None, 0)),
+    ),
+    (
+        Step::Create(b"a"),
+        Ok(2),
+        (2, 3, 3, 0, 42),
+        BOTH,
+        1,
+        LIVES,
+        Ok((None, 0)),
+    ),
+    (
+        PUT_V,
+        Ok(0),
+        (2, 3, 4, 1, 42),
+        BOTH,
+        1,
+        LIVES,
+        Ok((Some(b"v"), 1)),
+    ),
+    (
+        Step::Retain(1),
+        Ok(0),
+        (2, 3, 4, 1, 42),
+        BOTH,
+        1,
+        (true, true, false, 1),
+        Ok((Some(b"v"), 1)),
+    ),
+    (
+        Step::Delete(1),
+        Ok(0),
+        (1, 3, 5, 1, 21),
+        &[(b"a", 2)],
+        1,
+        (false, true, true, 1),
+        Ok((Some(b"v"), 1)),
+    ),
+    (
+        Step::Release(1),
+        Ok(0),
+        (1, 3, 5, 0, 21),
+        &[(b"a", 2)],
+        1,
+        GONE,
+        Err(Error::KeyspaceDeleted),
+    ),
+    (
+        Step::Release(1),
+        Err(Error::UnknownKeyspace),
+        (1, 3, 5, 0, 21),
+        &[(b"a", 2)],
+        1,
+        GONE,
+        Err(Error::KeyspaceDeleted),
+    ),
+    (
+        Step::Ask,
+        Ok(0),
+        (1, 3, 5, 0, 21),
+        &[(b"a", 2)],
+        2,
+        LIVES,
+        Ok((None, 0)),
+    ),
+];
 
 #[test]
 fn a_memory_goes_by_its_steps(rt: HostRuntime) -> std::result::Result<(), Fail> {
     let alloc = rt.alloc();
     let mut memory = EngineState::new(alloc, MetaKeyspace::new(alloc), Vec::new(alloc), 1);
-    for line in STEPS.lines() {
-        if let Some((step, due)) = line.split_once(" => ") {
-            let told = tell(alloc, &mut memory, step)?;
-            assert_eq!(rt; told.as_str(), due, "{step}");
-        }
+    for (row, (step, answer, counted, names, id, stands, value)) in ROWS.iter().enumerate() {
+        let answered = take(alloc, &mut memory, *step);
+        let found = read(alloc, &memory, *id, b"k");
+        assert_eq!(rt;
+            (
+                answered,
+                counts_of(&memory),
+                are_named(alloc, &memory, names)?,
+                state_of(&memory, *id),
+                bytes_of(&found)
+            ),
+            (*answer, *counted, true, *stands, *value),
+            "row {row}"
+        );
     }
     Ok(())
 }
 
-/// A memory that a row names: with `two` keyspaces; with one of them `deleted`; the same `poisoned`; one whose numbers are
-/// `used_up`.
-fn memory_of(alloc: Global, named: &str) -> Result<EngineState> {
-    if named == "used_up" {
-        let keyspaces = MetaKeyspace::new(alloc);
-        return Ok(EngineState::new(alloc, keyspaces, Vec::new(alloc), 1 << 63));
-    }
-    let mut memory = two(alloc)?;
-    if named != "two" {
-        memory.retain(1)?;
-        delete(alloc, &mut memory, 1)?;
-    }
-    if named == "poisoned" {
-        memory.poison();
-    }
-    Ok(memory)
+/// A memory that a row names: with two keyspaces; with one of them deleted; the same poisoned; one whose numbers are
+/// used up.
+#[derive(Clone, Copy)]
+enum Given {
+    Two,
+    OneDeleted,
+    Poisoned,
+    UsedUp,
 }
 
-/// Why something is refused: a `write` to a keyspace with a key of this length, or a `creation` or a `deletion` with this
-/// number of the next table.
-fn refusal(alloc: Global, memory: &EngineState, asked: &str) -> Result<Option<Error>> {
-    let (verb, words) = first_word(asked);
-    let (word, rest) = first_word(words);
-    let (id, count) = (number(word), number(rest));
-    Ok(match verb {
-        "write" => memory.write_refusal(id, &vec![in alloc; b'k'; count as usize]?, b""),
-        "creation" => memory.creation_refusal(word.as_bytes(), count),
-        _ => memory.deletion_refusal(id, count),
+fn memory_of(alloc: Global, named: Given) -> Result<EngineState> {
+    Ok(match named {
+        Given::Two => two(alloc)?,
+        Given::OneDeleted => one_deleted(alloc)?,
+        Given::Poisoned => {
+            let mut memory = one_deleted(alloc)?;
+            memory.poison();
+            memory
+        }
+        Given::UsedUp => EngineState::new(
+            alloc,
+            MetaKeyspace::new(alloc),
+            Vec::new(alloc),
+            1 << 63,
+        ),
     })
 }
 
-const REFUSALS: [(&str, &str, Option<Error>); 16] = [
+/// A refusal that a row asks for.
+#[derive(Clone, Copy)]
+enum Asked {
+    /// Of a write to this keyspace with a key of this length.
+    Write(u64, usize),
+    /// Of a creation and a deletion, with this number of the next table.
+    Creation(&'static [u8], u64),
+    Deletion(u64, u64),
+}
+
+use Asked::*;
+
+fn refusal(alloc: Global, memory: &EngineState, asked: Asked) -> Result<Option<Error>> {
+    Ok(match asked {
+        Write(id, len) => memory.write_refusal(id, &vec![in alloc; b'k'; len]?, b""),
+        Creation(name, next_table_id) => memory.creation_refusal(name, next_table_id),
+        Deletion(id, next_table_id) => memory.deletion_refusal(id, next_table_id),
+    })
+}
+
+const REFUSALS: [(Given, Asked, Option<Error>); 16] = [
     // Refusals of writes come in this order.
-    ("poisoned", "write 9 0", Some(Error::KeyEmpty)),
-    ("poisoned", "write 9 65536", Some(Error::KeyTooLong)),
-    ("poisoned", "write 9 1", Some(Error::UnknownKeyspace)),
-    ("poisoned", "write 0 1", Some(Error::UnknownKeyspace)),
-    ("poisoned", "write 1 1", Some(Error::KeyspaceDeleted)),
-    ("poisoned", "write 2 1", Some(Error::Poisoned)),
-    // So do those of changes of keyspaces. The table's number is the greatest one.
+    (Given::Poisoned, Write(9, 0), Some(Error::KeyEmpty)),
+    (Given::Poisoned, Write(9, 65_536), Some(Error::KeyTooLong)),
+    (Given::Poisoned, Write(9, 1), Some(Error::UnknownKeyspace)),
+    (Given::Poisoned, Write(0, 1), Some(Error::UnknownKeyspace)),
+    (Given::Poisoned, Write(1, 1), Some(Error::KeyspaceDeleted)),
+    (Given::Poisoned, Write(2, 1), Some(Error::Poisoned)),
+    // So do those of changes of keyspaces.
     (
-        "deleted",
-        "creation c 18446744073709551615",
+        Given::OneDeleted,
+        Creation(b"c", u64::MAX),
         Some(Error::NumbersUsedUp),
     ),
-    ("deleted", "deletion 2 18446744073709551615", None),
+    (Given::OneDeleted, Deletion(2, u64::MAX), None),
     (
-        "poisoned",
-        "creation  18446744073709551615",
+        Given::Poisoned,
+        Creation(b"", u64::MAX),
         Some(Error::InvalidName),
     ),
-    ("poisoned", "creation a 18446744073709551615", None),
+    (Given::Poisoned, Creation(b"a", u64::MAX), None),
     (
-        "poisoned",
-        "creation c 18446744073709551615",
+        Given::Poisoned,
+        Creation(b"c", u64::MAX),
         Some(Error::Poisoned),
     ),
     (
-        "poisoned",
-        "deletion 3 18446744073709551615",
+        Given::Poisoned,
+        Deletion(3, u64::MAX),
         Some(Error::UnknownKeyspace),
     ),
-    ("poisoned", "deletion 1 18446744073709551615", None),
+    (Given::Poisoned, Deletion(1, u64::MAX), None),
     (
-        "poisoned",
-        "deletion 2 18446744073709551615",
+        Given::Poisoned,
+        Deletion(2, u64::MAX),
         Some(Error::Poisoned),
     ),
     // Numbers end.
-    ("used_up", "creation a 0", Some(Error::NumbersUsedUp)),
+    (Given::UsedUp, Creation(b"a", 0), Some(Error::NumbersUsedUp)),
     (
-        "two",
-        "deletion 1 18446744073709551615",
+        Given::Two,
+        Deletion(1, u64::MAX),
         Some(Error::NumbersUsedUp),
     ),
 ];
 
 #[test]
 fn refusals_come_in_order(rt: HostRuntime) -> std::result::Result<(), Fail> {
-    for (named, asked, error) in REFUSALS {
-        let memory = memory_of(rt.alloc(), named)?;
-        assert_eq!(rt;
-            refusal(rt.alloc(), &memory, asked)?,
-            error,
-            "{named}, {asked}"
-        );
+    for (row, (named, asked, error)) in REFUSALS.iter().enumerate() {
+        let memory = memory_of(rt.alloc(), *named)?;
+        assert_eq!(rt; refusal(rt.alloc(), &memory, *asked)?, *error, "row {row}");
     }
     Ok(())
 }

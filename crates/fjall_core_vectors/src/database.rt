@@ -1,0 +1,151 @@
+//! Databases that the tests open, and what is read back of them.
+//!
+//! The calls of a core are passed on without what they promise, since a test asserts what it wants to know.
+
+use fjall_base::{Disk, Error, KvPair, Refused, Result, Slice, UserValue};
+use fjall_core::{Call, Config, Core, KeyRange, PersistMode, Reply, View};
+use fjall_memory::MemoryDisk;
+use fjall_options::KeyspaceCreateOptions;
+use std::alloc::Global;
+
+/// A core over a disk.
+#[derive(Drop)]
+pub struct Database<D: Disk> {
+    alloc: Global,
+    core: Core<D>,
+}
+
+impl<D: Disk> Database<D> {
+    /// The database on a disk, or why there is none, and the disk.
+    pub fn open(alloc: Global, disk: D) -> std::result::Result<Database<D>, Refused<D>> {
+        let config = match Config::new(alloc, "db") {
+            Ok(config) => config,
+            Err(error) => return Err(Refused { error, value: disk }),
+        };
+        match Core::open(alloc, config, disk) {
+            Ok(core) => Ok(Database { alloc, core }),
+            Err(refused) => Err(refused),
+        }
+    }
+
+    /// The id of the keyspace of this name, which is made with default options where none has it.
+    pub fn keyspace(&mut self, name: &[u8]) -> Result<u64> {
+        let options = KeyspaceCreateOptions::default(self.alloc)?;
+        self.core.keyspace(name, options)
+    }
+
+    /// The same, but that the writes of a keyspace that is made are persisted by hand.
+    pub fn keyspace_by_hand(&mut self, name: &[u8]) -> Result<u64> {
+        let options = KeyspaceCreateOptions::default(self.alloc)?;
+        self.core
+            .keyspace(name, options.manual_journal_persist(true))
+    }
+
+    pub fn delete_keyspace(&mut self, id: u64) -> Result<()> {
+        self.core.delete_keyspace(id)
+    }
+
+    pub fn retain(&mut self, id: u64) -> Result<()> {
+        self.core.retain(id)
+    }
+
+    pub fn release(&mut self, id: u64) -> Result<()> {
+        self.core.release(id)
+    }
+
+    pub fn insert(&mut self, id: u64, key: &[u8], value: &[u8]) -> Result<()> {
+        self.core.insert(id, key, value)
+    }
+
+    pub fn remove(&mut self, id: u64, key: &[u8]) -> Result<()> {
+        self.core.remove(id, key)
+    }
+
+    pub fn remove_weak(&mut self, id: u64, key: &[u8]) -> Result<()> {
+        self.core.remove_weak(id, key)
+    }
+
+    pub fn persist(&mut self, mode: PersistMode) -> Result<()> {
+        self.core.persist(mode)
+    }
+
+    pub fn get(&mut self, id: u64, key: &[u8]) -> Result<Option<UserValue>> {
+        self.core.get_at(View::Present, id, key)
+    }
+
+    pub fn page(
+        &mut self,
+        id: u64,
+        range: &KeyRange,
+        back: bool,
+        max: usize,
+    ) -> Result<Vec<KvPair>> {
+        self.core.page_at(View::Present, id, range, back, max)
+    }
+
+    pub fn names(&mut self) -> Result<Vec<Slice>> {
+        self.core.list_keyspace_names()
+    }
+
+    pub fn keyspace_count(&self) -> usize {
+        self.core.keyspace_count()
+    }
+
+    pub fn keyspace_exists(&self, name: &[u8]) -> bool {
+        self.core.keyspace_exists(name)
+    }
+
+    pub fn seqno(&self) -> u64 {
+        self.core.seqno()
+    }
+
+    pub fn visible_seqno(&self) -> u64 {
+        self.core.visible_seqno()
+    }
+
+    pub fn journal_disk_space(&self) -> u64 {
+        self.core.journal_disk_space()
+    }
+
+    pub fn run(&mut self, calls: Vec<Call>) -> Result<Vec<Reply>> {
+        self.core.run(calls)
+    }
+
+    pub fn into_disk(self) -> D {
+        let Database { alloc: _, core } = self;
+        core.into_disk()
+    }
+
+    pub fn close(self) -> (D, Result<()>) {
+        let Database { alloc: _, core } = self;
+        core.close()
+    }
+}
+
+/// The database on a disk, or why there is none.
+pub fn opened<D: Disk + Drop>(alloc: Global, disk: D) -> Result<Database<D>> {
+    match Database::open(alloc, disk) {
+        Ok(database) => Ok(database),
+        Err(refused) => Err(refused.error),
+    }
+}
+
+/// The disk of a database that was closed.
+pub fn closed<D: Disk + Drop>(database: Database<D>) -> Result<D> {
+    let (disk, done) = database.close();
+    done?;
+    Ok(disk)
+}
+
+/// A new database with the keyspace 1, "items".
+pub fn items<D: Disk + Drop>(alloc: Global, disk: D) -> Result<Database<D>> {
+    let mut database = opened(alloc, disk)?;
+    database.keyspace(b"items")?;
+    Ok(database)
+}
+
+/// Adds a file with these bytes, or the bytes to a file that is there.
+pub fn add(disk: &mut MemoryDisk, name: &str, bytes: &[u8]) -> Result<()> {
+    disk.create(name)?;
+    disk.append(name, bytes)
+}
