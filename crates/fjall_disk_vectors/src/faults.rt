@@ -51,7 +51,7 @@ const CREATE_HOME_MADE: Task = Task {
     after: &[Ask(Keyspaces), On(Len(FIRST))],
 };
 
-// Eight calls read the folder, and nine mend it: the sixteenth comes behind the cut of the journal.
+// Seven calls read the folder, and nine mend it: the fifteenth comes behind the cut of the journal.
 const MEND: Task = Task {
     before: &[
         New(Start::Items),
@@ -122,9 +122,9 @@ const STRETCHES: [Stretch; 25] = [
         SERVED,
         &[1, 1, 55],
     ),
-    (MEND, (1, 15), &[0], STAYS, FAILS, &[1, 2, 49, 1]),
-    (MEND, (16, 17), &[0], STAYS, FAILS, &[1, 2, 49, 0]),
-    (MEND, (18, 19), &[0], STAYS, SERVED, &[1, 1, 2, 49, 0]),
+    (MEND, (1, 14), &[0], STAYS, FAILS, &[1, 2, 49, 1]),
+    (MEND, (15, 16), &[0], STAYS, FAILS, &[1, 2, 49, 0]),
+    (MEND, (17, 19), &[0], STAYS, SERVED, &[1, 1, 2, 49, 0]),
     (
         BEGIN,
         (1, 15),
@@ -153,7 +153,7 @@ const STRETCHES: [Stretch; 25] = [
     (BEGIN, (18, 18), &[0], STAYS, SERVED, &[0, 0, 0, 1]),
     (
         OPEN,
-        (1, 26),
+        (1, 25),
         &[0, 2],
         &[Some(0), Some(2)],
         FAILS,
@@ -161,7 +161,7 @@ const STRETCHES: [Stretch; 25] = [
     ),
     (
         OPEN,
-        (27, 60),
+        (26, 60),
         &[0, 2],
         &[Some(0), Some(2)],
         SERVED,
