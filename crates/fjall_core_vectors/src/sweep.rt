@@ -229,10 +229,10 @@ fn each_call_up_to_the_last_fails(rt: HostRuntime) -> Result<(), Fail> {
 }
 
 #[test]
-fn the_script_makes_24_commands_by_216_calls(rt: HostRuntime) -> Result<(), Fail> {
+fn the_script_makes_24_commands_by_213_calls(rt: HostRuntime) -> Result<(), Fail> {
     let (history, tape) = played(rt.alloc(), &SCRIPT, 0, 0)?;
     let counts = (history.tried.commands.len(), tape.log.steps.len());
-    assert_eq!(rt; counts, (24, 216));
+    assert_eq!(rt; counts, (24, 213));
     Ok(())
 }
 
