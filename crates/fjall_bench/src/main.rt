@@ -14,7 +14,7 @@ use fjall_script::{Folder, Memory};
 use std::alloc::Global;
 use std::env;
 use std::rt::Env;
-use suite::{DATABASES, run};
+use suite::{Places, run};
 
 // The place and the count that the arguments name.
 fn arguments<R: Env + AllocGlobal>(rt: &R) -> Result<(String, u64)> {
@@ -31,7 +31,7 @@ fn below(alloc: Global, folder: &str, name: &str) -> Result<String> {
     Ok(format!(in alloc; "{folder}/{name}")?)
 }
 
-// The place of a path.
+// The place of a folder below another.
 fn at<'a>(rt: &'a HostRuntime, path: &'a String) -> Folder<'a> {
     Folder {
         rt,
@@ -40,36 +40,42 @@ fn at<'a>(rt: &'a HostRuntime, path: &'a String) -> Folder<'a> {
     }
 }
 
-// The places of paths.
-fn places<'a>(rt: &'a HostRuntime, paths: &'a [String; DATABASES]) -> [Folder<'a>; DATABASES] {
-    let [order, random, sync, keyspaces, limits] = paths;
-    [
-        at(rt, order),
-        at(rt, random),
-        at(rt, sync),
-        at(rt, keyspaces),
-        at(rt, limits),
-    ]
-}
-
 // Runs the workloads over databases in folders of their own below this one.
 fn run_below(rt: &HostRuntime, folder: &str, count: u64) -> Result<()> {
     let alloc = rt.alloc();
-    let paths = [
-        below(alloc, folder, "order")?,
-        below(alloc, folder, "random")?,
-        below(alloc, folder, "sync")?,
-        below(alloc, folder, "keyspaces")?,
-        below(alloc, folder, "limits")?,
-    ];
-    run(rt, alloc, &places(rt, &paths), count)
+    let order = below(alloc, folder, "order")?;
+    let random = below(alloc, folder, "random")?;
+    let sync = below(alloc, folder, "sync")?;
+    let keyspaces = below(alloc, folder, "keyspaces")?;
+    let limits = below(alloc, folder, "limits")?;
+    let places = Places {
+        order: at(rt, &order),
+        random: at(rt, &random),
+        sync: at(rt, &sync),
+        keyspaces: at(rt, &keyspaces),
+        limits: at(rt, &limits),
+    };
+    run(rt, alloc, &places, count)
+}
+
+// Runs the workloads over databases in memory.
+fn run_in_memory(rt: &HostRuntime, count: u64) -> Result<()> {
+    let alloc = rt.alloc();
+    let memory = Memory { alloc };
+    let places = Places {
+        order: memory,
+        random: memory,
+        sync: memory,
+        keyspaces: memory,
+        limits: memory,
+    };
+    run(rt, alloc, &places, count)
 }
 
 fn main(rt: HostRuntime) -> Result<()> {
     let (place, count) = arguments(&rt)?;
     if place.as_str() == "memory" {
-        let alloc = rt.alloc();
-        run(&rt, alloc, &[Memory { alloc }; DATABASES], count)
+        run_in_memory(&rt, count)
     } else {
         run_below(&rt, place.as_str(), count)
     }

@@ -1,7 +1,7 @@
 //! What is done to an engine and to the machine below it.
 
 use crate::data::{RECORD_LEN, key_of, value_of};
-use fjall_base::{Disk, Result};
+use fjall_base::{Disk, Refused, Result};
 use fjall_core::{Config, Core, PersistMode, View};
 use fjall_options::KeyspaceCreateOptions;
 use sha2::{Digest, Sha256};
@@ -12,39 +12,78 @@ pub fn make_keyspace<D: Disk>(alloc: Global, core: &mut Core<D>, name: &str) -> 
     core.keyspace(name.as_bytes(), KeyspaceCreateOptions::default(alloc)?)
 }
 
+// Makes the keyspace of a number, and answers its id.
+fn make_numbered<D: Disk>(alloc: Global, core: &mut Core<D>, number: u64) -> Result<u64> {
+    let name = format!(in alloc; "keyspace {number}")?;
+    make_keyspace(alloc, core, name.as_str())
+}
+
 /// Makes so many keyspaces, and answers their ids.
 pub fn make_keyspaces<D: Disk>(alloc: Global, core: &mut Core<D>, count: u64) -> Result<Vec<u64>> {
     let mut ids = Vec::new(alloc);
     for number in 0..count {
-        let name = format!(in alloc; "keyspace {number}")?;
-        ids.push(make_keyspace(alloc, core, name.as_str())?)?;
+        ids.push(make_numbered(alloc, core, number)?)?;
     }
     Ok(ids)
+}
+
+// Inserts a number's pair into a keyspace.
+fn insert<D: Disk>(core: &mut Core<D>, id: u64, number: u64) -> Result<()> {
+    core.insert(id, &key_of(number), &value_of(number))
+}
+
+// The same, and syncs the journal.
+fn insert_synced<D: Disk>(core: &mut Core<D>, id: u64, number: u64) -> Result<()> {
+    insert(core, id, number)?;
+    core.persist(PersistMode::SyncAll)
 }
 
 /// Inserts each number's pair into a keyspace, and hands all of it to the system.
 pub fn fill<D: Disk>(core: &mut Core<D>, id: u64, numbers: &[u64]) -> Result<()> {
     for number in numbers {
-        core.insert(id, &key_of(*number), &value_of(*number))?;
+        insert(core, id, *number)?;
     }
     core.persist(PersistMode::Buffer)
+}
+
+/// Inserts each number's pair into each keyspace.
+pub fn fill_each<D: Disk>(core: &mut Core<D>, ids: &[u64], numbers: &[u64]) -> Result<()> {
+    for id in ids {
+        fill(core, *id, numbers)?;
+    }
+    Ok(())
 }
 
 /// Inserts each number's pair into a keyspace, and syncs the journal behind each.
 pub fn fill_synced<D: Disk>(core: &mut Core<D>, id: u64, numbers: &[u64]) -> Result<()> {
     for number in numbers {
-        core.insert(id, &key_of(*number), &value_of(*number))?;
-        core.persist(PersistMode::SyncAll)?;
+        insert_synced(core, id, *number)?;
     }
     Ok(())
 }
 
+// Opens it.
+fn open_on<D: Disk>(
+    alloc: Global,
+    config: Config,
+    disk: D,
+) -> std::result::Result<Core<D>, Refused<D>> {
+    Core::open(alloc, config, disk)
+}
+
 /// Opens the engine on a disk.
 pub fn open<D: Disk + Drop>(alloc: Global, disk: D) -> Result<Core<D>> {
-    match Core::open(alloc, Config::new(alloc, "")?, disk) {
+    match open_on(alloc, Config::new(alloc, "")?, disk) {
         Ok(core) => Ok(core),
         Err(refused) => Err(refused.error),
     }
+}
+
+/// The disk of a core that was closed.
+pub fn closed<D: Disk + Drop>(core: Core<D>) -> Result<D> {
+    let (disk, done) = core.close();
+    done?;
+    Ok(disk)
 }
 
 /// Whether the pair of a number is in a keyspace.

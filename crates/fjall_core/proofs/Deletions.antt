@@ -14,7 +14,7 @@ use Rattle.fjall_state.specs.declared.call.Call.TheVariants.{DeleteKeyspace}
 use Rattle.fjall_state.specs.declared.call.Reply.TheVariants.{Done, Refused}
 use Rattle.fjall_state.specs.Allowed.{HasNumber}
 use Rattle.fjall_state.specs.Machine.{HasLongOption, State, is_living, present}
-use Rattle.fjall_state.specs.Remembered.{IsLawful, facts_of, poisoned, with_deletion}
+use Rattle.fjall_state.specs.Remembered.{IsLawful, Remembered, facts_of, poisoned, with_deletion}
 use Rattle.fjall_state.proofs.Dues.{may_delete}
 use Rattle.fjall_state.proofs.Lawful.{deletion_is_lawful}
 use Rattle.fjall_files.specs.Tidy.{StaysTidy}
@@ -35,6 +35,13 @@ use Rattle.fjall_core.proofs.JournalWrites.{held_on}
 use Rattle.fjall_core.proofs.CatalogTables.{deleted_table, long_option, some_left}
 use Rattle.fjall_commit.proofs.ChangesAfterSync.{not_done}
 use Rattle.fjall_core.proofs.KeyspaceCalls.{ChangesTo, alter_settles, unaltered_leads, unsynced_leads}
+
+-- a core in its parts, from whose memory the keyspace went that was in it before
+pub deleted_whole : {view made : Held} → view ≡ made → (old : Held) → made.memory ≡ old.memory → (id : ℕ) → {new : Remembered} → new ≡ with_deletion id view.memory
+    → (record view { memory = new }) ≡ record made { memory = with_deletion id old.memory }
+deleted_whole {view} is old held id same =
+    (λ i. record view { memory = same i }) ∙ ap (λ (r : Remembered). record view { memory = with_deletion id r }) (ap (λ (h : Held). h.memory) is ∙ held)
+    ∙ ap (λ (h : Held). record h { memory = with_deletion id old.memory }) is
 
 module _ (old : Held) (id : ℕ) (none : held_due old (DeleteKeyspace id) ≡ None) (living : is_living (store_in old) id ≡ true) where
   room : HasNumber (facts_of old.memory old.catalog.next_table_id)

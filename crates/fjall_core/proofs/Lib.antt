@@ -21,6 +21,7 @@ mod Persists
 mod Releases
 mod CatalogTables
 mod Creations
+mod CreationCalls
 mod Deletions
 mod Closings
 mod Opening

@@ -44,7 +44,8 @@ unlived = record { calls = []; replies = []; tried = []; synced = [] }
 -- what was tried up to the last sync of the run that succeeded; where none did, nothing
 pub data LastSync (core new : Held) (store : Store) (calls : List Call) (replies : List Reply) (opens : OpensAs core store) (run : Served core store opens calls replies new) : List Command → Type 0 where
   NoSync : ((i : ℕ) → IsSyncAt (start_of core store opens) (begun core store) calls replies run.tried run.state run.durable run.run i → ⊥) → LastSync core new store calls replies opens run []
-  UpTo : (i : ℕ) (sync : IsSyncAt (start_of core store opens) (begun core store) calls replies run.tried run.state run.durable run.run i) → ((j : ℕ) → i < j → IsSyncAt (start_of core store opens) (begun core store) calls replies run.tried run.state run.durable run.run j → ⊥)
+  UpTo : (i : ℕ) (sync : IsSyncAt (start_of core store opens) (begun core store) calls replies run.tried run.state run.durable run.run i)
+      → ((j : ℕ) → i < j → IsSyncAt (start_of core store opens) (begun core store) calls replies run.tried run.state run.durable run.run j → ⊥)
       → LastSync core new store calls replies opens run (run.synced i sync).before
 
 -- How the life of an engine ended that opened as this store and served these calls: what a sync followed, and what the disk
@@ -70,8 +71,8 @@ pub data Ended (core new : Held) (store : Store) (calls : List Call) (replies : 
 -- opening was refused, or the power went at some moment of it; or it opened, served calls, and ended so.
 pub data Lived (old : Meaning) (base : Store) (pending : List Command) : Life → State → Store → List Command → Type 0 where
   Unopened : (new : Meaning) → StaysAmid old new base pending → Lived old base pending unlived (state_in new) base pending
-  CutInOpening : (new : Meaning) (added : List Step) (image : Image) (left : Store) → LeavesOnly old new (StandsAmid base [] pending) → StaysTidy old new → Took old new added → Leaves (state_in old) added image → StandsFor image left
-      → Lived old base pending unlived (disk_of image) left []
+  CutInOpening : (new : Meaning) (added : List Step) (image : Image) (left : Store) → LeavesOnly old new (StandsAmid base [] pending)
+      → StaysTidy old new → Took old new added → Leaves (state_in old) added image → StandsFor image left → Lived old base pending unlived (disk_of image) left []
   Opened : (core new : Held) (calls : List Call) (replies : List Reply) (synced : List Command) (end : State) (next : Store) (waits : List Command) (opened : OpensAmid old core base pending)
       (run : Served core (kept (fold base opened.front)) opened.opens calls replies new) → Ended core new (kept (fold base opened.front)) calls replies opened.opens run synced end next waits
       → Lived old base pending (record { calls = calls; replies = replies; tried = run.tried; synced = synced }) end next waits

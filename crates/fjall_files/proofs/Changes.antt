@@ -4,7 +4,7 @@ use Rattle.std.proofs.lemmas.List.{append-nil, take_all}
 use Rattle.std.specs.Str.{bytes_eq}
 use Rattle.fjall_base.specs.Disk.{Name, Entry, Missing, File, Folder, Place, State, Crash, Survives, Step, Put, Append, Sync, Loosen, Cut, SyncFolder, Meaning, state_in, Took, TookOrNot, TookPart, making, removing, change, after, all_synced, alter, settle, folder_of, appended, loosened, cut_to}
 use Rattle.fjall_files.specs.Regions.{is_under, target, AreUnder, Within}
-use Rattle.fjall_files.proofs.Comparisons.{bool_cases, same}
+use Rattle.fjall_base.proofs.Names.{bool_cases, same}
 use Rattle.fjall_base.proofs.States.{alter-same, alter-other, put-other, settle-in, settle-out}
 use Rattle.fjall_base.proofs.Covers.{LeftAt}
 use Rattle.fjall_base.proofs.Moments.{after-append}

@@ -1,5 +1,5 @@
 -- What may stand at the names of what is kept.
-use Rattle.std.proofs.Common.{◌≡◌, ◌≢◌, ℕ, ◌<◌, ◌^◌, Bool, true, false, ◌||◌, ◌==◌, List, [], ◌∷◌, ◌++◌, get_or, codes, decimal, refl, sym, ◌∙◌, ap, subst, arith, append_assoc}
+use Rattle.std.proofs.Common.{◌≡◌, ◌≢◌, ℕ, ◌<◌, ◌^◌, Bool, false, ◌||◌, List, [], ◌∷◌, ◌++◌, get_or, codes, decimal, refl, sym, ◌∙◌, ap, subst, arith, append_assoc}
 use Rattle.std.specs.List.{list_any}
 use Rattle.std.proofs.lemmas.List.{get_or_default}
 use Rattle.std.proofs.lemmas.List.Folds.{list_any-append, list_any_none}
@@ -8,20 +8,17 @@ use Rattle.std.proofs.lemmas.Fmt.{digits_decimal}
 use Rattle.std.specs.Str.Parse.{AllDigits, digits_value}
 use Rattle.std.proofs.lemmas.Str.Parse.{IsNumeralModel, numerals_by_value, tells_digits, not_in_digits}
 use Rattle.std.proofs.lemmas.List.Elements.{All-cons, All-nil}
-use Rattle.fjall_base.specs.Disk.{Name, Entry, File, Folder, IsNoFile, IsNoFolder, Missing, State, folder_of}
+use Rattle.fjall_base.specs.Disk.{Name, Entry, File, Folder, IsNoFile, IsNoFolder, State, folder_of}
 use Rattle.fjall_files.specs.Names.{HasIds, Kept, AllKeyspaces, Current, Journal, Keyspace, Table, Version, current_name, journal_name, keyspace_folder, name_of, table_name}
 use Rattle.fjall_files.specs.Tidy.{FitsAt, IsOfKind, IsTidy}
 use Rattle.fjall_files.proofs.Distinct.{kept}
 use Rattle.fjall_files.specs.Regions.{HoldsOnly, join}
-use Rattle.fjall_files.proofs.Under.{IsPlain, folder_of-join, folder_of-plain}
+use Rattle.fjall_files.proofs.Under.{IsPlain, folder_of-join, folder_of-plain, slash}
 
 -- ---- folders
 
 own : IsNumeralModel (AllDigits 10) (digits_value 10)
 own = numerals_by_value (AllDigits 10) tells_digits
-
-abbrev slash : ℕ → Bool
-slash b = b == 47
 
 plain_decimal : (n : ℕ) → n < 2 ^ 64 → list_any slash (decimal n) ≡ false
 plain_decimal n small = list_any_none slash (decimal n) (λ k d lt.

@@ -8,7 +8,6 @@ mod Refusing
 pub mod Distinct
 pub mod Tidying
 pub mod OfKinds
-mod Comparisons
 pub mod Trimmed
 pub mod Under
 pub mod Changes

@@ -3,7 +3,7 @@ use Rattle.std.proofs.Common.{◌≡◌, inl, inr, Bool, true, false, List, [], 
 use Rattle.std.specs.Str.{bytes_eq}
 use Rattle.fjall_base.specs.Disk.{Name, Entry, Missing, Folder, Place, State, Image, Crash, Survives, SomeSurvivesBy, IsImageBy, IsThere, Step, Meaning, state_in, LeavesBy, LeavesOnlyBy, change, all_synced, alter, settle, folder_of}
 use Rattle.fjall_files.specs.Regions.{is_under, AreUnder, Within, IsImageIn}
-use Rattle.fjall_files.proofs.Comparisons.{bool_cases, same}
+use Rattle.fjall_base.proofs.Names.{bool_cases, same}
 use Rattle.fjall_base.proofs.Frames.{replaced, replaced-same, replaced-other}
 use Rattle.fjall_base.proofs.Covers.{LeftAt}
 use Rattle.fjall_files.proofs.Changes.{SameOutside, step_within, settle_less, sync_less}

@@ -1,12 +1,12 @@
 -- A folder whose files are removed one after another.
-use Rattle.std.proofs.Common.{◌≡◌, ◌≢◌, inl, inr, ℕ, zero, suc, ◌+◌, ◌<◌, true, false, List, [], ◌∷◌, drop, get_or, length, map, Any, refl, sym, ◌∙◌, ap, subst, arith}
+use Rattle.std.proofs.Common.{◌≡◌, ◌≢◌, inl, inr, ℕ, zero, suc, ◌+◌, ◌<◌, false, List, [], ◌∷◌, drop, get_or, length, map, Any, refl, sym, ◌∙◌, ap, subst, arith}
 use Rattle.std.proofs.lemmas.List.{drop_more}
 use Rattle.std.proofs.lemmas.List.Elements.{All-head, All-tail}
 use Rattle.std.specs.Str.{bytes_eq}
-use Rattle.fjall_base.specs.Disk.{Name, Entry, Missing, File, Folder, Place, State, Meaning, Took, CanRemoveFolder, IsNoFile, IsNoFolder, folder_of, removing, state_in}
+use Rattle.fjall_base.specs.Disk.{Name, Entry, Missing, File, Folder, Place, State, Meaning, Took, CanRemoveFolder, IsNoFile, IsNoFolder, removing, state_in}
 use Rattle.fjall_base.proofs.States.{put-now, put-other}
 use Rattle.fjall_files.specs.Regions.{HoldsOnly}
-use Rattle.fjall_files.proofs.Comparisons.{bool_cases, same}
+use Rattle.fjall_base.proofs.Names.{bool_cases, same}
 
 removed_at : (file : Name) (old new : Meaning) (there : Entry) → (state_in old file).now ≡ there → Took old new (removing file there) → (state_in new file).now ≡ Missing
 removed_at file old new Missing is took = ap (λ (s : State). (s file).now) took.state ∙ is

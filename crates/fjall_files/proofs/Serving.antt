@@ -1,6 +1,6 @@
 -- What can be made where nothing stands in the way.
-use Rattle.std.proofs.Common.{◌≡◌, ◌≢◌, inl, ℕ, ◌<◌, ◌^◌, [], ◌++◌, length, codes, decimal, refl, ap, arith, length-append}
-use Rattle.fjall_base.specs.Disk.{Name, State, CanCreate}
+use Rattle.std.proofs.Common.{◌≢◌, inl, ℕ, ◌<◌, ◌^◌, [], length, codes, decimal, refl, ap, arith, length-append}
+use Rattle.fjall_base.specs.Disk.{State, CanCreate}
 use Rattle.fjall_files.specs.Names.{Journal, Version, journal_name}
 use Rattle.fjall_files.specs.Tidy.{IsTidy}
 use Rattle.fjall_files.proofs.OfKinds.{kind_now}

@@ -14,7 +14,7 @@ use Rattle.fjall_base.proofs.Covers.{LeftAt, loosens, cut_failed}
 use Rattle.fjall_base.proofs.Moments.{started, perhaps_on}
 use Rattle.fjall_files.specs.Regions.{IsImageIn}
 use Rattle.fjall_files.specs.Trims.{IsTrimmed, ended_place}
-use Rattle.fjall_files.proofs.Comparisons.{bool_cases, same}
+use Rattle.fjall_base.proofs.Names.{bool_cases, same}
 use Rattle.fjall_files.proofs.Tidying.{there_or_not}
 use Rattle.fjall_files.proofs.Parts.{in_region, region_sync, region_put_back}
 

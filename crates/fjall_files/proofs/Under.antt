@@ -1,11 +1,14 @@
 -- Names that are joined, and which of them lie under a folder.
-use Rattle.std.proofs.Common.{◌≡◌, ◌≢◌, ◌<◌, inl, inr, ℕ, length, true, false, [], ◌∷◌, ◌++◌, refl, sym, ◌∙◌, ap, arith, ◌==◌}
+use Rattle.std.proofs.Common.{◌≡◌, ◌≢◌, ◌<◌, inl, inr, ℕ, Bool, length, true, false, [], ◌∷◌, ◌++◌, refl, sym, ◌∙◌, ap, arith, ◌==◌}
 use Rattle.std.specs.List.{list_any}
 use Rattle.std.proofs.lemmas.List.{append_cancel_left}
 use Rattle.std.proofs.lemmas.Bool.Decides.{nat_tests}
 use Rattle.fjall_base.specs.Disk.{Name, folder_of}
 use Rattle.fjall_files.specs.Regions.{join, is_under}
-use Rattle.fjall_files.proofs.Comparisons.{bool_cases, slash}
+use Rattle.fjall_base.proofs.Names.{bool_cases}
+
+abbrev pub slash : ℕ → Bool
+slash b = b == 47
 
 -- a name without a slash
 abbrev pub IsPlain : Name → Type 0

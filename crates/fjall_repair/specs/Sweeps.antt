@@ -110,6 +110,7 @@ BringsNoTable old new = (id n : ℕ) → id < 2 ^ 64 → n < 2 ^ 64 → (old (ta
 -- last record names.
 pub record IsSwept (old new : State) (last : Catalog) (living : List LivingKeyspace) : Type 0 where
   pub homes : (id : ℕ) → id < 2 ^ 64 → id ≢ 0 → (Lives living id → ⊥) → (old (keyspace_folder id)).now ≡ Folder → (new (keyspace_folder id)).now ≡ Missing
-  pub files : (id : ℕ) (name : Name) → id < 2 ^ 64 → id ≢ 0 → (Lives living id → ⊥) → (old (keyspace_folder id)).now ≡ Folder → folder_of name ≡ keyspace_folder id → (old name).now ≢ Missing → (new name).now ≡ Missing
+  pub files : (id : ℕ) (name : Name) → id < 2 ^ 64 → id ≢ 0 → (Lives living id → ⊥) → (old (keyspace_folder id)).now ≡ Folder
+      → folder_of name ≡ keyspace_folder id → (old name).now ≢ Missing → (new name).now ≡ Missing
   pub tables : (id n : ℕ) → n < 2 ^ 64 → Lives living id → (new (table_name id n)).now ≡ Missing
   pub others : (n : ℕ) → n < 2 ^ 64 → option_map (λ table. table.id) last.table ≢ Some n → (new (table_name 0 n)).now ≡ Missing

@@ -1,4 +1,4 @@
-use Rattle.std.proofs.Common.{◌≡◌, ◌∙◌, List, [], map, ap, arith, subst}
+use Rattle.std.proofs.Common.{◌≡◌, ◌∙◌, List, map, ap, arith, subst}
 use Rattle.std.proofs.lemmas.List.{drop_all}
 use Rattle.std.specs.Prelude.{string_bytes}
 use Rattle.fjall_base.specs.Disk.{Meaning, Name, folder_of, removing, state_in}

@@ -1,4 +1,3 @@
-use Rattle.std.proofs.Common.{rules, ◌≡◌}
 use Rattle.fjall_core.proofs.CallsInMemory.{count_serves, seqno_serves, space_serves, visible_serves}
 use Rattle.fjall_core.proofs.engine.Core.serve.Goals as goal
 
