@@ -1,14 +1,14 @@
 -- Which calls of a change of the catalog a disk can serve.
-use Rattle.std.proofs.Common.{◌≡◌, inl, inr, ℕ, ◌-◌, ◌<◌, ◌^◌, arith, true, false, List, [], ◌∷◌, codes, Result, Ok, Err, OnOk, OnErr, sym, ◌∙◌, ap, subst}
+use Rattle.std.proofs.Common.{◌≡◌, inl, inr, ℕ, ◌-◌, ◌<◌, ◌^◌, arith, List, [], ◌∷◌, codes, Result, Ok, Err, OnOk, OnErr, sym, ◌∙◌, ap, subst}
 use Rattle.std.specs.Str.{bytes_eq}
 use Rattle.std.proofs.lemmas.Slice.Eq.{bytes_eq-Decides}
 use Rattle.fjall_base.specs.declared.error.Error.{Error}
-use Rattle.fjall_base.specs.Disk.{Name, Entry, Missing, File, Folder, Place, State, Meaning, Took, TookOrNot, TookPart, Append, Sync, CanCreate, IsFile, IsNoFolder, IsThere, all_synced, alter, appended, folder_of, standing, state_in}
+use Rattle.fjall_base.specs.Disk.{Name, Entry, Missing, File, Folder, Place, State, Meaning, Took, TookOrNot, TookPart, Append, Sync, CanCreate, IsFile, IsNoFolder, IsThere, all_synced, alter, appended, standing, state_in}
 use Rattle.fjall_base.proofs.States.{alter-same, alter-other}
 use Rattle.fjall_tree.specs.Records.{Fields}
 use Rattle.fjall_meta.specs.Keyspaces.{Keyspaces}
 use Rattle.fjall_catalog.specs.declared.catalog.Catalog.{Catalog}
-use Rattle.fjall_files.specs.Names.{keyspace_folder, current_name, table_name}
+use Rattle.fjall_files.specs.Names.{table_name}
 use Rattle.fjall_files.specs.Tidy.{FitsAt}
 use Rattle.fjall_files.proofs.Fitting.{fits_table}
 use Rattle.std.specs.Prelude.{Option, None, Some, IfSome}

@@ -1,8 +1,8 @@
 -- The catalog: tree 0 on disk, whose last record and table say which keyspaces live.
-use Rattle.std.specs.Prelude.{◌≡◌, ◌↔◌, ℕ, ◌<◌, ◌≤◌, ◌^◌, ◌||◌, Bool, IsTrue, List, [], ◌∷◌, ◌++◌, length, map, codes, Option, Some, None, IfSome}
+use Rattle.std.specs.Prelude.{◌≡◌, ◌↔◌, ℕ, ◌<◌, ◌≤◌, ◌^◌, ◌||◌, Bool, IsTrue, List, [], ◌∷◌, length, map, codes, Option, Some, None, IfSome}
 use Rattle.std.specs.Str.{bytes_eq}
 use Rattle.std.specs.List.{flat_map, AllByRecursion}
-use Rattle.fjall_base.specs.Disk.{Name, Entry, File, Missing, Folder, Place, State, Image, IsFile}
+use Rattle.fjall_base.specs.Disk.{Name, Entry, Missing, Folder, Place, State, Image, IsFile}
 use Rattle.fjall_files.specs.Regions.{is_under, IsSafe}
 use Rattle.fjall_table.specs.declared.level.Level.TheVariants.{L1}
 use Rattle.fjall_table.specs.declared.table_info.TableInfo.{TableInfo}

@@ -1,6 +1,6 @@
 -- The active journal's file is there while a writer goes on in it.
-use Rattle.std.proofs.Common.{◌≡◌, Bool, true, false, cond, List, ℕ, [], ◌∷◌, ◌++◌, take, ap, sym, ◌∙◌, subst}
-use Rattle.fjall_base.specs.Disk.{Append, File, IsFile, Meaning, Place, State, Step, Took, state_in}
+use Rattle.std.proofs.Common.{Bool, true, false, cond, List, ℕ, [], ◌∷◌, ◌++◌, ap, sym, ◌∙◌, subst}
+use Rattle.fjall_base.specs.Disk.{Append, IsFile, Meaning, Place, State, Took, state_in}
 use Rattle.fjall_base.proofs.Served.{file_as_was, file_stays}
 use Rattle.fjall_journal.specs.Writer.{Journal}
 use Rattle.fjall_recovery.specs.Places.{Journaling}

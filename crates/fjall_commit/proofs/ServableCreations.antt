@@ -1,6 +1,5 @@
 -- Which calls of a creation a disk can serve.
-use Rattle.std.proofs.Common.{◌≡◌, inr, ℕ, ◌<◌, ◌^◌, false, List, [], ◌∷◌, codes, OnOk, Result, Ok, Err, refl, sym, ◌∙◌, ap, subst}
-use Rattle.fjall_base.specs.declared.error.Error.{Error}
+use Rattle.std.proofs.Common.{◌≡◌, inr, ℕ, false, List, [], codes, refl, sym, ◌∙◌, ap, subst}
 use Rattle.fjall_base.specs.Disk.{Name, Entry, Missing, File, Folder, Place, State, Meaning, Took, CanCreate, CanMakeFolder, IsNoFile, IsNoFolder, IsThere, folder_of, removing, standing, state_in}
 use Rattle.fjall_base.proofs.States.{put-now}
 use Rattle.fjall_files.specs.Regions.{Within, is_under}
@@ -8,7 +7,7 @@ use Rattle.fjall_files.proofs.Changes.{within_state}
 use Rattle.fjall_files.proofs.Made.{removing_within}
 use Rattle.fjall_files.proofs.Under.{folder_is_shorter, shorter_out, under_self}
 use Rattle.fjall_tree.specs.Records.{Fields}
-use Rattle.fjall_files.specs.Names.{keyspace_folder, current_name}
+use Rattle.fjall_files.specs.Names.{keyspace_folder}
 use Rattle.fjall_recovery.specs.Halves.{Tree}
 use Rattle.fjall_recovery.specs.Places.{LiesInTree}
 use Rattle.fjall_commit.specs.Changes.{HasRoom}

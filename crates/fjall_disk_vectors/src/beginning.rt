@@ -1,44 +1,51 @@
 //! Folders begun, at once and in two parts.
 
 use crate::calls::Call::*;
-use crate::calls::{DONE, FAULT, YES};
-use crate::folder::{CURRENT, MARKER, TORN};
+use crate::calls::{DONE, FAULT, YES, holds};
+use crate::folder::{self, CURRENT, MARKER, TORN};
 use crate::steps::Question::*;
 use crate::steps::Step::*;
 use crate::steps::{Row, Start};
-use fjall_base::{Disk, Error, JournalRecoveryError, Result};
+use fjall_base::{Error, JournalRecoveryError, Result};
 use fjall_catalog::first_record;
 use fjall_memory::MemoryDisk;
-use fjall_recovery::read_folder;
 use fjall_repair::{begin, plan_beginning};
 use std::alloc::Global;
 
-/// Begins a database, or goes on with it, and adds the id of its active journal.
-pub fn begin_folder(alloc: Global, disk: &mut MemoryDisk, seen: &mut Vec<u64>) -> Result<()> {
+// Begins a database, or goes on with it, and answers the id of its active journal.
+fn begin_journal(alloc: Global, disk: &mut MemoryDisk) -> Result<u64> {
     let plan = plan_beginning(alloc, disk)?;
     begin(disk, &plan)?;
-    seen.push(plan.active)?;
+    Ok(plan.active)
+}
+
+/// Begins a database, or goes on with it, and adds the id of its active journal.
+pub fn begin_folder(alloc: Global, disk: &mut MemoryDisk, seen: &mut Vec<u64>) -> Result<()> {
+    seen.push(begin_journal(alloc, disk)?)?;
     Ok(())
 }
 
-// Whether the file of this name has just these bytes.
-fn holds(alloc: Global, disk: &mut MemoryDisk, name: &str, bytes: &[u8]) -> Result<bool> {
-    let found = disk.read(alloc, name)?;
-    Ok(match found {
-        Some(text) => text.as_slice() == bytes,
-        None => false,
-    })
+// Whether the first record is all of the catalog's records.
+fn is_first(alloc: Global, disk: &mut MemoryDisk) -> Result<bool> {
+    let first = first_record(alloc)?;
+    holds(alloc, disk, CURRENT, &first)
+}
+
+// Whether these files are there and hold nothing.
+fn are_empty(alloc: Global, disk: &mut MemoryDisk, names: &[&str]) -> Result<bool> {
+    let mut all = true;
+    for name in names {
+        all = holds(alloc, disk, name, b"")? && all;
+    }
+    Ok(all)
 }
 
 /// Whether a database without keyspaces is there, whose journals of these names hold nothing.
 pub fn is_begun(alloc: Global, disk: &mut MemoryDisk, journals: &[&str]) -> Result<bool> {
-    let first = first_record(alloc)?;
-    let mut all = holds(alloc, disk, "version", MARKER)?;
-    all = holds(alloc, disk, CURRENT, &first)? && all;
-    for name in journals {
-        all = holds(alloc, disk, name, b"")? && all;
-    }
-    Ok(all && read_folder(alloc, disk)?.is_some())
+    let is_marked = holds(alloc, disk, "version", MARKER)?;
+    let is_first = is_first(alloc, disk)?;
+    let are_empty = are_empty(alloc, disk, journals)?;
+    Ok(is_marked && is_first && are_empty && folder::is_finished(alloc, disk)?)
 }
 
 const MISNAMED: Error = Error::JournalRecovery(JournalRecoveryError::InvalidFileName);

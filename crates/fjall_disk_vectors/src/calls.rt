@@ -78,44 +78,108 @@ pub fn add_answer(seen: &mut Vec<u64>, answer: bool) -> Result<()> {
     Ok(())
 }
 
-// Adds whether bytes that were read are these, where there are any.
-fn compare(seen: &mut Vec<u64>, read: Option<Vec<u8>>, bytes: &[u8]) -> Result<()> {
-    if let Some(read) = read {
-        add_answer(seen, read.as_slice() == bytes)?;
+// Adds the answer to a question of what may be missing.
+fn add_some_answer(seen: &mut Vec<u64>, answer: Option<bool>) -> Result<()> {
+    if let Some(answer) = answer {
+        add_answer(seen, answer)?;
     }
     Ok(())
 }
 
-// The names right in a folder, in order.
-fn list<D: Disk>(alloc: Global, disk: &mut D, folder: &str) -> Result<String> {
-    let mut listed = Vec::new(alloc);
-    for DirEntry { name, is_folder } in disk.list(alloc, folder)? {
-        let slash = if is_folder { "/" } else { "" };
-        listed.push(format!(in alloc; "{name}{slash} ")?)?;
+// Whether the file has just these bytes, where there is one.
+fn held<D: Disk>(alloc: Global, disk: &mut D, name: &str, bytes: &[u8]) -> Result<Option<bool>> {
+    match disk.read(alloc, name)? {
+        Some(text) => Ok(Some(text.as_slice() == bytes)),
+        None => Ok(None),
     }
-    listed.sort()?;
+}
+
+/// Whether a file of this name is there and has just these bytes.
+pub fn holds<D: Disk>(alloc: Global, disk: &mut D, name: &str, bytes: &[u8]) -> Result<bool> {
+    Ok(held(alloc, disk, name, bytes)? == Some(true))
+}
+
+// Whether the file has these bytes from this place on, where it has so many.
+fn held_part<D: Disk>(
+    alloc: Global,
+    disk: &mut D,
+    name: &str,
+    at: usize,
+    bytes: &[u8],
+) -> Result<Option<bool>> {
+    match disk.read_at(alloc, name, at, bytes.len())? {
+        Some(part) => Ok(Some(part.as_slice() == bytes)),
+        None => Ok(None),
+    }
+}
+
+// How many bytes a read of so many from this place on answers, where it answers.
+fn part_len<D: Disk>(
+    alloc: Global,
+    disk: &mut D,
+    name: &str,
+    at: usize,
+    len: usize,
+) -> Result<Option<usize>> {
+    match disk.read_at(alloc, name, at, len)? {
+        Some(part) => Ok(Some(part.len())),
+        None => Ok(None),
+    }
+}
+
+// The name of what a folder has, as a list shows it.
+fn shown(alloc: Global, entry: &DirEntry) -> Result<String> {
+    let slash = if entry.is_folder { "/" } else { "" };
+    Ok(format!(in alloc; "{}{slash} ", entry.name.as_str())?)
+}
+
+// The names of these, in order.
+fn sorted(alloc: Global, entries: &[DirEntry]) -> Result<Vec<String>> {
+    let mut names = Vec::new(alloc);
+    for entry in entries {
+        names.push(shown(alloc, entry)?)?;
+    }
+    names.sort()?;
+    Ok(names)
+}
+
+// These names one behind another.
+fn joined(alloc: Global, names: &[String]) -> Result<String> {
     let mut text = String::new(alloc);
-    for name in &listed {
+    for name in names {
         text.push_str(name)?;
     }
     Ok(text)
+}
+
+// The names right in a folder, in order.
+fn list<D: Disk>(alloc: Global, disk: &mut D, folder: &str) -> Result<String> {
+    let entries = disk.list(alloc, folder)?;
+    joined(alloc, &sorted(alloc, &entries)?)
+}
+
+// Whether these names are right in a folder.
+fn lists<D: Disk>(alloc: Global, disk: &mut D, folder: &str, text: &str) -> Result<bool> {
+    Ok(list(alloc, disk, folder)?.as_str() == text)
+}
+
+// How many files and folders are right in the folder.
+fn count<D: Disk>(alloc: Global, disk: &mut D, folder: &str) -> Result<usize> {
+    Ok(disk.list(alloc, folder)?.len())
 }
 
 /// Makes a call, and adds what is seen.
 pub fn make<D: Disk>(alloc: Global, disk: &mut D, call: Call, seen: &mut Vec<u64>) -> Result<()> {
     match call {
         Len(name) => add_some(seen, len_of(alloc, disk, name)?),
-        Holds(name, bytes) => compare(seen, disk.read(alloc, name)?, bytes),
-        PartLen(name, at, len) => match disk.read_at(alloc, name, at, len)? {
-            Some(part) => add_some(seen, Some(part.len())),
-            None => Ok(()),
-        },
+        Holds(name, bytes) => add_some_answer(seen, held(alloc, disk, name, bytes)?),
+        PartLen(name, at, len) => add_some(seen, part_len(alloc, disk, name, at, len)?),
         HoldsPart(name, at, bytes) => {
-            compare(seen, disk.read_at(alloc, name, at, bytes.len())?, bytes)
+            add_some_answer(seen, held_part(alloc, disk, name, at, bytes)?)
         }
-        IsFile(name) => add_answer(seen, disk.read(alloc, name)?.is_some()),
-        Count(folder) => add_some(seen, Some(disk.list(alloc, folder)?.len())),
-        Lists(folder, text) => add_answer(seen, list(alloc, disk, folder)?.as_str() == text),
+        IsFile(name) => add_answer(seen, len_of(alloc, disk, name)?.is_some()),
+        Count(folder) => add_some(seen, Some(count(alloc, disk, folder)?)),
+        Lists(folder, text) => add_answer(seen, lists(alloc, disk, folder, text)?),
         _ => change(disk, call, seen),
     }
 }

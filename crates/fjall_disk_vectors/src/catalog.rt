@@ -2,16 +2,16 @@
 
 use crate::calls::Call::*;
 use crate::calls::{DONE, YES, add_some, len_of};
-use crate::folder::{CURRENT, TREE};
+use crate::folder::{CURRENT, TREE, add_keyspace};
 use crate::steps::Question::*;
 use crate::steps::Step::*;
 use crate::steps::{Row, Start, Step, take_all};
-use fjall_base::{Disk, Error, Result, Slice, StorageError};
-use fjall_catalog::{Catalog, commit, prepare, read_catalog, remove_old, write_table};
+use fjall_base::{Disk, Error, Result, StorageError};
+use fjall_catalog::{
+    LoadedCatalog, Update, commit, prepare, read_catalog, remove_old, write_table,
+};
 use fjall_files::make_file;
 use fjall_memory::MemoryDisk;
-use fjall_meta::MetaKeyspace;
-use fjall_options::KeyspaceCreateOptions;
 use std::alloc::Global;
 use std::test::Fail;
 
@@ -21,41 +21,42 @@ const TABLE: &str = "keyspaces/0/1.table";
 /// A number that isn't there.
 const NONE: u64 = u64::MAX;
 
+/// The catalog that the disk says.
+pub fn read(alloc: Global, disk: &mut MemoryDisk) -> Result<LoadedCatalog> {
+    read_catalog(alloc, disk)
+}
+
+/// Makes a change, and leaves the old table.
+pub fn write(disk: &mut MemoryDisk, update: &Update) -> Result<()> {
+    write_table(disk, update)?;
+    commit(disk, update)
+}
+
 // Makes the change of this number, whole.
-fn change(
-    alloc: Global,
-    disk: &mut MemoryDisk,
-    catalog: &Catalog,
-    keyspaces: &MetaKeyspace,
-    number: u64,
-) -> Result<()> {
-    let update = prepare(alloc, catalog, keyspaces, number)?;
-    write_table(disk, &update)?;
-    commit(disk, &update)?;
+fn change(alloc: Global, disk: &mut MemoryDisk, found: &LoadedCatalog, number: u64) -> Result<()> {
+    let update = prepare(alloc, &found.catalog, &found.keyspaces, number)?;
+    write(disk, &update)?;
     remove_old(disk, &update)
 }
 
 /// Creates a keyspace of this name.
 pub fn add_entry(alloc: Global, disk: &mut MemoryDisk, name: &[u8], number: u64) -> Result<()> {
-    let mut found = read_catalog(alloc, disk)?;
-    let options = KeyspaceCreateOptions::default(alloc)?;
-    found
-        .keyspaces
-        .create_keyspace(Slice::new(alloc, name)?, options, number)?;
-    change(alloc, disk, &found.catalog, &found.keyspaces, number)
+    let mut found = read(alloc, disk)?;
+    add_keyspace(alloc, &mut found.keyspaces, name, number)?;
+    change(alloc, disk, &found, number)
 }
 
 /// Removes the keyspace of this id.
 pub fn remove_entry(alloc: Global, disk: &mut MemoryDisk, id: u64, number: u64) -> Result<()> {
-    let mut found = read_catalog(alloc, disk)?;
+    let mut found = read(alloc, disk)?;
     found.keyspaces.remove_keyspace(id);
-    change(alloc, disk, &found.catalog, &found.keyspaces, number)
+    change(alloc, disk, &found, number)
 }
 
 /// Adds how many keyspaces live, the end of the records, whether they are torn, and the fields of the catalog: the next
 /// ids of a table and of a keyspace, the numbers that are persisted and highest, and the count of the table's entries.
 pub fn describe(alloc: Global, disk: &mut MemoryDisk, seen: &mut Vec<u64>) -> Result<()> {
-    let found = read_catalog(alloc, disk)?;
+    let found = read(alloc, disk)?;
     let catalog = &found.catalog;
     let entry_count = match &catalog.table {
         Some(table) => table.entry_count,
@@ -76,8 +77,8 @@ pub fn describe(alloc: Global, disk: &mut MemoryDisk, seen: &mut Vec<u64>) -> Re
 
 /// Adds how many keyspaces live.
 pub fn add_count(alloc: Global, disk: &mut MemoryDisk, seen: &mut Vec<u64>) -> Result<()> {
-    let count = read_catalog(alloc, disk)?.keyspaces.keyspace_count();
-    add_some(seen, Some(count))
+    let found = read(alloc, disk)?;
+    add_some(seen, Some(found.keyspaces.keyspace_count()))
 }
 
 /// Adds the id of the keyspace of this name, where there is one.
@@ -87,7 +88,7 @@ pub fn add_id(
     name: &[u8],
     seen: &mut Vec<u64>,
 ) -> Result<()> {
-    if let Some(id) = read_catalog(alloc, disk)?.keyspaces.resolve_id(name) {
+    if let Some(id) = read(alloc, disk)?.keyspaces.resolve_id(name) {
         seen.push(id)?;
     }
     Ok(())
@@ -100,7 +101,7 @@ pub fn add_number(
     id: u64,
     seen: &mut Vec<u64>,
 ) -> Result<()> {
-    if let Some(keyspace) = read_catalog(alloc, disk)?.keyspaces.get(id) {
+    if let Some(keyspace) = read(alloc, disk)?.keyspaces.get(id) {
         seen.push(keyspace.number)?;
     }
     Ok(())
@@ -160,7 +161,7 @@ fn damage(alloc: Global, disk: &mut MemoryDisk, name: &str, at: usize) -> Result
 }
 
 // Each file is damaged at every byte.
-const DAMAGED: [(&[Step], &str, Error); 2] = [
+const DAMAGED: &[(&[Step], &str, Error)] = &[
     (&[New(Start::Tree)], CURRENT, RECORD_DAMAGED),
     (&[New(Start::Tree), AddEntry(b"a", 4)], TABLE, TABLE_DAMAGED),
 ];
@@ -169,13 +170,13 @@ const DAMAGED: [(&[Step], &str, Error); 2] = [
 fn each_damaged_byte_is_seen(rt: HostRuntime) -> std::result::Result<(), Fail> {
     let alloc = rt.alloc();
     let mut seen = Vec::new(alloc);
-    for (steps, file, error) in DAMAGED {
+    for &(steps, file, error) in DAMAGED {
         let mut disk = MemoryDisk::new(alloc);
         take_all(alloc, &mut disk, steps, &mut seen)?;
         let len = len_of(alloc, &mut disk, file)?.ok_or("missing")?;
         for at in 0..len {
             damage(alloc, &mut disk, file, at)?;
-            let refusal = read_catalog(alloc, &mut disk).err();
+            let refusal = read(alloc, &mut disk).err();
             damage(alloc, &mut disk, file, at)?;
             assert_eq!(rt; refusal, Some(error), "{file}, byte {at}");
         }

@@ -2,38 +2,45 @@
 
 use crate::calls::Call::*;
 use crate::calls::{DONE, FAULT, YES};
-use crate::folder::CURRENT;
+use crate::catalog::read;
+use crate::folder::{CURRENT, add_keyspace};
 use crate::steps::Question::*;
 use crate::steps::Step::*;
 use crate::steps::{Row, Start};
-use fjall_base::{Error, Result, Slice};
-use fjall_catalog::{Catalog, first_record_of, prepare, read_catalog};
+use fjall_base::{Error, Result};
+use fjall_catalog::{Catalog, Update, first_record_of, prepare};
 use fjall_commit::{
-    create_keyspace, delete_keyspace, prepare_creation, prepare_removal, remove_keyspace,
+    Creation, create_keyspace, delete_keyspace, prepare_creation, prepare_removal, remove_keyspace,
 };
 use fjall_memory::MemoryDisk;
 use fjall_meta::MetaKeyspace;
-use fjall_options::KeyspaceCreateOptions;
 use std::alloc::Global;
 use std::test::Fail;
 
 pub const FIRST: &str = "keyspaces/1/current";
 
+// What creates a keyspace of this name.
+fn creation(alloc: Global, disk: &mut MemoryDisk, name: &[u8], number: u64) -> Result<Creation> {
+    let mut found = read(alloc, disk)?;
+    let id = add_keyspace(alloc, &mut found.keyspaces, name, number)?;
+    prepare_creation(alloc, &found.catalog, &found.keyspaces, id, number)
+}
+
+// Whether the record of a creation is the first one of this number.
+fn is_first(alloc: Global, creation: &Creation, number: u64) -> Result<bool> {
+    Ok(creation.record_text == first_record_of(alloc, number)?)
+}
+
 /// Creates a keyspace of this name, and answers whether its record is the first one of this number.
 pub fn create(alloc: Global, disk: &mut MemoryDisk, name: &[u8], number: u64) -> Result<bool> {
-    let mut found = read_catalog(alloc, disk)?;
-    let options = KeyspaceCreateOptions::default(alloc)?;
-    let id = found
-        .keyspaces
-        .create_keyspace(Slice::new(alloc, name)?, options, number)?;
-    let creation = prepare_creation(alloc, &found.catalog, &found.keyspaces, id, number)?;
+    let creation = creation(alloc, disk, name, number)?;
     create_keyspace(disk, &creation)?;
-    Ok(creation.record_text == first_record_of(alloc, number)?)
+    is_first(alloc, &creation, number)
 }
 
 /// Deletes the keyspace of this id.
 pub fn delete(alloc: Global, disk: &mut MemoryDisk, id: u64, number: u64) -> Result<()> {
-    let mut found = read_catalog(alloc, disk)?;
+    let mut found = read(alloc, disk)?;
     found.keyspaces.remove_keyspace(id);
     let update = prepare(alloc, &found.catalog, &found.keyspaces, number)?;
     delete_keyspace(disk, &update)
@@ -78,6 +85,30 @@ pub const SCRIPT: &[Row] = &[
     (Ask(Keyspaces), Ok(&[0])),
 ];
 
+// Keyspaces of these names.
+fn keyspaces_of(alloc: Global, names: &[&[u8]]) -> Result<MetaKeyspace> {
+    let mut keyspaces = MetaKeyspace::new(alloc);
+    for name in names {
+        add_keyspace(alloc, &mut keyspaces, name, 1)?;
+    }
+    Ok(keyspaces)
+}
+
+// What a change writes, or a creation of keyspace 1.
+fn update_of(
+    alloc: Global,
+    catalog: &Catalog,
+    keyspaces: &MetaKeyspace,
+    number: u64,
+    is_creation: bool,
+) -> Result<Update> {
+    if is_creation {
+        Ok(prepare_creation(alloc, catalog, keyspaces, 1, number)?.update)
+    } else {
+        prepare(alloc, catalog, keyspaces, number)
+    }
+}
+
 // Whether a table is made by a change, or by a creation of keyspace 1, over these keyspaces.
 fn makes_table(
     alloc: Global,
@@ -88,26 +119,15 @@ fn makes_table(
 ) -> Result<bool> {
     let mut catalog = Catalog::new();
     catalog.next_table_id = next_table_id;
-    let mut keyspaces = MetaKeyspace::new(alloc);
-    for name in names {
-        let options = KeyspaceCreateOptions::default(alloc)?;
-        keyspaces.create_keyspace(Slice::new(alloc, name)?, options, 1)?;
-    }
-    if is_creation {
-        let creation = prepare_creation(alloc, &catalog, &keyspaces, 1, number)?;
-        return Ok(creation.update.table.is_some());
-    }
-    Ok(
-        prepare(alloc, &catalog, &keyspaces, number)?
-            .table
-            .is_some(),
-    )
+    let keyspaces = keyspaces_of(alloc, names)?;
+    let update = update_of(alloc, &catalog, &keyspaces, number, is_creation)?;
+    Ok(update.table.is_some())
 }
 
 const USED_UP: Result<bool> = Err(Error::NumbersUsedUp);
 
 // The next id of a table, the names of the keyspaces, the change's number, and whether it is a creation.
-const NUMBERS: [(u64, &[&[u8]], u64, bool, Result<bool>); 4] = [
+const NUMBERS: &[(u64, &[&[u8]], u64, bool, Result<bool>)] = &[
     (1, &[], 1 << 63, false, USED_UP),
     (u64::MAX, &[], 1, false, Ok(false)),
     (u64::MAX, &[b"a"], 1, false, USED_UP),

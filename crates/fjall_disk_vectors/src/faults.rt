@@ -99,7 +99,7 @@ const LOST: &[Option<usize>] = &[Some(0)];
 
 const KEPT_80: &[Option<usize>] = &[Some(80)];
 
-const STRETCHES: [Stretch; 25] = [
+const STRETCHES: &[Stretch] = &[
     (MAKE_HOME, (1, 2), &[2], STAYS, FAILS, &[]),
     (MAKE_HOME, (3, 3), &[2], STAYS, FAILS, &[2]),
     (MAKE_HOME, (4, 4), &[2], STAYS, FAILS, &[5]),
@@ -169,50 +169,89 @@ const STRETCHES: [Stretch; 25] = [
     ),
 ];
 
-// Takes a task's steps while this call of its step fails, and answers how the step ends, and what is seen in all.
-fn cut_short(
-    alloc: Global,
-    task: Task,
-    call: u64,
-    part: usize,
-    keep: Option<usize>,
-) -> Result<(Outcome, Vec<u64>)> {
+/// A call that failed, how many bytes of an append went out, and how many unsynced bytes a crash left.
+type Cut = (u64, usize, Option<usize>);
+
+/// How a step ends, and what is seen in all.
+type Seen = (Outcome, Vec<u64>);
+
+// A disk on which these steps are taken.
+fn disk_after(alloc: Global, steps: &[Step]) -> Result<MemoryDisk> {
     let mut disk = MemoryDisk::new(alloc);
-    let mut seen = Vec::new(alloc);
-    take_all(alloc, &mut disk, task.before, &mut seen)?;
-    seen.clear();
-    disk.fail_at(call, part);
-    let ended = take(alloc, &mut disk, task.step, &mut seen);
-    disk.fail_at(0, 0);
-    let faults = disk.faults();
-    if let Some(keep) = keep {
-        disk = disk.crash(keep)?;
-    }
-    take_all(alloc, &mut disk, task.after, &mut seen)?;
-    Ok(((ended, faults), seen))
+    take_all(alloc, &mut disk, steps, &mut Vec::new(alloc))?;
+    Ok(disk)
 }
 
-/// A call that failed, how many bytes of an append went out, how many unsynced bytes a crash left, and what came of it.
-type Cut = (u64, usize, Option<usize>, Outcome, Vec<u64>);
+// Takes a step while this call of it fails, and answers how it ends.
+fn take_failing(
+    alloc: Global,
+    disk: &mut MemoryDisk,
+    step: Step,
+    (call, part): (u64, usize),
+    seen: &mut Vec<u64>,
+) -> Outcome {
+    disk.fail_at(call, part);
+    let ended = take(alloc, disk, step, seen);
+    disk.fail_at(0, 0);
+    (ended, disk.faults())
+}
 
-// The first cut of a stretch that doesn't end or see what it should.
-fn first_wrong(
+// Takes a task's steps with this cut, and answers how its step ends, and what is seen in all.
+fn cut_short(alloc: Global, task: Task, (call, part, keep): Cut) -> Result<Seen> {
+    let mut disk = disk_after(alloc, task.before)?;
+    let mut seen = Vec::new(alloc);
+    let outcome = take_failing(alloc, &mut disk, task.step, (call, part), &mut seen);
+    if let Some(keep) = keep {
+        take(alloc, &mut disk, Crash(keep), &mut seen)?;
+    }
+    take_all(alloc, &mut disk, task.after, &mut seen)?;
+    Ok((outcome, seen))
+}
+
+// Whether a step ends like this, and these numbers are seen.
+fn is_right((ended, seen): &Seen, outcome: Outcome, wanted: &[u64]) -> bool {
+    *ended == outcome && seen.as_slice() == wanted
+}
+
+// How a task's step ends at this cut, and what is seen in all, where it isn't what should be.
+fn wrong_at(
     alloc: Global,
     task: Task,
-    calls: (u64, u64),
-    parts: &[usize],
-    keeps: &[Option<usize>],
+    cut: Cut,
     outcome: Outcome,
     wanted: &[u64],
-) -> Result<Option<Cut>> {
-    for call in calls.0..=calls.1 {
-        for part in parts {
-            for keep in keeps {
-                let (ended, seen) = cut_short(alloc, task, call, *part, *keep)?;
-                if ended != outcome || seen.as_slice() != wanted {
-                    return Ok(Some((call, *part, *keep, ended, seen)));
-                }
+) -> Result<Option<Seen>> {
+    let seen = cut_short(alloc, task, cut)?;
+    if is_right(&seen, outcome, wanted) {
+        return Ok(None);
+    }
+    Ok(Some(seen))
+}
+
+/// A cut, and what came of it.
+type Wrong = (Cut, Seen);
+
+// The first wrong cut of a stretch at this call.
+fn first_wrong_at(alloc: Global, stretch: &Stretch, call: u64) -> Result<Option<Wrong>> {
+    let (task, _, parts, keeps, outcome, wanted) = *stretch;
+    for part in parts {
+        for keep in keeps {
+            let cut = (call, *part, *keep);
+            if let Some(wrong) = wrong_at(alloc, task, cut, outcome, wanted)? {
+                return Ok(Some((cut, wrong)));
             }
+        }
+    }
+    Ok(None)
+}
+
+// The first cut of a stretch that doesn't end or see what it should.
+fn first_wrong(alloc: Global, stretch: &Stretch) -> Result<Option<Wrong>> {
+    let (first, last) = stretch.1;
+    for call in first..=last {
+        let wrong = first_wrong_at(alloc, stretch, call)?;
+        if wrong.is_some() {
+            return Ok(wrong);
         }
     }
     Ok(None)
@@ -220,12 +259,8 @@ fn first_wrong(
 
 #[test]
 fn each_call_fails_in_turn(rt: HostRuntime) -> std::result::Result<(), Fail> {
-    for (row, (task, calls, parts, keeps, outcome, wanted)) in STRETCHES.iter().enumerate() {
-        assert_eq!(rt;
-            first_wrong(rt.alloc(), *task, *calls, parts, keeps, *outcome, wanted)?,
-            None,
-            "row {row}"
-        );
+    for (row, stretch) in STRETCHES.iter().enumerate() {
+        assert_eq!(rt; first_wrong(rt.alloc(), stretch)?, None, "row {row}");
     }
     Ok(())
 }

@@ -1,7 +1,7 @@
 //! What no contract says: what the calls of a disk over a folder do to real files.
 
 use crate::calls::Call::*;
-use crate::calls::{Answer, Call, DONE, YES, is_answer, make};
+use crate::calls::{Answer, Call, DONE, YES, holds, is_answer, make};
 use fjall_base::{Disk, Error, Result};
 use fjall_folder::{FolderDisk, LockedFileGuard};
 use std::alloc::Global;
@@ -150,40 +150,70 @@ const WITHOUT_ROOM: &[(Call, Answer)] = &[
     (Faults, Ok(&[2])),
 ];
 
-// A folder below that of the test, and what is done to it; each row opens it anew.
-const SESSIONS: [(&str, &[(Call, Answer)]); 5] = [
-    ("appended", APPENDED),
-    ("appended", OPENED_AGAIN),
-    ("lists", LISTS),
-    ("faults", FAULTS),
-    ("full", WITHOUT_ROOM),
-];
+// Opens the folder of this path.
+fn open(rt: &HostRuntime, path: &str) -> Result<FolderDisk> {
+    FolderDisk::open(rt, rt.alloc(), path)
+}
+
+// Opens the folder of this name below the path.
+fn open_below(rt: &HostRuntime, path: &str, folder: &str) -> Result<FolderDisk> {
+    let whole = format!(in rt.alloc(); "{path}/{folder}")?;
+    open(rt, whole.as_str())
+}
+
+// Puts a device without room into the folder of its session.
+fn link_full(rt: &HostRuntime, path: &str) -> std::result::Result<(), Fail> {
+    let link = format!(in rt.alloc(); "{path}/full/full")?;
+    symlink(rt, "/dev/full", link.as_str())?;
+    Ok(())
+}
+
+// The first wrong row of a session.
+fn first_wrong_of(
+    rt: &HostRuntime,
+    path: &str,
+    folder: &str,
+    calls: &[(Call, Answer)],
+) -> std::result::Result<Option<Wrong>, Fail> {
+    let mut disk = open_below(rt, path, folder)?;
+    if folder == "full" {
+        link_full(rt, path)?;
+    }
+    Ok(first_wrong(rt.alloc(), &mut disk, calls))
+}
+
+// Fails at the first of these rows that doesn't answer what it should in a folder below the path, which is opened anew.
+fn check(
+    rt: &HostRuntime,
+    path: &str,
+    folder: &'static str,
+    calls: &[(Call, Answer)],
+) -> std::result::Result<(), Fail> {
+    match first_wrong_of(rt, path, folder, calls)? {
+        Some(wrong) => Err(Fail::from((folder, wrong))),
+        None => Ok(()),
+    }
+}
+
+// Fails at the first row of a session that doesn't answer what it should.
+fn check_sessions(rt: &HostRuntime, path: &str) -> std::result::Result<(), Fail> {
+    check(rt, path, "appended", APPENDED)?;
+    check(rt, path, "appended", OPENED_AGAIN)?;
+    check(rt, path, "lists", LISTS)?;
+    check(rt, path, "faults", FAULTS)?;
+    check(rt, path, "full", WITHOUT_ROOM)
+}
 
 #[test]
 fn sessions(rt: HostRuntime) -> std::result::Result<(), Fail> {
-    let alloc = rt.alloc();
     let path = fresh(&rt, "sessions")?;
-    for (folder, calls) in SESSIONS {
-        let mut disk = FolderDisk::open(
-            &rt,
-            alloc,
-            format!(in alloc; "{path}/{folder}")?.as_str(),
-        )?;
-        if folder == "full" {
-            symlink(
-                &rt,
-                "/dev/full",
-                format!(in alloc; "{path}/full/full")?.as_str(),
-            )?;
-        }
-        assert_eq!(rt; first_wrong(alloc, &mut disk, calls), None, "{folder}");
-    }
+    check_sessions(&rt, path.as_str())?;
     fs::remove_dir_all(&rt, path.as_str())?;
     Ok(())
 }
 
 // Names that lead nowhere below the folder, or to the disk's own file.
-const REFUSED: [&str; 12] = [
+const REFUSED: &[&str] = &[
     "",
     "/",
     ".",
@@ -215,40 +245,79 @@ fn calls_with(name: &'static str) -> [Call; 11] {
     ]
 }
 
-// How a call ends, and how many faults came by then.
-fn refusal(alloc: Global, disk: &mut FolderDisk, call: Call) -> (Result<()>, u64) {
+/// How a call ends, and how many faults came by then.
+type Ending = (Result<()>, u64);
+
+// How a call ends.
+fn ending(alloc: Global, disk: &mut FolderDisk, call: Call) -> Ending {
     let mut seen = Vec::new(alloc);
     let ended = make(alloc, disk, call, &mut seen);
     (ended, disk.faults())
 }
 
-#[test]
-fn no_name_leaves_the_folder(rt: HostRuntime) -> std::result::Result<(), Fail> {
-    let alloc = rt.alloc();
-    let path = fresh(&rt, "names")?;
-    let mut disk = FolderDisk::open(&rt, alloc, format!(in alloc; "{path}/inner")?.as_str())?;
-    fs::write(
-        &rt,
-        format!(in alloc; "{path}/outer")?.as_str(),
-        b"kept".as_slice(),
-    )?;
-    disk.make_folder("a")?;
-    let mut faults = 0u64;
-    for name in REFUSED {
-        let count = if name.is_empty() { 9 } else { 11 };
-        for call in &calls_with(name)[..count] {
-            faults = faults.saturating_add(1);
-            assert_eq!(rt;
-                refusal(alloc, &mut disk, *call),
-                (Err(Error::Io(ErrorKind::InvalidInput)), faults),
-                "at {name}"
-            );
+// The first of these calls that isn't refused as the next fault behind so many, and how it ends.
+fn first_served(
+    alloc: Global,
+    disk: &mut FolderDisk,
+    calls: &[Call],
+    before: u64,
+) -> Option<(usize, Ending)> {
+    let mut faults = before;
+    for (row, call) in calls.iter().enumerate() {
+        faults = faults.saturating_add(1);
+        let ending = ending(alloc, disk, *call);
+        if ending != (Err(Error::Io(ErrorKind::InvalidInput)), faults) {
+            return Some((row, ending));
         }
     }
+    None
+}
+
+/// A name, the place of a call with it, and how the call ends.
+type Served = (&'static str, usize, Ending);
+
+// The first call that isn't refused for its name.
+fn first_served_name(alloc: Global, disk: &mut FolderDisk) -> Option<Served> {
+    let mut faults = 0u64;
+    for &name in REFUSED {
+        let count = if name.is_empty() { 9 } else { 11 };
+        if let Some((row, ending)) = first_served(alloc, disk, &calls_with(name)[..count], faults) {
+            return Some((name, row, ending));
+        }
+        faults = faults.saturating_add(count as u64);
+    }
+    None
+}
+
+// Writes a file beside the folder.
+fn write_outer(rt: &HostRuntime, path: &str) -> std::result::Result<(), Fail> {
+    let outer = format!(in rt.alloc(); "{path}/outer")?;
+    fs::write(rt, outer.as_str(), b"kept".as_slice())?;
+    Ok(())
+}
+
+// Makes files whose names only look like those that are refused.
+fn make_odd_names(disk: &mut FolderDisk) -> Result<()> {
     for name in ["a/...", "a/..b", "lock.jnl"] {
         disk.create(name)?;
     }
-    drop(disk);
+    Ok(())
+}
+
+// The first call that isn't refused for its name, below this path.
+fn first_served_below(rt: &HostRuntime, path: &str) -> std::result::Result<Option<Served>, Fail> {
+    let mut disk = open_below(rt, path, "inner")?;
+    write_outer(rt, path)?;
+    disk.make_folder("a")?;
+    let served = first_served_name(rt.alloc(), &mut disk);
+    make_odd_names(&mut disk)?;
+    Ok(served)
+}
+
+#[test]
+fn no_name_leaves_the_folder(rt: HostRuntime) -> std::result::Result<(), Fail> {
+    let path = fresh(&rt, "names")?;
+    assert_eq!(rt; first_served_below(&rt, path.as_str())?, None);
     fs::remove_dir_all(&rt, path.as_str())?;
     Ok(())
 }
@@ -281,28 +350,37 @@ enum Attempt {
 
 use Attempt::*;
 
-// Tries it, and answers the new owner's count of faults.
-fn make_attempt(rt: &HostRuntime, path: &str, owner: &mut Owner, attempt: Attempt) -> Result<u64> {
-    let alloc = rt.alloc();
-    let mut faults = 0;
-    match attempt {
-        Open(folder) => {
-            let whole = format!(in alloc; "{path}{folder}")?;
-            let disk = sent(FolderDisk::open(rt, alloc, whole.as_str())?);
-            faults = disk.faults();
-            *owner = Owner::Opened(disk);
-        }
-        OpenAt(whole) => *owner = Owner::Opened(FolderDisk::open(rt, alloc, whole)?),
-        Lock(file) => {
-            let whole = format!(in alloc; "{path}{file}")?;
-            *owner = Owner::Locked(LockedFileGuard::lock(rt, Path::new(whole.as_str()))?);
-        }
-        Leave => *owner = Owner::Nobody,
-    }
-    Ok(faults)
+// Takes the lock of a file.
+fn lock(rt: &HostRuntime, path: &str) -> Result<LockedFileGuard> {
+    LockedFileGuard::lock(rt, Path::new(path))
 }
 
-const ATTEMPTS: [(Attempt, Result<u64>); 12] = [
+// Who has the folder when this is tried.
+fn owner_by(rt: &HostRuntime, path: &str, attempt: Attempt) -> Result<Owner> {
+    match attempt {
+        Open(folder) => {
+            let whole = format!(in rt.alloc(); "{path}{folder}")?;
+            Ok(Owner::Opened(sent(open(rt, whole.as_str())?)))
+        }
+        OpenAt(whole) => Ok(Owner::Opened(open(rt, whole)?)),
+        Lock(file) => {
+            let whole = format!(in rt.alloc(); "{path}{file}")?;
+            Ok(Owner::Locked(lock(rt, whole.as_str())?))
+        }
+        Leave => Ok(Owner::Nobody),
+    }
+}
+
+// Tries it, and answers the new owner's count of faults.
+fn make_attempt(rt: &HostRuntime, path: &str, owner: &mut Owner, attempt: Attempt) -> Result<u64> {
+    *owner = owner_by(rt, path, attempt)?;
+    match owner {
+        Owner::Opened(disk) => Ok(disk.faults()),
+        _ => Ok(0),
+    }
+}
+
+const ATTEMPTS: &[(Attempt, Result<u64>)] = &[
     (Open(""), Ok(0)),
     (Open(""), Err(Error::Locked)),
     (Lock("/lock"), Err(Error::Locked)),
@@ -317,62 +395,94 @@ const ATTEMPTS: [(Attempt, Result<u64>); 12] = [
     (OpenAt("a\0b"), Err(Error::Io(ErrorKind::InvalidInput))),
 ];
 
+// The first attempt that doesn't answer what it should, and its answer.
+fn first_wrong_attempt(rt: &HostRuntime, path: &str) -> Option<(usize, Result<u64>)> {
+    let mut owner = Owner::Nobody;
+    for (row, (tried, wanted)) in ATTEMPTS.iter().enumerate() {
+        let answer = make_attempt(rt, path, &mut owner, *tried);
+        if answer != *wanted {
+            return Some((row, answer));
+        }
+    }
+    None
+}
+
 #[test]
 fn a_folder_has_one_owner(rt: HostRuntime) -> std::result::Result<(), Fail> {
     let path = fresh(&rt, "owner")?;
-    let mut owner = Owner::Nobody;
-    for (row, (tried, wanted)) in ATTEMPTS.iter().enumerate() {
-        let answer = make_attempt(&rt, path.as_str(), &mut owner, *tried);
-        assert_eq!(rt; answer, *wanted, "row {row}");
-    }
+    assert_eq!(rt; first_wrong_attempt(&rt, path.as_str()), None);
     fs::remove_dir_all(&rt, path.as_str())?;
     Ok(())
+}
+
+// Makes the file of this name where there is none, and appends the text.
+fn make_and_append(disk: &mut FolderDisk, name: &str, text: &str) -> Result<()> {
+    disk.create(name)?;
+    disk.append(name, text.as_bytes())
+}
+
+// Appends to a journal in this round.
+fn append_to(alloc: Global, disk: &mut FolderDisk, file: i32, round: i32) -> Result<()> {
+    let name = format!(in alloc; "{file}.jnl")?;
+    let text = format!(in alloc; "{file} {round},")?;
+    make_and_append(disk, &name, &text)
 }
 
 // Twenty journals are appended to in turn, three times.
 fn append_in_turn(alloc: Global, disk: &mut FolderDisk) -> Result<()> {
     for round in 0..3 {
         for file in 0..20 {
-            let name = format!(in alloc; "{file}.jnl")?;
-            let text = format!(in alloc; "{file} {round},")?;
-            disk.create(&name)?;
-            disk.append(&name, text.as_bytes())?;
+            append_to(alloc, disk, file, round)?;
         }
     }
     Ok(())
 }
 
-// The file's bytes, and those that it has when it was removed and made anew.
-fn texts(
+// Whether the file has just these bytes, and none when it was removed and made anew.
+fn has_and_loses(
     alloc: Global,
     disk: &mut FolderDisk,
     name: &str,
-) -> Result<(Option<Vec<u8>>, Option<Vec<u8>>)> {
-    let whole = disk.read(alloc, name)?;
+    bytes: &[u8],
+) -> Result<(bool, bool)> {
+    let is_whole = holds(alloc, disk, name, bytes)?;
     disk.remove(name)?;
     disk.create(name)?;
-    Ok((whole, disk.read(alloc, name)?))
+    Ok((is_whole, holds(alloc, disk, name, b"")?))
+}
+
+// Whether a journal has what was appended to it, and nothing when it was removed and made anew.
+fn look_at(alloc: Global, disk: &mut FolderDisk, file: i32) -> Result<(bool, bool)> {
+    let name = format!(in alloc; "{file}.jnl")?;
+    let text = format!(in alloc; "{file} 0,{file} 1,{file} 2,")?;
+    has_and_loses(alloc, disk, &name, text.as_bytes())
+}
+
+// The first journal that isn't as it should be, and how it is.
+fn first_wrong_journal(
+    alloc: Global,
+    disk: &mut FolderDisk,
+) -> Result<Option<(i32, (bool, bool))>> {
+    for file in 0..20 {
+        let looks = look_at(alloc, disk, file)?;
+        if looks != (true, true) {
+            return Ok(Some((file, looks)));
+        }
+    }
+    Ok(None)
+}
+
+// Appends to many files below this path, and answers the first that isn't as it should be.
+fn append_and_look(rt: &HostRuntime, path: &str) -> Result<Option<(i32, (bool, bool))>> {
+    let mut disk = open(rt, path)?;
+    append_in_turn(rt.alloc(), &mut disk)?;
+    first_wrong_journal(rt.alloc(), &mut disk)
 }
 
 #[test]
 fn many_files_are_appended_to_in_turn(rt: HostRuntime) -> std::result::Result<(), Fail> {
-    let alloc = rt.alloc();
     let path = fresh(&rt, "many")?;
-    let mut disk = FolderDisk::open(&rt, alloc, path.as_str())?;
-    append_in_turn(alloc, &mut disk)?;
-    for file in 0..20 {
-        let name = format!(in alloc; "{file}.jnl")?;
-        let text = format!(in alloc; "{file} 0,{file} 1,{file} 2,")?;
-        assert_eq!(rt;
-            texts(alloc, &mut disk, &name)?,
-            (
-                Some(Vec::from_slice(alloc, text.as_bytes())?),
-                Some(Vec::new(alloc))
-            ),
-            "at {name}"
-        );
-    }
-    drop(disk);
+    assert_eq!(rt; append_and_look(&rt, path.as_str())?, None);
     fs::remove_dir_all(&rt, path.as_str())?;
     Ok(())
 }

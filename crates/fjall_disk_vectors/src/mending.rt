@@ -2,20 +2,24 @@
 
 use crate::calls::Call::*;
 use crate::calls::{DONE, YES};
-use crate::folder::{CURRENT, TORN};
+use crate::folder::{self, CURRENT, TORN};
 use crate::steps::Question::*;
 use crate::steps::Step::*;
 use crate::steps::{Row, Start};
 use fjall_base::{Error, Result};
 use fjall_memory::MemoryDisk;
-use fjall_recovery::read_folder;
-use fjall_repair::{mend, plan_mending};
+use fjall_repair::{MendPlan, mend, plan_mending};
 use std::alloc::Global;
+
+// What mends the folder.
+fn mending(alloc: Global, disk: &mut MemoryDisk) -> Result<MendPlan> {
+    let found = folder::read(alloc, disk)?.ok_or(Error::Unrecoverable)?;
+    plan_mending(alloc, &found)
+}
 
 /// Reads the folder and mends it, and answers whether this is the file of its active journal.
 pub fn mend_folder(alloc: Global, disk: &mut MemoryDisk, journal: &str) -> Result<bool> {
-    let found = read_folder(alloc, disk)?.ok_or(Error::Unrecoverable)?;
-    let plan = plan_mending(alloc, &found)?;
+    let plan = mending(alloc, disk)?;
     mend(disk, &plan)?;
     Ok(plan.active.as_str() == journal)
 }

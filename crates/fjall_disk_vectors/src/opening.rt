@@ -2,13 +2,13 @@
 
 use crate::calls::Call::*;
 use crate::calls::{Answer, DONE};
-use crate::folder::{CURRENT, MARKER, TORN};
+use crate::folder::{self, CURRENT, MARKER, TORN};
 use crate::steps::Question::*;
 use crate::steps::Step::*;
 use crate::steps::{Question, Row, Start};
 use fjall_base::{Error, FormatVersion, JournalRecoveryError, Result, StorageError};
 use fjall_memory::MemoryDisk;
-use fjall_recovery::{RecoveredFolder, read_folder};
+use fjall_recovery::{RecoveredFolder, RecoveredJournals};
 use std::alloc::Global;
 
 fn add_homes(folder: &RecoveredFolder, seen: &mut Vec<u64>) -> Result<()> {
@@ -18,11 +18,37 @@ fn add_homes(folder: &RecoveredFolder, seen: &mut Vec<u64>) -> Result<()> {
     Ok(())
 }
 
-fn add_some_id(seen: &mut Vec<u64>, id: Option<u64>) -> Result<()> {
+/// Adds this id to those that are seen, where there is one.
+pub fn add_some_id(seen: &mut Vec<u64>, id: Option<u64>) -> Result<()> {
     if let Some(id) = id {
         seen.push(id)?;
     }
     Ok(())
+}
+
+// Adds how many batches there are, their least next number, and the end of the last journal, and whether it is torn.
+fn add_batches(journals: &RecoveredJournals, seen: &mut Vec<u64>) -> Result<()> {
+    seen.extend_from_slice(&[
+        journals.batches.len() as u64,
+        journals.least,
+        journals.end as u64,
+        u64::from(journals.torn),
+    ])?;
+    Ok(())
+}
+
+// Asks a question of a folder, and adds what is seen.
+fn add_seen(folder: &RecoveredFolder, question: Question, seen: &mut Vec<u64>) -> Result<()> {
+    let keyspaces = &folder.catalog.keyspaces;
+    match question {
+        Number => add_some_id(seen, Some(folder.number())),
+        Journals => Ok(seen.extend_from_slice(&folder.journal_ids)?),
+        Folders => Ok(seen.extend_from_slice(&folder.folder_ids)?),
+        Named(name) => add_some_id(seen, keyspaces.resolve_id(name)),
+        NextId => add_some_id(seen, Some(keyspaces.next_id())),
+        Batches => add_batches(&folder.journals, seen),
+        _ => add_homes(folder, seen),
+    }
 }
 
 /// Asks a question of a finished folder, and adds what is seen; of an unfinished one nothing is.
@@ -32,26 +58,10 @@ pub fn ask(
     question: Question,
     seen: &mut Vec<u64>,
 ) -> Result<()> {
-    let Some(folder) = read_folder(alloc, disk)? else {
-        return Ok(());
-    };
-    let journals = &folder.journals;
-    let keyspaces = &folder.catalog.keyspaces;
-    match question {
-        Number => seen.push(folder.number())?,
-        Journals => seen.extend_from_slice(&folder.journal_ids)?,
-        Folders => seen.extend_from_slice(&folder.folder_ids)?,
-        Named(name) => add_some_id(seen, keyspaces.resolve_id(name))?,
-        NextId => seen.push(keyspaces.next_id())?,
-        Batches => seen.extend_from_slice(&[
-            journals.batches.len() as u64,
-            journals.least,
-            journals.end as u64,
-            u64::from(journals.torn),
-        ])?,
-        _ => add_homes(&folder, seen)?,
+    match folder::read(alloc, disk)? {
+        Some(folder) => add_seen(&folder, question, seen),
+        None => Ok(()),
     }
-    Ok(())
 }
 
 const UNREADABLE: Answer = Err(Error::Unrecoverable);

@@ -1,19 +1,20 @@
 //! Folders opened, and swept.
 
 use crate::calls::Call::*;
-use crate::calls::{DONE, FAULT, NO, YES};
-use crate::folder::TREE;
+use crate::calls::{DONE, FAULT, NO, YES, add_some};
+use crate::folder::{self, TREE};
+use crate::opening::add_some_id;
 use crate::steps::Question::*;
 use crate::steps::Step::*;
 use crate::steps::{Row, Start};
 use fjall_base::{Disk, Error, Result};
 use fjall_memory::MemoryDisk;
-use fjall_recovery::read_folder;
-use fjall_repair::{open_folder, plan_sweep, sweep};
+use fjall_recovery::RecoveredFolder;
+use fjall_repair::{Opened, SweepPlan, open_folder, plan_sweep, sweep};
 use std::alloc::Global;
 
 /// The names of what nothing names in the swollen folder.
-const UNNAMED: [&str; 6] = [
+const UNNAMED: &[&str] = &[
     "keyspaces/0/9.table",
     "keyspaces/1/1.table",
     "keyspaces/7",
@@ -23,7 +24,7 @@ const UNNAMED: [&str; 6] = [
 ];
 
 /// The names in the folder of tree 0 that stay.
-const KEPT: [&str; 3] = [
+const KEPT: &[&str] = &[
     "keyspaces/0/1.table",
     "keyspaces/0/current",
     "keyspaces/0/notes",
@@ -44,20 +45,23 @@ fn count_in(alloc: Global, disk: &mut MemoryDisk, folder: &str, names: &[&str]) 
 pub fn unnamed(alloc: Global, disk: &mut MemoryDisk) -> Result<usize> {
     let mut count = 0usize;
     for folder in ["keyspaces", "keyspaces/0", "keyspaces/1", "keyspaces/7"] {
-        count = count.saturating_add(count_in(alloc, disk, folder, &UNNAMED)?);
+        count = count.saturating_add(count_in(alloc, disk, folder, UNNAMED)?);
     }
     Ok(count)
 }
 
 /// How many of those names in the folder of tree 0 are there that stay.
 pub fn kept(alloc: Global, disk: &mut MemoryDisk) -> Result<usize> {
-    count_in(alloc, disk, TREE, &KEPT)
+    count_in(alloc, disk, TREE, KEPT)
 }
 
-/// Opens the folder, and adds the journal's length, the number of the next change, how many versions there are, the next
-/// ids of a table and of a keyspace, how many keyspaces live, and the id of "items", where there is one.
-pub fn open(alloc: Global, disk: &mut MemoryDisk, seen: &mut Vec<u64>) -> Result<()> {
-    let opened = open_folder(alloc, disk)?;
+// Opens the folder.
+fn opened(alloc: Global, disk: &mut MemoryDisk) -> Result<Opened> {
+    open_folder(alloc, disk)
+}
+
+// Adds what `open` says of an opened folder.
+fn add_opened(opened: &Opened, seen: &mut Vec<u64>) -> Result<()> {
     seen.extend_from_slice(&[
         opened.journal.len(),
         opened.number,
@@ -66,10 +70,14 @@ pub fn open(alloc: Global, disk: &mut MemoryDisk, seen: &mut Vec<u64>) -> Result
         opened.keyspaces.next_id(),
         opened.keyspaces.living().len() as u64,
     ])?;
-    if let Some(id) = opened.keyspaces.resolve_id(b"items") {
-        seen.push(id)?;
-    }
-    Ok(())
+    add_some_id(seen, opened.keyspaces.resolve_id(b"items"))
+}
+
+/// Opens the folder, and adds the journal's length, the number of the next change, how many versions there are, the next
+/// ids of a table and of a keyspace, how many keyspaces live, and the id of "items", where there is one.
+pub fn open(alloc: Global, disk: &mut MemoryDisk, seen: &mut Vec<u64>) -> Result<()> {
+    let opened = opened(alloc, disk)?;
+    add_opened(&opened, seen)
 }
 
 // How many of these names a plan has.
@@ -83,17 +91,34 @@ fn count_named(tables: &[String]) -> usize {
     count
 }
 
+// What sweeps a folder that was found on the disk.
+fn sweeping_of(alloc: Global, disk: &mut MemoryDisk, found: &RecoveredFolder) -> Result<SweepPlan> {
+    let living = found.catalog.keyspaces.living();
+    plan_sweep(alloc, disk, Some(1), living, &found.folder_ids)
+}
+
+// What sweeps the folder.
+fn sweeping(alloc: Global, disk: &mut MemoryDisk) -> Result<SweepPlan> {
+    let found = folder::read(alloc, disk)?.ok_or(Error::Unrecoverable)?;
+    sweeping_of(alloc, disk, &found)
+}
+
+// Adds how many tables a plan has, and how many of the two that nothing names, and how many folders it has.
+fn add_counts(plan: &SweepPlan, seen: &mut Vec<u64>) -> Result<()> {
+    seen.extend_from_slice(&[
+        plan.tables.len() as u64,
+        count_named(&plan.tables) as u64,
+        plan.homes.len() as u64,
+    ])?;
+    Ok(())
+}
+
 /// Sweeps the folder, and adds how many tables the plan has, and how many of the two that nothing names, how many
 /// folders it has, and how many names are there when it is made.
 pub fn sweep_unnamed(alloc: Global, disk: &mut MemoryDisk, seen: &mut Vec<u64>) -> Result<()> {
-    let found = read_folder(alloc, disk)?.ok_or(Error::Unrecoverable)?;
-    let living = found.catalog.keyspaces.living();
-    let plan = plan_sweep(alloc, disk, Some(1), living, &found.folder_ids)?;
-    let there = unnamed(alloc, disk)?;
-    let named = count_named(&plan.tables);
-    for count in [plan.tables.len(), named, plan.homes.len(), there] {
-        seen.push(count as u64)?;
-    }
+    let plan = sweeping(alloc, disk)?;
+    add_counts(&plan, seen)?;
+    add_some(seen, Some(unnamed(alloc, disk)?))?;
     sweep(disk, &plan)
 }
 

@@ -142,7 +142,12 @@ impl MemoryDisk {
 impl Disk for MemoryDisk {
     ghost honest = { true };
 
-    ghost meaning = { λ disk. record { places = map named_place disk.files.names.items; steps = map step_of disk.files.log.items; faults = disk.failing.count; misuses = disk.failing.misuses } };
+    ghost meaning = { λ disk. record {
+      places = map named_place disk.files.names.items;
+      steps = map step_of disk.files.log.items;
+      faults = disk.failing.count;
+      misuses = disk.failing.misuses;
+    } };
 
     fn faults(&self) -> u64 {
         self.failing.count

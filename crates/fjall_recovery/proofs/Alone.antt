@@ -1,13 +1,12 @@
 -- An image holds one list of journals, and each keyspace's folder one last record.
-use Rattle.std.proofs.Common.{◌≡◌, ◌≢◌, ◌⊎◌, inl, inr, ⊎_elim, ℕ, zero, suc, ◌+◌, ◌<◌, List, [], ◌∷◌, ◌++◌, length, get_or, map, All, Option, None, Some, Result, Ok, refl, sym, ◌∙◌, ap, subst, arith}
+use Rattle.std.proofs.Common.{◌≡◌, ◌⊎◌, inl, inr, ⊎_elim, ℕ, zero, suc, ◌<◌, List, [], ◌∷◌, map, All, Some, Result, Ok, refl, sym, ◌∙◌, ap, subst, arith}
 use Rattle.std.specs.Prelude.{◌↔◌, Contains}
 use Rattle.std.specs.List.Sorted.{IsStrictlyIncreasing}
 use Rattle.std.proofs.lemmas.List.Kept.{AllPairs-from_increasing}
 use Rattle.fjall_base.specs.declared.error.Error.{Error}
 use Rattle.fjall_base.specs.Store.{Store}
 use Rattle.fjall_base.specs.Disk.{Image}
-use Rattle.fjall_journal.specs.declared.batch.Tail.TheVariants.{Clean, Torn}
-use Rattle.fjall_journal.specs.Batches.{Written, IsWhole}
+use Rattle.fjall_journal.specs.Batches.{IsWhole}
 use Rattle.fjall_journal.proofs.Wholes as Wholes
 use Rattle.fjall_tree.specs.Records.{Fields}
 use Rattle.fjall_base.specs.Lists.{last_of}
@@ -21,7 +20,7 @@ use Rattle.fjall_files.specs.Marker.{marker_tells}
 use Rattle.fjall_catalog.proofs.Meanings.{one_catalog}
 use Rattle.fjall_recovery.specs.Folders.{Contents, IsSound, StandsFor, marker_bytes, store_of}
 use Rattle.fjall_recovery.specs.Homes.{HasLast, HaveHomes}
-use Rattle.fjall_recovery.specs.Journals.{Journal, ReadsAs, AreRead, AreJournalIds, HoldsJournals, journal_text}
+use Rattle.fjall_recovery.specs.Journals.{Journal, AreRead, AreJournalIds, HoldsJournals, journal_text}
 
 -- ---- rising lists
 

@@ -1,7 +1,7 @@
 -- A disk whose root lies exactly holds, in the midst of work, what whatever a crash leaves of it stands for.
 use Rattle.std.proofs.Common.{◌≡◌, List, [], ◌∷◌, ◌++◌, Result, Ok, sym, ◌∙◌}
 use Rattle.fjall_base.specs.declared.error.Error.{Error}
-use Rattle.fjall_base.specs.Store.{Store, Command, fold, kept}
+use Rattle.fjall_base.specs.Store.{Store, Command}
 use Rattle.fjall_base.specs.Crash.{IsHoused}
 use Rattle.fjall_base.specs.Disk.{State, Image, IsImage, standing}
 use Rattle.fjall_files.specs.declared.marker.Marker.{Marker}

@@ -1,5 +1,5 @@
 -- A folder whose making was cut short holds no whole batch, and no record but the first one.
-use Rattle.std.proofs.Common.{◌≡◌, ◌≢◌, ◌⊎◌, inl, inr, ⊎_elim, ℕ, zero, suc, ◌+◌, ◌<◌, ◌≤◌, ◌^◌, List, [], ◌∷◌, ◌++◌, length, take, drop, get_or, map, All, Option, None, Some, refl, sym, ◌∙◌, ap, subst, add-one, arith, append_assoc, take-append-drop}
+use Rattle.std.proofs.Common.{◌≡◌, ◌≢◌, inl, inr, ⊎_elim, ℕ, zero, suc, ◌+◌, ◌<◌, ◌≤◌, List, [], ◌∷◌, ◌++◌, length, take, drop, get_or, All, refl, sym, ◌∙◌, ap, subst, add-one, arith, append_assoc, take-append-drop}
 use Rattle.std.proofs.lemmas.List.{append-nil, length-take, get_or_default}
 use Rattle.std.proofs.lemmas.List.Elements.{All-append}
 use Rattle.std.proofs.Math.Seq.{take-suc}
@@ -9,7 +9,7 @@ use Rattle.fjall_base.specs.Disk.{Entry, Missing, File, Folder, Image, IsFile}
 use Rattle.fjall_files.specs.Texts.{text_in}
 use Rattle.fjall_journal.specs.declared.batch.Tail.{Tail}
 use Rattle.fjall_journal.specs.Spelling.{spelling}
-use Rattle.fjall_journal.specs.Batches.{Shown, Written, IsWritten, IsWhole, NoneAt, batch_text, shown}
+use Rattle.fjall_journal.specs.Batches.{Shown, Written, IsWhole, NoneAt, batch_text}
 use Rattle.fjall_table.specs.Frame.{NoFrame}
 use Rattle.fjall_tree.specs.Records.{Fields, HasContradiction, IsRecord, IsRecords, record_text}
 use Rattle.fjall_tree.proofs.Currents.{contradiction_has_no_reading}

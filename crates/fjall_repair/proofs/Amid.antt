@@ -1,19 +1,15 @@
 -- A folder that is repaired and opened where a crash may leave different stores.
-use Rattle.std.proofs.Common.{◌≡◌, inl, inr, ℕ, ◌<◌, ◌^◌, List, [], ◌∷◌, Option, None, Some, Result, Ok, Err, refl, sym, ◌∙◌, ap, subst}
-use Rattle.fjall_base.specs.declared.error.Error.{Error}
+use Rattle.std.proofs.Common.{◌≡◌, List, [], sym, subst}
 use Rattle.fjall_base.specs.Store.{Store, Command, fold, kept}
 use Rattle.fjall_base.specs.Crash.{IsHoused}
-use Rattle.fjall_base.specs.Disk.{State, Image, IsFile, IsImage, LeavesOnly, Meaning, Place, Took, standing, state_in}
+use Rattle.fjall_base.specs.Disk.{State, Image, IsImage, LeavesOnly, Meaning, Took, standing, state_in}
 use Rattle.fjall_base.proofs.Moments.{at_end, started, weaken}
-use Rattle.fjall_files.specs.Names.{journal_name}
-use Rattle.fjall_recovery.specs.Folders.{Contents, IsSound, IsUnfinished, StandsFor, store_of}
+use Rattle.fjall_recovery.specs.Folders.{Contents, IsSound, IsUnfinished, StandsFor}
 use Rattle.fjall_recovery.proofs.Alone.{one_store}
 use Rattle.fjall_recovery.specs.Amid.{ComesBackUnfinished, HoldsAmid, StandsAmid}
-use Rattle.fjall_recovery.specs.Held.{IsFolder, store_held}
-use Rattle.fjall_recovery.specs.Places.{Journaling, LiesInRoot, RestsInTree, contents_with}
+use Rattle.fjall_recovery.specs.Places.{Journaling, LiesInRoot}
 use Rattle.fjall_recovery.proofs.Alike.{standing_amid}
 use Rattle.fjall_recovery.proofs.Amidst.{lies_amid}
-use Rattle.fjall_recovery.proofs.Holding.{folder_stands}
 
 -- an image of the store that this one stands for stands for as many commands
 pub like_now : (image other : Image) (store : Store) (base : Store) (pending : List Command) → StandsAmid base [] pending image → StandsFor image store → StandsFor other store → StandsAmid base [] pending other

@@ -1,19 +1,19 @@
 -- What may come back while the marker is written: where what stands is unfinished, nothing that is finished.
-use Rattle.std.proofs.Common.{◌≡◌, ◌≢◌, ◌⊎◌, inl, inr, ⊎_elim, ℕ, ◌<◌, ◌^◌, true, false, List, [], ◌∷◌, ◌++◌, take, map, codes, Result, Ok, Err, refl, sym, ◌∙◌, ap, subst, arith}
+use Rattle.std.proofs.Common.{◌≡◌, ◌≢◌, ◌⊎◌, inl, inr, ℕ, ◌<◌, ◌^◌, true, false, List, [], ◌∷◌, ◌++◌, take, map, codes, Result, Ok, Err, refl, sym, ◌∙◌, ap, subst, arith}
 use Rattle.std.specs.Prelude.{Contains, OnOk, OnErr}
 use Rattle.std.specs.List.{AllByRecursion}
 use Rattle.std.specs.Str.{bytes_eq}
 use Rattle.std.proofs.lemmas.List.Elements.{recursion_from_All}
 use Rattle.fjall_base.specs.declared.error.Error.{Error}
-use Rattle.fjall_base.specs.Disk.{Name, Entry, Missing, File, Folder, Place, State, Image, IsFile, Put, Append, Sync, Loosen, Cut, SyncFolder, Meaning, Took, TookOrNot, TookPart, TookCut, alter, all_synced, appended, cut_to, loosened, making, standing, state_in}
-use Rattle.fjall_base.proofs.States.{alter-same, differs, put-same, settle-in}
+use Rattle.fjall_base.specs.Disk.{Name, Entry, Missing, File, Folder, Place, State, Image, IsFile, Append, Sync, SyncFolder, Meaning, Took, TookOrNot, TookPart, TookCut, alter, all_synced, appended, cut_to, loosened, making, standing, state_in}
+use Rattle.fjall_base.proofs.States.{alter-same, put-same, settle-in}
 use Rattle.fjall_files.proofs.Changes.{settle-now}
 use Rattle.fjall_files.specs.Names.{journal_name}
 use Rattle.fjall_recovery.specs.Folders.{Contents, IsSound, IsUnfinished}
 use Rattle.fjall_recovery.specs.Journals.{Journal}
-use Rattle.fjall_recovery.specs.Places.{LiesInRoot, journal_ids}
-use Rattle.fjall_repair.specs.Making.{ComesBackUnfinished, IsKept, MayStand, StaysAt}
-use Rattle.fjall_repair.specs.Plans.{AwaitsMarker, empty_journals, marked}
+use Rattle.fjall_recovery.specs.Places.{journal_ids}
+use Rattle.fjall_repair.specs.Making.{ComesBackUnfinished, IsKept, MayStand}
+use Rattle.fjall_repair.specs.Plans.{AwaitsMarker, empty_journals}
 use Rattle.fjall_repair.proofs.Awaiting.{marked_other}
 use Rattle.fjall_repair.proofs.Named.{marker_no_journal}
 use Rattle.fjall_repair.proofs.Fronts.{bool_cases, same, same_test}

@@ -1,9 +1,9 @@
 -- A file is ended where all that counts in it ends: an image whose file has a beginning of it says the same, whatever it says.
-use Rattle.std.proofs.Common.{◌≡◌, ◌≢◌, ◌⊎◌, inl, inr, ⊎_elim, ℕ, ◌<◌, ◌≤◌, List, [], ◌∷◌, length, take, drop, codes, map, Option, Some, refl, sym, ◌∙◌, ap, subst, arith}
+use Rattle.std.proofs.Common.{◌≡◌, ◌⊎◌, inl, inr, ⊎_elim, ℕ, ◌≤◌, List, [], ◌∷◌, length, take, codes, Some, sym, ◌∙◌, ap, subst, arith}
 use Rattle.std.proofs.lemmas.Bool.{cases_lt}
 use Rattle.std.proofs.lemmas.List.{length-drop, length-take, take_all}
 use Rattle.fjall_base.specs.Store.{Store, Command}
-use Rattle.fjall_base.specs.Disk.{Name, Entry, Folder, State, Image, IsFile, IsImage, standing}
+use Rattle.fjall_base.specs.Disk.{Name, Entry, State, Image, IsImage, standing}
 use Rattle.fjall_base.proofs.Lists.{front_of_part}
 use Rattle.fjall_files.specs.Trims.{IsTrimmed}
 use Rattle.fjall_journal.specs.declared.batch.Tail.TheVariants.{Clean, Torn}
@@ -16,13 +16,12 @@ use Rattle.fjall_files.specs.Names.{journal_name, current_name, table_name}
 use Rattle.fjall_recovery.specs.Folders.{Contents, IsSound, file_bytes}
 use Rattle.fjall_recovery.specs.Journals.{Journal, ReadsAs, AreRead, journal_text}
 use Rattle.fjall_recovery.specs.Halves.{HasRoot}
-use Rattle.fjall_recovery.specs.Places.{texts_of}
 use Rattle.fjall_repair.specs.Amids.{StaysAmid}
 use Rattle.fjall_repair.specs.Steps.{End, EndsBatches, EndsRecords, IsRightEnd}
 use Rattle.fjall_repair.proofs.Naming.{journal_current, journal_table, marker_journal}
-use Rattle.fjall_repair.proofs.Halving.{file_is, no_folder, root_of, tree_in, sound_of, tree_of, tree_along}
+use Rattle.fjall_repair.proofs.Halving.{root_of, tree_in, sound_of, tree_of, tree_along}
 use Rattle.fjall_repair.proofs.Cutting.{journal_cut, whole_cut, whole_length}
-use Rattle.fjall_repair.proofs.Trimming.{Cuts, IsCut, elsewhere, file_back, file_stays, folder_back, folder_stays, records_are_cut}
+use Rattle.fjall_repair.proofs.Trimming.{Cuts, elsewhere, file_back, file_stays, folder_back, folder_stays, records_are_cut}
 use Rattle.fjall_repair.proofs.Ending.{keeps_cut}
 
 -- what is read of a beginning of a text ends where what is read of the text ends, or before

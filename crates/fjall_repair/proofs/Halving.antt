@@ -1,6 +1,6 @@
 -- What a sound folder says of its root and of its keyspaces, and images in which these stand alike.
-use Rattle.std.proofs.Common.{◌≡◌, inl, inr, ℕ, List, [], ◌∷◌, codes, refl, sym, ◌∙◌, ap, subst, Option, Some, None}
-use Rattle.fjall_base.specs.Disk.{Name, Entry, Missing, File, Folder, Image, IsFile}
+use Rattle.std.proofs.Common.{◌≡◌, inl, inr, ℕ, List, [], ◌∷◌, codes, sym, ◌∙◌, ap, subst, Option, Some, None}
+use Rattle.fjall_base.specs.Disk.{Name, Entry, Folder, Image, IsFile}
 use Rattle.fjall_journal.specs.declared.batch.Tail.TheVariants.{Clean, Torn}
 use Rattle.fjall_table.specs.declared.table_info.TableInfo.{TableInfo}
 use Rattle.fjall_tree.specs.Records.{Fields, IsRecords}

@@ -1,20 +1,18 @@
 -- What a disk holds after a mending that may have failed.
-use Rattle.std.proofs.Common.{◌≡◌, ◌⊎◌, inl, inr, ⊎_elim, ℕ, ◌<◌, ◌^◌, List, [], ◌∷◌, map, codes, Result, Ok, Err, refl, sym, ◌∙◌, ap, subst, arith}
+use Rattle.std.proofs.Common.{◌≡◌, ◌⊎◌, inl, inr, ⊎_elim, ℕ, ◌<◌, ◌^◌, List, [], ◌∷◌, Result, Ok, Err, sym, ◌∙◌, ap, subst, arith}
 use Rattle.std.specs.Prelude.{Contains, OnOk, OnErr}
 use Rattle.fjall_base.specs.declared.error.Error.{Error}
 use Rattle.fjall_base.specs.Store.{Store, Command}
 use Rattle.fjall_base.specs.Crash.{IsHoused}
-use Rattle.fjall_base.specs.Disk.{Name, Entry, File, State, Image, IsImage, IsFile, LeavesOnly, Meaning, Place, Took, SyncFolder, making, folder_of, standing, state_in}
+use Rattle.fjall_base.specs.Disk.{Name, File, State, Image, IsImage, IsFile, LeavesOnly, Meaning, Took, SyncFolder, making, folder_of, standing, state_in}
 use Rattle.fjall_base.proofs.Moments.{at_end}
 use Rattle.fjall_base.proofs.Wholes.{all_kept, all_kept_is_left}
 use Rattle.fjall_files.proofs.Changes.{settle-now}
-use Rattle.fjall_files.specs.declared.marker.Marker.TheVariants.{Whole, Unfinished}
 use Rattle.fjall_files.specs.Names.{journal_name}
 use Rattle.fjall_recovery.specs.Folders.{Contents, IsSound, IsUnfinished}
 use Rattle.fjall_recovery.specs.Journals.{Journal}
-use Rattle.fjall_recovery.specs.Amid.{ComesBackUnfinished, HoldsAmid, StandsAmid}
-use Rattle.fjall_recovery.proofs.Alike.{Alike, alike_sound, kept_alike, standing_amid}
-use Rattle.fjall_repair.specs.declared.mending.plan.MendPlan.{MendPlan}
+use Rattle.fjall_recovery.specs.Amid.{HoldsAmid, StandsAmid}
+use Rattle.fjall_recovery.proofs.Alike.{alike_sound, kept_alike, standing_amid}
 use Rattle.fjall_repair.specs.Amids.{StaysAmid}
 use Rattle.fjall_repair.specs.Steps.{IsOpened, IsSame, active_of, with_active}
 use Rattle.fjall_repair.proofs.Naming.{folder_of-journal}

@@ -4,7 +4,7 @@ use Rattle.std.specs.Prelude.{Contains}
 use Rattle.std.specs.List.{AllByRecursion}
 use Rattle.std.proofs.lemmas.List.{append-nil, length-take}
 use Rattle.fjall_base.specs.Crash.{IsHoused}
-use Rattle.fjall_base.specs.Disk.{Name, Entry, Missing, File, Folder, Place, State, Image, IsFile, IsLong, IsThere, CanCreate, Meaning, all_synced, folder_of, standing, state_in}
+use Rattle.fjall_base.specs.Disk.{Name, Entry, Missing, File, Folder, Place, State, Image, IsFile, IsLong, IsThere, CanCreate, all_synced, standing}
 use Rattle.fjall_files.specs.Texts.{text_in}
 use Rattle.fjall_tree.specs.Records.{Fields}
 use Rattle.fjall_files.specs.declared.marker.Marker.TheVariants.{Whole}
@@ -19,7 +19,6 @@ use Rattle.fjall_recovery.specs.declared.folder.RecoveredFolder.{RecoveredFolder
 use Rattle.fjall_recovery.specs.declared.homes.KeyspaceRecords.{KeyspaceRecords}
 use Rattle.fjall_recovery.specs.Folders.{Contents, IsFinished, IsSound, file_bytes}
 use Rattle.fjall_recovery.specs.Homes.{HaveHomes}
-use Rattle.fjall_recovery.specs.Journals.{Journal}
 use Rattle.fjall_repair.specs.declared.mending.plan.FileEnd.{FileEnd}
 use Rattle.fjall_repair.specs.declared.mending.plan.MendPlan.{MendPlan}
 use Rattle.fjall_repair.specs.Mended.{IsMendingOf}
@@ -27,7 +26,7 @@ use Rattle.fjall_repair.specs.Steps.{End, IsOpened, IsPlanOf, IsRightEnd, IsSame
 use Rattle.fjall_repair.proofs.Naming.{journal_current, marker_current}
 use Rattle.fjall_repair.proofs.Items.{back_map}
 use Rattle.fjall_repair.proofs.Ending.{MayBeEnded, one_end}
-use Rattle.fjall_repair.proofs.MendOpened.{active_small, ids_of, opened_sound}
+use Rattle.fjall_repair.proofs.MendOpened.{active_small, ids_of}
 use Rattle.fjall_repair.proofs.Turns.{AreRight}
 use Rattle.fjall_repair.proofs.Carrying.{alike_same, each_to, name_of_end, right_along, same_whole_names}
 use Rattle.fjall_repair.proofs.Suiting.{planned_names, same_ids}

@@ -21,7 +21,7 @@ use Rattle.fjall_meta.specs.declared.entry.MetaEntry.{MetaEntry}
 use Rattle.fjall_meta.specs.declared.living.LivingKeyspace.{LivingKeyspace}
 use Rattle.fjall_meta.specs.Entries.{entries_of}
 use Rattle.fjall_versions.specs.Replays.{first_fault}
-use Rattle.fjall_catalog.specs.Catalog.{AreSafe, HoldsEntries, IsTableOf, Rests, fields, only}
+use Rattle.fjall_catalog.specs.Catalog.{AreSafe, HoldsEntries, IsTableOf, fields, only}
 use Rattle.fjall_catalog.proofs.Resting.{last_has, table_id}
 use Rattle.fjall_recovery.specs.Folders.{Contents, IsSound, file_bytes}
 use Rattle.fjall_recovery.specs.Homes.{HasLast, HaveHomes}

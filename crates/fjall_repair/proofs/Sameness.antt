@@ -1,5 +1,5 @@
 -- Where all that counts is synced, an image that is sound is what stands.
-use Rattle.std.proofs.Common.{◌≡◌, ◌⊎◌, inl, inr, ⊎_elim, ℕ, zero, suc, ◌<◌, ◌^◌, List, [], ◌∷◌, ◌++◌, length, take, map, All, codes, Option, None, Some, refl, sym, ◌∙◌, ap, subst, arith}
+use Rattle.std.proofs.Common.{◌≡◌, inl, inr, ⊎_elim, ℕ, suc, ◌<◌, ◌^◌, List, [], ◌∷◌, length, take, map, All, codes, Option, None, Some, refl, sym, ◌∙◌, ap, subst, arith}
 use Rattle.std.specs.Prelude.{◌↔◌, IfSome}
 use Rattle.std.specs.List.{AllByRecursion}
 use Rattle.std.proofs.lemmas.List.{take_all, length-take}
@@ -22,7 +22,7 @@ use Rattle.fjall_recovery.specs.Homes.{HasLast, HaveHomes}
 use Rattle.fjall_recovery.specs.Journals.{Journal, journal_text}
 use Rattle.fjall_recovery.proofs.Alike.{sound_by}
 use Rattle.fjall_recovery.proofs.Holding.{there_or_not}
-use Rattle.fjall_repair.specs.Steps.{IsSynced, active_of, ended_names, folder_names, sealed_of, whole_names}
+use Rattle.fjall_repair.specs.Steps.{IsSynced, active_of, ended_names, folder_names, whole_names}
 use Rattle.fjall_repair.proofs.Naming.{folder_of-journal, folder_of-folder, folder_of-current, folder_of-table}
 use Rattle.fjall_repair.proofs.Trimming.{fits_all}
 use Rattle.fjall_repair.proofs.MendOpened.{ids_of}

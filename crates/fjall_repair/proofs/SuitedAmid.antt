@@ -1,6 +1,6 @@
 -- A folder that was read, mended as it is planned, where a crash may leave different stores.
-use Rattle.std.proofs.Common.{◌≡◌, string_bytes, ◌∙◌, ap}
-use Rattle.fjall_base.specs.Disk.{Image, Meaning, State, standing, state_in}
+use Rattle.std.proofs.Common.{string_bytes, ◌∙◌, ap}
+use Rattle.fjall_base.specs.Disk.{Image, State}
 use Rattle.fjall_files.specs.Names.{journal_name}
 use Rattle.fjall_recovery.specs.declared.folder.RecoveredFolder.{RecoveredFolder}
 use Rattle.fjall_recovery.specs.Folders.{Contents, IsFinished, IsSound, Shows}

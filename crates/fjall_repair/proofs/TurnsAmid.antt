@@ -1,10 +1,8 @@
 -- One turn of the loop that ends files, where a crash may leave different stores, and what stands after it.
-use Rattle.std.proofs.Common.{◌≡◌, ◌≢◌, ◌⊎◌, inl, inr, ⊎_elim, ℕ, ◌+◌, ◌<◌, ◌≤◌, Bool, true, false, List, [], ◌++◌, length, take, get_or, All, string_bytes, Result, Ok, Err, refl, sym, ◌∙◌, ap, subst, arith}
-use Rattle.std.specs.Prelude.{OnOk}
+use Rattle.std.proofs.Common.{◌≡◌, ◌≢◌, ◌⊎◌, inl, inr, ⊎_elim, ℕ, ◌+◌, ◌<◌, Bool, true, false, List, [], ◌++◌, length, take, get_or, string_bytes, refl, sym, ◌∙◌, ap, subst, arith}
 use Rattle.std.proofs.lemmas.List.{append-nil, take_all}
-use Rattle.fjall_base.specs.declared.error.Error.{Error}
 use Rattle.fjall_base.specs.Store.{Store, Command}
-use Rattle.fjall_base.specs.Disk.{Name, Entry, Missing, File, Folder, Image, IsFile, IsImage, LeavesOnly, Meaning, Place, State, standing, state_in}
+use Rattle.fjall_base.specs.Disk.{Name, Entry, Missing, File, Folder, Image, IsFile, LeavesOnly, Meaning, Place, State, standing, state_in}
 use Rattle.fjall_base.proofs.Moments.{at_end, runs_on, weaken}
 use Rattle.fjall_files.specs.Texts.{text_in}
 use Rattle.fjall_files.specs.Trims.{IsTrimmed, ended, ended_place}

@@ -1,5 +1,5 @@
 -- A folder while it is made: what may stand at each of its names, and how a disk goes on that holds it.
-use Rattle.std.specs.Prelude.{◌≡◌, ◌≢◌, ◌⊎◌, ℕ, ◌<◌, ◌^◌, Bool, true, false, List, [], ◌∷◌, take, codes, Option, Some, Ok}
+use Rattle.std.specs.Prelude.{◌≡◌, ◌≢◌, ◌⊎◌, ℕ, ◌<◌, ◌^◌, Bool, true, false, List, [], take, codes, Option, Some, Ok}
 use Rattle.std.specs.List.{AllByRecursion}
 use Rattle.fjall_base.specs.declared.error.FormatVersion.TheVariants.{V3}
 use Rattle.fjall_base.specs.Disk.{Name, Entry, File, Folder, State, Image, IsFile, Step, Put, Append, Sync, Loosen, Cut, SyncFolder, Meaning, Took, LeavesOnly, folder_of, state_in}

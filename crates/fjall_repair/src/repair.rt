@@ -33,7 +33,8 @@ pub(crate) fn mend_and_sweep<D: Disk>(
         → WhereRead (D.meaning disk.old) found (λ contents. Holds (state_in (D.meaning disk.old)) (Some contents)
         → IsMendingOf (seen (D.meaning disk.old)) found mending.now → IsSweepOf found plan.now
         → LeavesOnly (D.meaning disk.old) (D.meaning disk.new) (λ image. StandsFor image (store_of contents))) }
-    ensures ok { IsTrue D.honest → (found : RecoveredFolder) → WhereRead (D.meaning disk.old) found (λ contents. Holds (state_in (D.meaning disk.old)) (Some contents)
+    ensures ok { IsTrue D.honest → (found : RecoveredFolder)
+        → WhereRead (D.meaning disk.old) found (λ contents. Holds (state_in (D.meaning disk.old)) (Some contents)
         → IsMendingOf (seen (D.meaning disk.old)) found mending.now → IsSweepOf found plan.now → FindsNamed (state_in (D.meaning disk.old)) found plan.now
         → OnOk result (IsRepaired (state_in (D.meaning disk.new)) contents (string_bytes mending.now.active) found.journals.end)) }
     ensures gone { IsTrue D.honest → OnOk result (AreGone (state_in (D.meaning disk.new)) (planned plan.now)) }

@@ -1,8 +1,7 @@
 -- Which keyspaces persist by hand.
 use Rattle.std.proofs.Common.{◌≡◌, ℕ, ◌&&◌, Bool, true, false, cond, List, [], Option, None, Some, unwrap_or, codes, refl, sym, ap, ◌∙◌}
 use Rattle.std.specs.Option.{is_some, option_map}
-use Rattle.std.specs.Ordering.{nat_cmp}
-use Rattle.std.specs.FinMap.{FinMap, contains_key, get, get-retain_keys, nat_cmp-IsAntisymmetric, retain_keys}
+use Rattle.std.specs.FinMap.{contains_key, get, get-retain_keys, nat_cmp-IsAntisymmetric}
 use Rattle.fjall_base.specs.Pairs.{Bytes}
 use Rattle.fjall_base.specs.Store.{Options, Store, kept}
 use Rattle.fjall_meta.specs.declared.living.LivingKeyspace.{LivingKeyspace}

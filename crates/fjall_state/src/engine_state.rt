@@ -42,9 +42,23 @@ impl Model for EngineState {
 
     ghost coded = { Prim.hlevel (codes, handles_code) };
 
-    ghost view = { λ m. record { keyspaces = m.keyspaces; versions = m.versions.items; next = m.next; poisoned = m.poisoned; handles = from_entries m.handles.entries; lasting = m.lasting.items } };
+    ghost view = { λ m. record {
+      keyspaces = m.keyspaces;
+      versions = m.versions.items;
+      next = m.next;
+      poisoned = m.poisoned;
+      handles = from_entries m.handles.entries;
+      lasting = m.lasting.items;
+    } };
 
-    ghost invariant = { λ m. IsLawful (record { keyspaces = m.keyspaces; versions = m.versions.items; next = m.next; poisoned = m.poisoned; handles = from_entries m.handles.entries; lasting = m.lasting.items }) };
+    ghost invariant = { λ m. IsLawful (record {
+      keyspaces = m.keyspaces;
+      versions = m.versions.items;
+      next = m.next;
+      poisoned = m.poisoned;
+      handles = from_entries m.handles.entries;
+      lasting = m.lasting.items;
+    }) };
 }
 
 /// How many handles of a keyspace are counted.

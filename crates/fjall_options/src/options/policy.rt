@@ -55,7 +55,8 @@ impl<T: PolicyEntry> Model for Policy<T> {
 
     ghost view = { λ p. p.entries.items };
 
-    ghost invariant = { λ p. (0 < length p.entries.items) × (length p.entries.items < 256) × (p.bytes ≡ policy_bytes T.spelled p.entries.items) × ((rest : List ℕ) → policy_at T.entry_at (p.bytes ++ rest) ≡ Ok p.entries.items) };
+    ghost invariant = { λ p. (0 < length p.entries.items) × (length p.entries.items < 256) × (p.bytes ≡ policy_bytes T.spelled p.entries.items)
+        × ((rest : List ℕ) → policy_at T.entry_at (p.bytes ++ rest) ≡ Ok p.entries.items) };
 }
 
 impl<T: PolicyEntry> Policy<T> {

@@ -47,14 +47,15 @@ pub fn mend<D: Disk>(disk: &mut D, plan: &MendPlan) -> Result<()>
     ensures amid { IsTrue D.honest → (found : RecoveredFolder)
         → WhereSound (D.meaning disk.old) found (λ c. IsMendingOf (seen (D.meaning disk.old)) found plan.now
         → LeavesAmid (D.meaning disk.old) (D.meaning disk.new)) }
-    ensures mended { IsTrue D.honest → (found : RecoveredFolder) → WhereSound (D.meaning disk.old) found (λ c. IsMendingOf (seen (D.meaning disk.old)) found plan.now
+    ensures mended { IsTrue D.honest → (found : RecoveredFolder)
+        → WhereSound (D.meaning disk.old) found (λ c. IsMendingOf (seen (D.meaning disk.old)) found plan.now
         → WhereAmid (D.meaning disk.old) (OnOk result (IsMended (state_in (D.meaning disk.new)) found c (string_bytes plan.now.active)))) }
     // Then it holds them still, also where the call fails.
     ensures held { IsTrue D.honest → (found : RecoveredFolder)
         → WhereSound (D.meaning disk.old) found (λ c. IsMendingOf (seen (D.meaning disk.old)) found plan.now
         → KeepsAmid (D.meaning disk.old) (D.meaning disk.new)) }
-    ensures kinds { IsTrue D.honest → (found : RecoveredFolder) → IsFinished (seen (D.meaning disk.old)) found → IsMendingOf (seen (D.meaning disk.old)) found plan.now
-        → StaysTidy (D.meaning disk.old) (D.meaning disk.new) }
+    ensures kinds { IsTrue D.honest → (found : RecoveredFolder) → IsFinished (seen (D.meaning disk.old)) found
+        → IsMendingOf (seen (D.meaning disk.old)) found plan.now → StaysTidy (D.meaning disk.old) (D.meaning disk.new) }
     // The records of a keyspace that doesn't live stay as they are.
     ensures homes { IsTrue D.honest → (image : Image) (found : RecoveredFolder) → IsFinished image found → IsMendingOf image found plan.now
         → (id : ℕ) → 0 < id → id < 2 ^ 64 → (Lives found.catalog.keyspaces.living id → ⊥)

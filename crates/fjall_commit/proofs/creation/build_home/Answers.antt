@@ -1,8 +1,8 @@
 use Rattle.std.proofs.Common.{[], ◌∷◌, ◌∙◌, subst, inr, ap, sym}
-use Rattle.fjall_base.specs.Disk.{File, Folder, Meaning, Name, SyncFolder, Took, state_in, IsNoFolder, IsThere, Place, folder_of, standing}
+use Rattle.fjall_base.specs.Disk.{File, Folder, Meaning, Name, SyncFolder, Took, state_in, IsNoFolder, folder_of}
 use Rattle.fjall_recovery.proofs.Trees.{folder_of-home}
 use Rattle.fjall_files.proofs.Made.{within_both}
-use Rattle.fjall_files.specs.Names.{keyspace_folder, current_name}
+use Rattle.fjall_files.specs.Names.{keyspace_folder}
 use Rattle.fjall_recovery.proofs.Listed.{in_keyspaces}
 use Rattle.fjall_commit.proofs.ServableCreations.{can_make_home, keyspaces_there}
 use Rattle.fjall_commit.proofs.FolderNames.{within_keyspaces}

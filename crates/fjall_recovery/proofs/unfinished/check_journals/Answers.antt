@@ -1,4 +1,4 @@
-use Rattle.std.proofs.Common.{◌∙◌, ◌≤◌, ℕ, [], ap, get_or, length, refl, subst, sym, take, arith}
+use Rattle.std.proofs.Common.{◌∙◌, [], ap, get_or, refl, subst, sym, arith}
 use Rattle.std.proofs.lemmas.List.{take_all}
 use Rattle.fjall_base.specs.Disk.{Image, standing, state_in}
 use Rattle.fjall_journal.specs.Batches.{NoneAt}

@@ -1,4 +1,4 @@
-use Rattle.std.proofs.Common.{◌≡◌, ◌∙◌, Bool, false, ap, refl, sym}
+use Rattle.std.proofs.Common.{◌∙◌, ap, sym}
 use Rattle.std.specs.Option.{option_copied, option_map}
 use Rattle.fjall_options.specs.declared.options.effective.EffectiveSettings.{EffectiveSettings}
 use Rattle.fjall_meta.specs.declared.living.LivingKeyspace.{LivingKeyspace}
