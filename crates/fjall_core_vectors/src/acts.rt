@@ -1,9 +1,9 @@
 //! Scenarios over a disk in memory: lists of acts, and what each of them answers.
 
-use crate::database::{Database, add, closed, items, opened};
+use crate::database::{Database, add, closed, crashed, items, opened};
 use crate::script::Line;
 use crate::tape::Tape;
-use fjall_base::{CompressionType, Disk, Error, Refused, Result, Slice, checksum};
+use fjall_base::{CompressionType, Disk, Error, KvPair, Refused, Result, Slice, checksum};
 use fjall_core::KeyRange;
 use fjall_journal::{Entry, ValueType};
 use fjall_memory::MemoryDisk;
@@ -11,14 +11,14 @@ use std::alloc::Global;
 use std::ops::Bound;
 
 /// A change in a batch that a test writes itself: an item gives or takes the value "w" of "a".
-#[derive(Clone, Copy, Debug)]
+#[derive(Clone, Copy)]
 pub enum Change {
     Item(u64, ValueType),
     Clear(u64),
 }
 
 /// What is done to a database, or to the disk of one that isn't open.
-#[derive(Clone, Copy, Debug)]
+#[derive(Clone, Copy)]
 pub enum Act {
     /// A call of the database.
     Ask(Line),
@@ -72,6 +72,12 @@ pub const ONE: &[u8] = &[
     1, 1, 0, 0, 0, 1, 0, 0, 0, 0, 0, 0, 0, 2, 0, 0, 1, 0, 0, 0, 0, 0, 0, 0, 1, 0, 1, 0, 0, 0, 1, 0,
     0, 0, 97, 98, 3, 18, 215, 64, 145, 131, 194, 0, 0, 70, 74, 76, 3,
 ];
+
+/// So many bytes of it.
+fn one(len: usize) -> &'static [u8] {
+    let whole = ONE;
+    whole.get(..len).unwrap_or(whole)
+}
 
 /// A new database with the keyspace 1.
 pub const ITEMS: &[Row] = &[(Act::Open, ""), (Act::Ask(Line::Create("items")), "1")];
@@ -157,41 +163,66 @@ fn owned(alloc: Global, bound: Bound<&str>) -> Result<Bound<Slice>> {
     })
 }
 
-/// The keys of a page.
-fn page_text(
-    alloc: Global,
-    core: &mut Database<MemoryDisk>,
-    id: u64,
-    range: &KeyRange,
-    back: bool,
-    max: usize,
-) -> Result<String> {
+/// Bounds with keys of their own.
+fn range(alloc: Global, from: Bound<&str>, to: Bound<&str>) -> Result<KeyRange> {
+    let from = owned(alloc, from)?;
+    Ok((from, owned(alloc, to)?))
+}
+
+/// The keys of pairs.
+fn keys_text(alloc: Global, pairs: &[KvPair]) -> Result<String> {
     let mut text = String::new(alloc);
-    for (key, _) in &core.page(id, range, back, max)? {
+    for (key, _) in pairs {
         spell(&mut text, key)?;
     }
     Ok(text)
 }
 
-/// What an open database answers.
-fn asked(alloc: Global, core: &mut Database<MemoryDisk>, act: Act) -> Result<String> {
-    let number = match act {
-        Act::Ask(line) => line.ask(core)?,
-        Act::ByHand(name) => Some(core.keyspace_by_hand(name.as_bytes())?),
-        Act::Get(id, key) => return value_text(alloc, core, id, key),
-        Act::Page(id, from, to, back, max) => {
-            let range = (owned(alloc, from)?, owned(alloc, to)?);
-            return page_text(alloc, core, id, &range, back, max);
-        }
-        Act::Names => return names_text(alloc, &core.names()?),
-        Act::Exists(name) => return flag_text(alloc, core.keyspace_exists(name.as_bytes())),
+/// The keys of a page.
+fn page_text(
+    alloc: Global,
+    core: &mut Database<MemoryDisk>,
+    id: u64,
+    (from, to): (Bound<&str>, Bound<&str>),
+    back: bool,
+    max: usize,
+) -> Result<String> {
+    let range = range(alloc, from, to)?;
+    keys_text(alloc, &core.page(id, &range, back, max)?)
+}
+
+/// A number that an open database tells of itself.
+fn told_number(core: &Database<MemoryDisk>, act: Act) -> Option<u64> {
+    match act {
         Act::Count => Some(core.keyspace_count() as u64),
         Act::Seqno => Some(core.seqno()),
         Act::Visible => Some(core.visible_seqno()),
         Act::Space => Some(core.journal_disk_space()),
-        _ => return Ok(String::from_str(alloc, "the database is open")?),
-    };
-    number_text(alloc, number)
+        _ => None,
+    }
+}
+
+/// What an open database tells of itself.
+fn told(alloc: Global, core: &Database<MemoryDisk>, act: Act) -> Result<String> {
+    let number = told_number(core, act);
+    if number.is_some() {
+        number_text(alloc, number)
+    } else {
+        Ok(String::from_str(alloc, "the database is open")?)
+    }
+}
+
+/// What an open database answers.
+fn asked(alloc: Global, core: &mut Database<MemoryDisk>, act: Act) -> Result<String> {
+    match act {
+        Act::Ask(line) => number_text(alloc, line.ask(core)?),
+        Act::ByHand(name) => number_text(alloc, Some(core.keyspace_by_hand(name.as_bytes())?)),
+        Act::Get(id, key) => value_text(alloc, core, id, key),
+        Act::Page(id, from, to, back, max) => page_text(alloc, core, id, (from, to), back, max),
+        Act::Names => names_text(alloc, &core.names()?),
+        Act::Exists(name) => flag_text(alloc, core.keyspace_exists(name.as_bytes())),
+        _ => told(alloc, core, act),
+    }
 }
 
 /// Puts another byte at a place of a file.
@@ -218,17 +249,28 @@ fn entry(alloc: Global, change: Change) -> Result<Entry> {
     })
 }
 
-/// Adds a batch to the journal.
-fn add_batch(alloc: Global, disk: &mut MemoryDisk, seqno: u64, changes: &[Change]) -> Result<()> {
-    let mut text = Vec::new(alloc);
+/// Adds what an entry is in a journal.
+fn write_entry(entry: &Entry, text: &mut Vec<u8>) -> Result<()> {
+    entry.encode_into(text)
+}
+
+/// Adds the beginning of a batch, and its changes.
+fn write_changes(alloc: Global, seqno: u64, changes: &[Change], text: &mut Vec<u8>) -> Result<()> {
     let item_count = u32::try_from(changes.len()).unwrap_or(u32::MAX);
-    Entry::Start { item_count, seqno }.encode_into(&mut text)?;
+    write_entry(&Entry::Start { item_count, seqno }, text)?;
     for change in changes {
-        entry(alloc, *change)?.encode_into(&mut text)?;
+        write_entry(&entry(alloc, *change)?, text)?;
     }
+    Ok(())
+}
+
+/// What a batch is in a journal.
+fn batch(alloc: Global, seqno: u64, changes: &[Change]) -> Result<Vec<u8>> {
+    let mut text = Vec::new(alloc);
+    write_changes(alloc, seqno, changes, &mut text)?;
     let check = checksum(&text);
-    Entry::End(check).encode_into(&mut text)?;
-    add(disk, "0.jnl", &text)
+    write_entry(&Entry::End(check), &mut text)?;
+    Ok(text)
 }
 
 /// Whether a folder lists this name.
@@ -248,25 +290,32 @@ fn len_text(alloc: Global, disk: &mut MemoryDisk, name: &str) -> Result<String> 
     })
 }
 
-/// What a disk answers.
-fn held(alloc: Global, disk: &mut MemoryDisk, act: Act) -> Result<String> {
+/// Whether a file has these bytes.
+fn holds(alloc: Global, disk: &mut MemoryDisk, name: &str, bytes: &[u8]) -> Result<bool> {
+    let text = disk.read(alloc, name)?.unwrap_or(Vec::new(alloc));
+    Ok(text.as_slice() == bytes)
+}
+
+/// What a disk answers that is written to.
+fn changed(alloc: Global, disk: &mut MemoryDisk, act: Act) -> Result<String> {
     match act {
         Act::Add(name, bytes) => add(disk, name, bytes)?,
-        Act::One(len) => add(disk, "0.jnl", ONE.get(..len).unwrap_or(ONE))?,
+        Act::One(len) => add(disk, "0.jnl", one(len))?,
         Act::Damage(name, at, byte) => damage(alloc, disk, name, at, byte)?,
-        Act::Batch(seqno, changes) => add_batch(alloc, disk, seqno, changes)?,
-        Act::Len(name) => return len_text(alloc, disk, name),
-        Act::Holds(name, bytes) => {
-            let text = disk.read(alloc, name)?.unwrap_or(Vec::new(alloc));
-            return flag_text(alloc, text.as_slice() == bytes);
-        }
-        Act::Lists(folder, name) => {
-            let is_listed = is_listed(alloc, disk, folder, name)?;
-            return flag_text(alloc, is_listed);
-        }
+        Act::Batch(seqno, changes) => add(disk, "0.jnl", &batch(alloc, seqno, changes)?)?,
         _ => return Ok(String::from_str(alloc, "no database is open")?),
     }
     Ok(String::new(alloc))
+}
+
+/// What a disk answers.
+fn held(alloc: Global, disk: &mut MemoryDisk, act: Act) -> Result<String> {
+    match act {
+        Act::Len(name) => len_text(alloc, disk, name),
+        Act::Holds(name, bytes) => flag_text(alloc, holds(alloc, disk, name, bytes)?),
+        Act::Lists(folder, name) => flag_text(alloc, is_listed(alloc, disk, folder, name)?),
+        _ => changed(alloc, disk, act),
+    }
 }
 
 /// The disk of a closed database with the keyspace 1, in which a=b.
@@ -276,18 +325,19 @@ pub fn written(alloc: Global) -> Result<MemoryDisk> {
     closed(core)
 }
 
+/// Asks an open database for what these lines say.
+fn ask_all<D: Disk>(core: &mut Database<D>, lines: &[Line]) -> Result<()> {
+    for line in lines {
+        line.ask(core)?;
+    }
+    Ok(())
+}
+
 /// How many calls of that disk its opening and these lines make.
 pub fn calls(alloc: Global, lines: &[Line]) -> Result<u64> {
     let mut core = opened(alloc, Tape::new(alloc, written(alloc)?))?;
-    for line in lines {
-        line.ask(&mut core)?;
-    }
-    let log = core.into_disk().log;
-    if log.is_whole {
-        Ok(log.steps.len() as u64)
-    } else {
-        Err(Error::OutOfMemory)
-    }
+    ask_all(&mut core, lines)?;
+    core.into_disk().log.step_count()
 }
 
 /// That disk, whose first call behind the opening and these lines fails, and of an append so many bytes go out.
@@ -298,6 +348,21 @@ fn failing(alloc: Global, lines: &[Line], part: usize) -> Result<MemoryDisk> {
     Ok(disk)
 }
 
+/// Why a disk was refused, where a file of it is what it was before.
+fn why(
+    alloc: Global,
+    disk: &mut MemoryDisk,
+    name: &str,
+    before: Option<Vec<u8>>,
+    error: Error,
+) -> Result<String> {
+    if disk.read(alloc, name)? == before {
+        Ok(format!(in alloc; "{error:?}")?)
+    } else {
+        Ok(String::from_str(alloc, "the file is another one")?)
+    }
+}
+
 /// Opens a disk that is to be refused, and tells why, once a file is seen to be what it was.
 fn refused(alloc: Global, disk: MemoryDisk, name: &str) -> Result<(Stage, String)> {
     let mut disk = disk;
@@ -305,76 +370,147 @@ fn refused(alloc: Global, disk: MemoryDisk, name: &str) -> Result<(Stage, String
     match Database::open(alloc, disk) {
         Ok(core) => Ok((Stage::Core(core), String::from_str(alloc, "it opens")?)),
         Err(Refused { error, mut value }) => {
-            let text = if value.read(alloc, name)? == before {
-                format!(in alloc; "{error:?}")?
-            } else {
-                String::from_str(alloc, "the file is another one")?
-            };
+            let text = why(alloc, &mut value, name, before, error)?;
             Ok((Stage::Disk(value), text))
         }
     }
 }
 
+/// Closes an open database.
+fn close(alloc: Global, core: Database<MemoryDisk>) -> Result<(Stage, String)> {
+    let (disk, done) = core.close();
+    let answer = match done {
+        Ok(()) => Ok(String::new(alloc)),
+        Err(error) => Err(error),
+    };
+    Ok((Stage::Disk(disk), answer_text(alloc, answer)?))
+}
+
+/// Asks an open database.
+fn ask(alloc: Global, core: Database<MemoryDisk>, act: Act) -> Result<(Stage, String)> {
+    let mut core = core;
+    let answer = asked(alloc, &mut core, act);
+    Ok((Stage::Core(core), answer_text(alloc, answer)?))
+}
+
 /// An act over an open database.
 fn take_open(alloc: Global, core: Database<MemoryDisk>, act: Act) -> Result<(Stage, String)> {
-    let mut core = core;
     match act {
-        Act::Close => {
-            let (disk, done) = core.close();
-            let text = match done {
-                Ok(()) => String::new(alloc),
-                Err(error) => format!(in alloc; "{error:?}")?,
-            };
-            Ok((Stage::Disk(disk), text))
-        }
+        Act::Close => close(alloc, core),
         Act::Leave => Ok((Stage::Disk(core.into_disk()), String::new(alloc))),
-        _ => {
-            let answer = asked(alloc, &mut core, act);
-            Ok((Stage::Core(core), answer_text(alloc, answer)?))
-        }
+        _ => ask(alloc, core, act),
     }
+}
+
+/// Opens a disk, or crashes it, or puts another one in its place.
+fn turned(alloc: Global, disk: MemoryDisk, act: Act) -> Result<Stage> {
+    Ok(match act {
+        Act::Crash(keep) => Stage::Disk(crashed(disk, keep)?),
+        Act::Fail(lines, part) => Stage::Disk(failing(alloc, lines, part)?),
+        _ => Stage::Core(opened(alloc, disk)?),
+    })
+}
+
+/// Asks a disk whose database isn't open.
+fn ask_disk(alloc: Global, disk: MemoryDisk, act: Act) -> Result<(Stage, String)> {
+    let mut disk = disk;
+    let text = held(alloc, &mut disk, act)?;
+    Ok((Stage::Disk(disk), text))
 }
 
 /// An act over a disk whose database isn't open.
 fn take_shut(alloc: Global, disk: MemoryDisk, act: Act) -> Result<(Stage, String)> {
-    let mut disk = disk;
-    let text = String::new(alloc);
     match act {
-        Act::Open => Ok((Stage::Core(opened(alloc, disk)?), text)),
         Act::Refuse(name) => refused(alloc, disk, name),
-        Act::Crash(keep) => Ok((Stage::Disk(disk.crash(keep)?), text)),
-        Act::Fail(lines, part) => Ok((Stage::Disk(failing(alloc, lines, part)?), text)),
-        _ => {
-            let text = held(alloc, &mut disk, act)?;
-            Ok((Stage::Disk(disk), text))
+        Act::Open | Act::Crash(_) | Act::Fail(_, _) => {
+            Ok((turned(alloc, disk, act)?, String::new(alloc)))
         }
+        _ => ask_disk(alloc, disk, act),
     }
+}
+
+/// Does an act, and tells what it answers.
+fn take(alloc: Global, stage: Stage, act: Act) -> Result<(Stage, String)> {
+    match stage {
+        Stage::Core(core) => take_open(alloc, core, act),
+        Stage::Disk(disk) => take_shut(alloc, disk, act),
+    }
+}
+
+/// Does the act of a row. Tells its answer where another one is due.
+fn take_row(alloc: Global, stage: Stage, row: &Row) -> Result<(Stage, Option<String>)> {
+    let (stage, answer) = take(alloc, stage, row.0)?;
+    if answer.as_str() == row.1 {
+        Ok((stage, None))
+    } else {
+        Ok((stage, Some(answer)))
+    }
+}
+
+/// Tells of an act whose answer is another one: the row's number in its list, both answers.
+fn wrong_text(alloc: Global, at: usize, due: &str, answer: &str) -> Result<String> {
+    Ok(format!(in alloc; "row {at} answers {answer}, not {due}")?)
+}
+
+/// Does these acts. Tells of the first one whose answer is another one.
+fn take_rows(alloc: Global, stage: Stage, rows: &[Row]) -> Result<(Stage, Option<String>)> {
+    let mut stage = stage;
+    for (at, row) in rows.iter().enumerate() {
+        let (next, wrong) = take_row(alloc, stage, row)?;
+        if let Some(answer) = wrong {
+            return Ok((next, Some(wrong_text(alloc, at, row.1, &answer)?)));
+        }
+        stage = next;
+    }
+    Ok((stage, None))
+}
+
+/// Does the acts of these lists. Tells of the first one whose answer is another one, with the number of its list.
+fn take_lists(
+    alloc: Global,
+    stage: Stage,
+    lists: &[&[Row]],
+) -> Result<(Stage, Option<(usize, String)>)> {
+    let mut stage = stage;
+    for (at, rows) in lists.iter().enumerate() {
+        let (next, wrong) = take_rows(alloc, stage, rows)?;
+        if let Some(text) = wrong {
+            return Ok((next, Some((at, text))));
+        }
+        stage = next;
+    }
+    Ok((stage, None))
 }
 
 /// Does these acts over a disk that is empty at first. Tells of the first one whose answer is another one.
-pub fn wrong_act(alloc: Global, lists: &[&[Row]]) -> Result<Option<String>> {
-    let mut stage = Stage::Disk(MemoryDisk::new(alloc));
-    for rows in lists {
-        for (act, due) in rows.iter() {
-            let (next, answer) = match stage {
-                Stage::Core(core) => take_open(alloc, core, *act)?,
-                Stage::Disk(disk) => take_shut(alloc, disk, *act)?,
-            };
-            stage = next;
-            if answer.as_str() != *due {
-                let text = format!(in alloc; "{act:?} answers {answer}")?;
-                return Ok(Some(text));
-            }
-        }
-    }
-    Ok(None)
+pub fn wrong_act(alloc: Global, lists: &[&[Row]]) -> Result<Option<(usize, String)>> {
+    let stage = Stage::Disk(MemoryDisk::new(alloc));
+    Ok(take_lists(alloc, stage, lists)?.1)
 }
 
-/// Tells of the first of these scenarios in which an act has another answer.
-pub fn first_wrong(alloc: Global, scenarios: &[Scenario]) -> Result<Option<String>> {
+/// Does these acts, and then others. Tells of the first one whose answer is another one.
+fn wrong_behind(
+    alloc: Global,
+    before: &[&[Row]],
+    lists: &[&[Row]],
+) -> Result<Option<(usize, String)>> {
+    let stage = Stage::Disk(MemoryDisk::new(alloc));
+    let (stage, wrong) = take_lists(alloc, stage, before)?;
+    if wrong.is_some() {
+        return Ok(wrong);
+    }
+    Ok(take_lists(alloc, stage, lists)?.1)
+}
+
+/// Tells of the first of these scenarios, each behind the acts that come before it, in which an act has another answer.
+pub fn first_wrong(
+    alloc: Global,
+    before: &[&[Row]],
+    scenarios: &[Scenario],
+) -> Result<Option<String>> {
     for (name, lists) in scenarios {
-        if let Some(act) = wrong_act(alloc, lists)? {
-            return Ok(Some(format!(in alloc; "{name}: {act}")?));
+        if let Some((list, row)) = wrong_behind(alloc, before, lists)? {
+            return Ok(Some(format!(in alloc; "{name}: list {list}, {row}")?));
         }
     }
     Ok(None)

@@ -2,10 +2,12 @@
 
 use crate::acts::Act::*;
 use crate::acts::{Row, Scenario, first_wrong};
-use crate::database::opened;
+use crate::database::{Database, opened};
 use crate::script::Line::*;
+use fjall_base::Result;
 use fjall_core::PersistMode;
 use fjall_memory::MemoryDisk;
+use std::alloc::Global;
 use std::test::Fail;
 
 // The writes of keyspace 1 are persisted by hand, and those of keyspace 2 aren't.
@@ -62,38 +64,42 @@ const COMES_BACK: &[Row] = &[
 const SCENARIOS: &[Scenario] = &[
     (
         "what waits goes out by hand or with another write",
-        &[BOTH, WAITING],
+        &[WAITING],
     ),
-    ("a crash loses what waits", &[BOTH, WRITE, KEEP, GONE]),
-    (
-        "it loses what isn't synced",
-        &[BOTH, WRITE, BUFFER, LOSE, GONE],
-    ),
-    (
-        "it may keep what went out",
-        &[BOTH, WRITE, BUFFER, KEEP, THERE],
-    ),
-    ("it keeps what is synced", &[BOTH, WRITE, SYNC, LOSE, THERE]),
-    ("the option comes back", &[BOTH, COMES_BACK]),
+    ("a crash loses what waits", &[WRITE, KEEP, GONE]),
+    ("it loses what isn't synced", &[WRITE, BUFFER, LOSE, GONE]),
+    ("it may keep what went out", &[WRITE, BUFFER, KEEP, THERE]),
+    ("it keeps what is synced", &[WRITE, SYNC, LOSE, THERE]),
+    ("the option comes back", &[COMES_BACK]),
 ];
 
 #[test]
-fn writes_wait_until_they_are_persisted(rt: HostRuntime) -> Result<(), Fail> {
-    assert_eq!(rt; first_wrong(rt.alloc(), SCENARIOS)?, None);
+fn writes_wait_until_they_are_persisted(rt: HostRuntime) -> std::result::Result<(), Fail> {
+    assert_eq!(rt; first_wrong(rt.alloc(), &[BOTH], SCENARIOS)?, None);
     Ok(())
+}
+
+/// A new database with both keyspaces.
+fn both(alloc: Global) -> Result<Database<MemoryDisk>> {
+    let mut core = opened(alloc, MemoryDisk::new(alloc))?;
+    core.keyspace_by_hand(b"by hand")?;
+    core.keyspace(b"items")?;
+    Ok(core)
+}
+
+/// Inserts a key of one byte into keyspace 1; answers how many bytes are in the journal then.
+fn space_behind(core: &mut Database<MemoryDisk>, key: u8) -> Result<u64> {
+    core.insert(1, &[key], b"v")?;
+    Ok(core.journal_disk_space())
 }
 
 // 167 inserts have 8,183 bytes, and 168 have 8,232.
 #[test]
-fn what_waits_goes_out_at_8192_bytes(rt: HostRuntime) -> Result<(), Fail> {
-    let alloc = rt.alloc();
-    let mut core = opened(alloc, MemoryDisk::new(alloc))?;
-    core.keyspace_by_hand(b"by hand")?;
-    core.keyspace(b"items")?;
+fn what_waits_goes_out_at_8192_bytes(rt: HostRuntime) -> std::result::Result<(), Fail> {
+    let mut core = both(rt.alloc())?;
     for key in 0..200u8 {
-        core.insert(1, &[key], b"v")?;
         let due = if key < 167 { 0 } else { 8_232 };
-        assert_eq!(rt; core.journal_disk_space(), due, "{key}");
+        assert_eq!(rt; space_behind(&mut core, key)?, due, "{key}");
     }
     Ok(())
 }

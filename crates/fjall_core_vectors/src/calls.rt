@@ -8,7 +8,7 @@ use fjall_base::{ClosedDisk, Disk, Error, Result, Slice};
 use fjall_core::{Call, Config, PersistMode, Reply, View};
 use fjall_memory::MemoryDisk;
 use fjall_options::KeyspaceCreateOptions;
-use std::alloc::Global;
+use std::alloc::{AllocError, Global};
 use std::ops::Bound::{Excluded, Included, Unbounded};
 use std::test::Fail;
 
@@ -51,18 +51,21 @@ const PAGES: &[Row] = &[
 ];
 
 const SCENARIOS: &[Scenario] = &[
-    ("removals take keys away", &[ITEMS, REMOVALS]),
-    ("pages are cut from either end", &[ITEMS, PAGES]),
+    ("removals take keys away", &[REMOVALS]),
+    ("pages are cut from either end", &[PAGES]),
 ];
 
 #[test]
 fn keys_are_read_and_taken_away(rt: HostRuntime) -> std::result::Result<(), Fail> {
-    assert_eq!(rt; first_wrong(rt.alloc(), SCENARIOS)?, None);
+    assert_eq!(rt; first_wrong(rt.alloc(), &[ITEMS], SCENARIOS)?, None);
     Ok(())
 }
 
-/// Gives a key a value, and reads it: why the first is refused, whether a value is read, and the next number.
-fn put(core: &mut Database<MemoryDisk>, id: u64, key: &[u8]) -> (Option<Error>, Result<bool>, u64) {
+/// What comes of a write: why it is refused, whether a value is read then, and the next number.
+type Put = (Option<Error>, Result<bool>, u64);
+
+/// Gives a key a value, and reads it.
+fn put(core: &mut Database<MemoryDisk>, id: u64, key: &[u8]) -> Put {
     let refused = core.insert(id, key, b"v").err();
     let found = match core.get(id, key) {
         Ok(found) => Ok(found.is_some()),
@@ -71,87 +74,204 @@ fn put(core: &mut Database<MemoryDisk>, id: u64, key: &[u8]) -> (Option<Error>, 
     (refused, found, core.seqno())
 }
 
+/// A key of so many bytes.
+fn long_key(alloc: Global, len: usize) -> std::result::Result<Vec<u8>, AllocError> {
+    vec![in alloc; 7u8; len]
+}
+
+/// Gives a key of so many bytes a value, and reads it.
+fn put_long(
+    alloc: Global,
+    core: &mut Database<MemoryDisk>,
+    id: u64,
+    len: usize,
+) -> std::result::Result<Put, AllocError> {
+    let key = long_key(alloc, len)?;
+    Ok(put(core, id, &key))
+}
+
+/// The length of a key, the id of a keyspace, and what comes of a write.
+const KEYS: &[(usize, u64, Put)] = &[
+    (0, 1, (Some(Error::KeyEmpty), Ok(false), 1)),
+    (1, 1, (None, Ok(true), 2)),
+    (65_535, 1, (None, Ok(true), 3)),
+    (65_536, 1, (Some(Error::KeyTooLong), Ok(false), 3)),
+    (
+        0,
+        2,
+        (Some(Error::KeyEmpty), Err(Error::UnknownKeyspace), 3),
+    ),
+    (
+        65_536,
+        2,
+        (Some(Error::KeyTooLong), Err(Error::UnknownKeyspace), 3),
+    ),
+    (
+        1,
+        0,
+        (Some(Error::UnknownKeyspace), Err(Error::UnknownKeyspace), 3),
+    ),
+    (
+        1,
+        2,
+        (Some(Error::UnknownKeyspace), Err(Error::UnknownKeyspace), 3),
+    ),
+];
+
 #[test]
 fn a_key_has_one_to_65535_bytes(rt: HostRuntime) -> std::result::Result<(), Fail> {
     let mut core = items(rt.alloc(), MemoryDisk::new(rt.alloc()))?;
-    let unknown = Error::UnknownKeyspace;
-    for (len, id, refused, found, next) in [
-        (0, 1, Some(Error::KeyEmpty), Ok(false), 1),
-        (1, 1, None, Ok(true), 2),
-        (65_535, 1, None, Ok(true), 3),
-        (65_536, 1, Some(Error::KeyTooLong), Ok(false), 3),
-        (0, 2, Some(Error::KeyEmpty), Err(unknown), 3),
-        (65_536, 2, Some(Error::KeyTooLong), Err(unknown), 3),
-        (1, 0, Some(unknown), Err(unknown), 3),
-        (1, 2, Some(unknown), Err(unknown), 3),
-    ] {
-        let key = vec![in rt.alloc(); 7u8; len]?;
-        let seen = put(&mut core, id, &key);
-        assert_eq!(rt; seen, (refused, found, next), "length {len}, id {id}");
+    for &(len, id, due) in KEYS {
+        let seen = put_long(rt.alloc(), &mut core, id, len)?;
+        assert_eq!(rt; seen, due, "length {len}, id {id}");
     }
     Ok(())
 }
 
-/// Changes, and what may be asked between them, for a new database.
-fn changes(alloc: Global) -> Result<Vec<Call>> {
-    let name = Slice::new(alloc, b"items")?;
-    let key = Slice::new(alloc, b"a")?;
-    let value = Slice::new(alloc, b"b")?;
-    Ok(vec![in alloc;
-        Call::Seqno,
-        Call::Keyspace(name, KeyspaceCreateOptions::default(alloc)?),
-        Call::Insert(1, key.clone()?, value.clone()?),
-        Call::Insert(2, key.clone()?, value),
-        Call::GetAt(View::Present, 1, key),
-        Call::Persist(PersistMode::SyncAll),
-        Call::VisibleSeqno,
-        Call::JournalDiskSpace,
-    ]?)
+/// A call of a list, over the keyspace "items" with the id 1 and its key "a".
+#[derive(Clone, Copy)]
+enum Request {
+    Keyspace,
+    Insert(u64),
+    Remove,
+    RemoveWeak,
+    GetAt,
+    PageAt,
+    KeyspaceExists,
+    KeyspaceCount,
+    ListKeyspaceNames,
+    Seqno,
+    VisibleSeqno,
+    JournalDiskSpace,
+    Persist,
+    Retain,
+    Release,
+    DeleteKeyspace,
 }
 
-/// A list of each call, for a new database.
-fn each_call(alloc: Global) -> Result<Vec<Call>> {
-    let name = Slice::new(alloc, b"items")?;
+/// Each call, for a new database.
+const REQUESTS: &[Request] = &[
+    Request::Seqno,
+    Request::Keyspace,
+    Request::Insert(1),
+    Request::Insert(2),
+    Request::GetAt,
+    Request::Persist,
+    Request::VisibleSeqno,
+    Request::JournalDiskSpace,
+    Request::Remove,
+    Request::RemoveWeak,
+    Request::PageAt,
+    Request::KeyspaceCount,
+    Request::KeyspaceExists,
+    Request::ListKeyspaceNames,
+    Request::Retain,
+    Request::DeleteKeyspace,
+    Request::Release,
+];
+
+/// The call that makes the keyspace.
+fn creation(alloc: Global) -> Result<Call> {
+    let options = KeyspaceCreateOptions::default(alloc)?;
+    Ok(Call::Keyspace(Slice::new(alloc, b"items")?, options))
+}
+
+/// The call that gives the key a value in the keyspace of this id.
+fn insertion(alloc: Global, id: u64) -> Result<Call> {
     let key = Slice::new(alloc, b"a")?;
-    let everywhere = (Unbounded, Unbounded);
-    let mut calls = changes(alloc)?;
-    calls.extend(vec![in alloc;
-        Call::Remove(1, key.clone()?),
-        Call::RemoveWeak(1, key),
-        Call::PageAt(View::Present, 1, everywhere, false, 1),
-        Call::KeyspaceCount,
-        Call::KeyspaceExists(name),
-        Call::ListKeyspaceNames,
-        Call::Retain(1),
-        Call::DeleteKeyspace(1),
-        Call::Release(1),
-    ]?)?;
+    Ok(Call::Insert(id, key, Slice::new(alloc, b"b")?))
+}
+
+impl Request {
+    /// The call, where it names the key alone, or the keyspace.
+    fn naming(self, alloc: Global) -> std::result::Result<Call, AllocError> {
+        if matches!(self, Request::KeyspaceExists) {
+            return Ok(Call::KeyspaceExists(Slice::new(alloc, b"items")?));
+        }
+        let key = Slice::new(alloc, b"a")?;
+        Ok(match self {
+            Request::Remove => Call::Remove(1, key),
+            Request::RemoveWeak => Call::RemoveWeak(1, key),
+            _ => Call::GetAt(View::Present, 1, key),
+        })
+    }
+
+    /// The call.
+    fn call(self, alloc: Global) -> Result<Call> {
+        Ok(match self {
+            Request::Keyspace => creation(alloc)?,
+            Request::Insert(id) => insertion(alloc, id)?,
+            Request::PageAt => Call::PageAt(View::Present, 1, (Unbounded, Unbounded), false, 1),
+            Request::KeyspaceCount => Call::KeyspaceCount,
+            Request::ListKeyspaceNames => Call::ListKeyspaceNames,
+            Request::Seqno => Call::Seqno,
+            Request::VisibleSeqno => Call::VisibleSeqno,
+            Request::JournalDiskSpace => Call::JournalDiskSpace,
+            Request::Persist => Call::Persist(PersistMode::SyncAll),
+            Request::Retain => Call::Retain(1),
+            Request::Release => Call::Release(1),
+            Request::DeleteKeyspace => Call::DeleteKeyspace(1),
+            _ => self.naming(alloc)?,
+        })
+    }
+}
+
+/// The calls of these requests.
+fn calls(alloc: Global, requests: &[Request]) -> Result<Vec<Call>> {
+    let mut calls = Vec::new(alloc);
+    for request in requests {
+        calls.push(request.call(alloc)?)?;
+    }
     Ok(calls)
+}
+
+/// What a reply tells, where the text of its names is this.
+fn told_with(alloc: Global, reply: &Reply, names: &str) -> std::result::Result<String, AllocError> {
+    match reply {
+        Reply::Done => String::from_str(alloc, "done"),
+        Reply::Value(Some(value)) => format!(in alloc; "value {:?}", value.as_slice()),
+        Reply::Value(None) => String::from_str(alloc, "no value"),
+        Reply::Pairs(pairs) => format!(in alloc; "{} pairs", pairs.len()),
+        Reply::Number(number) => format!(in alloc; "number {number}"),
+        Reply::Names(_) => format!(in alloc; "names {names}"),
+        Reply::Flag(is_so) => format!(in alloc; "flag {is_so}"),
+        Reply::Refused(error) => format!(in alloc; "refused {error:?}"),
+    }
 }
 
 /// What a reply tells.
 fn told(alloc: Global, reply: &Reply) -> Result<String> {
-    Ok(match reply {
-        Reply::Done => String::from_str(alloc, "done")?,
-        Reply::Value(Some(value)) => format!(in alloc; "value {:?}", value.as_slice())?,
-        Reply::Value(None) => String::from_str(alloc, "no value")?,
-        Reply::Pairs(pairs) => format!(in alloc; "{} pairs", pairs.len())?,
-        Reply::Number(number) => format!(in alloc; "number {number}")?,
-        Reply::Names(names) => format!(in alloc; "names {}", names_text(alloc, names)?)?,
-        Reply::Flag(is_so) => format!(in alloc; "flag {is_so}")?,
-        Reply::Refused(error) => format!(in alloc; "refused {error:?}")?,
-    })
+    let names = match reply {
+        Reply::Names(names) => names_text(alloc, names)?,
+        _ => String::new(alloc),
+    };
+    Ok(told_with(alloc, reply, &names)?)
 }
 
-/// What a new database on a disk replies to each call, and how many replies there are to none.
-fn replies<D: Disk + Drop>(alloc: Global, disk: D) -> Result<(String, usize)> {
-    let mut core = opened(alloc, disk)?;
+/// What replies tell, each with a semicolon behind it.
+fn all_told(alloc: Global, replies: &[Reply]) -> Result<String> {
     let mut text = String::new(alloc);
-    for reply in &core.run(each_call(alloc)?)? {
+    for reply in replies {
         text.push_str(&told(alloc, reply)?)?;
         text.push_str("; ")?;
     }
-    let none = core.run(Vec::new(alloc))?.len();
+    Ok(text)
+}
+
+/// What a database replies to these requests.
+fn replies<D: Disk>(
+    alloc: Global,
+    core: &mut Database<D>,
+    requests: &[Request],
+) -> Result<Vec<Reply>> {
+    core.run(calls(alloc, requests)?)
+}
+
+/// What a new database on a disk replies to each request, and how many replies there are to none.
+fn served<D: Disk + Drop>(alloc: Global, disk: D) -> Result<(String, usize)> {
+    let mut core = opened(alloc, disk)?;
+    let text = all_told(alloc, &replies(alloc, &mut core, REQUESTS)?)?;
+    let none = replies(alloc, &mut core, &[])?.len();
     Ok((text, none))
 }
 
@@ -162,11 +282,10 @@ const REPLIES: &str =
 // The second disk keeps nothing, so that what is answered stands in memory alone.
 #[test]
 fn lists_of_calls_are_served_in_order(rt: HostRuntime) -> std::result::Result<(), Fail> {
-    let honest = replies(rt.alloc(), MemoryDisk::new(rt.alloc()))?;
-    let lying = replies(rt.alloc(), ClosedDisk)?;
-    for (text, none) in [honest, lying] {
-        assert_eq!(rt; (text.as_str(), none), (REPLIES, 0));
-    }
+    let (text, none) = served(rt.alloc(), MemoryDisk::new(rt.alloc()))?;
+    assert_eq!(rt; (text.as_str(), none), (REPLIES, 0));
+    let (text, none) = served(rt.alloc(), ClosedDisk)?;
+    assert_eq!(rt; (text.as_str(), none), (REPLIES, 0));
     Ok(())
 }
 

@@ -15,6 +15,15 @@ pub struct Database<D: Disk> {
     core: Core<D>,
 }
 
+/// The core on a disk, or why there is none, and the disk.
+fn core_on<D: Disk>(
+    alloc: Global,
+    config: Config,
+    disk: D,
+) -> std::result::Result<Core<D>, Refused<D>> {
+    Core::open(alloc, config, disk)
+}
+
 impl<D: Disk> Database<D> {
     /// The database on a disk, or why there is none, and the disk.
     pub fn open(alloc: Global, disk: D) -> std::result::Result<Database<D>, Refused<D>> {
@@ -22,10 +31,8 @@ impl<D: Disk> Database<D> {
             Ok(config) => config,
             Err(error) => return Err(Refused { error, value: disk }),
         };
-        match Core::open(alloc, config, disk) {
-            Ok(core) => Ok(Database { alloc, core }),
-            Err(refused) => Err(refused),
-        }
+        let core = core_on(alloc, config, disk)?;
+        Ok(Database { alloc, core })
     }
 
     /// The id of the keyspace of this name, which is made with default options where none has it.
@@ -148,4 +155,9 @@ pub fn items<D: Disk + Drop>(alloc: Global, disk: D) -> Result<Database<D>> {
 pub fn add(disk: &mut MemoryDisk, name: &str, bytes: &[u8]) -> Result<()> {
     disk.create(name)?;
     disk.append(name, bytes)
+}
+
+/// What a crash leaves of a disk, each of whose files keeps so many of its unsynced bytes.
+pub fn crashed(disk: MemoryDisk, keep: usize) -> Result<MemoryDisk> {
+    disk.crash(keep)
 }

@@ -162,7 +162,7 @@ const ANOTHER_DELETION: &[Row] = &[
     (Visible, "5"),
 ];
 
-const SCENARIOS: &[Scenario] = &[
+const OF_FAULTS: &[Scenario] = &[
     (
         "a part of an append poisons",
         &[APPEND_20, POISONED, CRASHED, LOST],
@@ -176,33 +176,39 @@ const SCENARIOS: &[Scenario] = &[
     ("a creation poisons", &[CREATION, POISONED, NOT_CREATED]),
     ("a deletion poisons", &[DELETION, POISONED, NOT_DELETED]),
     ("a failing release keeps the handle", &[RELEASE]),
-    (
-        "a buffer does not outlive a crash",
-        &[WRITTEN, OPENED, BUFFERED],
-    ),
-    (
-        "a sync of the data outlives it",
-        &[WRITTEN, OPENED, DATA_SYNCED],
-    ),
-    ("a sync of all outlives it", &[WRITTEN, OPENED, ALL_SYNCED]),
-    (
-        "a closing syncs what came before",
-        &[WRITTEN, OPENED, MORE, CLOSING],
-    ),
-    (
-        "a creation syncs it",
-        &[WRITTEN, OPENED, MORE, ANOTHER_CREATION],
-    ),
-    (
-        "a deletion syncs it",
-        &[WRITTEN, OPENED, MORE, ANOTHER_DELETION],
-    ),
+];
+
+const OF_SYNCS: &[Scenario] = &[
+    ("a buffer does not outlive a crash", &[BUFFERED]),
+    ("a sync of the data outlives it", &[DATA_SYNCED]),
+    ("a sync of all outlives it", &[ALL_SYNCED]),
+    ("a closing syncs what came before", &[MORE, CLOSING]),
+    ("a creation syncs it", &[MORE, ANOTHER_CREATION]),
+    ("a deletion syncs it", &[MORE, ANOTHER_DELETION]),
 ];
 
 #[test]
-fn faults_poison_and_syncs_are_safe(rt: HostRuntime) -> std::result::Result<(), Fail> {
-    assert_eq!(rt; first_wrong(rt.alloc(), SCENARIOS)?, None);
+fn faults_poison(rt: HostRuntime) -> std::result::Result<(), Fail> {
+    assert_eq!(rt; first_wrong(rt.alloc(), &[], OF_FAULTS)?, None);
     Ok(())
+}
+
+#[test]
+fn syncs_are_safe(rt: HostRuntime) -> std::result::Result<(), Fail> {
+    assert_eq!(rt;
+        first_wrong(rt.alloc(), &[WRITTEN, OPENED], OF_SYNCS)?,
+        None
+    );
+    Ok(())
+}
+
+/// Opens a disk, and tells whether a=b is read.
+fn reads_a(alloc: Global, disk: MemoryDisk) -> Result<bool> {
+    let found = opened(alloc, disk)?.get(1, b"a")?;
+    Ok(match &found {
+        Some(value) => value.as_slice() == b"b".as_slice(),
+        None => false,
+    })
 }
 
 /// Opens `written`, whose call of this number fails, and opens it again: why it is refused, and whether a=b is read then.
@@ -211,14 +217,7 @@ fn opened_twice(alloc: Global, number: u64) -> Result<(Option<Error>, bool)> {
     disk.fail_at(number, 0);
     match Database::open(alloc, disk) {
         Ok(_) => Ok((None, false)),
-        Err(Refused { error, value }) => {
-            let found = opened(alloc, value)?.get(1, b"a")?;
-            let is_read = match &found {
-                Some(value) => value.as_slice() == b"b".as_slice(),
-                None => false,
-            };
-            Ok((Some(error), is_read))
-        }
+        Err(Refused { error, value }) => Ok((Some(error), reads_a(alloc, value)?)),
     }
 }
 

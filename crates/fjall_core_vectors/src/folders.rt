@@ -94,25 +94,31 @@ const LAST: &[Row] = &[
     (Get(1, "c"), "d"),
 ];
 
-const SCENARIOS: &[Scenario] = &[
+const OF_VERSIONS: &[Scenario] = &[
     ("version 1 is refused", &[VERSION_1]),
     ("version 2 is refused", &[VERSION_2]),
     ("version 4 is refused", &[VERSION_4]),
     ("what is no version is refused", &[NO_VERSION]),
     ("a creation cut short goes on", &[CUT_SHORT]),
-    ("0.JNL is nearly a journal", &[WRITTEN, UPPER]),
-    ("00.jnl is nearly a journal", &[WRITTEN, TWO_ZEROS]),
-    ("x.jnl is nearly a journal", &[WRITTEN, LETTER]),
-    ("other files are passed over", &[WRITTEN, OTHERS]),
-    (
-        "a torn journal before the last is refused",
-        &[WRITTEN, TORN],
-    ),
-    ("the last journal goes on", &[WRITTEN, LAST]),
+];
+
+const OF_FILES: &[Scenario] = &[
+    ("0.JNL is nearly a journal", &[UPPER]),
+    ("00.jnl is nearly a journal", &[TWO_ZEROS]),
+    ("x.jnl is nearly a journal", &[LETTER]),
+    ("other files are passed over", &[OTHERS]),
+    ("a torn journal before the last is refused", &[TORN]),
+    ("the last journal goes on", &[LAST]),
 ];
 
 #[test]
+fn versions_are_refused_or_finished(rt: HostRuntime) -> Result<(), Fail> {
+    assert_eq!(rt; first_wrong(rt.alloc(), &[], OF_VERSIONS)?, None);
+    Ok(())
+}
+
+#[test]
 fn folders_open_or_are_refused(rt: HostRuntime) -> Result<(), Fail> {
-    assert_eq!(rt; first_wrong(rt.alloc(), SCENARIOS)?, None);
+    assert_eq!(rt; first_wrong(rt.alloc(), &[WRITTEN], OF_FILES)?, None);
     Ok(())
 }

@@ -158,74 +158,64 @@ const NUMBERS_END: &[Row] = &[
     (Space, "98"),
 ];
 
-const SCENARIOS: &[Scenario] = &[
-    ("an insert is one batch", &[ITEMS, ONE_BATCH]),
-    ("a crash keeps a beginning", &[ITEMS, BEGINNING]),
-    ("a whole batch is read", &[ITEMS, CLOSED, INSERT, READ]),
+const OF_ITEMS: &[Scenario] = &[
+    ("an insert is one batch", &[ONE_BATCH]),
+    ("a crash keeps a beginning", &[BEGINNING]),
     (
-        "one item where two are due",
-        &[ITEMS, CLOSED, INSERT, FEWER_BYTES],
+        "a batch of a keyspace's own number is passed over",
+        &[CLOSED, OWN_NUMBER],
     ),
-    (
-        "one item where none is due",
-        &[ITEMS, CLOSED, INSERT, MORE_ITEMS],
-    ),
-    ("another number", &[ITEMS, CLOSED, INSERT, OTHER_NUMBER]),
-    ("another value", &[ITEMS, CLOSED, INSERT, OTHER_VALUE]),
-    ("another last byte", &[ITEMS, CLOSED, INSERT, NO_END]),
-    ("number 0 behind 1", &[ITEMS, CLOSED, INSERT, NUMBER_0]),
-    ("number 1 behind 1", &[ITEMS, CLOSED, INSERT, NUMBER_1]),
-    (
-        "a number too high",
-        &[ITEMS, CLOSED, INSERT, NUMBER_TOO_HIGH],
-    ),
-    ("an indirection", &[ITEMS, CLOSED, INSERT, INDIRECTION]),
-    (
-        "a value",
-        &[ITEMS, CLOSED, INSERT, OWN_VALUE, ITEM_MORE, NEW],
-    ),
-    (
-        "a removal",
-        &[ITEMS, CLOSED, INSERT, OWN_REMOVAL, ITEM_MORE, NONE],
-    ),
-    (
-        "a weak removal",
-        &[ITEMS, CLOSED, INSERT, OWN_WEAK_REMOVAL, ITEM_MORE, NONE],
-    ),
-    (
-        "another keyspace's value",
-        &[ITEMS, CLOSED, INSERT, OTHERS_VALUE, ITEM_MORE, OLD],
-    ),
+];
+
+const READ_OR_REFUSED: &[Scenario] = &[
+    ("a whole batch is read", &[READ]),
+    ("one item where two are due", &[FEWER_BYTES]),
+    ("one item where none is due", &[MORE_ITEMS]),
+    ("another number", &[OTHER_NUMBER]),
+    ("another value", &[OTHER_VALUE]),
+    ("another last byte", &[NO_END]),
+    ("number 0 behind 1", &[NUMBER_0]),
+    ("number 1 behind 1", &[NUMBER_1]),
+    ("a number too high", &[NUMBER_TOO_HIGH]),
+    ("an indirection", &[INDIRECTION]),
+    ("numbers end", &[NUMBERS_END]),
+];
+
+const EACH_CHANGE: &[Scenario] = &[
+    ("a value", &[OWN_VALUE, ITEM_MORE, NEW]),
+    ("a removal", &[OWN_REMOVAL, ITEM_MORE, NONE]),
+    ("a weak removal", &[OWN_WEAK_REMOVAL, ITEM_MORE, NONE]),
+    ("another keyspace's value", &[OTHERS_VALUE, ITEM_MORE, OLD]),
     (
         "another keyspace's removal",
-        &[ITEMS, CLOSED, INSERT, OTHERS_REMOVAL, ITEM_MORE, OLD],
+        &[OTHERS_REMOVAL, ITEM_MORE, OLD],
     ),
     (
         "another keyspace's weak removal",
-        &[ITEMS, CLOSED, INSERT, OTHERS_WEAK_REMOVAL, ITEM_MORE, OLD],
+        &[OTHERS_WEAK_REMOVAL, ITEM_MORE, OLD],
     ),
-    (
-        "a clear",
-        &[ITEMS, CLOSED, INSERT, OWN_CLEAR, CLEAR_MORE, NONE],
-    ),
-    (
-        "another keyspace's clear",
-        &[ITEMS, CLOSED, INSERT, OTHERS_CLEAR, CLEAR_MORE, OLD],
-    ),
-    (
-        "a clear and a value",
-        &[ITEMS, CLOSED, INSERT, CLEAR_AND_VALUE, BOTH_MORE, NEW],
-    ),
-    (
-        "a batch of a keyspace's own number is passed over",
-        &[ITEMS, CLOSED, OWN_NUMBER],
-    ),
-    ("numbers end", &[ITEMS, CLOSED, INSERT, NUMBERS_END]),
+    ("a clear", &[OWN_CLEAR, CLEAR_MORE, NONE]),
+    ("another keyspace's clear", &[OTHERS_CLEAR, CLEAR_MORE, OLD]),
+    ("a clear and a value", &[CLEAR_AND_VALUE, BOTH_MORE, NEW]),
 ];
 
 #[test]
+fn a_beginning_is_read(rt: HostRuntime) -> Result<(), Fail> {
+    assert_eq!(rt; first_wrong(rt.alloc(), &[ITEMS], OF_ITEMS)?, None);
+    Ok(())
+}
+
+#[test]
 fn journals_are_read_or_refused(rt: HostRuntime) -> Result<(), Fail> {
-    assert_eq!(rt; first_wrong(rt.alloc(), SCENARIOS)?, None);
+    let before = &[ITEMS, CLOSED, INSERT];
+    assert_eq!(rt; first_wrong(rt.alloc(), before, READ_OR_REFUSED)?, None);
+    Ok(())
+}
+
+#[test]
+fn each_change_of_a_batch_is_read(rt: HostRuntime) -> Result<(), Fail> {
+    let before = &[ITEMS, CLOSED, INSERT];
+    assert_eq!(rt; first_wrong(rt.alloc(), before, EACH_CHANGE)?, None);
     Ok(())
 }
 

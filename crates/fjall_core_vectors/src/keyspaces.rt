@@ -137,8 +137,12 @@ const SAME_KEYS: &[Row] = &[
     (Visible, "5"),
 ];
 
-const SCENARIOS: &[Scenario] = &[
+const OF_NAMES: &[Scenario] = &[
     ("names are listed in the order of their bytes", &[NAMES]),
+    ("a name has one to 255 bytes", &[NAME_LENGTHS]),
+];
+
+const SCENARIOS: &[Scenario] = &[
     ("a keyspace is deleted once", &[TWO, DELETED_ONCE]),
     ("a creation writes a record to each tree", &[ITEMS, RECORDS]),
     ("numbers outlast a closing", &[ITEMS, NUMBERS]),
@@ -152,12 +156,17 @@ const SCENARIOS: &[Scenario] = &[
         &[ITEMS, FOLDER],
     ),
     ("a living keyspace outlasts its handles", &[ITEMS, HANDLES]),
-    ("a name has one to 255 bytes", &[NAME_LENGTHS]),
     ("keyspaces hold the same keys apart", &[ITEMS, SAME_KEYS]),
 ];
 
 #[test]
+fn names_have_a_length_and_an_order(rt: HostRuntime) -> Result<(), Fail> {
+    assert_eq!(rt; first_wrong(rt.alloc(), &[], OF_NAMES)?, None);
+    Ok(())
+}
+
+#[test]
 fn keyspaces_are_made_deleted_and_made_anew(rt: HostRuntime) -> Result<(), Fail> {
-    assert_eq!(rt; first_wrong(rt.alloc(), SCENARIOS)?, None);
+    assert_eq!(rt; first_wrong(rt.alloc(), &[], SCENARIOS)?, None);
     Ok(())
 }

@@ -2,6 +2,7 @@
 
 ghost use Rattle.std.specs.Prelude.{◌<◌};
 
+use crate::database::{add, crashed};
 use crate::tape::Step;
 use fjall_base::{Disk, Result};
 use fjall_memory::MemoryDisk;
@@ -125,6 +126,15 @@ impl Place {
         ensures { 0 < result }
     {
         self.older.len().saturating_add(1)
+    }
+
+    /// Puts what stands here now on a disk.
+    fn add_to(&self, disk: &mut MemoryDisk) -> Result<()> {
+        match &self.now {
+            Entry::Missing => Ok(()),
+            Entry::Folder => disk.make_folder(&self.name),
+            Entry::File(bytes, _) => add(disk, &self.name, bytes),
+        }
     }
 
     /// The entry of this number, what stands here now being the first.
@@ -350,15 +360,8 @@ impl Moment {
     pub fn disk(&self, alloc: Global) -> Result<MemoryDisk> {
         let mut disk = MemoryDisk::new(alloc);
         for place in &self.places {
-            match &place.now {
-                Entry::Missing => {}
-                Entry::Folder => disk.make_folder(&place.name)?,
-                Entry::File(bytes, _) => {
-                    disk.create(&place.name)?;
-                    disk.append(&place.name, bytes)?;
-                }
-            }
+            place.add_to(&mut disk)?;
         }
-        disk.crash(usize::MAX)
+        crashed(disk, usize::MAX)
     }
 }

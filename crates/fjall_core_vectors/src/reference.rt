@@ -75,25 +75,30 @@ fn write(
     Ok(())
 }
 
-/// The keyspaces that these commands make of nothing, in the order of their names.
-pub fn fold(alloc: Global, commands: &[Command]) -> Result<Vec<Home>> {
-    let mut homes = Vec::new(alloc);
-    let mut last = 0u64;
-    for command in commands {
-        match command {
-            Command::Create(name) => {
-                last = last.saturating_add(1);
-                homes.push(Home {
-                    name: name.clone()?,
-                    id: last,
-                    pairs: Vec::new(alloc),
-                })?;
-            }
-            Command::Delete(id) => homes = deleted(alloc, homes, *id)?,
-            Command::Put(id, key, value) => write(alloc, &mut homes, *id, key, Some(value))?,
-            Command::Take(id, key) => write(alloc, &mut homes, *id, key, None)?,
-        }
+/// A new keyspace.
+fn new_home(alloc: Global, name: &Slice, id: u64) -> Result<Home> {
+    Ok(Home {
+        name: name.clone()?,
+        id,
+        pairs: Vec::new(alloc),
+    })
+}
+
+/// The keyspaces behind a command, of these before it; a new one gets this id.
+fn next(alloc: Global, homes: Vec<Home>, command: &Command, new_id: u64) -> Result<Vec<Home>> {
+    let mut homes = homes;
+    match command {
+        Command::Create(name) => homes.push(new_home(alloc, name, new_id)?)?,
+        Command::Delete(id) => return deleted(alloc, homes, *id),
+        Command::Put(id, key, value) => write(alloc, &mut homes, *id, key, Some(value))?,
+        Command::Take(id, key) => write(alloc, &mut homes, *id, key, None)?,
     }
+    Ok(homes)
+}
+
+/// These keyspaces in the order of their names, and their pairs in the order of their keys.
+fn sorted(homes: Vec<Home>) -> Result<Vec<Home>> {
+    let mut homes = homes;
     for home in &mut homes {
         home.pairs.sort()?;
     }
@@ -101,14 +106,36 @@ pub fn fold(alloc: Global, commands: &[Command]) -> Result<Vec<Home>> {
     Ok(homes)
 }
 
+/// The keyspaces that these commands make of nothing, in the order of their names.
+pub fn fold(alloc: Global, commands: &[Command]) -> Result<Vec<Home>> {
+    let mut homes = Vec::new(alloc);
+    let mut new_id = 1u64;
+    for command in commands {
+        homes = next(alloc, homes, command, new_id)?;
+        if matches!(command, Command::Create(_)) {
+            new_id = new_id.saturating_add(1);
+        }
+    }
+    sorted(homes)
+}
+
+/// The pairs of a keyspace that a database shows.
+fn pairs<D: Disk>(core: &mut Database<D>, id: u64) -> Result<Vec<KvPair>> {
+    core.page(id, &(Bound::Unbounded, Bound::Unbounded), false, usize::MAX)
+}
+
+/// The keyspace of this name that a database shows.
+fn shown_home<D: Disk>(core: &mut Database<D>, name: Slice) -> Result<Home> {
+    let id = core.keyspace(&name)?;
+    let pairs = pairs(core, id)?;
+    Ok(Home { name, id, pairs })
+}
+
 /// The keyspaces that a database shows, in the order in which it lists their names.
 pub fn shown<D: Disk>(alloc: Global, core: &mut Database<D>) -> Result<Vec<Home>> {
-    let everywhere = (Bound::Unbounded, Bound::Unbounded);
     let mut homes = Vec::new(alloc);
     for name in core.names()? {
-        let id = core.keyspace(&name)?;
-        let pairs = core.page(id, &everywhere, false, usize::MAX)?;
-        homes.push(Home { name, id, pairs })?;
+        homes.push(shown_home(core, name)?)?;
     }
     Ok(homes)
 }

@@ -22,8 +22,7 @@ pub enum Line {
     Reopen,
 }
 
-/// Keyspaces that are made, written and deleted, some of them made anew.
-pub const SCRIPT: [Line; 32] = [
+const SCRIPT: &[Line] = &[
     Line::Create("b"),
     Line::Create("a"),
     Line::Insert(1, "k", "1"),
@@ -57,6 +56,11 @@ pub const SCRIPT: [Line; 32] = [
     Line::Reopen,
     Line::Insert(5, "l", "3"),
 ];
+
+/// The script: keyspaces that are made, written and deleted, some of them made anew.
+pub fn script() -> &'static [Line] {
+    SCRIPT
+}
 
 /// What isn't as it must be.
 #[derive(Debug, Drop)]
@@ -116,20 +120,34 @@ pub struct History {
     is_poisoned: bool,
 }
 
+/// A database shows the keyspaces that these commands make.
+fn check_shown<D: Disk>(
+    alloc: Global,
+    core: &mut Database<D>,
+    commands: &[Command],
+) -> Checked<()> {
+    let homes = shown(alloc, core)?;
+    if homes == fold(alloc, commands)? {
+        Ok(())
+    } else {
+        Err(Wrong::Homes(homes))
+    }
+}
+
 impl Tried {
+    /// So many of the commands from the first on, with all that are safe.
+    fn beginning(&self, count: usize) -> Checked<&[Command]> {
+        match self.commands.get(..count) {
+            Some(beginning) if self.safe <= count => Ok(beginning),
+            _ => Err(Wrong::Count(count, self.safe, self.commands.len())),
+        }
+    }
+
     /// A database stands for a beginning of the commands, with all that are safe; answers how many they are.
     pub fn stand_in<D: Disk>(&self, alloc: Global, core: &mut Database<D>) -> Checked<usize> {
         let count = core.visible_seqno() as usize;
-        let beginning = match self.commands.get(..count) {
-            Some(beginning) if self.safe <= count => beginning,
-            _ => return Err(Wrong::Count(count, self.safe, self.commands.len())),
-        };
-        let homes = shown(alloc, core)?;
-        if homes == fold(alloc, beginning)? {
-            Ok(count)
-        } else {
-            Err(Wrong::Homes(homes))
-        }
+        check_shown(alloc, core, self.beginning(count)?)?;
+        Ok(count)
     }
 }
 
@@ -144,19 +162,33 @@ impl Line {
         }
     }
 
+    /// Asks for it, where it is of a key.
+    fn ask_of_key<D: Disk>(&self, core: &mut Database<D>) -> Result<()> {
+        match self {
+            Line::Insert(id, key, value) => core.insert(*id, key.as_bytes(), value.as_bytes()),
+            Line::Remove(id, key) => core.remove(*id, key.as_bytes()),
+            Line::RemoveWeak(id, key) => core.remove_weak(*id, key.as_bytes()),
+            _ => Ok(()),
+        }
+    }
+
+    /// Asks for it, where it creates nothing.
+    fn ask_to_change<D: Disk>(&self, core: &mut Database<D>) -> Result<()> {
+        match self {
+            Line::Delete(id) => core.delete_keyspace(*id),
+            Line::Retain(id) => core.retain(*id),
+            Line::Release(id) => core.release(*id),
+            Line::Persist(mode) => core.persist(*mode),
+            _ => self.ask_of_key(core),
+        }
+    }
+
     /// Asks for it; answers the id of what it creates.
     pub fn ask<D: Disk>(&self, core: &mut Database<D>) -> Result<Option<u64>> {
-        match self {
-            Line::Create(name) => return Ok(Some(core.keyspace(name.as_bytes())?)),
-            Line::Delete(id) => core.delete_keyspace(*id)?,
-            Line::Retain(id) => core.retain(*id)?,
-            Line::Release(id) => core.release(*id)?,
-            Line::Insert(id, key, value) => core.insert(*id, key.as_bytes(), value.as_bytes())?,
-            Line::Remove(id, key) => core.remove(*id, key.as_bytes())?,
-            Line::RemoveWeak(id, key) => core.remove_weak(*id, key.as_bytes())?,
-            Line::Persist(mode) => core.persist(*mode)?,
-            Line::Reopen => {}
+        if let Line::Create(name) = self {
+            return Ok(Some(core.keyspace(name.as_bytes())?));
         }
+        self.ask_to_change(core)?;
         Ok(None)
     }
 }
@@ -266,6 +298,11 @@ impl History {
         }
     }
 
+    /// A database shows the keyspaces that the accepted commands make.
+    fn is_shown<D: Disk>(&self, alloc: Global, core: &mut Database<D>) -> Result<bool> {
+        Ok(shown(alloc, core)? == self.homes(alloc)?)
+    }
+
     /// Asks for what a line says.
     fn serve<D: Disk>(&mut self, alloc: Global, core: &mut Database<D>, line: Line) -> Checked<()> {
         let command = self.command(alloc, line)?;
@@ -273,22 +310,27 @@ impl History {
             Ok(_) => self.accept(line, command)?,
             Err(error) => self.refuse(line, error, command)?,
         }
-        if shown(alloc, core)? == self.homes(alloc)? {
+        if self.is_shown(alloc, core)? {
             Ok(())
         } else {
             Err(Wrong::Line(line))
         }
     }
 
-    /// Opens a database, with a second try where the first meets the fault. From then on all that it shows is safe.
-    fn open<D: Disk + Drop>(&mut self, alloc: Global, disk: D) -> Checked<Database<D>> {
-        let mut core = match Database::open(alloc, disk) {
-            Ok(core) => core,
+    /// Opens a database, with a second try where the first meets the fault.
+    fn try_open<D: Disk + Drop>(&mut self, alloc: Global, disk: D) -> Checked<Database<D>> {
+        match Database::open(alloc, disk) {
+            Ok(core) => Ok(core),
             Err(Refused { error, value }) => {
                 self.fault(error, None)?;
-                opened(alloc, value)?
+                Ok(opened(alloc, value)?)
             }
-        };
+        }
+    }
+
+    /// Opens a database. From then on all that it shows is safe.
+    fn open<D: Disk + Drop>(&mut self, alloc: Global, disk: D) -> Checked<Database<D>> {
+        let mut core = self.try_open(alloc, disk)?;
         let count = self.tried.stand_in(alloc, &mut core)?;
         self.tried.commands.truncate(count);
         self.tried.safe = count;
@@ -309,16 +351,27 @@ impl History {
         Ok(disk)
     }
 
+    /// Asks for what a line says, or closes the database and opens it again.
+    fn take<D: Disk + Drop>(
+        &mut self,
+        alloc: Global,
+        core: Database<D>,
+        line: Line,
+    ) -> Checked<Database<D>> {
+        let mut core = core;
+        if let Line::Reopen = line {
+            let disk = self.close(core)?;
+            return self.open(alloc, disk);
+        }
+        self.serve(alloc, &mut core, line)?;
+        Ok(core)
+    }
+
     /// Opens a database, and asks for what these lines say.
     pub fn play<D: Disk + Drop>(&mut self, alloc: Global, disk: D, lines: &[Line]) -> Checked<D> {
         let mut core = self.open(alloc, disk)?;
         for line in lines {
-            if let Line::Reopen = line {
-                let disk = self.close(core)?;
-                core = self.open(alloc, disk)?;
-            } else {
-                self.serve(alloc, &mut core, *line)?;
-            }
+            core = self.take(alloc, core, *line)?;
         }
         Ok(core.into_disk())
     }

@@ -1,10 +1,10 @@
 //! One script over a disk in memory, each moment of which is crashed in each way, and each call of which fails in turn.
 //! What is left always stands for a beginning of the commands, with all that a sync followed.
 
-use crate::database::opened;
+use crate::database::{crashed, opened};
 use crate::moments::{Crash, Moment};
-use crate::script::{Checked, History, Line, SCRIPT, Tried, Wrong};
-use crate::tape::{Step, Tape};
+use crate::script::{Checked, History, Line, Tried, Wrong, script};
+use crate::tape::{Log, Step, Tape};
 use fjall_base::Error;
 use fjall_memory::MemoryDisk;
 use std::alloc::Global;
@@ -12,28 +12,55 @@ use std::test::Fail;
 
 /// The first lines of the script, so many of them.
 pub fn lines(count: usize) -> &'static [Line] {
-    SCRIPT.get(..count).unwrap_or(&SCRIPT)
+    let lines = script();
+    lines.get(..count).unwrap_or(lines)
 }
 
-/// These lines over an empty disk, whose call of this number fails; of an append this part goes out. Number 0: none
-/// fails.
-pub fn played(
-    alloc: Global,
-    lines: &[Line],
-    number: usize,
-    part: usize,
-) -> Checked<(History, Tape<MemoryDisk>)> {
+/// An empty disk, whose call of this number fails; of an append this part goes out. Number 0: none fails.
+fn failing_disk(alloc: Global, number: usize, part: usize) -> Tape<MemoryDisk> {
     let mut disk = MemoryDisk::new(alloc);
     disk.fail_at(number as u64, part);
+    Tape::new(alloc, disk)
+}
+
+/// These lines over such a disk.
+fn played(alloc: Global, lines: &[Line], number: usize, part: usize) -> Checked<(History, Log)> {
     let mut history = History::new(alloc);
-    let tape = history.play(alloc, Tape::new(alloc, disk), lines)?;
+    let tape = history.play(alloc, failing_disk(alloc, number, part), lines)?;
     if !tape.log.is_whole {
         return Err(Wrong::Error(Error::OutOfMemory));
     }
     if history.at_fault.is_some() != (number != 0) {
         return Err(Wrong::Number(number));
     }
-    Ok((history, tape))
+    Ok((history, tape.log))
+}
+
+/// The commands of these lines, none of which is safe, and the calls of the disk.
+pub fn recorded(alloc: Global, lines: &[Line]) -> Checked<(Tried, Log)> {
+    let (history, log) = played(alloc, lines, 0, 0)?;
+    let mut tried = history.tried;
+    tried.safe = 0;
+    Ok((tried, log))
+}
+
+/// How many calls of the disk these lines make.
+pub fn step_count(alloc: Global, lines: &[Line]) -> Checked<usize> {
+    let (_, log) = played(alloc, lines, 0, 0)?;
+    Ok(log.steps.len())
+}
+
+/// Opens a disk, which must stand for a beginning of what was tried. Answers for how many commands it stands.
+pub fn check_disk(alloc: Global, disk: MemoryDisk, tried: &Tried) -> Checked<usize> {
+    let mut core = opened(alloc, disk)?;
+    tried.stand_in(alloc, &mut core)
+}
+
+/// Crashes a moment, and opens what is left.
+fn check_crash(alloc: Global, moment: &Moment, crash: Crash, tried: &Tried) -> Checked<()> {
+    let left = moment.left(alloc, crash)?;
+    check_disk(alloc, left.disk(alloc)?, tried)?;
+    Ok(())
 }
 
 /// Crashes a moment in these ways, and opens what is left. Answers how many they are.
@@ -44,22 +71,35 @@ fn check_crashes(
     tried: &Tried,
 ) -> Checked<usize> {
     for crash in &crashes {
-        let left = moment.left(alloc, *crash)?;
-        let mut core = opened(alloc, left.disk(alloc)?)?;
-        tried.stand_in(alloc, &mut core)?;
+        check_crash(alloc, moment, *crash, tried)?;
     }
     Ok(crashes.len())
+}
+
+/// Crashes a moment in each way in which a file keeps none of its unsynced bytes, or all. Answers how many they are.
+fn check_names(alloc: Global, moment: &Moment, tried: &Tried) -> Checked<usize> {
+    check_crashes(alloc, moment, moment.crashes(alloc)?, tried)
+}
+
+/// Crashes a moment behind an append that keeps a part of its bytes, of each length. Answers how many they are.
+fn check_cuts(alloc: Global, moment: &Moment, step: &Step, tried: &Tried) -> Checked<usize> {
+    check_crashes(alloc, moment, moment.cuts(alloc, step)?, tried)
+}
+
+/// Crashes the last moment in two ways: nothing of what isn't synced is left, or all. Answers how many they are.
+fn check_ends(alloc: Global, moment: &Moment, tried: &Tried) -> Checked<usize> {
+    check_crashes(alloc, moment, moment.ends(alloc)?, tried)
 }
 
 /// The disk takes a step, and is crashed at each moment of it. Answers how many crashes that were.
 fn check_step(alloc: Global, moment: &mut Moment, step: &Step, tried: &Tried) -> Checked<usize> {
     let mut count = 0;
     if moment.begin(step) {
-        count = check_crashes(alloc, moment, moment.crashes(alloc)?, tried)?;
+        count = check_names(alloc, moment, tried)?;
     }
     if moment.take(alloc, step)? {
-        let names = check_crashes(alloc, moment, moment.crashes(alloc)?, tried)?;
-        let bytes = check_crashes(alloc, moment, moment.cuts(alloc, step)?, tried)?;
+        let names = check_names(alloc, moment, tried)?;
+        let bytes = check_cuts(alloc, moment, step, tried)?;
         count = count.saturating_add(names).saturating_add(bytes);
     }
     Ok(count)
@@ -70,30 +110,49 @@ fn before(alloc: Global, line: usize) -> Checked<(usize, usize)> {
     if line == 0 {
         return Ok((0, 0));
     }
-    let (history, tape) = played(alloc, lines(line.saturating_sub(1)), 0, 0)?;
-    Ok((tape.log.steps.len(), history.tried.safe))
+    let (history, log) = played(alloc, lines(line.saturating_sub(1)), 0, 0)?;
+    Ok((log.steps.len(), history.tried.safe))
+}
+
+/// The disk takes these calls, and is crashed at each moment from one on. Answers how many crashes that were.
+fn check_steps(
+    alloc: Global,
+    moment: &mut Moment,
+    log: &Log,
+    from: usize,
+    tried: &Tried,
+) -> Checked<usize> {
+    let mut count = 0usize;
+    for (at, step) in log.steps.iter().enumerate() {
+        if at < from {
+            moment.take(alloc, step)?;
+        } else {
+            count = count.saturating_add(check_step(alloc, moment, step, tried)?);
+        }
+    }
+    Ok(count)
+}
+
+/// Crashes each moment of these calls from one on. What is tried is safe behind them; within them so many commands are.
+fn check_moments(
+    alloc: Global,
+    tried: &Tried,
+    log: &Log,
+    from: usize,
+    safe: usize,
+) -> Checked<usize> {
+    let mut within = tried.clone()?;
+    within.safe = safe;
+    let mut moment = Moment::new(alloc);
+    let count = check_steps(alloc, &mut moment, log, from, &within)?;
+    Ok(count.saturating_add(check_ends(alloc, &moment, tried)?))
 }
 
 /// Crashes each moment of one of the script's lines; line 0 is the first opening. What the line syncs is safe behind it.
 fn check_line(alloc: Global, line: usize) -> Checked<usize> {
     let (from, safe) = before(alloc, line)?;
-    let (history, tape) = played(alloc, lines(line), 0, 0)?;
-    let within = Tried {
-        commands: history.tried.commands.clone()?,
-        safe,
-    };
-    let mut moment = Moment::new(alloc);
-    let mut count = 0usize;
-    for (at, step) in tape.log.steps.iter().enumerate() {
-        if at < from {
-            moment.take(alloc, step)?;
-        } else {
-            let crashes = check_step(alloc, &mut moment, step, &within)?;
-            count = count.saturating_add(crashes);
-        }
-    }
-    let behind = check_crashes(alloc, &moment, moment.ends(alloc)?, &history.tried)?;
-    Ok(count.saturating_add(behind))
+    let (history, log) = played(alloc, lines(line), 0, 0)?;
+    check_moments(alloc, &history.tried, &log, from, safe)
 }
 
 /// Crashes each moment of these lines.
@@ -133,21 +192,20 @@ fn each_moment_of_the_last_lines_is_crashed(rt: HostRuntime) -> Result<(), Fail>
     Ok(())
 }
 
+/// Whether it writes to a table.
+fn is_of_table(step: &Step) -> bool {
+    matches!(step, Step::Append(name, _) if name.ends_with(".table"))
+}
+
 /// Crashes the first creation at each length of its table.
 fn check_table(alloc: Global) -> Checked<usize> {
-    let (history, tape) = played(alloc, lines(1), 0, 0)?;
-    let tried = Tried {
-        commands: history.tried.commands.clone()?,
-        safe: 0,
-    };
+    let (tried, log) = recorded(alloc, lines(1))?;
     let mut moment = Moment::new(alloc);
     let mut count = 0usize;
-    for step in &tape.log.steps {
+    for step in &log.steps {
         moment.take(alloc, step)?;
-        if matches!(step, Step::Append(name, _) if name.ends_with(".table")) {
-            let crashes = moment.cuts(alloc, step)?;
-            let checked = check_crashes(alloc, &moment, crashes, &tried)?;
-            count = count.saturating_add(checked);
+        if is_of_table(step) {
+            count = count.saturating_add(check_cuts(alloc, &moment, step, &tried)?);
         }
     }
     Ok(count)
@@ -160,41 +218,56 @@ fn a_table_is_cut_at_each_length(rt: HostRuntime) -> Result<(), Fail> {
     Ok(())
 }
 
-/// Lets a call of the script fail, crashes the disk at once, and again behind the last line.
-fn check_fault(alloc: Global, number: usize, part: usize) -> Checked<usize> {
-    let (history, tape) = played(alloc, &SCRIPT, number, part)?;
-    let Some(at_fault) = &history.at_fault else {
-        return Ok(0);
-    };
-    let mut moment = Moment::new(alloc);
+/// The disk takes these calls, of which one fails, and is crashed at once. Answers how many crashes that were.
+fn check_failure(
+    alloc: Global,
+    moment: &mut Moment,
+    log: &Log,
+    (number, part): (usize, usize),
+    tried: &Tried,
+) -> Checked<usize> {
     let mut count = 0usize;
-    for (at, step) in tape.log.steps.iter().enumerate() {
+    for (at, step) in log.steps.iter().enumerate() {
         if at.saturating_add(1) == number {
             moment.fail(step, part)?;
-            count = check_crashes(alloc, &moment, moment.crashes(alloc)?, at_fault)?;
+            count = check_names(alloc, moment, tried)?;
         } else {
             moment.take(alloc, step)?;
         }
     }
-    let behind = check_crashes(alloc, &moment, moment.ends(alloc)?, &history.tried)?;
-    Ok(count.saturating_add(behind))
+    Ok(count)
 }
 
-/// Lets each of these calls of the script fail; of an append none of the bytes, half of them, and all go out. Answers how
-/// many crashes followed.
+/// Lets a call of the script fail, crashes the disk at once, and again behind the last line.
+fn check_fault(alloc: Global, number: usize, part: usize) -> Checked<usize> {
+    let (history, log) = played(alloc, script(), number, part)?;
+    let Some(at_fault) = &history.at_fault else {
+        return Ok(0);
+    };
+    let mut moment = Moment::new(alloc);
+    let count = check_failure(alloc, &mut moment, &log, (number, part), at_fault)?;
+    Ok(count.saturating_add(check_ends(alloc, &moment, &history.tried)?))
+}
+
+/// Lets this call of the script fail; of an append none of the bytes, half of them, and all go out. Answers how many
+/// crashes followed.
+fn check_parts(alloc: Global, number: usize, step: &Step) -> Checked<usize> {
+    let count = check_fault(alloc, number, 0)?;
+    let Step::Append(_, bytes) = step else {
+        return Ok(count);
+    };
+    let half = check_fault(alloc, number, bytes.len() / 2)?;
+    let all = check_fault(alloc, number, bytes.len())?;
+    Ok(count.saturating_add(half).saturating_add(all))
+}
+
+/// Lets each of these calls of the script fail. Answers how many crashes followed.
 fn check_faults(alloc: Global, from: usize, end: usize) -> Checked<usize> {
-    let (_, tape) = played(alloc, &SCRIPT, 0, 0)?;
+    let (_, log) = played(alloc, script(), 0, 0)?;
     let mut count = 0usize;
-    for (at, step) in tape.log.steps.iter().enumerate() {
-        if at < from || end <= at {
-            continue;
-        }
-        let number = at.saturating_add(1);
-        count = count.saturating_add(check_fault(alloc, number, 0)?);
-        if let Step::Append(_, bytes) = step {
-            let half = check_fault(alloc, number, bytes.len() / 2)?;
-            let all = check_fault(alloc, number, bytes.len())?;
-            count = count.saturating_add(half).saturating_add(all);
+    for (at, step) in log.steps.iter().enumerate() {
+        if from <= at && at < end {
+            count = count.saturating_add(check_parts(alloc, at.saturating_add(1), step)?);
         }
     }
     Ok(count)
@@ -230,8 +303,8 @@ fn each_call_up_to_the_last_fails(rt: HostRuntime) -> Result<(), Fail> {
 
 #[test]
 fn the_script_makes_24_commands_by_213_calls(rt: HostRuntime) -> Result<(), Fail> {
-    let (history, tape) = played(rt.alloc(), &SCRIPT, 0, 0)?;
-    let counts = (history.tried.commands.len(), tape.log.steps.len());
+    let (tried, log) = recorded(rt.alloc(), script())?;
+    let counts = (tried.commands.len(), log.steps.len());
     assert_eq!(rt; counts, (24, 213));
     Ok(())
 }
@@ -239,9 +312,8 @@ fn the_script_makes_24_commands_by_213_calls(rt: HostRuntime) -> Result<(), Fail
 /// Plays the script, and crashes the disk behind it.
 fn check_memory(alloc: Global) -> Checked<()> {
     let mut history = History::new(alloc);
-    let disk = history.play(alloc, MemoryDisk::new(alloc), &SCRIPT)?;
-    let mut core = opened(alloc, disk.crash(0)?)?;
-    history.tried.stand_in(alloc, &mut core)?;
+    let disk = history.play(alloc, MemoryDisk::new(alloc), script())?;
+    check_disk(alloc, crashed(disk, 0)?, &history.tried)?;
     Ok(())
 }
 

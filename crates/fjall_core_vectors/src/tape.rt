@@ -1,6 +1,6 @@
 //! A disk that tells which calls it got.
 
-use fjall_base::{DirEntry, Disk, Result};
+use fjall_base::{DirEntry, Disk, Error, Result};
 use std::alloc::{AllocError, Global};
 
 /// A call of a disk.
@@ -26,6 +26,15 @@ pub struct Log {
 }
 
 impl Log {
+    /// How many calls it has, where memory was found for each.
+    pub fn step_count(&self) -> Result<u64> {
+        if self.is_whole {
+            Ok(self.steps.len() as u64)
+        } else {
+            Err(Error::OutOfMemory)
+        }
+    }
+
     // Adds a call.
     fn add(&mut self, step: std::result::Result<Step, AllocError>) {
         let added = match step {
