@@ -13,7 +13,7 @@ use std::test::Fail;
 
 const MISMATCH: JournalRecoveryError = JournalRecoveryError::ChecksumMismatch;
 
-const ERRORS: [(Error, u8, &str, &str); 22] = [
+const ERRORS: &[(Error, u8, &str, &str)] = &[
     (
         Error::Io(ErrorKind::NotFound),
         1,
@@ -128,54 +128,90 @@ const ERRORS: [(Error, u8, &str, &str); 22] = [
     ),
 ];
 
-#[test]
-fn errors_have_numbers_names_and_texts(rt: HostRuntime) -> std::result::Result<(), Fail> {
+/// The number of an error, and whether it has this name and prints this text.
+fn said(alloc: Global, error: Error, name: &str, text: &str) -> Result<(u8, bool, bool)> {
+    let printed = format!(in alloc; "{error}")?;
+    Ok((
+        error.number(),
+        error.name() == name,
+        printed.as_str() == text,
+    ))
+}
+
+/// Whether versions of the format and a recovery's error print their texts.
+fn are_others_printed(alloc: Global) -> Result<bool> {
     let [one, two, three] = [FormatVersion::V1, FormatVersion::V2, FormatVersion::V3];
-    let others = format!(in rt.alloc(); "{one} {two} {three} {MISMATCH}")?;
-    let are_others = others.as_str() == "1 2 3 RecoveryError(ChecksumMismatch)";
-    for (error, number, name, text) in ERRORS {
-        let printed = format!(in rt.alloc(); "{error}")?;
-        let is_printed = printed.as_str() == text;
+    let others = format!(in alloc; "{one} {two} {three} {MISMATCH}")?;
+    Ok(others.as_str() == "1 2 3 RecoveryError(ChecksumMismatch)")
+}
+
+#[test]
+fn errors_have_numbers_names_and_texts(rt: HostRuntime) {
+    let are_others = are_others_printed(rt.alloc());
+    for &(error, number, name, text) in ERRORS {
         assert_eq!(rt;
-            (error.number(), error.name() == name, is_printed, are_others),
-            (number, true, true, true),
+            (said(rt.alloc(), error, name, text), are_others),
+            (Ok((number, true, true)), Ok(true)),
             "error {number}"
         );
     }
-    Ok(())
 }
+
+/// Where an error comes from: itself, or one of others that becomes it.
+#[derive(Clone, Copy)]
+enum Source {
+    Own(Error),
+    Io(ErrorKind),
+    Storage(StorageError),
+    Alloc,
+    AllocFailed(u8),
+}
+
+fn error_of(source: Source) -> Error {
+    match source {
+        Source::Own(error) => error,
+        Source::Io(kind) => Error::from(io::Error::from(kind)),
+        Source::Storage(error) => Error::from(error),
+        Source::Alloc => Error::from(AllocError),
+        Source::AllocFailed(value) => Error::from(AllocFailed { value }),
+    }
+}
+
+/// Whether the two are equal, and whether what is refused with both is its clone.
+fn equal_and_cloned(error: Error, value: Error) -> Result<(bool, bool)> {
+    let refused = Refused { error, value };
+    Ok((error == value, refused.clone()? == refused))
+}
+
+const TAG: Error = Error::InvalidTag(("ValueType", 4));
+
+const MISSING: StorageError = StorageError::OptionMissing;
+
+// Where an error comes from, another error, and whether they are equal.
+const EQUAL: &[(Source, Error, bool)] = &[
+    (Source::Own(TAG), Error::InvalidTag(("ValueType", 4)), true),
+    (Source::Own(TAG), Error::InvalidTag(("ValueType", 5)), false),
+    (Source::Own(TAG), Error::InvalidTag(("KeyLength", 4)), false),
+    (
+        Source::Io(ErrorKind::NotFound),
+        Error::Io(ErrorKind::NotFound),
+        true,
+    ),
+    (Source::Storage(MISSING), Error::Storage(MISSING), true),
+    (Source::Alloc, Error::OutOfMemory, true),
+    (Source::AllocFailed(1), Error::OutOfMemory, true),
+];
 
 // Errors are equal by what they carry, and those of others become them.
 #[test]
-fn errors_are_equal_or_not(rt: HostRuntime) -> std::result::Result<(), Fail> {
-    let tag = Error::InvalidTag(("ValueType", 4));
-    let gone = io::Error::from(ErrorKind::NotFound);
-    let missing = StorageError::OptionMissing;
-    let rows = [
-        (tag, Error::InvalidTag(("ValueType", 4)), true),
-        (tag, Error::InvalidTag(("ValueType", 5)), false),
-        (tag, Error::InvalidTag(("KeyLength", 4)), false),
-        (Error::from(gone), Error::Io(ErrorKind::NotFound), true),
-        (Error::from(missing), Error::Storage(missing), true),
-        (Error::from(AllocError), Error::OutOfMemory, true),
-        (
-            Error::from(AllocFailed { value: 1u8 }),
-            Error::OutOfMemory,
-            true,
-        ),
-    ];
-    for (row, (error, value, equal)) in rows.iter().enumerate() {
-        let refused = Refused {
-            error: *error,
-            value: *value,
-        };
+fn errors_are_equal_or_not(rt: HostRuntime) {
+    for (row, &(source, value, equal)) in EQUAL.iter().enumerate() {
         assert_eq!(rt;
-            (error == value, refused.clone()? == refused),
-            (*equal, true),
+            equal_and_cloned(error_of(source), value),
+            Ok((equal, true)),
             "row {row}"
         );
     }
-    Ok(())
 }
 
 fn hash_of(slice: &Slice) -> u64 {
@@ -194,8 +230,32 @@ fn compared(one: &Slice, other: &Slice) -> (bool, bool, bool) {
     (one < other, one == other, hashed)
 }
 
+/// How the slices of these bytes compare.
+fn both_compared(alloc: Global, bytes: &[u8], others: &[u8]) -> Result<(bool, bool, bool)> {
+    let one = Slice::new(alloc, bytes)?;
+    let other = Slice::new(alloc, others)?;
+    Ok(compared(&one, &other))
+}
+
+/// Whether a slice is equal to its clone.
+fn is_cloned(slice: &Slice) -> Result<bool> {
+    Ok(cloned(slice)? == *slice)
+}
+
+/// Whether a slice of these bytes is its clone, and has them; its length; whether it is empty, and the empty one.
+fn parts_of(alloc: Global, bytes: &[u8]) -> Result<(bool, bool, usize, bool, bool)> {
+    let slice = Slice::new(alloc, bytes)?;
+    Ok((
+        is_cloned(&slice)?,
+        slice.as_slice() == bytes,
+        slice.len(),
+        slice.is_empty(),
+        slice == Slice::empty(),
+    ))
+}
+
 // Bytes, others, and whether those are greater, and the same.
-const SLICES: [(&[u8], &[u8], bool, bool); 6] = [
+const SLICES: &[(&[u8], &[u8], bool, bool)] = &[
     (b"a", b"aa", true, false),
     (b"aa", b"b", true, false),
     (b"", b"a", true, false),
@@ -205,25 +265,21 @@ const SLICES: [(&[u8], &[u8], bool, bool); 6] = [
 ];
 
 #[test]
-fn slices_go_by_their_bytes(rt: HostRuntime) -> std::result::Result<(), Fail> {
-    for (row, (bytes, others, is_less, is_same)) in SLICES.iter().enumerate() {
-        let one = Slice::new(rt.alloc(), bytes)?;
-        let other = Slice::new(rt.alloc(), others)?;
-        let found = (compared(&one, &other), cloned(&one)? == one);
-        let empty = (one.is_empty(), one == Slice::empty());
-        let wanted_empty = (bytes.is_empty(), bytes.is_empty());
+fn slices_go_by_their_bytes(rt: HostRuntime) {
+    for (row, &(bytes, others, is_less, is_same)) in SLICES.iter().enumerate() {
+        let (len, is_empty) = (bytes.len(), bytes.is_empty());
         assert_eq!(rt;
-            (found, one.as_slice(), one.len(), empty),
             (
-                ((*is_less, *is_same, true), true),
-                *bytes,
-                bytes.len(),
-                wanted_empty
+                both_compared(rt.alloc(), bytes, others),
+                parts_of(rt.alloc(), bytes)
+            ),
+            (
+                Ok((is_less, is_same, true)),
+                Ok((true, true, len, is_empty, is_empty))
             ),
             "row {row}"
         );
     }
-    Ok(())
 }
 
 /// A call of a disk, or what is done to a disk in memory.
@@ -258,26 +314,35 @@ fn names_in<D: Disk>(alloc: Global, disk: &mut D, folder: &str) -> Result<Vec<u8
     Ok(names)
 }
 
+/// Makes a call that changes a disk.
+fn change<D: Disk>(disk: &mut D, step: Step) -> Result<()> {
+    match step {
+        MakeFolder(name) => disk.make_folder(name),
+        Create(name) => disk.create(name),
+        Append(name, bytes) => disk.append(name, bytes),
+        Sync(name) => disk.sync(name),
+        CutSync(name, len) => disk.cut_sync(name, len),
+        SyncFolder(name) => disk.sync_folder(name),
+        Remove(name) => disk.remove(name),
+        RemoveFolder(name) => disk.remove_folder(name),
+        _ => Ok(()),
+    }
+}
+
 /// Makes a call, and answers the bytes that a read found, or the names in a folder.
 fn call<D: Disk>(alloc: Global, disk: &mut D, step: Step) -> Result<Option<Vec<u8>>> {
     match step {
-        MakeFolder(name) => disk.make_folder(name)?,
-        Create(name) => disk.create(name)?,
-        Append(name, bytes) => disk.append(name, bytes)?,
-        Sync(name) => disk.sync(name)?,
-        CutSync(name, len) => disk.cut_sync(name, len)?,
-        Read(name) => return disk.read(alloc, name),
-        ReadAt(name, at, len) => return disk.read_at(alloc, name, at, len),
-        List(folder) => return Ok(Some(names_in(alloc, disk, folder)?)),
-        SyncFolder(name) => disk.sync_folder(name)?,
-        Remove(name) => disk.remove(name)?,
-        RemoveFolder(name) => disk.remove_folder(name)?,
-        New | FailAt(_, _) | Crash(_) => {}
+        Read(name) => disk.read(alloc, name),
+        ReadAt(name, at, len) => disk.read_at(alloc, name, at, len),
+        List(folder) => Ok(Some(names_in(alloc, disk, folder)?)),
+        _ => {
+            change(disk, step)?;
+            Ok(None)
+        }
     }
-    Ok(None)
 }
 
-const FILL: [Step; 6] = [
+const FILL: &[Step] = &[
     MakeFolder("k"),
     Create("k/c"),
     Append("k/c", b"abc"),
@@ -288,7 +353,7 @@ const FILL: [Step; 6] = [
 
 fn filled(alloc: Global) -> Result<MemoryDisk> {
     let mut disk = MemoryDisk::new(alloc);
-    for step in FILL {
+    for &step in FILL {
         call(alloc, &mut disk, step)?;
     }
     Ok(disk)
@@ -318,12 +383,18 @@ fn bytes_of(answer: &Result<Option<Vec<u8>>>) -> Answer<'_> {
     }
 }
 
+/// Whether a call has this answer, and the faults up to it.
+fn answered<D: Disk>(alloc: Global, disk: &mut D, step: Step, answer: Answer<'_>) -> (bool, u64) {
+    let found = call(alloc, disk, step);
+    (bytes_of(&found) == answer, disk.faults())
+}
+
 const DONE: Answer<'static> = Ok(None);
 
 const FAULT: Answer<'static> = Err(Error::Io(ErrorKind::Other));
 
 // Each step, its answer, and the faults up to it.
-const STEPS: [(Step, Answer<'static>, u64); 54] = [
+const STEPS: &[(Step, Answer<'static>, u64)] = &[
     // A crash keeps names and synced bytes.
     (New, DONE, 0),
     (Append("k/c", b"def"), DONE, 0),
@@ -389,19 +460,18 @@ const STEPS: [(Step, Answer<'static>, u64); 54] = [
 #[test]
 fn a_disk_goes_by_its_steps(rt: HostRuntime) -> std::result::Result<(), Fail> {
     let mut disk = MemoryDisk::new(rt.alloc());
-    for (row, (step, answer, faults)) in STEPS.iter().enumerate() {
-        disk = prepared(rt.alloc(), disk, *step)?;
-        let found = call(rt.alloc(), &mut disk, *step);
+    for (row, &(step, answer, faults)) in STEPS.iter().enumerate() {
+        disk = prepared(rt.alloc(), disk, step)?;
         assert_eq!(rt;
-            (bytes_of(&found), disk.faults()),
-            (*answer, *faults),
+            answered(rt.alloc(), &mut disk, step, answer),
+            (true, faults),
             "row {row}"
         );
     }
     Ok(())
 }
 
-const CALLS: [Step; 11] = [
+const CALLS: &[Step] = &[
     MakeFolder("k"),
     Create("k/c"),
     Append("k/c", b"abc"),
@@ -436,7 +506,7 @@ fn the_call_of_that_number_fails(rt: HostRuntime) {
     }
 }
 
-const CLOSED: [(Step, Answer<'static>); 12] = [
+const CLOSED: &[(Step, Answer<'static>)] = &[
     (MakeFolder("k"), DONE),
     (Create("k/c"), DONE),
     (Append("k/c", b"abc"), DONE),
@@ -454,11 +524,10 @@ const CLOSED: [(Step, Answer<'static>); 12] = [
 #[test]
 fn a_disk_that_lies_answers_ok_and_keeps_nothing(rt: HostRuntime) {
     let mut disk = ClosedDisk;
-    for (row, (step, answer)) in CLOSED.iter().enumerate() {
-        let found = call(rt.alloc(), &mut disk, *step);
+    for (row, &(step, answer)) in CLOSED.iter().enumerate() {
         assert_eq!(rt;
-            (bytes_of(&found), disk.faults()),
-            (*answer, 0),
+            answered(rt.alloc(), &mut disk, step, answer),
+            (true, 0),
             "row {row}"
         );
     }

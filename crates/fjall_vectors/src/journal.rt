@@ -8,10 +8,9 @@ use fjall_journal::{
 use fjall_memory::MemoryDisk;
 use std::alloc::Global;
 use std::io::ErrorKind;
-use std::test::Fail;
 
 // The journal of one insert of a=b into keyspace 1 under number 1. The check was computed apart from this repository.
-const ONE: [u8; 49] = [
+const ONE: &[u8] = &[
     1, 1, 0, 0, 0, 1, 0, 0, 0, 0, 0, 0, 0, 2, 0, 0, 1, 0, 0, 0, 0, 0, 0, 0, 1, 0, 1, 0, 0, 0, 1, 0,
     0, 0, 97, 98, 3, 18, 215, 64, 145, 131, 194, 0, 0, 70, 74, 76, 3,
 ];
@@ -42,15 +41,27 @@ fn spelling(alloc: Global, entry: &Entry) -> Result<Vec<u8>> {
     Ok(out)
 }
 
+fn entry_in(alloc: Global, bytes: &[u8]) -> Result<(Entry, usize)> {
+    Entry::decode_from(alloc, bytes)
+}
+
+/// Whether the bytes spell this entry.
+fn is_spelling(alloc: Global, entry: &Entry, bytes: &[u8]) -> Result<bool> {
+    let spelled = spelling(alloc, entry)?;
+    Ok(spelled.as_slice() == bytes)
+}
+
+/// Whether the bytes spell the entry that is named.
+fn is_named(alloc: Global, named: Named, bytes: &[u8]) -> Result<bool> {
+    let entry = entry_of(alloc, named)?;
+    is_spelling(alloc, &entry, bytes)
+}
+
 /// How many bytes the first entry there has, and whether they spell it, and the one that is named.
 fn first_entry(alloc: Global, bytes: &[u8], named: Named) -> Result<(usize, bool)> {
-    let (entry, len) = Entry::decode_from(alloc, bytes)?;
-    let again = spelling(alloc, &entry)?;
-    let spelled = spelling(alloc, &entry_of(alloc, named)?)?;
-    Ok((
-        len,
-        again.as_slice() == bytes && spelled.as_slice() == bytes,
-    ))
+    let (entry, len) = entry_in(alloc, bytes)?;
+    let same = is_spelling(alloc, &entry, bytes)?;
+    Ok((len, is_named(alloc, named, bytes)? && same))
 }
 
 const CLEAR: Named = Named::Clear(1);
@@ -58,7 +69,7 @@ const CLEAR: Named = Named::Clear(1);
 const EOF: Result<(usize, bool)> = Err(Error::Io(ErrorKind::UnexpectedEof));
 
 // Bytes, the entry that they spell where they spell one, and what is read.
-const ENTRIES: [(&[u8], Named, Result<(usize, bool)>); 7] = [
+const ENTRIES: &[(&[u8], Named, Result<(usize, bool)>)] = &[
     (&[4, 1, 0, 0, 0, 0, 0, 0, 0], CLEAR, Ok((9, true))),
     (
         &[
@@ -101,16 +112,25 @@ fn encoded(alloc: Global, key: &[u8], value: &[u8]) -> Result<usize> {
     Ok(out.len())
 }
 
+fn writer_on(alloc: Global, disk: &mut MemoryDisk) -> Result<Writer> {
+    Writer::create_new(alloc, disk, "0.jnl")
+}
+
+/// Writes this into keyspace 1 under number 1, and answers the length of the batch.
+fn write(disk: &mut MemoryDisk, writer: &mut Writer, key: &[u8], value: &[u8]) -> Result<usize> {
+    writer.write_raw(disk, 1, key, value, ValueType::Value, 1)
+}
+
 fn written(alloc: Global, key: &[u8], value: &[u8]) -> Result<u64> {
     let mut disk = MemoryDisk::new(alloc);
-    let mut writer = Writer::create_new(alloc, &mut disk, "0.jnl")?;
-    writer.write_raw(&mut disk, 1, key, value, ValueType::Value, 1)?;
+    let mut writer = writer_on(alloc, &mut disk)?;
+    write(&mut disk, &mut writer, key, value)?;
     Ok(writer.len())
 }
 
 // Lengths of a key and a value, that of an item, and that of the file behind one write: a batch of one item has
 // 47 bytes beside its key and value, and a buffer of 8,192 bytes goes out.
-const LENGTHS: [(usize, usize, Result<usize>, Result<u64>); 6] = [
+const LENGTHS: &[(usize, usize, Result<usize>, Result<u64>)] = &[
     (0, 0, Err(Error::KeyEmpty), Err(Error::KeyEmpty)),
     (1, 0, Ok(22), Ok(0)),
     (65_535, 0, Ok(65_556), Ok(65_582)),
@@ -119,22 +139,25 @@ const LENGTHS: [(usize, usize, Result<usize>, Result<u64>); 6] = [
     (1, 8_144, Ok(8_166), Ok(8_192)),
 ];
 
+/// The length of an item with a key and a value of these lengths, and that of the file behind its write.
+fn lengths_of(alloc: Global, key: usize, value: usize) -> Result<(Result<usize>, Result<u64>)> {
+    let key = vec![in alloc; 7u8; key]?;
+    let value = vec![in alloc; 9u8; value]?;
+    Ok((encoded(alloc, &key, &value), written(alloc, &key, &value)))
+}
+
 #[test]
-fn lengths(rt: HostRuntime) -> std::result::Result<(), Fail> {
-    for (key_len, value_len, item_len, file_len) in LENGTHS {
-        let key = vec![in rt.alloc(); 7u8; key_len]?;
-        let value = vec![in rt.alloc(); 9u8; value_len]?;
+fn lengths(rt: HostRuntime) {
+    for &(key_len, value_len, item_len, file_len) in LENGTHS {
         assert_eq!(rt;
             (
-                encoded(rt.alloc(), &key, &value),
-                written(rt.alloc(), &key, &value),
+                lengths_of(rt.alloc(), key_len, value_len),
                 JOURNAL_BUFFER_BYTES
             ),
-            (item_len, file_len, 8_192),
+            (Ok((item_len, file_len)), 8_192),
             "{key_len}, {value_len}"
         );
     }
-    Ok(())
 }
 
 /// The lengths that a writer says, and how many bytes of the one insert its file has, if it has no others.
@@ -150,10 +173,21 @@ fn state_of(alloc: Global, disk: &mut MemoryDisk, writer: &Writer) -> Result<See
 
 /// One insert: the length of its batch, and what is seen then.
 fn insert(alloc: Global, disk: &mut MemoryDisk) -> Result<(Writer, usize, Seen)> {
-    let mut writer = Writer::create_new(alloc, disk, "0.jnl")?;
-    let count = writer.write_raw(disk, 1, b"a", b"b", ValueType::Value, 1)?;
+    let mut writer = writer_on(alloc, disk)?;
+    let count = write(disk, &mut writer, b"a", b"b")?;
     let before = state_of(alloc, disk, &writer)?;
     Ok((writer, count, before))
+}
+
+fn persist(disk: &mut MemoryDisk, writer: &mut Writer, mode: PersistMode) -> Result<()> {
+    writer.persist(disk, mode)
+}
+
+/// What a further writer of a file of this length sees behind a crash.
+fn crashed(alloc: Global, disk: MemoryDisk, len: u64) -> Result<Seen> {
+    let further = Writer::from_file(alloc, "0.jnl", len)?;
+    let mut left = disk.crash(0)?;
+    state_of(alloc, &mut left, &further)
 }
 
 /// One insert that is persisted in this mode, while the disk fails at this call: what is seen before, what is
@@ -166,18 +200,16 @@ fn persisted(
     let mut disk = MemoryDisk::new(alloc);
     let (mut writer, count, before) = insert(alloc, &mut disk)?;
     disk.fail_at(call, 20);
-    let answer = writer.persist(&mut disk, mode);
+    let answer = persist(&mut disk, &mut writer, mode);
     let after = state_of(alloc, &mut disk, &writer)?;
-    let further = Writer::from_file(alloc, "0.jnl", writer.len())?;
-    let mut left = disk.crash(0)?;
-    let last = state_of(alloc, &mut left, &further)?;
+    let last = crashed(alloc, disk, writer.len())?;
     Ok((count, before, answer, after, last))
 }
 
 const FAULT: Result<()> = Err(Error::Io(ErrorKind::Other));
 
 // The mode and the call that fails, of the append and the sync; the answer; what is seen then, and behind a crash.
-const PERSISTED: [(PersistMode, u64, Result<()>, Seen, Seen); 5] = [
+const PERSISTED: &[(PersistMode, u64, Result<()>, Seen, Seen)] = &[
     (
         PersistMode::Buffer,
         0,
@@ -216,19 +248,21 @@ const PERSISTED: [(PersistMode, u64, Result<()>, Seen, Seen); 5] = [
 ];
 
 #[test]
-fn a_writer_persists(rt: HostRuntime) -> std::result::Result<(), Fail> {
-    for (mode, call, answer, after, last) in PERSISTED {
+fn a_writer_persists(rt: HostRuntime) {
+    for &(mode, call, answer, after, last) in PERSISTED {
         assert_eq!(rt;
-            persisted(rt.alloc(), mode, call)?,
-            (49, (0, 49, Some(0)), answer, after, last),
+            persisted(rt.alloc(), mode, call),
+            Ok((49, (0, 49, Some(0)), answer, after, last)),
             "{mode:?}, call {call}"
         );
     }
-    Ok(())
 }
 
-/// The number, keyspace, key, value and kind of the only item of the only batch, which clears no keyspace.
-fn only_item(batches: &[Batch]) -> Option<(u64, u64, &[u8], &[u8], ValueType)> {
+/// The number, keyspace, key, value and kind of an item, where there is only one.
+type OnlyItem<'a> = Option<(u64, u64, &'a [u8], &'a [u8], ValueType)>;
+
+/// The only item of the only batch, which clears no keyspace.
+fn only_item(batches: &[Batch]) -> OnlyItem<'_> {
     let [batch] = batches else {
         return None;
     };
@@ -247,36 +281,42 @@ fn only_item(batches: &[Batch]) -> Option<(u64, u64, &[u8], &[u8], ValueType)> {
     ))
 }
 
+/// How many batches a journal has, whether the only item of the only one is this, where they end, and the tail.
+fn contents_of(
+    alloc: Global,
+    text: &[u8],
+    item: OnlyItem<'_>,
+) -> Result<(usize, bool, usize, Tail)> {
+    let contents = read_journal(alloc, text)?;
+    let same = only_item(&contents.batches) == item;
+    Ok((contents.batches.len(), same, contents.end, contents.tail))
+}
+
 #[test]
-fn cut_anywhere(rt: HostRuntime) -> std::result::Result<(), Fail> {
+fn cut_anywhere(rt: HostRuntime) {
     for len in 0..=49usize {
-        let contents = read_journal(rt.alloc(), &ONE[..len])?;
         let item = (1, 1, b"a".as_slice(), b"b".as_slice(), ValueType::Value);
-        let wanted = match len {
+        let (count, wanted, end, tail) = match len {
             0 => (0, None, 0, Tail::Clean),
             49 => (1, Some(item), 49, Tail::Clean),
             _ => (0, None, 0, Tail::Torn),
         };
+        let text = ONE.get(..len).unwrap_or(ONE);
         assert_eq!(rt;
-            (
-                contents.batches.len(),
-                only_item(&contents.batches),
-                contents.end,
-                contents.tail
-            ),
-            wanted,
+            contents_of(rt.alloc(), text, wanted),
+            Ok((count, true, end, tail)),
             "{len} bytes"
         );
     }
-    Ok(())
 }
 
-fn with_byte(at: usize, byte: u8) -> [u8; 49] {
-    let mut text = ONE;
+/// The one insert with another byte at a place.
+fn with_byte(alloc: Global, at: usize, byte: u8) -> Result<Vec<u8>> {
+    let mut text = Vec::from_slice(alloc, ONE)?;
     if let Some(other) = text.get_mut(at) {
         *other = byte;
     }
-    text
+    Ok(text)
 }
 
 const MISMATCH: JournalRecoveryError = JournalRecoveryError::ChecksumMismatch;
@@ -291,10 +331,12 @@ fn next_number(reader: &mut JournalBatchReader<'_>) -> Told {
     }
 }
 
-/// What is told of this text behind the one insert: the first answer and where its batch ends, two more answers, and
-/// then the end and the tail.
-fn told(alloc: Global, behind: &[u8]) -> Result<(Told, usize, Told, Told, usize, Tail)> {
-    let mut text = Vec::from_slice(alloc, &ONE)?;
+/// The first answer and where its batch ends, two more answers, and then the end and the tail.
+type AllTold = (Told, usize, Told, Told, usize, Tail);
+
+/// What is told of this text behind the one insert.
+fn told(alloc: Global, behind: &[u8]) -> Result<AllTold> {
+    let mut text = Vec::from_slice(alloc, ONE)?;
     text.extend_from_slice(behind)?;
     let mut reader = JournalBatchReader::new(alloc, &text);
     let first = next_number(&mut reader);
@@ -309,7 +351,7 @@ const SHORT: JournalRecoveryError = JournalRecoveryError::InsufficientLength;
 const MANY: JournalRecoveryError = JournalRecoveryError::TooManyItems;
 
 // A byte of the one insert that is another one, what is told of that, once, and the tail.
-const DAMAGES: [(usize, u8, Told, Tail); 5] = [
+const DAMAGES: &[(usize, u8, Told, Tail)] = &[
     (
         1,
         2,
@@ -337,21 +379,24 @@ const DAMAGES: [(usize, u8, Told, Tail); 5] = [
     (48, 4, None, Tail::Torn),
 ];
 
+fn tail_of(alloc: Global, text: &[u8]) -> Result<Tail> {
+    Ok(read_journal(alloc, text)?.tail)
+}
+
+/// The tail of the one insert with another byte at a place, and what is told of that behind the one insert.
+fn damage_told(alloc: Global, at: usize, byte: u8) -> Result<(Tail, AllTold)> {
+    let text = with_byte(alloc, at, byte)?;
+    Ok((tail_of(alloc, &text)?, told(alloc, &text)?))
+}
+
 #[test]
-fn a_damage_is_told_once(rt: HostRuntime) -> std::result::Result<(), Fail> {
-    for (at, byte, second, tail) in DAMAGES {
-        let text = with_byte(at, byte);
-        let alone = read_journal(rt.alloc(), &text)?.tail;
-        let found = told(rt.alloc(), &text)?;
+fn a_damage_is_told_once(rt: HostRuntime) {
+    for &(at, byte, second, tail) in DAMAGES {
+        let wanted = (Some(Ok(1)), 49, second, None, 49, tail);
         assert_eq!(rt;
-            (alone, found, RecoveryMode::default()),
-            (
-                tail,
-                (Some(Ok(1)), 49, second, None, 49, tail),
-                RecoveryMode::TolerateCorruptTail
-            ),
+            (damage_told(rt.alloc(), at, byte), RecoveryMode::default()),
+            (Ok((tail, wanted)), RecoveryMode::TolerateCorruptTail),
             "byte {at}"
         );
     }
-    Ok(())
 }

@@ -7,7 +7,7 @@ use std::alloc::Global;
 use std::test::Fail;
 
 // All options by name ascending, which is the order of their keys.
-const BY_NAME: [StoredOption; 20] = [
+const BY_NAME: &[StoredOption] = &[
     StoredOption::CompactionStrategy,
     StoredOption::DataBlockCompressionPolicy,
     StoredOption::DataBlockHashRatioPolicy,
@@ -33,31 +33,58 @@ const BY_NAME: [StoredOption; 20] = [
 /// A keyspace with default options: its id, the number of its creation, and its name.
 type Named = (u64, u64, &'static [u8]);
 
-/// The pairs of these keyspaces as they are wanted, and as each is asked for by its option.
-fn wanted_entries(
-    alloc: Global,
-    keyspaces: &MetaKeyspace,
-    living: &[Named],
-) -> Result<(Vec<MetaEntry>, bool)> {
+/// The pair of this option of a keyspace as it is wanted.
+fn config_entry(alloc: Global, id: u64, number: u64, option: StoredOption) -> Result<MetaEntry> {
+    let key = encode_config_key(alloc, id, option.name())?;
+    let value = Slice::new(alloc, option.default_value())?;
+    Ok(MetaEntry { key, value, number })
+}
+
+/// The pair of this keyspace's name as it is wanted.
+fn name_entry(alloc: Global, (id, number, name): Named) -> Result<MetaEntry> {
+    let key = encode_name_key(alloc, id)?;
+    let value = Slice::new(alloc, name)?;
+    Ok(MetaEntry { key, value, number })
+}
+
+/// The pairs of these keyspaces as they are wanted.
+fn wanted_entries(alloc: Global, living: &[Named]) -> Result<Vec<MetaEntry>> {
     let mut entries = Vec::new(alloc);
-    let mut same = true;
-    for (id, number, _) in living {
-        for option in &BY_NAME {
-            let key = encode_config_key(alloc, *id, option.name())?;
-            let value = Slice::new(alloc, option.default_value())?;
-            let single = keyspaces.get_kv_for_config(alloc, *id, *option)?;
-            same = same && single.as_ref() == Some(&value);
-            let number = *number;
-            entries.push(MetaEntry { key, value, number })?;
+    for &(id, number, _) in living {
+        for &option in BY_NAME {
+            entries.push(config_entry(alloc, id, number, option)?)?;
         }
     }
-    for (id, number, name) in living {
-        let key = encode_name_key(alloc, *id)?;
-        let value = Slice::new(alloc, name)?;
-        let number = *number;
-        entries.push(MetaEntry { key, value, number })?;
+    for &named in living {
+        entries.push(name_entry(alloc, named)?)?;
     }
-    Ok((entries, same))
+    Ok(entries)
+}
+
+/// Whether a keyspace that is asked for an option answers its default value.
+fn is_default(
+    alloc: Global,
+    keyspaces: &MetaKeyspace,
+    id: u64,
+    option: StoredOption,
+) -> Result<bool> {
+    let value = keyspaces.get_kv_for_config(alloc, id, option)?;
+    Ok(match &value {
+        Some(bytes) => bytes.as_slice() == option.default_value(),
+        None => false,
+    })
+}
+
+/// Whether each of these keyspaces that is asked for each option answers its default value.
+fn are_default(alloc: Global, keyspaces: &MetaKeyspace, living: &[Named]) -> Result<bool> {
+    for &(id, _, _) in living {
+        for &option in BY_NAME {
+            if !is_default(alloc, keyspaces, id, option)? {
+                return Ok(false);
+            }
+        }
+    }
+    Ok(true)
 }
 
 fn are_ordered(entries: &[MetaEntry]) -> bool {
@@ -69,15 +96,29 @@ fn are_ordered(entries: &[MetaEntry]) -> bool {
     true
 }
 
-/// Whether just these keyspaces live, and have these pairs, in the order of their keys.
-fn has_living(alloc: Global, keyspaces: &MetaKeyspace, wanted: &[Named]) -> Result<bool> {
+/// Whether just these keyspaces live.
+fn are_living(alloc: Global, keyspaces: &MetaKeyspace, wanted: &[Named]) -> Result<bool> {
     let mut living = Vec::new(alloc);
     for keyspace in keyspaces.living() {
         living.push((keyspace.id, keyspace.number, keyspace.name.as_slice()))?;
     }
+    Ok(living.as_slice() == wanted)
+}
+
+/// Whether the pairs are those of these keyspaces, in the order of their keys.
+fn has_entries(alloc: Global, keyspaces: &MetaKeyspace, wanted: &[Named]) -> Result<bool> {
     let entries = keyspaces.entries(alloc)?;
-    let (wanted_entries, same) = wanted_entries(alloc, keyspaces, wanted)?;
-    Ok(living.as_slice() == wanted && same && entries == wanted_entries && are_ordered(&entries))
+    let wanted_entries = wanted_entries(alloc, wanted)?;
+    Ok(entries == wanted_entries && are_ordered(&entries))
+}
+
+/// Whether just these keyspaces live, and have these pairs, in the order of their keys.
+fn has_living(alloc: Global, keyspaces: &MetaKeyspace, wanted: &[Named]) -> Result<bool> {
+    Ok(
+        are_living(alloc, keyspaces, wanted)?
+            && are_default(alloc, keyspaces, wanted)?
+            && has_entries(alloc, keyspaces, wanted)?,
+    )
 }
 
 /// Creates a keyspace of this name with default options.
@@ -109,6 +150,13 @@ enum Step {
 
 use Step::*;
 
+/// Whether the pairs of the others are the same before and behind the removal of a keyspace.
+fn others_stay(alloc: Global, keyspaces: &mut MetaKeyspace, id: u64) -> Result<bool> {
+    let others = keyspaces.entries_without(alloc, id)?;
+    keyspaces.remove_keyspace(id);
+    Ok(others == keyspaces.entries(alloc)?)
+}
+
 /// Takes a step, and answers the id that a creation answers, else whether what it says holds.
 fn take(alloc: Global, keyspaces: &mut MetaKeyspace, step: Step) -> Result<u64> {
     match step {
@@ -117,13 +165,18 @@ fn take(alloc: Global, keyspaces: &mut MetaKeyspace, step: Step) -> Result<u64> 
         Create(name, number) => return create(alloc, keyspaces, name, number),
         Remove(id) => keyspaces.remove_keyspace(id),
         TakeBack => keyspaces.take_back(),
-        ListOthersAndRemove(id) => {
-            let others = keyspaces.entries_without(alloc, id)?;
-            keyspaces.remove_keyspace(id);
-            return Ok(u64::from(others == keyspaces.entries(alloc)?));
-        }
+        ListOthersAndRemove(id) => return Ok(u64::from(others_stay(alloc, keyspaces, id)?)),
     }
     Ok(0)
+}
+
+/// The next id, and how many keyspaces and pairs there are.
+fn counts_of(keyspaces: &MetaKeyspace) -> (u64, usize, usize) {
+    (
+        keyspaces.next_id(),
+        keyspaces.keyspace_count(),
+        keyspaces.len(),
+    )
 }
 
 const LONGEST: [u8; 255] = [b'n'; 255];
@@ -135,7 +188,7 @@ const A: Named = (2, 5, b"a");
 const B: Named = (1, 4, b"b");
 
 // Each step, its answer, the next id, and the living keyspaces.
-const ROWS: [(Step, Result<u64>, u64, &[Named]); 22] = [
+const ROWS: &[(Step, Result<u64>, u64, &[Named])] = &[
     // An id is never used again, and a name that lives is found.
     (New, Ok(0), 1, &[]),
     (Create(b"b", 4), Ok(1), 2, &[B]),
@@ -165,29 +218,20 @@ const ROWS: [(Step, Result<u64>, u64, &[Named]); 22] = [
 ];
 
 #[test]
-fn keyspaces_go_by_their_steps(rt: HostRuntime) -> std::result::Result<(), Fail> {
+fn keyspaces_go_by_their_steps(rt: HostRuntime) {
     let mut keyspaces = MetaKeyspace::new(rt.alloc());
-    for (row, (step, answer, next_id, living)) in ROWS.iter().enumerate() {
-        let answered = take(rt.alloc(), &mut keyspaces, *step);
+    for (row, &(step, answer, next_id, living)) in ROWS.iter().enumerate() {
+        let len = living.len();
         assert_eq!(rt;
             (
-                answered,
-                keyspaces.next_id(),
-                keyspaces.keyspace_count(),
-                keyspaces.len(),
-                has_living(rt.alloc(), &keyspaces, living)?
+                take(rt.alloc(), &mut keyspaces, step),
+                counts_of(&keyspaces),
+                has_living(rt.alloc(), &keyspaces, living)
             ),
-            (
-                *answer,
-                *next_id,
-                living.len(),
-                living.len().saturating_mul(21),
-                true
-            ),
+            (answer, (next_id, len, len.saturating_mul(21)), Ok(true)),
             "row {row}"
         );
     }
-    Ok(())
 }
 
 /// What the two keyspaces say of a name: the id, and whether it is there and may be one.
@@ -211,15 +255,21 @@ fn of_id(keyspaces: &MetaKeyspace, id: u64) -> (Option<u64>, Option<&[u8]>, Opti
     (number, name, threshold)
 }
 
-fn bytes_at(names: &[Slice], at: usize) -> &[u8] {
+/// Whether this is what the keyspaces say of an id.
+fn is_of_id(keyspaces: &MetaKeyspace, id: u64, wanted: OfId) -> bool {
+    of_id(keyspaces, id) == wanted
+}
+
+/// Whether this name is listed at a place, or "none" is wanted where there is no name.
+fn is_listed(names: &[Slice], at: usize, wanted: &[u8]) -> bool {
     match names.get(at) {
-        Some(name) => name.as_slice(),
-        None => b"none",
+        Some(name) => name.as_slice() == wanted,
+        None => wanted == b"none".as_slice(),
     }
 }
 
 // A name and what is said of it, an id and what is said of that, and the name that is listed at the row's place.
-const ASKED: [(&str, OfName, u64, OfId, &[u8]); 5] = [
+const ASKED: &[(&str, OfName, u64, OfId, &[u8])] = &[
     (
         "a",
         (Some(2), true, true),
@@ -239,25 +289,35 @@ const ASKED: [(&str, OfName, u64, OfId, &[u8]); 5] = [
     ("", (None, false, false), 4, (None, None, None), b"none"),
 ];
 
+/// What two keyspaces say of a name.
+fn of_name(keyspaces: &MetaKeyspace, name: &str) -> OfName {
+    let bytes = name.as_bytes();
+    (
+        keyspaces.resolve_id(bytes),
+        keyspaces.keyspace_exists(bytes),
+        is_valid_keyspace_name(name),
+    )
+}
+
+/// Whether the keyspace 3 has a value of the option `version`.
+fn has_third(alloc: Global, keyspaces: &MetaKeyspace) -> Result<bool> {
+    let value = keyspaces.get_kv_for_config(alloc, 3, StoredOption::Version)?;
+    Ok(value.is_some())
+}
+
 #[test]
 fn ids_and_names(rt: HostRuntime) -> std::result::Result<(), Fail> {
     let keyspaces = two(rt.alloc())?;
     let names = keyspaces.list_keyspace_names(rt.alloc())?;
-    for (row, (name, of_name, id, wanted, listed)) in ASKED.iter().enumerate() {
-        let bytes = name.as_bytes();
-        let found = (
-            keyspaces.resolve_id(bytes),
-            keyspaces.keyspace_exists(bytes),
-            is_valid_keyspace_name(name),
-        );
+    for (row, &(name, said, id, wanted, listed)) in ASKED.iter().enumerate() {
         assert_eq!(rt;
             (
-                found,
-                of_id(&keyspaces, *id),
-                bytes_at(&names, row),
-                keyspaces.get_kv_for_config(rt.alloc(), 3, StoredOption::Version)?
+                of_name(&keyspaces, name),
+                is_of_id(&keyspaces, id, wanted),
+                is_listed(&names, row, listed),
+                has_third(rt.alloc(), &keyspaces)
             ),
-            (*of_name, *wanted, *listed, None),
+            (said, true, true, Ok(false)),
             "row {row}"
         );
     }
@@ -265,7 +325,7 @@ fn ids_and_names(rt: HostRuntime) -> std::result::Result<(), Fail> {
 }
 
 // Places of the pairs of one keyspace "items", and their keys and values.
-const PAIRS: [(usize, &[u8], &[u8]); 3] = [
+const PAIRS: &[(usize, &[u8], &[u8])] = &[
     (
         0,
         b"c\x00\x00\x00\x00\x00\x00\x00\x01compaction_strategy",
@@ -279,25 +339,34 @@ const PAIRS: [(usize, &[u8], &[u8]); 3] = [
     (20, b"n\x00\x00\x00\x00\x00\x00\x00\x01", b"items"),
 ];
 
+/// The pairs of one keyspace "items".
+fn entries_of_items(alloc: Global) -> Result<Vec<MetaEntry>> {
+    let mut keyspaces = MetaKeyspace::new(alloc);
+    create(alloc, &mut keyspaces, b"items", 0)?;
+    keyspaces.entries(alloc)
+}
+
+/// Whether a pair is equal to its clone, and whether that is equal to another pair.
+fn equal_to_clone(entry: &MetaEntry, other: &MetaEntry) -> Result<(bool, bool)> {
+    let copy = entry.clone()?;
+    Ok((copy == *entry, copy == *other))
+}
+
 #[test]
 fn stored_pairs(rt: HostRuntime) -> std::result::Result<(), Fail> {
-    let mut keyspaces = MetaKeyspace::new(rt.alloc());
-    create(rt.alloc(), &mut keyspaces, b"items", 0)?;
-    let entries = keyspaces.entries(rt.alloc())?;
+    let entries = entries_of_items(rt.alloc())?;
     assert_eq!(rt; entries.len(), 21);
-    for (place, key, value) in PAIRS {
+    for &(place, key, value) in PAIRS {
         let Some(entry) = entries.get(place) else {
             continue
         };
-        let copy = entry.clone()?;
         assert_eq!(rt;
             (
-                entry.key.as_slice(),
-                entry.value.as_slice(),
-                copy == *entry,
-                copy == entries[7]
+                entry.key.as_slice() == key,
+                entry.value.as_slice() == value,
+                equal_to_clone(entry, &entries[7])
             ),
-            (key, value, true, false)
+            (true, true, Ok((true, false)))
         );
     }
     Ok(())
@@ -318,19 +387,27 @@ enum Edit {
 
 use Edit::*;
 
-/// The pairs of the two keyspaces, but that the one at this place is left out, or has another value and number.
-fn with(alloc: Global, at: usize, other: Option<(&[u8], u64)>) -> Result<Vec<MetaEntry>> {
-    let mut entries = Vec::new(alloc);
-    for (place, entry) in two(alloc)?.entries(alloc)?.iter().enumerate() {
-        let mut copy = entry.clone()?;
-        if place == at {
-            let Some((value, number)) = other else {
-                continue
-            };
-            copy.value = Slice::new(alloc, value)?;
-            copy.number = number;
-        }
-        entries.push(copy)?;
+/// The pairs of the two keyspaces.
+fn entries_of_two(alloc: Global) -> Result<Vec<MetaEntry>> {
+    let keyspaces = two(alloc)?;
+    keyspaces.entries(alloc)
+}
+
+/// The pairs of the two keyspaces without the one at this place.
+fn without(alloc: Global, at: usize) -> Result<Vec<MetaEntry>> {
+    let mut entries = entries_of_two(alloc)?;
+    if at < entries.len() {
+        entries.remove(at);
+    }
+    Ok(entries)
+}
+
+/// The pairs of the two keyspaces, where the one at this place has another value and number.
+fn with(alloc: Global, at: usize, value: &[u8], number: u64) -> Result<Vec<MetaEntry>> {
+    let mut entries = entries_of_two(alloc)?;
+    if let Some(entry) = entries.get_mut(at) {
+        entry.value = Slice::new(alloc, value)?;
+        entry.number = number;
     }
     Ok(entries)
 }
@@ -346,14 +423,14 @@ fn many(alloc: Global, count: u64) -> Result<Vec<MetaEntry>> {
 
 fn edited(alloc: Global, edit: Edit) -> Result<Vec<MetaEntry>> {
     match edit {
-        Nothing => two(alloc)?.entries(alloc),
+        Nothing => entries_of_two(alloc),
         All => Ok(Vec::new(alloc)),
         Reverse => {
-            let mut entries = two(alloc)?.entries(alloc)?;
+            let mut entries = entries_of_two(alloc)?;
             entries.reverse();
             Ok(entries)
         }
-        Value(at, value, number) => with(alloc, at, Some((value, number))),
+        Value(at, value, number) => with(alloc, at, value, number),
         Many(count) => many(alloc, count),
     }
 }
@@ -377,7 +454,7 @@ fn read_back(alloc: Global, entries: &[MetaEntry], next_id: u64) -> Back {
 
 const INVALID: Back = Err(Error::Storage(StorageError::OptionInvalid));
 
-const BACK: [(Edit, u64, Back); 10] = [
+const BACK: &[(Edit, u64, Back)] = &[
     (Nothing, 7, Ok((2, 7, Some(2), None, true))),
     (All, 1, Ok((0, 1, None, None, true))),
     (Many(200), 201, Ok((200, 201, None, Some(149), true))),
@@ -390,25 +467,29 @@ const BACK: [(Edit, u64, Back); 10] = [
     (Reverse, 3, INVALID),
 ];
 
-#[test]
-fn pairs_read_back(rt: HostRuntime) -> std::result::Result<(), Fail> {
-    for (row, (edit, next_id, answer)) in BACK.iter().enumerate() {
-        let entries = edited(rt.alloc(), *edit)?;
-        assert_eq!(rt;
-            read_back(rt.alloc(), &entries, *next_id),
-            *answer,
-            "row {row}"
-        );
-    }
-    Ok(())
+/// What the pairs are read back as.
+fn edited_back(alloc: Global, edit: Edit, next_id: u64) -> Back {
+    let entries = edited(alloc, edit)?;
+    read_back(alloc, &entries, next_id)
 }
 
 #[test]
-fn missing_pairs(rt: HostRuntime) -> std::result::Result<(), Fail> {
-    for at in 0..42 {
-        let entries = with(rt.alloc(), at, None)?;
-        let missing = Err(Error::Storage(StorageError::OptionMissing));
-        assert_eq!(rt; read_back(rt.alloc(), &entries, 3), missing, "at {at}");
+fn pairs_read_back(rt: HostRuntime) {
+    for (row, &(edit, next_id, answer)) in BACK.iter().enumerate() {
+        assert_eq!(rt; edited_back(rt.alloc(), edit, next_id), answer, "row {row}");
     }
-    Ok(())
+}
+
+/// What is read back where the pair at this place is missing.
+fn without_back(alloc: Global, at: usize) -> Back {
+    let entries = without(alloc, at)?;
+    read_back(alloc, &entries, 3)
+}
+
+#[test]
+fn missing_pairs(rt: HostRuntime) {
+    for at in 0..42 {
+        let missing = Err(Error::Storage(StorageError::OptionMissing));
+        assert_eq!(rt; without_back(rt.alloc(), at), missing, "at {at}");
+    }
 }

@@ -1,13 +1,13 @@
 //! What an engine holds in memory: keyspaces made, written, deleted and read, and refusals in their order.
 
-use fjall_base::{Error, Result, Slice};
+use fjall_base::{Error, KvPair, Result, Slice};
 use fjall_journal::{PersistMode, ValueType};
 use fjall_meta::MetaKeyspace;
 use fjall_options::KeyspaceCreateOptions;
 use fjall_state::{Call, Change, EngineState, Reply, View};
 use std::alloc::Global;
+use std::fmt::Debug;
 use std::ops::Bound;
-use std::test::Fail;
 
 /// Makes a keyspace of this name with default options, where nothing refuses it.
 fn create(alloc: Global, memory: &mut EngineState, name: &[u8]) -> Result<u64> {
@@ -49,6 +49,11 @@ fn delete(alloc: Global, memory: &mut EngineState, id: u64) -> Result<()> {
     Ok(())
 }
 
+/// Counts one handle more.
+fn retain(memory: &mut EngineState, id: u64) -> Result<()> {
+    memory.retain(id)
+}
+
 /// Counts one handle less, where nothing refuses it.
 fn release(memory: &mut EngineState, id: u64) -> Result<()> {
     if let Some(error) = memory.release_refusal(id) {
@@ -58,11 +63,22 @@ fn release(memory: &mut EngineState, id: u64) -> Result<()> {
     Ok(())
 }
 
-/// The keyspaces 1, "b", in which k=v, and 2, "a".
-fn two(alloc: Global) -> Result<EngineState> {
-    let mut memory = EngineState::new(alloc, MetaKeyspace::new(alloc), Vec::new(alloc), 1);
+/// A memory without keyspaces.
+fn empty(alloc: Global) -> EngineState {
+    EngineState::new(alloc, MetaKeyspace::new(alloc), Vec::new(alloc), 1)
+}
+
+/// The keyspaces 1, "b", and 2, "a".
+fn two_empty(alloc: Global) -> Result<EngineState> {
+    let mut memory = empty(alloc);
     create(alloc, &mut memory, b"b")?;
     create(alloc, &mut memory, b"a")?;
+    Ok(memory)
+}
+
+/// The same, where k=v in the first one.
+fn two(alloc: Global) -> Result<EngineState> {
+    let mut memory = two_empty(alloc)?;
     change(alloc, &mut memory, 1, b"k", Change::Put(b"v"))?;
     Ok(memory)
 }
@@ -70,7 +86,7 @@ fn two(alloc: Global) -> Result<EngineState> {
 /// The same, where the first one is deleted, and read by one handle.
 fn one_deleted(alloc: Global) -> Result<EngineState> {
     let mut memory = two(alloc)?;
-    memory.retain(1)?;
+    retain(&mut memory, 1)?;
     delete(alloc, &mut memory, 1)?;
     Ok(memory)
 }
@@ -90,31 +106,31 @@ enum Step {
 /// Takes a step, and answers the id that a creation answers, else 0.
 fn take(alloc: Global, memory: &mut EngineState, step: Step) -> Result<u64> {
     match step {
-        Step::New => *memory = EngineState::new(
-            alloc,
-            MetaKeyspace::new(alloc),
-            Vec::new(alloc),
-            1,
-        ),
+        Step::New => *memory = empty(alloc),
         Step::Create(name) => return create(alloc, memory, name),
         Step::Change(id, key, what) => change(alloc, memory, id, key, what)?,
         Step::Delete(id) => delete(alloc, memory, id)?,
-        Step::Retain(id) => memory.retain(id)?,
+        Step::Retain(id) => retain(memory, id)?,
         Step::Release(id) => release(memory, id)?,
         Step::Ask => {}
     }
     Ok(0)
 }
 
+/// Whether these are just the wanted names, in their order, with their ids.
+fn are_wanted(memory: &EngineState, names: &[Slice], wanted: &[(&[u8], u64)]) -> bool {
+    for (name, (named, id)) in names.iter().zip(wanted) {
+        if name.as_slice() != *named || memory.resolve(named) != Some(*id) {
+            return false;
+        }
+    }
+    names.len() == wanted.len()
+}
+
 /// Whether just these names are there, in their order, with these ids, and no "c".
 fn are_named(alloc: Global, memory: &EngineState, wanted: &[(&[u8], u64)]) -> Result<bool> {
     let names = memory.list_keyspace_names(alloc)?;
-    for (name, (named, id)) in names.iter().zip(wanted) {
-        if name.as_slice() != *named || memory.resolve(named) != Some(*id) {
-            return Ok(false);
-        }
-    }
-    Ok(names.len() == wanted.len() && memory.resolve(b"c").is_none())
+    Ok(are_wanted(memory, &names, wanted) && memory.resolve(b"c").is_none())
 }
 
 /// What is counted: keyspaces, the next id, the next number, versions, and pairs of the meta keyspace.
@@ -142,6 +158,15 @@ fn state_of(memory: &EngineState, id: u64) -> State {
     )
 }
 
+fn page_of(alloc: Global, memory: &EngineState, id: u64) -> Result<Vec<KvPair>> {
+    let everywhere = (Bound::Unbounded, Bound::Unbounded);
+    memory.page(alloc, id, &everywhere, false, 9)
+}
+
+fn value_of(memory: &EngineState, id: u64, key: &[u8]) -> Result<Option<Slice>> {
+    memory.get(id, key)
+}
+
 /// The value of a key, and how many keys its keyspace has.
 fn read(
     alloc: Global,
@@ -149,9 +174,8 @@ fn read(
     id: u64,
     key: &[u8],
 ) -> Result<(Option<Slice>, usize)> {
-    let everywhere = (Bound::Unbounded, Bound::Unbounded);
-    let value = memory.get(id, key)?;
-    Ok((value, memory.page(alloc, id, &everywhere, false, 9)?.len()))
+    let count = page_of(alloc, memory, id)?.len();
+    Ok((value_of(memory, id, key)?, count))
 }
 
 type Bytes<'a> = Result<(Option<&'a [u8]>, usize)>;
@@ -162,6 +186,12 @@ fn bytes_of(found: &Result<(Option<Slice>, usize)>) -> Bytes<'_> {
         Ok((None, count)) => Ok((None, *count)),
         Err(error) => Err(*error),
     }
+}
+
+/// Whether this is what is read in a keyspace at "k".
+fn is_read(alloc: Global, memory: &EngineState, id: u64, wanted: Bytes<'_>) -> bool {
+    let found = read(alloc, memory, id, b"k");
+    bytes_of(&found) == wanted
 }
 
 const PUT_V: Step = Step::Change(1, b"k", Change::Put(b"v"));
@@ -189,7 +219,7 @@ type Row = (
     Bytes<'static>,
 );
 
-const ROWS: [Row; 17] = [
+const ROWS: &[Row] = &[
     // The newest version answers.
     (Step::New, Ok(0), (0, 1, 1, 0, 0), &[], 1, GONE, UNKNOWN),
     (
@@ -324,25 +354,22 @@ const ROWS: [Row; 17] = [
 ];
 
 #[test]
-fn a_memory_goes_by_its_steps(rt: HostRuntime) -> std::result::Result<(), Fail> {
+fn a_memory_goes_by_its_steps(rt: HostRuntime) {
     let alloc = rt.alloc();
-    let mut memory = EngineState::new(alloc, MetaKeyspace::new(alloc), Vec::new(alloc), 1);
-    for (row, (step, answer, counted, names, id, stands, value)) in ROWS.iter().enumerate() {
-        let answered = take(alloc, &mut memory, *step);
-        let found = read(alloc, &memory, *id, b"k");
+    let mut memory = empty(alloc);
+    for (row, &(step, answer, counted, names, id, stands, value)) in ROWS.iter().enumerate() {
         assert_eq!(rt;
             (
-                answered,
+                take(alloc, &mut memory, step),
                 counts_of(&memory),
-                are_named(alloc, &memory, names)?,
-                state_of(&memory, *id),
-                bytes_of(&found)
+                are_named(alloc, &memory, names),
+                state_of(&memory, id),
+                is_read(alloc, &memory, id, value)
             ),
-            (*answer, *counted, true, *stands, *value),
+            (answer, counted, Ok(true), stands, true),
             "row {row}"
         );
     }
-    Ok(())
 }
 
 /// A memory that a row names: with two keyspaces; with one of them deleted; the same poisoned; one whose numbers are
@@ -393,7 +420,7 @@ fn refusal(alloc: Global, memory: &EngineState, asked: Asked) -> Result<Option<E
     })
 }
 
-const REFUSALS: [(Given, Asked, Option<Error>); 16] = [
+const REFUSALS: &[(Given, Asked, Option<Error>)] = &[
     // Refusals of writes come in this order.
     (Given::Poisoned, Write(9, 0), Some(Error::KeyEmpty)),
     (Given::Poisoned, Write(9, 65_536), Some(Error::KeyTooLong)),
@@ -439,36 +466,60 @@ const REFUSALS: [(Given, Asked, Option<Error>); 16] = [
     ),
 ];
 
-#[test]
-fn refusals_come_in_order(rt: HostRuntime) -> std::result::Result<(), Fail> {
-    for (row, (named, asked, error)) in REFUSALS.iter().enumerate() {
-        let memory = memory_of(rt.alloc(), *named)?;
-        assert_eq!(rt; refusal(rt.alloc(), &memory, *asked)?, *error, "row {row}");
-    }
-    Ok(())
+/// What the memory of a row refuses.
+fn refusal_of(alloc: Global, named: Given, asked: Asked) -> Result<Option<Error>> {
+    let memory = memory_of(alloc, named)?;
+    refusal(alloc, &memory, asked)
 }
 
-const CHANGES: [(Change<'static>, &[u8], ValueType); 3] = [
+#[test]
+fn refusals_come_in_order(rt: HostRuntime) {
+    for (row, &(named, asked, error)) in REFUSALS.iter().enumerate() {
+        assert_eq!(rt;
+            refusal_of(rt.alloc(), named, asked),
+            Ok(error),
+            "row {row}"
+        );
+    }
+}
+
+const CHANGES: &[(Change<'static>, &[u8], ValueType)] = &[
     (Change::Put(b"v"), b"v", ValueType::Value),
     (Change::Remove, b"", ValueType::Tombstone),
     (Change::RemoveWeak, b"", ValueType::WeakTombstone),
 ];
 
-#[test]
-fn changes_and_calls_say_what_they_are(rt: HostRuntime) -> std::result::Result<(), Fail> {
+fn is_printed<T: Debug>(alloc: Global, value: &T, text: &str) -> Result<bool> {
+    let printed = format!(in alloc; "{value:?}")?;
+    Ok(printed.as_str() == text)
+}
+
+fn is_call_printed(alloc: Global) -> Result<bool> {
     let call = Call::Persist(PersistMode::SyncAll);
+    is_printed(alloc, &call, "Persist(SyncAll)")
+}
+
+fn is_reply_printed(alloc: Global) -> Result<bool> {
     let reply = Reply::Refused(Error::KeyEmpty);
-    let view = View::Present;
-    let text = format!(in rt.alloc(); "{call:?} {reply:?} {view:?}")?;
-    for (change, bytes, value_type) in CHANGES {
+    is_printed(alloc, &reply, "Refused(KeyEmpty)")
+}
+
+/// Whether a call, a reply and a view print their texts.
+fn are_printed(alloc: Global) -> Result<(bool, bool, bool)> {
+    Ok((
+        is_call_printed(alloc)?,
+        is_reply_printed(alloc)?,
+        is_printed(alloc, &View::Present, "Present")?,
+    ))
+}
+
+#[test]
+fn changes_and_calls_say_what_they_are(rt: HostRuntime) {
+    let printed = are_printed(rt.alloc());
+    for &(change, bytes, value_type) in CHANGES {
         assert_eq!(rt;
-            (change.bytes(), change.value_type(), text.as_str()),
-            (
-                bytes,
-                value_type,
-                "Persist(SyncAll) Refused(KeyEmpty) Present"
-            )
+            (change.bytes(), change.value_type(), printed),
+            (bytes, value_type, Ok((true, true, true)))
         );
     }
-    Ok(())
 }

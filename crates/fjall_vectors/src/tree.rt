@@ -71,6 +71,15 @@ fn payload_of_keys(alloc: Global, from: u16, to: u16) -> Result<Vec<u8>> {
     Ok(payload)
 }
 
+/// The bytes, where one bit of the byte at a place is another one.
+fn with_other_bit(alloc: Global, bytes: &[u8], at: usize) -> Result<Vec<u8>> {
+    let mut changed = Vec::from_slice(alloc, bytes)?;
+    if let Some(other) = changed.get_mut(at) {
+        *other ^= 0x40;
+    }
+    Ok(changed)
+}
+
 fn are_equal(versions: &[TableEntry<'_>], others: &[TableEntry<'_>]) -> bool {
     for (version, other) in versions.iter().zip(others) {
         if version.key != other.key

@@ -1,6 +1,6 @@
 //! Worked rows of many keyspaces, and calls of each public function.
 
-use fjall_base::{Error, Result, Slice};
+use fjall_base::{Error, KvPair, Result, Slice};
 use fjall_journal::{Batch, ReadBatchItem, ValueType, read_journal};
 use fjall_meta::MetaKeyspace;
 use fjall_options::KeyspaceCreateOptions;
@@ -10,7 +10,7 @@ use std::ops::Bound;
 use std::test::Fail;
 
 // The journal of one insert of a=b into keyspace 1 under number 1. The check was computed apart from this repository.
-const ONE: [u8; 49] = [
+const ONE: &[u8] = &[
     1, 1, 0, 0, 0, 1, 0, 0, 0, 0, 0, 0, 0, 2, 0, 0, 1, 0, 0, 0, 0, 0, 0, 0, 1, 0, 1, 0, 0, 0, 1, 0,
     0, 0, 97, 98, 3, 18, 215, 64, 145, 131, 194, 0, 0, 70, 74, 76, 3,
 ];
@@ -55,17 +55,22 @@ fn item(
     })
 }
 
+fn items_of(alloc: Global, id: u64, key: &[u8], points: bool) -> Result<Vec<ReadBatchItem>> {
+    let mut items = Vec::new(alloc);
+    items.push(item(alloc, id, key, ValueType::Value)?)?;
+    if points {
+        items.push(item(alloc, id, key, ValueType::Indirection)?)?;
+    }
+    Ok(items)
+}
+
 fn batch(alloc: Global, named: Named) -> Result<Batch> {
     let (seqno, cleared, id, key) = match named {
         Puts(seqno, id, key) => (seqno, [].as_slice(), id, key),
         Clears(seqno, cleared, id, key) => (seqno, cleared, id, key),
         Points(seqno) => (seqno, [].as_slice(), 1, b"k".as_slice()),
     };
-    let mut items = Vec::new(alloc);
-    items.push(item(alloc, id, key, ValueType::Value)?)?;
-    if matches!(named, Points(_)) {
-        items.push(item(alloc, id, key, ValueType::Indirection)?)?;
-    }
+    let items = items_of(alloc, id, key, matches!(named, Points(_)))?;
     Ok(Batch {
         seqno,
         items,
@@ -81,6 +86,10 @@ fn batches_of(alloc: Global, named: &[Named]) -> Result<Vec<Batch>> {
     Ok(batches)
 }
 
+fn batches_of_one(alloc: Global) -> Result<Vec<Batch>> {
+    Ok(read_journal(alloc, ONE)?.batches)
+}
+
 #[derive(Clone, Copy)]
 enum Step {
     /// A new run begins with two keyspaces and no versions.
@@ -94,6 +103,17 @@ enum Step {
 
 use Step::*;
 
+/// Replays batches, and answers the number behind them.
+fn replayed(
+    keyspaces: &mut MetaKeyspace,
+    versions: &mut Vec<Version>,
+    batches: Vec<Batch>,
+) -> Result<u64> {
+    let next = check_batches(&batches, 0)?;
+    replay(keyspaces, batches, versions)?;
+    Ok(next)
+}
+
 /// Takes a step, and answers the number behind batches, or the id of a keyspace.
 fn take(
     alloc: Global,
@@ -101,23 +121,20 @@ fn take(
     versions: &mut Vec<Version>,
     step: Step,
 ) -> Result<u64> {
-    let batches = match step {
+    match step {
         Two => {
             *keyspaces = two(alloc)?;
             versions.clear();
-            return Ok(0);
+            Ok(0)
         }
         MakeAgain(number) => {
             keyspaces.remove_keyspace(1);
-            return create(alloc, keyspaces, b"a", number);
+            create(alloc, keyspaces, b"a", number)
         }
-        Ask => return Ok(0),
-        Replay(named) => batches_of(alloc, named)?,
-        ReplayOne => read_journal(alloc, &ONE)?.batches,
-    };
-    let next = check_batches(&batches, 0)?;
-    replay(keyspaces, batches, versions)?;
-    Ok(next)
+        Ask => Ok(0),
+        Replay(named) => replayed(keyspaces, versions, batches_of(alloc, named)?),
+        ReplayOne => replayed(keyspaces, versions, batches_of_one(alloc)?),
+    }
 }
 
 /// Whether the versions are of these keyspaces and numbers.
@@ -141,24 +158,39 @@ fn bound_of(alloc: Global, bound: Bound<&[u8]>) -> Result<Bound<Slice>> {
 /// A page that a row asks for: the keyspace, the bounds, whether it is the last one, and how many keys it has at most.
 type Asked = (u64, Bound<&'static [u8]>, Bound<&'static [u8]>, bool, usize);
 
-/// Whether the page has just these keys.
-fn has_keys(alloc: Global, versions: &[Version], asked: Asked, keys: &[&[u8]]) -> Result<bool> {
-    let (id, start, end, back, max) = asked;
-    let range: KeyRange = (bound_of(alloc, start)?, bound_of(alloc, end)?);
-    let pairs = page(alloc, versions, id, &range, back, max)?;
-    for (pair, key) in pairs.iter().zip(keys) {
-        if pair.0.as_slice() != *key {
-            return Ok(false);
-        }
-    }
-    Ok(pairs.len() == keys.len())
+fn range_of(alloc: Global, start: Bound<&[u8]>, end: Bound<&[u8]>) -> Result<KeyRange> {
+    Ok((bound_of(alloc, start)?, bound_of(alloc, end)?))
 }
 
-fn value_of<'a>(versions: &'a [Version], id: u64, key: &[u8]) -> Option<&'a [u8]> {
-    match newest_value(versions, id, key) {
+fn page_of(alloc: Global, versions: &[Version], asked: Asked) -> Result<Vec<KvPair>> {
+    let (id, start, end, back, max) = asked;
+    let range = range_of(alloc, start, end)?;
+    page(alloc, versions, id, &range, back, max)
+}
+
+/// Whether pairs have just these keys.
+fn are_keys(pairs: &[KvPair], keys: &[&[u8]]) -> bool {
+    for (pair, key) in pairs.iter().zip(keys) {
+        if pair.0.as_slice() != *key {
+            return false;
+        }
+    }
+    pairs.len() == keys.len()
+}
+
+/// Whether the page has just these keys.
+fn has_keys(alloc: Global, versions: &[Version], asked: Asked, keys: &[&[u8]]) -> Result<bool> {
+    let pairs = page_of(alloc, versions, asked)?;
+    Ok(are_keys(&pairs, keys))
+}
+
+/// Whether this is the newest value of a key, or it has none.
+fn is_newest(versions: &[Version], id: u64, key: &[u8], wanted: Option<&[u8]>) -> bool {
+    let found = match newest_value(versions, id, key) {
         Some(value) => Some(value.as_slice()),
         None => None,
-    }
+    };
+    found == wanted
 }
 
 // Each step and its answer; the keyspaces and numbers of the versions then; a keyspace and all its keys; and a key
@@ -186,7 +218,7 @@ const AGAIN: &[Named] = &[Puts(1, 1, b"old"), Puts(2, 3, b"early"), Puts(8, 3, b
 // Neither the clear of keyspace 2 under the number of its creation nor one of no keyspace counts.
 const CLEARED: &[Named] = &[Clears(3, &[2, 9], 1, b"l"), Clears(6, &[1], 1, b"m")];
 
-const ROWS: [Row; 16] = [
+const ROWS: &[Row] = &[
     // Items count behind the creation of their keyspace.
     (Two, 0, &[], 1, &[], b"k", None),
     (
@@ -242,25 +274,26 @@ const ROWS: [Row; 16] = [
 ];
 
 #[test]
-fn versions_go_by_their_steps(rt: HostRuntime) -> std::result::Result<(), Fail> {
+fn versions_go_by_their_steps(rt: HostRuntime) {
     let mut keyspaces = MetaKeyspace::new(rt.alloc());
     let mut versions = Vec::new(rt.alloc());
-    for (row, (step, answer, ids, id, keys, key, value)) in ROWS.iter().enumerate() {
-        let answered = take(rt.alloc(), &mut keyspaces, &mut versions, *step)?;
-        let all = (*id, Bound::Unbounded, Bound::Unbounded, false, 9);
-        let same = are_of(&versions, ids) && has_keys(rt.alloc(), &versions, all, keys)?;
-        let found = value_of(&versions, *id, key);
+    for (row, &(step, answer, ids, id, keys, key, value)) in ROWS.iter().enumerate() {
+        let all = (id, Bound::Unbounded, Bound::Unbounded, false, 9);
         assert_eq!(rt;
-            (answered, same, found),
-            (*answer, true, *value),
+            (
+                take(rt.alloc(), &mut keyspaces, &mut versions, step),
+                are_of(&versions, ids),
+                has_keys(rt.alloc(), &versions, all, keys),
+                is_newest(&versions, id, key, value)
+            ),
+            (Ok(answer), true, Ok(true), true),
             "row {row}"
         );
     }
-    Ok(())
 }
 
 // Versions of two keyspaces: in keyspace 1 "a" is put twice, and "b" is taken away.
-const PUSHED: [(u64, u64, &[u8], Option<&[u8]>); 7] = [
+const PUSHED: &[(u64, u64, &[u8], Option<&[u8]>)] = &[
     (1, 1, b"d", Some(b"1")),
     (2, 1, b"a", Some(b"2")),
     (3, 2, b"b", Some(b"3")),
@@ -272,14 +305,14 @@ const PUSHED: [(u64, u64, &[u8], Option<&[u8]>); 7] = [
 
 fn versions_of_two(alloc: Global) -> Result<Vec<Version>> {
     let mut versions = Vec::new(alloc);
-    for (seqno, id, key, value) in PUSHED {
+    for &(seqno, id, key, value) in PUSHED {
         versions.push(Version::new(alloc, id, seqno, key, value)?)?;
     }
     Ok(versions)
 }
 
 // A page and its keys; and a key of the page's keyspace and its newest value.
-const PAGES: [(Asked, &[&[u8]], &[u8], Option<&[u8]>); 8] = [
+const PAGES: &[(Asked, &[&[u8]], &[u8], Option<&[u8]>)] = &[
     (
         (1, Bound::Unbounded, Bound::Unbounded, false, 2),
         &[b"a", b"c"],
@@ -333,11 +366,13 @@ const PAGES: [(Asked, &[&[u8]], &[u8], Option<&[u8]>); 8] = [
 #[test]
 fn pages_and_newest_versions(rt: HostRuntime) -> std::result::Result<(), Fail> {
     let versions = versions_of_two(rt.alloc())?;
-    for (row, (asked, keys, key, value)) in PAGES.iter().enumerate() {
-        let same = has_keys(rt.alloc(), &versions, *asked, keys)?;
+    for (row, &(asked, keys, key, value)) in PAGES.iter().enumerate() {
         assert_eq!(rt;
-            (same, value_of(&versions, asked.0, key)),
-            (true, *value),
+            (
+                has_keys(rt.alloc(), &versions, asked, keys),
+                is_newest(&versions, asked.0, key, value)
+            ),
+            (Ok(true), true),
             "row {row}"
         );
     }
@@ -349,7 +384,7 @@ const LAST: u64 = (1 << 63) - 1;
 const TAG: Result<u64> = Err(Error::InvalidTag(("ValueType", 4)));
 
 // Batches, the least number that the first may have, and the number behind them or the first fault.
-const CHECKED: [(&[Named], u64, Result<u64>); 7] = [
+const CHECKED: &[(&[Named], u64, Result<u64>)] = &[
     (&[Puts(4, 1, b"k")], 4, Ok(5)),
     (&[Puts(4, 1, b"k")], 5, Err(Error::Unrecoverable)),
     (&[Puts(4, 1, b"k"), Points(5)], 0, TAG),
@@ -367,11 +402,15 @@ const CHECKED: [(&[Named], u64, Result<u64>); 7] = [
     ),
 ];
 
+/// The number behind these batches, or their first fault.
+fn checked(alloc: Global, named: &[Named], least: u64) -> Result<u64> {
+    let batches = batches_of(alloc, named)?;
+    check_batches(&batches, least)
+}
+
 #[test]
-fn the_first_fault_is_named(rt: HostRuntime) -> std::result::Result<(), Fail> {
-    for (row, (named, least, answer)) in CHECKED.iter().enumerate() {
-        let batches = batches_of(rt.alloc(), named)?;
-        assert_eq!(rt; check_batches(&batches, *least), *answer, "row {row}");
+fn the_first_fault_is_named(rt: HostRuntime) {
+    for (row, &(named, least, answer)) in CHECKED.iter().enumerate() {
+        assert_eq!(rt; checked(rt.alloc(), named, least), answer, "row {row}");
     }
-    Ok(())
 }

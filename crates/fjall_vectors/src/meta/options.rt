@@ -12,7 +12,7 @@ use std::io::ErrorKind;
 use std::test::Fail;
 
 // Each option's name, the bytes of its default value, and those of the other one that `changed` gives it.
-const VALUES: [(&str, &[u8], &[u8]); 20] = [
+const VALUES: &[(&str, &[u8], &[u8])] = &[
     (
         "compaction_strategy",
         b"LeveledCompaction",
@@ -79,26 +79,105 @@ fn changed_strategy(alloc: Global) -> Result<Leveled> {
         .with_level_ratio_policy(alloc, &[8_000_000, 10_000_000])
 }
 
-/// Options that differ from the default ones in each setting.
-fn changed(alloc: Global) -> Result<KeyspaceCreateOptions> {
-    let none = FilterPolicy::all(alloc, FilterPolicyEntry::None)?;
-    let options = KeyspaceCreateOptions::default(alloc)?
-        .compaction_strategy(changed_strategy(alloc)?)
-        .data_block_compression_policy(CompressionPolicy::disabled(alloc)?)
-        .data_block_hash_ratio_policy(HashRatioPolicy::all(alloc, 8_000_000)?)
-        .data_block_restart_interval_policy(RestartIntervalPolicy::all(alloc, 8)?)
-        .data_block_size_policy(BlockSizePolicy::all(alloc, 512)?)
-        .expect_point_read_hits(true)
-        .filter_policy(none);
+/// These options with other data blocks.
+fn with_data_blocks(
+    alloc: Global,
+    options: KeyspaceCreateOptions,
+) -> Result<KeyspaceCreateOptions> {
+    let compression = CompressionPolicy::disabled(alloc)?;
+    let hash_ratio = HashRatioPolicy::all(alloc, 8_000_000)?;
     Ok(
         options
-            .filter_block_partitioning_policy(PartitioningPolicy::all(alloc, true)?)
-            .filter_block_pinning_policy(PinningPolicy::all(alloc, false)?)
-            .index_block_compression_policy(CompressionPolicy::disabled(alloc)?)
-            .index_block_partitioning_policy(PartitioningPolicy::all(alloc, false)?)
-            .index_block_pinning_policy(PinningPolicy::all(alloc, true)?)
+            .data_block_compression_policy(compression)
+            .data_block_hash_ratio_policy(hash_ratio),
+    )
+}
+
+/// These options with other restart intervals and sizes of data blocks.
+fn with_block_sizes(
+    alloc: Global,
+    options: KeyspaceCreateOptions,
+) -> Result<KeyspaceCreateOptions> {
+    let restart_interval = RestartIntervalPolicy::all(alloc, 8)?;
+    let size = BlockSizePolicy::all(alloc, 512)?;
+    Ok(
+        options
+            .data_block_restart_interval_policy(restart_interval)
+            .data_block_size_policy(size),
+    )
+}
+
+/// These options without filters.
+fn with_filters(alloc: Global, options: KeyspaceCreateOptions) -> Result<KeyspaceCreateOptions> {
+    let none = FilterPolicy::all(alloc, FilterPolicyEntry::None)?;
+    Ok(options.filter_policy(none))
+}
+
+/// These options with other blocks of filters.
+fn with_filter_blocks(
+    alloc: Global,
+    options: KeyspaceCreateOptions,
+) -> Result<KeyspaceCreateOptions> {
+    let partitioning = PartitioningPolicy::all(alloc, true)?;
+    let pinning = PinningPolicy::all(alloc, false)?;
+    Ok(
+        options
+            .filter_block_partitioning_policy(partitioning)
+            .filter_block_pinning_policy(pinning),
+    )
+}
+
+/// These options with other blocks of indexes.
+fn with_index_blocks(
+    alloc: Global,
+    options: KeyspaceCreateOptions,
+) -> Result<KeyspaceCreateOptions> {
+    let partitioning = PartitioningPolicy::all(alloc, false)?;
+    let pinning = PinningPolicy::all(alloc, true)?;
+    Ok(
+        options
+            .index_block_partitioning_policy(partitioning)
+            .index_block_pinning_policy(pinning),
+    )
+}
+
+/// These options with indexes that are not compressed, and the other compaction strategy.
+fn with_strategy(alloc: Global, options: KeyspaceCreateOptions) -> Result<KeyspaceCreateOptions> {
+    let compression = CompressionPolicy::disabled(alloc)?;
+    let strategy = changed_strategy(alloc)?;
+    Ok(
+        options
+            .index_block_compression_policy(compression)
+            .compaction_strategy(strategy),
+    )
+}
+
+/// The default options with other flags and another size.
+fn with_flags(alloc: Global) -> Result<KeyspaceCreateOptions> {
+    let options = KeyspaceCreateOptions::default(alloc)?;
+    Ok(
+        options
+            .expect_point_read_hits(true)
             .manual_journal_persist(true)
             .max_memtable_size(1_000),
+    )
+}
+
+/// Options with other settings of data blocks.
+fn with_changed_data(alloc: Global) -> Result<KeyspaceCreateOptions> {
+    with_block_sizes(alloc, with_data_blocks(alloc, with_flags(alloc)?)?)
+}
+
+/// The same with other settings of filters.
+fn with_changed_filters(alloc: Global) -> Result<KeyspaceCreateOptions> {
+    with_filter_blocks(alloc, with_filters(alloc, with_changed_data(alloc)?)?)
+}
+
+/// Options that differ from the default ones in each setting.
+fn changed(alloc: Global) -> Result<KeyspaceCreateOptions> {
+    with_strategy(
+        alloc,
+        with_index_blocks(alloc, with_changed_filters(alloc)?)?,
     )
 }
 
@@ -110,12 +189,46 @@ fn bytes_at(pairs: &[KvPair], at: usize) -> (&[u8], &[u8]) {
     }
 }
 
-/// The pairs of the changed options, what they are read back as, and the pairs of that.
-fn twice(alloc: Global) -> Result<(Vec<KvPair>, EffectiveSettings, Vec<KvPair>)> {
-    let pairs = changed(alloc)?.encode_kvs(alloc, 9)?;
-    let options = KeyspaceCreateOptions::from_kvs(alloc, 9, &pairs)?;
-    let again = options.encode_kvs(alloc, 9)?;
-    Ok((pairs, options.effective(), again))
+/// The pairs that these options store for a keyspace.
+fn pairs_of(
+    alloc: Global,
+    options: &KeyspaceCreateOptions,
+    keyspace_id: u64,
+) -> Result<Vec<KvPair>> {
+    options.encode_kvs(alloc, keyspace_id)
+}
+
+/// The options that these pairs give a keyspace.
+fn options_of(alloc: Global, keyspace_id: u64, pairs: &[KvPair]) -> Result<KeyspaceCreateOptions> {
+    KeyspaceCreateOptions::from_kvs(alloc, keyspace_id, pairs)
+}
+
+/// The pairs of the default options.
+fn default_pairs(alloc: Global) -> Result<Vec<KvPair>> {
+    pairs_of(alloc, &KeyspaceCreateOptions::default(alloc)?, 1)
+}
+
+/// The pairs of the changed options.
+fn changed_pairs(alloc: Global) -> Result<Vec<KvPair>> {
+    pairs_of(alloc, &changed(alloc)?, 9)
+}
+
+/// What these pairs are read back as, and the pairs of that.
+fn pairs_again(alloc: Global, pairs: &[KvPair]) -> Result<(EffectiveSettings, Vec<KvPair>)> {
+    let options = options_of(alloc, 9, pairs)?;
+    Ok((options.effective(), pairs_of(alloc, &options, 9)?))
+}
+
+/// Whether the pair has the key of this option of a keyspace, and this value.
+fn is_pair(
+    alloc: Global,
+    pair: (&[u8], &[u8]),
+    keyspace_id: u64,
+    name: &str,
+    value: &[u8],
+) -> Result<bool> {
+    let key = encode_config_key(alloc, keyspace_id, name)?;
+    Ok(pair == (key.as_slice(), value))
 }
 
 const SETTINGS: EffectiveSettings = EffectiveSettings {
@@ -128,22 +241,19 @@ const SETTINGS: EffectiveSettings = EffectiveSettings {
 #[test]
 fn options_are_stored_and_read_back(rt: HostRuntime) -> std::result::Result<(), Fail> {
     let alloc = rt.alloc();
-    let defaults = KeyspaceCreateOptions::default(alloc)?.encode_kvs(alloc, 1)?;
-    let (others, settings, again) = twice(alloc)?;
+    let defaults = default_pairs(alloc)?;
+    let others = changed_pairs(alloc)?;
+    let (settings, again) = pairs_again(alloc, &others)?;
     let lens = (defaults.len(), others.len(), again.len());
-    for (row, (name, value, other)) in VALUES.iter().enumerate() {
-        let key = encode_config_key(alloc, 1, name)?;
-        let other_key = encode_config_key(alloc, 9, name)?;
-        let wanted = (other_key.as_slice(), *other);
-        let found = (bytes_at(&others, row), bytes_at(&again, row));
+    for (row, &(name, value, other)) in VALUES.iter().enumerate() {
+        let found = (
+            is_pair(alloc, bytes_at(&defaults, row), 1, name, value),
+            is_pair(alloc, bytes_at(&others, row), 9, name, other),
+            is_pair(alloc, bytes_at(&again, row), 9, name, other),
+        );
         assert_eq!(rt;
-            (lens, bytes_at(&defaults, row), found, settings),
-            (
-                (20, 20, 20),
-                (key.as_slice(), *value),
-                (wanted, wanted),
-                SETTINGS
-            ),
+            (lens, found, settings),
+            ((20, 20, 20), (Ok(true), Ok(true), Ok(true)), SETTINGS),
             "at {name}"
         );
     }
@@ -162,6 +272,15 @@ enum Entries {
 
 use Entries::*;
 
+/// Whether these entries are spelled just so.
+fn are_spelled<T: PolicyEntry>(alloc: Global, entries: &[T], bytes: &[u8]) -> Result<bool> {
+    if entries.is_empty() || 255 < entries.len() {
+        return Ok(false);
+    }
+    let spelled = Policy::new(alloc, entries)?.encode(alloc)?;
+    Ok(spelled.as_slice() == bytes)
+}
+
 /// What is read in the bytes: whether it is these entries, how many, and whether they are spelled just so.
 fn read<T: PolicyEntry + PartialEq>(
     alloc: Global,
@@ -169,15 +288,8 @@ fn read<T: PolicyEntry + PartialEq>(
     entries: &[T],
 ) -> Result<(bool, usize, bool)> {
     let policy = Policy::<T>::decode(alloc, bytes)?;
-    if entries.is_empty() || 255 < entries.len() {
-        return Ok((false, policy.len(), false));
-    }
-    let spelled = Policy::new(alloc, entries)?.encode(alloc)?;
-    Ok((
-        policy.iter().eq(entries),
-        policy.len(),
-        spelled.as_slice() == bytes,
-    ))
+    let same = policy.iter().eq(entries);
+    Ok((same, policy.len(), are_spelled(alloc, entries, bytes)?))
 }
 
 fn read_entries(alloc: Global, bytes: &[u8], entries: Entries) -> Result<(bool, usize, bool)> {
@@ -190,7 +302,7 @@ fn read_entries(alloc: Global, bytes: &[u8], entries: Entries) -> Result<(bool, 
     }
 }
 
-const FILTERS: [FilterPolicyEntry; 3] = [
+const FILTERS: &[FilterPolicyEntry] = &[
     FilterPolicyEntry::Bloom(BloomConstructionPolicy::BitsPerKey(10_000_000)),
     FilterPolicyEntry::Bloom(BloomConstructionPolicy::FalsePositiveRate(10_000)),
     FilterPolicyEntry::None,
@@ -198,7 +310,7 @@ const FILTERS: [FilterPolicyEntry; 3] = [
 
 const EOF: Result<(bool, usize, bool)> = Err(Error::Io(ErrorKind::UnexpectedEof));
 
-const POLICIES: [(&[u8], Entries, Result<(bool, usize, bool)>); 17] = [
+const POLICIES: &[(&[u8], Entries, Result<(bool, usize, bool)>)] = &[
     // There and back.
     (
         &[3, 1, 1, 0],
@@ -227,7 +339,7 @@ const POLICIES: [(&[u8], Entries, Result<(bool, usize, bool)>); 17] = [
     ),
     (
         &[3, 1, 0, 0x80, 0x96, 0x98, 0, 1, 1, 0x10, 0x27, 0, 0, 0],
-        Filters(&FILTERS),
+        Filters(FILTERS),
         Ok((true, 3, true)),
     ),
     (&[1, 1], Flags(&[true]), Ok((true, 1, true))),
@@ -238,7 +350,7 @@ const POLICIES: [(&[u8], Entries, Result<(bool, usize, bool)>); 17] = [
     (&[], Sizes(&[0]), EOF),
     (&[1, 0, 0, 0], Sizes(&[0]), EOF),
     (&[2, 8], Intervals(&[8]), EOF),
-    (&[1, 1], Filters(&FILTERS), EOF),
+    (&[1, 1], Filters(FILTERS), EOF),
     (
         &[0],
         Sizes(&[0]),
@@ -246,12 +358,12 @@ const POLICIES: [(&[u8], Entries, Result<(bool, usize, bool)>); 17] = [
     ),
     (
         &[1, 2],
-        Filters(&FILTERS),
+        Filters(FILTERS),
         Err(Error::InvalidTag(("FilterPolicy", 2))),
     ),
     (
         &[1, 1, 5],
-        Filters(&FILTERS),
+        Filters(FILTERS),
         Err(Error::InvalidTag(("BloomPolicy", 5))),
     ),
     (
@@ -272,16 +384,25 @@ fn policies_and_back(rt: HostRuntime) {
     }
 }
 
-/// This value of the option of keyspace 1, where a name is given, before so many default pairs.
-fn stored_pairs(alloc: Global, name: &str, value: &[u8], count: usize) -> Result<Vec<KvPair>> {
+/// The pair of this value of the option of keyspace 1.
+fn pair_of(alloc: Global, name: &str, value: &[u8]) -> Result<KvPair> {
+    let key = encode_config_key(alloc, 1, name)?;
+    Ok((key, Slice::new(alloc, value)?))
+}
+
+/// The pair of this value of the option, where a name is given.
+fn named_pairs(alloc: Global, name: &str, value: &[u8]) -> Result<Vec<KvPair>> {
     let mut pairs = Vec::new(alloc);
     if !name.is_empty() {
-        pairs.push((
-            encode_config_key(alloc, 1, name)?,
-            Slice::new(alloc, value)?,
-        ))?;
+        pairs.push(pair_of(alloc, name, value)?)?;
     }
-    let mut defaults = KeyspaceCreateOptions::default(alloc)?.encode_kvs(alloc, 1)?;
+    Ok(pairs)
+}
+
+/// This value of the option of keyspace 1, where a name is given, before so many default pairs.
+fn stored_pairs(alloc: Global, name: &str, value: &[u8], count: usize) -> Result<Vec<KvPair>> {
+    let mut pairs = named_pairs(alloc, name, value)?;
+    let mut defaults = default_pairs(alloc)?;
     defaults.truncate(count);
     for pair in defaults {
         pairs.push(pair)?;
@@ -291,8 +412,8 @@ fn stored_pairs(alloc: Global, name: &str, value: &[u8], count: usize) -> Result
 
 /// Whether the options that these pairs give a keyspace persist by hand, and the byte that they store again for that.
 fn by_hand(alloc: Global, keyspace_id: u64, pairs: &[KvPair]) -> Result<(bool, Option<u8>)> {
-    let options = KeyspaceCreateOptions::from_kvs(alloc, keyspace_id, pairs)?;
-    let again = options.encode_kvs(alloc, keyspace_id)?;
+    let options = options_of(alloc, keyspace_id, pairs)?;
+    let again = pairs_of(alloc, &options, keyspace_id)?;
     let byte = match bytes_at(&again, 14).1 {
         [byte] => Some(*byte),
         _ => None,
@@ -305,7 +426,7 @@ const MISSING: Result<(bool, Option<u8>)> = Err(Error::Storage(StorageError::Opt
 const INVALID: Result<(bool, Option<u8>)> = Err(Error::Storage(StorageError::OptionInvalid));
 
 // A name and its value, how many default pairs of keyspace 1 follow, the keyspace that is asked for, and the answer.
-const STORED: [(&str, &[u8], usize, u64, Result<(bool, Option<u8>)>); 12] = [
+const STORED: &[(&str, &[u8], usize, u64, Result<(bool, Option<u8>)>)] = &[
     ("compaction_strategy", b"FifoCompaction", 20, 1, INVALID),
     ("data_block_size_policy", &[0], 20, 1, INVALID),
     ("filter_policy", &[1, 2], 20, 1, INVALID),
@@ -328,16 +449,34 @@ const STORED: [(&str, &[u8], usize, u64, Result<(bool, Option<u8>)>); 12] = [
     ("", &[], 20, 2, MISSING),
 ];
 
+/// What the pairs of a row of `STORED` give the keyspace that is asked for.
+fn answer_of(
+    alloc: Global,
+    (name, value, count, keyspace_id): (&str, &[u8], usize, u64),
+) -> Result<(bool, Option<u8>)> {
+    let pairs = stored_pairs(alloc, name, value, count)?;
+    by_hand(alloc, keyspace_id, &pairs)
+}
+
+fn is_name_key(alloc: Global) -> Result<bool> {
+    let key = encode_name_key(alloc, 1)?;
+    Ok(key.as_slice() == [0x6e, 0, 0, 0, 0, 0, 0, 0, 1].as_slice())
+}
+
+fn is_config_key(alloc: Global) -> Result<bool> {
+    let key = encode_config_key(alloc, 258, "version")?;
+    Ok(key.as_slice() == b"c\x00\x00\x00\x00\x00\x00\x01\x02version".as_slice())
+}
+
 #[test]
-fn stored_values(rt: HostRuntime) -> std::result::Result<(), Fail> {
-    let name_key = encode_name_key(rt.alloc(), 1)?;
-    let config_key = encode_config_key(rt.alloc(), 258, "version")?;
-    let are_keys = name_key.as_slice() == [0x6e, 0, 0, 0, 0, 0, 0, 0, 1].as_slice()
-        && config_key.as_slice() == b"c\x00\x00\x00\x00\x00\x00\x01\x02version".as_slice();
-    for (row, (name, value, count, keyspace_id, answer)) in STORED.iter().enumerate() {
-        let pairs = stored_pairs(rt.alloc(), name, value, *count)?;
-        let found = by_hand(rt.alloc(), *keyspace_id, &pairs);
-        assert_eq!(rt; (found, are_keys), (*answer, true), "row {row}");
+fn stored_values(rt: HostRuntime) {
+    let are_keys = (is_name_key(rt.alloc()), is_config_key(rt.alloc()));
+    for (row, &(name, value, count, keyspace_id, answer)) in STORED.iter().enumerate() {
+        let found = answer_of(rt.alloc(), (name, value, count, keyspace_id));
+        assert_eq!(rt;
+            (found, are_keys),
+            (answer, (Ok(true), Ok(true))),
+            "row {row}"
+        );
     }
-    Ok(())
 }

@@ -2,6 +2,7 @@
 
 use fjall_base::{Error, Result};
 use fjall_meta::SnapshotTracker;
+use std::alloc::Global;
 
 /// A call of a tracker, or many of them.
 #[derive(Clone, Copy)]
@@ -46,9 +47,9 @@ fn turns(tracker: &mut SnapshotTracker, count: u64, top: u64, closings: u8) -> R
 }
 
 /// Takes a step, and answers the instant that an opening answers, else `None`.
-fn take(tracker: &mut SnapshotTracker, step: Step) -> Result<Option<u64>> {
+fn take(alloc: Global, tracker: &mut SnapshotTracker, step: Step) -> Result<Option<u64>> {
     match step {
-        New => {}
+        New => *tracker = SnapshotTracker::new(alloc),
         Open => return Ok(Some(tracker.open()?)),
         Clone(instant) => return Ok(Some(tracker.clone_snapshot(instant)?)),
         Close(instant) => tracker.close(instant),
@@ -67,7 +68,7 @@ fn take(tracker: &mut SnapshotTracker, step: Step) -> Result<Option<u64>> {
 
 const CLOSED: Result<Option<u64>> = Err(Error::SnapshotClosed);
 
-const ROWS: [(Step, Result<Option<u64>>, Seen); 57] = [
+const ROWS: &[(Step, Result<Option<u64>>, Seen)] = &[
     // A snapshot opens at the visible number.
     (Open, Ok(Some(0)), (0, 1, 1, 0)),
     (Close(0), Ok(None), (0, 0, 0, 0)),
@@ -163,13 +164,10 @@ const ROWS: [(Step, Result<Option<u64>>, Seen); 57] = [
 #[test]
 fn trackers_go_by_their_steps(rt: HostRuntime) {
     let mut tracker = SnapshotTracker::new(rt.alloc());
-    for (row, (step, answer, after)) in ROWS.iter().enumerate() {
-        if matches!(step, New) {
-            tracker = SnapshotTracker::new(rt.alloc());
-        }
+    for (row, &(step, answer, after)) in ROWS.iter().enumerate() {
         assert_eq!(rt;
-            (take(&mut tracker, *step), state_of(&tracker)),
-            (*answer, *after),
+            (take(rt.alloc(), &mut tracker, step), state_of(&tracker)),
+            (answer, after),
             "row {row}"
         );
     }

@@ -2,6 +2,7 @@
 
 use super::{
     Named, are_equal, checksum, payload_of, payload_of_keys, put_framed, version_of, versions_of,
+    with_other_bit,
 };
 use fjall_base::{Error, Result, StorageError};
 use fjall_table::{BLOCK_BYTES, Level, TableEntry, TableInfo, read_block};
@@ -80,7 +81,7 @@ fn with_byte(alloc: Global, text: &[u8], other: Option<(usize, u8)>) -> Result<V
 }
 
 // A record, a byte of its text that is another one, the length of the text, and what is read there.
-const RECORDS: [(Fields, Option<(usize, u8)>, usize, Result<(usize, bool)>); 21] = [
+const RECORDS: &[(Fields, Option<(usize, u8)>, usize, Result<(usize, bool)>)] = &[
     (EMPTY, None, 55, Ok((55, true))),
     ((None, None, 1, &[], &[3]), None, 63, Ok((63, true))),
     (ONE_TABLE, None, 80, Ok((80, true))),
@@ -126,19 +127,26 @@ const RECORDS: [(Fields, Option<(usize, u8)>, usize, Result<(usize, bool)>); 21]
     (ONE_TABLE, Some((51, 0)), 80, Ok((80, true))),
 ];
 
+/// The length of a record's text with another byte, what is read there, and whether it is the text without that byte.
+fn record_read(
+    alloc: Global,
+    fields: Fields,
+    other: Option<(usize, u8)>,
+) -> Result<(usize, Result<(usize, bool)>, bool)> {
+    let whole = text_of(alloc, fields)?;
+    let text = with_byte(alloc, &whole, other)?;
+    Ok((text.len(), read(alloc, &text), text == whole))
+}
+
 #[test]
-fn records(rt: HostRuntime) -> std::result::Result<(), Fail> {
-    for (row, (fields, other, len, answer)) in RECORDS.iter().enumerate() {
-        let whole = text_of(rt.alloc(), *fields)?;
-        let text = with_byte(rt.alloc(), &whole, *other)?;
-        let is_same = text == whole;
+fn records(rt: HostRuntime) {
+    for (row, &(fields, other, len, answer)) in RECORDS.iter().enumerate() {
         assert_eq!(rt;
-            (text.len(), read(rt.alloc(), &text), is_same),
-            (*len, *answer, other.is_none()),
+            record_read(rt.alloc(), fields, other),
+            Ok((len, answer, other.is_none())),
             "row {row}"
         );
     }
-    Ok(())
 }
 
 /// What the last record says, and how many clears it has.
@@ -158,31 +166,45 @@ fn shown(record: &Option<Record>) -> Shown<'_> {
     }
 }
 
-fn with_other_bit(alloc: Global, bytes: &[u8], at: usize) -> Result<Vec<u8>> {
-    let mut changed = Vec::from_slice(alloc, bytes)?;
-    if let Some(other) = changed.get_mut(at) {
-        *other ^= 0x40;
-    }
-    Ok(changed)
+/// A record of 55 bytes and one of 80.
+fn two_records(alloc: Global) -> Result<Vec<u8>> {
+    let mut bytes = text_of(alloc, EMPTY)?;
+    let second = text_of(alloc, ONE_TABLE)?;
+    bytes.extend_from_slice(&second)?;
+    Ok(bytes)
 }
 
-// A record of 55 bytes and one of 80, cut at each length, and with each byte changed.
+/// Whether the last record of a text is this one, and where the whole records end.
+fn last_read(alloc: Global, text: &[u8], last: Shown<'_>) -> Result<(bool, usize)> {
+    let current = read_current(alloc, text)?;
+    Ok((shown(&current.record) == last, current.end))
+}
+
+/// Where the whole records end if the byte at this place is changed.
+fn changed_end(alloc: Global, bytes: &[u8], at: usize) -> Result<usize> {
+    let changed = with_other_bit(alloc, bytes, at)?;
+    Ok(read_current(alloc, &changed)?.end)
+}
+
+// Two records, cut at each length, and with each byte changed.
 #[test]
 fn cut_and_changed_anywhere(rt: HostRuntime) -> std::result::Result<(), Fail> {
-    let mut bytes = text_of(rt.alloc(), EMPTY)?;
-    bytes.extend_from_slice(&text_of(rt.alloc(), ONE_TABLE)?)?;
+    let bytes = two_records(rt.alloc())?;
     let tables = [table(1, Level::L1)];
     for at in 0..=135usize {
-        let cut = read_current(rt.alloc(), bytes.get(..at).unwrap_or(&[]))?;
-        let changed = read_current(rt.alloc(), &with_other_bit(rt.alloc(), &bytes, at)?)?;
         let (last, end): (Shown<'_>, usize) = match at {
             135 => (Some((Some(7), Some(9), 2, 1, &tables, 0)), 135),
             55..135 => (Some((None, None, 1, 1, &[], 0)), 55),
             _ => (None, 0),
         };
+        let cut = bytes.get(..at).unwrap_or(&[]);
         assert_eq!(rt;
-            (shown(&cut.record), cut.end, changed.end, bytes.len()),
-            (last, end, end, 135),
+            (
+                last_read(rt.alloc(), cut, last),
+                changed_end(rt.alloc(), &bytes, at),
+                bytes.len()
+            ),
+            (Ok((true, end)), Ok(end), 135),
             "at {at}"
         );
     }
@@ -206,13 +228,24 @@ fn block_of(alloc: Global, entries: Entries) -> Result<Vec<u8>> {
     Ok(out)
 }
 
+fn are_named(alloc: Global, versions: &[TableEntry<'_>], named: &[Named]) -> Result<bool> {
+    let others = versions_of(alloc, named, b"b")?;
+    Ok(are_equal(versions, &others))
+}
+
+/// Whether a block spells these versions.
+fn is_spelled(alloc: Global, versions: &[TableEntry<'_>], block: &[u8]) -> Result<bool> {
+    let payload = payload_of(alloc, versions)?;
+    let end = block.len().saturating_sub(8);
+    Ok(payload.as_slice() == block.get(8..end).unwrap_or(&[]))
+}
+
 /// How many versions are read in a block, and whether they are these.
 fn block_read(alloc: Global, bytes: &[u8], entries: Entries) -> Result<(usize, bool)> {
     let versions = read_block(alloc, bytes)?;
     let same = match entries {
-        Entries::Versions(named) => are_equal(&versions, &versions_of(alloc, named, b"b")?),
-        Entries::Keys(_) => payload_of(alloc, &versions)?.as_slice()
-            == bytes.get(8..bytes.len().saturating_sub(8)).unwrap_or(&[]),
+        Entries::Versions(named) => are_named(alloc, &versions, named)?,
+        Entries::Keys(_) => is_spelled(alloc, &versions, bytes)?,
     };
     Ok((versions.len(), same))
 }
@@ -234,7 +267,7 @@ fn is_before(entries: Entries) -> Option<bool> {
 }
 
 // Entries, whether the first of two is before the second, the length of the block, and what is read in it.
-const BLOCKS: [(Entries, Option<bool>, usize, Result<(usize, bool)>); 9] = [
+const BLOCKS: &[(Entries, Option<bool>, usize, Result<(usize, bool)>)] = &[
     (Entries::Versions(&[ONE]), None, 33, Ok((1, true))),
     (
         Entries::Versions(&[ONE, REMOVED]),
@@ -257,18 +290,31 @@ const BLOCKS: [(Entries, Option<bool>, usize, Result<(usize, bool)>); 9] = [
     (Entries::Keys(242), None, 4_130, NO_BLOCK),
 ];
 
+/// The length of the block of these entries, and what is read in it.
+fn block_and_back(alloc: Global, entries: Entries) -> Result<(usize, Result<(usize, bool)>)> {
+    let bytes = block_of(alloc, entries)?;
+    Ok((bytes.len(), block_read(alloc, &bytes, entries)))
+}
+
 #[test]
-fn blocks(rt: HostRuntime) -> std::result::Result<(), Fail> {
-    for (row, (entries, before, len, answer)) in BLOCKS.iter().enumerate() {
-        let bytes = block_of(rt.alloc(), *entries)?;
-        let found = block_read(rt.alloc(), &bytes, *entries);
+fn blocks(rt: HostRuntime) {
+    for (row, &(entries, before, len, answer)) in BLOCKS.iter().enumerate() {
         assert_eq!(rt;
-            (is_before(*entries), bytes.len(), found, BLOCK_BYTES),
-            (*before, *len, *answer, 4_096),
+            (
+                is_before(entries),
+                block_and_back(rt.alloc(), entries),
+                BLOCK_BYTES
+            ),
+            (before, Ok((len, answer)), 4_096),
             "row {row}"
         );
     }
-    Ok(())
+}
+
+/// What is read in a block whose byte at this place is changed.
+fn changed_read(alloc: Global, bytes: &[u8], at: usize) -> Result<Result<(usize, bool)>> {
+    let changed = with_other_bit(alloc, bytes, at)?;
+    Ok(block_read(alloc, &changed, Entries::Keys(0)))
 }
 
 #[test]
@@ -278,15 +324,14 @@ fn changed_and_cut_blocks(rt: HostRuntime) -> std::result::Result<(), Fail> {
         17, 0, 0, 0, 0, 0, 0, 0, 1, 0, 0, 1, 0, 0, 0, 0, 0, 0, 0, 1, 0, 0, 0, 97, 98,
     ];
     for at in 0..33usize {
-        let changed = with_other_bit(rt.alloc(), &bytes, at)?;
         let cut = bytes.get(..at).unwrap_or(&[]);
         assert_eq!(rt;
             (
                 bytes.starts_with(&begin),
-                block_read(rt.alloc(), &changed, Entries::Keys(0)),
+                changed_read(rt.alloc(), &bytes, at),
                 block_read(rt.alloc(), cut, Entries::Keys(0))
             ),
-            (true, NO_BLOCK, NO_BLOCK),
+            (true, Ok(NO_BLOCK), NO_BLOCK),
             "at {at}"
         );
     }
@@ -294,28 +339,29 @@ fn changed_and_cut_blocks(rt: HostRuntime) -> std::result::Result<(), Fail> {
 }
 
 // The length of a key, why it is refused, and the length of what is spelled.
-const KEYS: [(usize, Option<Error>, usize); 4] = [
+const KEYS: &[(usize, Option<Error>, usize)] = &[
     (0, Some(Error::KeyEmpty), 0),
     (1, None, 16),
     (65_535, None, 65_550),
     (65_536, Some(Error::KeyTooLong), 0),
 ];
 
+/// Why a version with a key of this length is refused, and the length of what is spelled.
+fn spelled_len(alloc: Global, len: usize) -> Result<(Option<Error>, usize)> {
+    let key = vec![in alloc; 7u8; len]?;
+    let mut out = Vec::new(alloc);
+    let version = TableEntry {
+        key: &key,
+        number: 1,
+        value: None,
+    };
+    let error = version.encode_into(&mut out).err();
+    Ok((error, out.len()))
+}
+
 #[test]
-fn refused_versions(rt: HostRuntime) -> std::result::Result<(), Fail> {
-    for (len, error, spelled) in KEYS {
-        let key = vec![in rt.alloc(); 7u8; len]?;
-        let mut out = Vec::new(rt.alloc());
-        let version = TableEntry {
-            key: &key,
-            number: 1,
-            value: None,
-        };
-        assert_eq!(rt;
-            (version.encode_into(&mut out).err(), out.len()),
-            (error, spelled),
-            "{len}"
-        );
+fn refused_versions(rt: HostRuntime) {
+    for &(len, error, spelled) in KEYS {
+        assert_eq!(rt; spelled_len(rt.alloc(), len), Ok((error, spelled)), "{len}");
     }
-    Ok(())
 }

@@ -1,6 +1,9 @@
 //! Tables built by hand, and damaged ones.
 
-use super::{Named, are_equal, payload_of, payload_of_keys, put_checked, put_framed, versions_of};
+use super::{
+    Named, are_equal, payload_of, payload_of_keys, put_checked, put_framed, versions_of,
+    with_other_bit,
+};
 use fjall_base::{Error, Result, StorageError};
 use fjall_table::{FOOTER_LEN, Footer, Index, Level, Table, TableEntry, TableInfo};
 use std::alloc::Global;
@@ -38,14 +41,25 @@ impl Building {
         self.put_handle(offset, (payload.len() as u64).wrapping_add(16), first_key)
     }
 
-    fn finish(self, entry_count: u64) -> Result<Vec<u8>> {
-        let mut bytes = self.bytes;
+    /// Puts a block of the two-byte keys from one number up to another.
+    fn put_keys(&mut self, from: u16, to: u16, first_key: &[u8]) -> Result<()> {
+        let payload = payload_of_keys(self.alloc, from, to)?;
+        self.put_payload(&payload, first_key)
+    }
+
+    fn footer(&self, entry_count: u64) -> Result<Vec<u8>> {
         let mut footer = Vec::new(self.alloc);
         footer.extend_from_slice(&[0x46, 0x4a, 0x54, 0x01])?;
-        footer.extend_from_slice(&(bytes.len() as u64).to_le_bytes())?;
+        footer.extend_from_slice(&(self.bytes.len() as u64).to_le_bytes())?;
         let len = (self.index.len() as u64).wrapping_add(16);
         footer.extend_from_slice(&len.to_le_bytes())?;
         footer.extend_from_slice(&entry_count.to_le_bytes())?;
+        Ok(footer)
+    }
+
+    fn finish(self, entry_count: u64) -> Result<Vec<u8>> {
+        let footer = self.footer(entry_count)?;
+        let mut bytes = self.bytes;
         put_framed(&mut bytes, self.alloc, &self.index)?;
         put_checked(&mut bytes, &footer)?;
         Ok(bytes)
@@ -64,6 +78,14 @@ fn table_of(alloc: Global, blocks: &[Block], count: u64, value: &[u8]) -> Result
     building.finish(count)
 }
 
+fn is_wanted(version: &TableEntry<'_>, key: Option<&[u8]>, instant: u64) -> bool {
+    let has_key = match key {
+        Some(key) => version.key == key,
+        None => true,
+    };
+    has_key && version.number < instant
+}
+
 /// All versions of these blocks that have the key, if one is given, and are numbered below the instant.
 fn wanted_of<'a>(
     alloc: Global,
@@ -75,11 +97,7 @@ fn wanted_of<'a>(
     let mut wanted = Vec::new(alloc);
     for (_, named) in blocks {
         for version in &versions_of(alloc, named, value)? {
-            let has_key = match key {
-                Some(key) => version.key == key,
-                None => true,
-            };
-            if has_key && version.number < instant {
+            if is_wanted(version, key, instant) {
                 wanted.push(*version)?;
             }
         }
@@ -133,7 +151,7 @@ const MANY: &[Block] = &[
 type Given = (&'static [Block], u64, u64, u64);
 
 // A table, a key, and what is answered.
-const TABLES: [(Given, &[u8], Answers); 9] = [
+const TABLES: &[(Given, &[u8], Answers)] = &[
     ((SINGLE, 1, 1, 0), b"a", Ok((1, Ok(1), Ok(1)))),
     ((MANY, 9, 9, 0), b"k", Ok((5, Ok(9), Ok(4)))),
     // Other records, and another count of entries.
@@ -184,95 +202,138 @@ const TABLES: [(Given, &[u8], Answers); 9] = [
     ),
 ];
 
+/// The bytes of the table that a row names, whose values are of 3,000 bytes.
+fn table_given(alloc: Global, blocks: &[Block], count: u64) -> Result<Vec<u8>> {
+    let value = vec![in alloc; b'b'; 3_000]?;
+    table_of(alloc, blocks, count, &value)
+}
+
+/// What the table that a row names answers.
+fn answers_given(alloc: Global, given: Given, key: &[u8]) -> Result<Answers> {
+    let (blocks, count, said, more) = given;
+    let bytes = table_given(alloc, blocks, count)?;
+    let mut info = info_of(&bytes, said);
+    info.file_len = info.file_len.wrapping_add(more);
+    Ok(answers(alloc, &bytes, info, key))
+}
+
 #[test]
-fn tables_answer(rt: HostRuntime) -> std::result::Result<(), Fail> {
-    let value = vec![in rt.alloc(); b'b'; 3_000]?;
-    for (row, (given, key, wanted)) in TABLES.iter().enumerate() {
-        let (blocks, count, said, more) = *given;
-        let bytes = table_of(rt.alloc(), blocks, count, &value)?;
-        let mut info = info_of(&bytes, said);
-        info.file_len = info.file_len.wrapping_add(more);
+fn tables_answer(rt: HostRuntime) {
+    for (row, &(given, key, wanted)) in TABLES.iter().enumerate() {
         assert_eq!(rt;
-            answers(rt.alloc(), &bytes, info, key),
-            *wanted,
+            answers_given(rt.alloc(), given, key),
+            Ok(wanted),
             "row {row}"
         );
     }
-    Ok(())
+}
+
+/// The index's offset and length and the count of entries.
+fn footer_read(bytes: &[u8]) -> Result<(u64, u64, u64)> {
+    let footer = Footer::read(bytes.get(68..).unwrap_or(&[]))?;
+    Ok((footer.index_offset, footer.index_len, footer.entry_count))
+}
+
+/// How many handles an index has, and where the span of "a" begins and ends.
+fn index_read(alloc: Global, bytes: &[u8]) -> Result<(usize, usize, usize)> {
+    let index = Index::read(alloc, bytes.get(33..68).unwrap_or(&[]), 33)?;
+    let span = index.span(b"a");
+    Ok((index.handles().len(), span.start, span.end))
 }
 
 #[test]
 fn parts_of_a_table(rt: HostRuntime) -> std::result::Result<(), Fail> {
     let bytes = table_of(rt.alloc(), SINGLE, 1, b"b")?;
-    let footer = Footer::read(bytes.get(68..).unwrap_or(&[]))?;
-    let index = Index::read(rt.alloc(), bytes.get(33..68).unwrap_or(&[]), 33)?;
-    let span = index.span(b"a");
     assert_eq!(rt;
         (
             bytes.len(),
             FOOTER_LEN,
-            footer.index_offset,
-            footer.index_len,
-            footer.entry_count,
-            index.handles().len(),
-            span.start,
-            span.end
+            footer_read(&bytes),
+            index_read(rt.alloc(), &bytes)
         ),
-        (104, 36, 33, 35, 1, 1, 0, 1)
+        (104, 36, Ok((33, 35, 1)), Ok((1, 0, 1)))
     );
     Ok(())
 }
 
-const KEYS: [&[u8]; 9] = [b"", b"a", b"b", b"k", b"kk", b"l", b"m", b"z", b"zz"];
+const KEYS: &[&[u8]] = &[b"", b"a", b"b", b"k", b"kk", b"l", b"m", b"z", b"zz"];
 
-/// The first key and instant at which a table of these blocks answers other versions than theirs.
-fn wrong_answer(
+/// The versions of a table, or those of a key that are numbered below the instant, if one is given.
+fn found_in<'a>(
+    table: &Table<'a>,
+    key: Option<&[u8]>,
+    instant: u64,
+) -> Result<Vec<TableEntry<'a>>> {
+    match key {
+        Some(key) => table.versions_at(key, instant),
+        None => table.versions(),
+    }
+}
+
+/// Whether a table of these blocks answers their versions.
+fn is_answered(
     alloc: Global,
+    table: &Table<'_>,
     blocks: &[Block],
-    count: u64,
+    value: &[u8],
+    (key, instant): (Option<&[u8]>, u64),
+) -> Result<bool> {
+    let found = found_in(table, key, instant)?;
+    let wanted = wanted_of(alloc, blocks, value, key, instant)?;
+    Ok(are_equal(&found, &wanted))
+}
+
+/// The first key and instant at which a table answers other versions than those of these blocks.
+fn wrong_in(
+    alloc: Global,
+    table: &Table<'_>,
+    blocks: &[Block],
     value: &[u8],
 ) -> Result<Option<(usize, u64)>> {
-    let bytes = table_of(alloc, blocks, count, value)?;
-    let table = Table::open(alloc, &bytes, info_of(&bytes, count))?;
-    for (place, key) in KEYS.iter().enumerate() {
+    for (place, &key) in KEYS.iter().enumerate() {
         for instant in 0..11u64 {
-            let wanted = wanted_of(alloc, blocks, value, Some(key), instant)?;
-            if !are_equal(&table.versions_at(key, instant)?, &wanted) {
+            if !is_answered(alloc, table, blocks, value, (Some(key), instant))? {
                 return Ok(Some((place, instant)));
             }
         }
     }
-    let all = wanted_of(alloc, blocks, value, None, 11)?;
-    Ok(if are_equal(&table.versions()?, &all) {
-        None
-    } else {
-        Some((9, 11))
-    })
+    let all = is_answered(alloc, table, blocks, value, (None, 11))?;
+    Ok(if all { None } else { Some((9, 11)) })
 }
 
+/// The first key and instant at which the table of these blocks answers other versions than theirs.
+fn wrong_answer(alloc: Global, blocks: &[Block], count: u64) -> Result<Option<(usize, u64)>> {
+    let value = vec![in alloc; b'b'; 3_000]?;
+    let bytes = table_of(alloc, blocks, count, &value)?;
+    let table = Table::open(alloc, &bytes, info_of(&bytes, count))?;
+    wrong_in(alloc, &table, blocks, &value)
+}
+
+const COUNTED: &[(&[Block], u64)] = &[(SINGLE, 1), (MANY, 9)];
+
 #[test]
-fn each_key_at_each_instant(rt: HostRuntime) -> std::result::Result<(), Fail> {
-    let value = vec![in rt.alloc(); b'b'; 3_000]?;
-    for (blocks, count) in [(SINGLE, 1), (MANY, 9)] {
+fn each_key_at_each_instant(rt: HostRuntime) {
+    for &(blocks, count) in COUNTED {
         assert_eq!(rt;
-            wrong_answer(rt.alloc(), blocks, count, &value)?,
-            None,
+            wrong_answer(rt.alloc(), blocks, count),
+            Ok(None),
             "{count} entries"
         );
     }
-    Ok(())
+}
+
+/// A table of two blocks with 300 keys.
+fn table_of_two_blocks(alloc: Global) -> Result<Vec<u8>> {
+    let mut building = Building::new(alloc);
+    building.put_keys(0, 241, &[0, 0])?;
+    building.put_keys(241, 300, &[0, 241])?;
+    building.finish(300)
 }
 
 #[test]
 fn wrong_block(rt: HostRuntime) -> std::result::Result<(), Fail> {
-    let mut building = Building::new(rt.alloc());
-    building.put_payload(&payload_of_keys(rt.alloc(), 0, 241)?, &[0, 0])?;
-    building.put_payload(&payload_of_keys(rt.alloc(), 241, 300)?, &[0, 241])?;
-    let bytes = building.finish(300)?;
-    let mut changed = bytes.clone()?;
-    if let Some(other) = changed.get_mut(4_121) {
-        *other ^= 0x40;
-    }
+    let bytes = table_of_two_blocks(rt.alloc())?;
+    let changed = with_other_bit(rt.alloc(), &bytes, 4_121)?;
     let info = info_of(&bytes, 300);
     for i in 0..300u16 {
         let key = i.to_be_bytes();
@@ -290,14 +351,16 @@ fn wrong_block(rt: HostRuntime) -> std::result::Result<(), Fail> {
     Ok(())
 }
 
+/// What a table of one entry answers when the byte at this place is changed.
+fn changed_answers(alloc: Global, bytes: &[u8], at: usize) -> Result<Answers> {
+    let changed = with_other_bit(alloc, bytes, at)?;
+    Ok(answers(alloc, &changed, info_of(&changed, 1), b"a"))
+}
+
 #[test]
 fn every_changed_byte_of_a_table(rt: HostRuntime) -> std::result::Result<(), Fail> {
     let bytes = table_of(rt.alloc(), SINGLE, 1, b"b")?;
     for at in 0..104usize {
-        let mut changed = bytes.clone()?;
-        if let Some(other) = changed.get_mut(at) {
-            *other ^= 0x40;
-        }
         let cut = bytes.get(..at).unwrap_or(&[]);
         let wanted: Answers = if at < 33 {
             Ok((1, Err(DAMAGED), Err(DAMAGED)))
@@ -306,10 +369,10 @@ fn every_changed_byte_of_a_table(rt: HostRuntime) -> std::result::Result<(), Fai
         };
         assert_eq!(rt;
             (
-                answers(rt.alloc(), &changed, info_of(&changed, 1), b"a"),
+                changed_answers(rt.alloc(), &bytes, at),
                 answers(rt.alloc(), cut, info_of(cut, 1), b"a")
             ),
-            (wanted, Err(DAMAGED)),
+            (Ok(wanted), Err(DAMAGED)),
             "at {at}"
         );
     }
@@ -317,7 +380,7 @@ fn every_changed_byte_of_a_table(rt: HostRuntime) -> std::result::Result<(), Fai
 }
 
 // Handles, each of an offset, a length and a first key, and how many an index of them has before 15 bytes of blocks.
-const INDEXES: [(&[(u64, u64, &[u8])], Result<usize>); 10] = [
+const INDEXES: &[(&[(u64, u64, &[u8])], Result<usize>)] = &[
     (&[(0, 10, b"a"), (10, 5, b"b")], Ok(2)),
     (&[(0, 10, b"a"), (10, 5, b"a")], Ok(2)),
     (&[(0, 10, b"b"), (10, 5, b"a")], Err(DAMAGED)),

@@ -6,11 +6,15 @@ use fjall_table::{TableEntry, TableWriter, put_frame, read_block};
 use std::alloc::Global;
 use std::test::Fail;
 
+fn write(writer: &mut TableWriter, version: &TableEntry<'_>) -> Result<()> {
+    writer.write(version)
+}
+
 /// The table of these versions, whose values are "b", or none.
 fn table_of(alloc: Global, named: &[Named]) -> Result<Option<Vec<u8>>> {
     let mut writer = TableWriter::new(alloc);
     for version in &versions_of(alloc, named, b"b")? {
-        writer.write(version)?;
+        write(&mut writer, version)?;
     }
     writer.finish()
 }
@@ -25,7 +29,7 @@ fn part(bytes: &Option<Vec<u8>>, from: usize, to: usize) -> &[u8] {
 // The block, the block of the index with its length, the block's offset and length and its first key, and the footer
 // with the index's offset and length and the count of entries: where each part begins and ends, and its bytes before
 // its check.
-const PARTS: [(usize, usize, &[u8]); 3] = [
+const PARTS: &[(usize, usize, &[u8])] = &[
     (
         0,
         33,
@@ -50,24 +54,36 @@ const PARTS: [(usize, usize, &[u8]); 3] = [
     ),
 ];
 
+/// Whether the bytes of this part are these, and its check is theirs.
+fn has_part(bytes: &Option<Vec<u8>>, from: usize, to: usize, wanted: &[u8]) -> (bool, bool) {
+    let sum = checksum(wanted);
+    let middle = to.saturating_sub(8);
+    (
+        part(bytes, from, middle) == wanted,
+        part(bytes, middle, to) == sum.as_slice(),
+    )
+}
+
+/// The length of a frame around two bytes, and whether it begins with their count and them.
+fn frame_read(alloc: Global) -> Result<(usize, bool)> {
+    let mut frame = Vec::new(alloc);
+    put_frame(&mut frame, b"xy")?;
+    let begins = frame.starts_with(&[2, 0, 0, 0, 0, 0, 0, 0, b'x', b'y']);
+    Ok((frame.len(), begins))
+}
+
 #[test]
 fn parts_of_a_table(rt: HostRuntime) -> std::result::Result<(), Fail> {
     let bytes = table_of(rt.alloc(), &[(b"a", 1, Some(1))])?;
-    let mut frame = Vec::new(rt.alloc());
-    put_frame(&mut frame, b"xy")?;
-    let frame_begins = frame.starts_with(&[2, 0, 0, 0, 0, 0, 0, 0, b'x', b'y']);
-    for (from, to, wanted) in PARTS {
-        let sum = checksum(wanted);
-        let middle = to.saturating_sub(8);
+    let frame = frame_read(rt.alloc());
+    for &(from, to, wanted) in PARTS {
         assert_eq!(rt;
             (
-                part(&bytes, from, middle),
-                part(&bytes, middle, to),
+                has_part(&bytes, from, to, wanted),
                 part(&bytes, 104, 105).len(),
-                frame.len(),
-                frame_begins
+                frame
             ),
-            (wanted, sum.as_slice(), 0, 18, true),
+            ((true, true), 0, Ok((18, true))),
             "from {from}"
         );
     }
@@ -80,11 +96,12 @@ fn table_of_keys(alloc: Global, width: usize, count: u16) -> Result<(u64, Option
     for i in 0..count {
         let bytes = i.to_be_bytes();
         let key = bytes.get(2usize.saturating_sub(width)..).unwrap_or(&[]);
-        writer.write(&TableEntry {
+        let version = TableEntry {
             key,
             number: 1,
             value: Some(b""),
-        })?;
+        };
+        write(&mut writer, &version)?;
     }
     Ok((writer.entry_count(), writer.finish()?))
 }
@@ -112,7 +129,7 @@ fn keys_in(
 
 // The width and the count of keys, the length of the table, and where its blocks end: a two-byte key has 17 bytes, and
 // 241 of them fill a block.
-const TABLES: [(usize, u16, Option<usize>, &[usize]); 6] = [
+const TABLES: &[(usize, u16, Option<usize>, &[usize])] = &[
     (1, 0, None, &[]),
     (1, 2, Some(119), &[48]),
     (1, 3, Some(135), &[64]),
@@ -121,26 +138,34 @@ const TABLES: [(usize, u16, Option<usize>, &[usize]); 6] = [
     (2, 300, Some(5_224), &[4_113, 5_132]),
 ];
 
+/// The count of entries of the table of so many keys, its length, and the keys that its blocks hold.
+fn counted(
+    alloc: Global,
+    width: usize,
+    count: u16,
+    ends: &[usize],
+) -> Result<(u64, Option<usize>, (u64, bool))> {
+    let (entry_count, table) = table_of_keys(alloc, width, count)?;
+    let len = match &table {
+        Some(bytes) => Some(bytes.len()),
+        None => None,
+    };
+    Ok((entry_count, len, keys_in(alloc, &table, width, ends)?))
+}
+
 #[test]
-fn tables_of_keys(rt: HostRuntime) -> std::result::Result<(), Fail> {
-    for (width, count, len, ends) in TABLES {
-        let (entry_count, table) = table_of_keys(rt.alloc(), width, count)?;
-        let found = match &table {
-            Some(bytes) => Some(bytes.len()),
-            None => None,
-        };
-        let keys = keys_in(rt.alloc(), &table, width, ends)?;
+fn tables_of_keys(rt: HostRuntime) {
+    for &(width, count, len, ends) in TABLES {
         assert_eq!(rt;
-            (entry_count, found, keys),
-            (u64::from(count), len, (u64::from(count), true)),
+            counted(rt.alloc(), width, count, ends),
+            Ok((u64::from(count), len, (u64::from(count), true))),
             "{count} entries"
         );
     }
-    Ok(())
 }
 
 // A byte of a key and how many of it the key has, the number, whether there is a value, and why it is refused.
-const WRITES: [(u8, usize, u64, bool, Option<Error>); 8] = [
+const WRITES: &[(u8, usize, u64, bool, Option<Error>)] = &[
     (b'b', 1, 5, true, None),
     (b'b', 1, 5, true, Some(Error::KeyOrder)),
     (b'b', 1, 6, true, Some(Error::KeyOrder)),
@@ -151,26 +176,48 @@ const WRITES: [(u8, usize, u64, bool, Option<Error>); 8] = [
     (b'c', 1, 9, false, None),
 ];
 
+/// Why a writer refuses a version with so many of this byte as its key.
+fn refusal(
+    alloc: Global,
+    writer: &mut TableWriter,
+    (byte, len): (u8, usize),
+    number: u64,
+    has_value: bool,
+) -> Result<Option<Error>> {
+    let key = vec![in alloc; byte; len]?;
+    let value = if has_value {
+        Some(b"".as_slice())
+    } else {
+        None
+    };
+    let version = TableEntry {
+        key: &key,
+        number,
+        value,
+    };
+    Ok(write(writer, &version).err())
+}
+
+/// Whether the first block of a table holds just these versions, with empty values.
+fn holds(alloc: Global, bytes: &Option<Vec<u8>>, wanted: &[Named]) -> Result<bool> {
+    let block = read_block(alloc, part(bytes, 0, 64))?;
+    let versions = versions_of(alloc, wanted, b"")?;
+    Ok(are_equal(&block, &versions))
+}
+
+const WRITTEN: &[Named] = &[(b"b", 5, Some(0)), (b"b", 4, Some(0)), (b"c", 9, None)];
+
 #[test]
 fn refusals(rt: HostRuntime) -> std::result::Result<(), Fail> {
     let mut writer = TableWriter::new(rt.alloc());
-    for (row, (byte, len, number, has_value, error)) in WRITES.iter().enumerate() {
-        let key = vec![in rt.alloc(); *byte; *len]?;
-        let value = if *has_value {
-            Some(b"".as_slice())
-        } else {
-            None
-        };
-        let version = TableEntry {
-            key: &key,
-            number: *number,
-            value,
-        };
-        assert_eq!(rt; writer.write(&version).err(), *error, "row {row}");
+    for (row, &(byte, len, number, has_value, error)) in WRITES.iter().enumerate() {
+        assert_eq!(rt;
+            refusal(rt.alloc(), &mut writer, (byte, len), number, has_value),
+            Ok(error),
+            "row {row}"
+        );
     }
     let bytes = writer.finish()?;
-    let block = read_block(rt.alloc(), part(&bytes, 0, 64))?;
-    let wanted: [Named; 3] = [(b"b", 5, Some(0)), (b"b", 4, Some(0)), (b"c", 9, None)];
-    assert!(rt; are_equal(&block, &versions_of(rt.alloc(), &wanted, b"")?));
+    assert_eq!(rt; holds(rt.alloc(), &bytes, WRITTEN), Ok(true));
     Ok(())
 }
