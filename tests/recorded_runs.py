@@ -1,0 +1,79 @@
+"""Runs of the program under recorded_calls.c, and what they have to leave in a folder."""
+
+import os
+import subprocess
+import tempfile
+from collections import namedtuple
+
+# Keyspaces that are made, written and deleted, one of them made anew; some lines sync, and the others don't.
+SCRIPT = """keyspace b
+keyspace a
+insert 1 6b 31
+insert 2 6b 32
+persist
+insert 1 6c 333333333333333333333333333333
+remove 1 6b
+delete 1
+insert 2 6c 3434
+keyspace b
+insert 3 6b 35
+remove_weak 2 6c
+reopen
+insert 3 6d 3636
+insert 2 6b -
+persist
+insert 2 6e 383838
+delete 2
+insert 3 6b 39
+persist
+insert 3 6f 40""".split("\n")
+
+# What a folder is asked for, so that two that answer alike hold alike.
+PROBE = ["scan 1", "scan 2", "scan 3", "scan 4", "keyspace a", "keyspace b"]
+
+Call = namedtuple("Call", "name path given")
+Run = namedtuple("Run", "status answers errors calls")
+
+
+class Program:
+    """The program, and a folder for what its runs need."""
+
+    def __init__(self, program, work):
+        self.program = os.path.abspath(program)
+        self.work = work
+        self.library = os.path.join(work, "recorded_calls.so")
+        source = os.path.join(os.path.dirname(os.path.abspath(__file__)), "recorded_calls.c")
+        subprocess.run(["cc", "-O2", "-shared", "-fPIC", "-o", self.library, source], check=True)
+
+    def run(self, place, lines, settings=None):
+        """Runs lines over a place; with settings, under the recorder."""
+        environment = dict(os.environ)
+        log = None
+        if settings is not None:
+            log = tempfile.mktemp(dir=self.work)
+            environment.update(LD_PRELOAD=self.library, RECORD_BELOW=os.path.dirname(place), RECORD_LOG=log, **settings)
+        text = "".join(line + "\n" for line in lines)
+        done = subprocess.run([self.program, place], input=text, capture_output=True, text=True, env=environment, timeout=60)
+        calls = []
+        if log and os.path.exists(log):
+            with open(log, encoding="utf8") as told:
+                for line in told:
+                    name, path, given = line.rstrip("\n").split("\t")
+                    calls.append(Call(name, path, given))
+            os.remove(log)
+        return Run(done.returncode, done.stdout.split("\n")[:-1], done.stderr.strip(), calls)
+
+    def fresh(self):
+        """The path of a folder that isn't there yet, in a folder of its own."""
+        return os.path.join(tempfile.mkdtemp(dir=self.work), "db")
+
+    def probed(self, place):
+        """What a folder holds, or how it is refused."""
+        run = self.run(place, PROBE)
+        return run.answers if run.status == 0 else [f"status {run.status}", run.errors]
+
+    def wanted(self, lines):
+        """What a folder has to hold once these lines are done: the answers of an engine in memory that is opened again."""
+        run = self.run("memory", [*lines, "reopen", *PROBE])
+        assert run.status == 0, run.errors
+        return run.answers[-len(PROBE):]
