@@ -35,6 +35,13 @@ Call = namedtuple("Call", "name path given")
 Run = namedtuple("Run", "status answers errors calls")
 
 
+def find_program(words):
+    """The path of the program: the one that is named, or else the one that is proved and built."""
+    here = os.path.dirname(os.path.abspath(__file__))
+    command = [os.path.join(here, "find-program"), *words[:1]]
+    return subprocess.run(command, check=True, stdout=subprocess.PIPE, text=True).stdout.strip()
+
+
 class Program:
     """The program, and a folder for what its runs need."""
 
