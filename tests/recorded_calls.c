@@ -1,8 +1,9 @@
-/* Preloaded before a program, it writes down each call that changes what lies below the folder RECORD_BELOW, one a line, to the
-   file RECORD_LOG: the call, its path and what it was given, parted by tabs. A write is told with the bytes that the system took, in
-   hexadecimal; only calls that succeeded are told. With FAIL_AT set, the call of that number, counted from 1 and with those that fail,
-   goes wrong as FAIL_HOW has it: `EIO` and `EINTR` do nothing and answer so, the second one of calls that a signal may interrupt alone;
-   `short` lets a write take half of its bytes. */
+/* Preloaded before a program, it writes down each call that changes or lists what lies below the folder RECORD_BELOW, one a line, to
+   the file RECORD_LOG: the call, its path and what it was given, parted by tabs. A write is told with the bytes that the system took,
+   in hexadecimal; only calls that succeeded are told. With FAIL_AT set, the call of that number, counted from 1 and with those that
+   fail, goes wrong as FAIL_HOW has it: `EIO` and `EINTR` do nothing and answer so, the second one of calls that a signal may interrupt
+   alone; `short` lets a write take half of its bytes. That a file which was there is opened, and that one is closed, is written down
+   too, as `open` and `close`, and not counted. */
 #define _GNU_SOURCE
 #include <dlfcn.h>
 #include <errno.h>
@@ -92,13 +93,16 @@ static int opened(int folder, const char *path, int flags, int mode)
     int makes = is_watched(path) && (flags & O_CREAT) && lstat(path, &status) != 0;
     if (makes && begins(path, 1))
         return -1;
+    int lists = is_watched(path) && (flags & O_DIRECTORY);
+    if (lists && begins(path, 1))
+        return -1;
     int file = syscall(SYS_openat, folder, path, flags, mode);
     if (file >= 0 && file < MOST_FILES) {
         free(paths[file]);
         paths[file] = is_watched(path) ? strdup(path) : NULL;
     }
-    if (file >= 0 && makes)
-        record("create", path, NULL, 0, -1);
+    if (file >= 0 && is_watched(path))
+        record(makes ? "create" : lists ? "list" : "open", path, NULL, 0, -1);
     return file;
 }
 
@@ -114,8 +118,19 @@ static int opened(int folder, const char *path, int flags, int mode)
 OPENS(open)
 OPENS(open64)
 
+int openat(int folder, const char *path, int flags, ...)
+{
+    va_list rest;
+    va_start(rest, flags);
+    int mode = (flags & (O_CREAT | O_TMPFILE)) ? va_arg(rest, int) : 0;
+    va_end(rest);
+    return opened(folder, path, flags, mode);
+}
+
 int close(int file)
 {
+    if (path_of(file))
+        record("close", path_of(file), NULL, 0, -1);
     if (file >= 0 && file < MOST_FILES) {
         free(paths[file]);
         paths[file] = NULL;

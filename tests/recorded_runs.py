@@ -32,7 +32,8 @@ insert 3 6f 40""".split("\n")
 PROBE = ["scan 1", "scan 2", "scan 3", "scan 4", "keyspace a", "keyspace b"]
 
 Call = namedtuple("Call", "name path given")
-Run = namedtuple("Run", "status answers errors calls")
+# `calls` are those that are counted; `told` has what was opened and closed, too.
+Run = namedtuple("Run", "status answers errors calls told")
 
 
 def find_program(words):
@@ -40,6 +41,11 @@ def find_program(words):
     here = os.path.dirname(os.path.abspath(__file__))
     command = [os.path.join(here, "find-program"), *words[:1]]
     return subprocess.run(command, check=True, stdout=subprocess.PIPE, text=True).stdout.strip()
+
+
+def above(place):
+    """The folder of its own that a place is in."""
+    return os.path.dirname(os.path.dirname(place))
 
 
 class Program:
@@ -58,21 +64,22 @@ class Program:
         log = None
         if settings is not None:
             log = tempfile.mktemp(dir=self.work)
-            environment.update(LD_PRELOAD=self.library, RECORD_BELOW=os.path.dirname(place), RECORD_LOG=log, **settings)
+            environment.update(LD_PRELOAD=self.library, RECORD_BELOW=above(place), RECORD_LOG=log, **settings)
         text = "".join(line + "\n" for line in lines)
         done = subprocess.run([self.program, place], input=text, capture_output=True, text=True, env=environment, timeout=60)
-        calls = []
+        told = []
         if log and os.path.exists(log):
-            with open(log, encoding="utf8") as told:
-                for line in told:
+            with open(log, encoding="utf8") as lines_told:
+                for line in lines_told:
                     name, path, given = line.rstrip("\n").split("\t")
-                    calls.append(Call(name, path, given))
+                    told.append(Call(name, path.rstrip("/"), given))
             os.remove(log)
-        return Run(done.returncode, done.stdout.split("\n")[:-1], done.stderr.strip(), calls)
+        calls = [call for call in told if call.name not in ("open", "close")]
+        return Run(done.returncode, done.stdout.split("\n")[:-1], done.stderr.strip(), calls, told)
 
     def fresh(self):
-        """The path of a folder that isn't there yet, in a folder of its own."""
-        return os.path.join(tempfile.mkdtemp(dir=self.work), "db")
+        """The path of a folder that isn't there yet, nor is the one above it, in a folder of its own."""
+        return os.path.join(tempfile.mkdtemp(dir=self.work), "new", "db")
 
     def probed(self, place):
         """What a folder holds, or how it is refused."""

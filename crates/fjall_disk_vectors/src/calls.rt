@@ -31,12 +31,6 @@ pub enum Call {
     Len(&'static str),
     /// Whether the file has just these bytes.
     Holds(&'static str, &'static [u8]),
-    /// How many bytes a read of so many from this place on answers.
-    PartLen(&'static str, usize, usize),
-    /// Whether the file has these bytes from this place on.
-    HoldsPart(&'static str, usize, &'static [u8]),
-    /// Whether a file has the name.
-    IsFile(&'static str),
     /// How many files and folders are right in the folder.
     Count(&'static str),
     /// Whether these are right in the folder, in order, each with a blank behind it, and folders with a slash.
@@ -99,34 +93,6 @@ pub fn holds<D: Disk>(alloc: Global, disk: &mut D, name: &str, bytes: &[u8]) -> 
     Ok(held(alloc, disk, name, bytes)? == Some(true))
 }
 
-// Whether the file has these bytes from this place on, where it has so many.
-fn held_part<D: Disk>(
-    alloc: Global,
-    disk: &mut D,
-    name: &str,
-    at: usize,
-    bytes: &[u8],
-) -> Result<Option<bool>> {
-    match disk.read_at(alloc, name, at, bytes.len())? {
-        Some(part) => Ok(Some(part.as_slice() == bytes)),
-        None => Ok(None),
-    }
-}
-
-// How many bytes a read of so many from this place on answers, where it answers.
-fn part_len<D: Disk>(
-    alloc: Global,
-    disk: &mut D,
-    name: &str,
-    at: usize,
-    len: usize,
-) -> Result<Option<usize>> {
-    match disk.read_at(alloc, name, at, len)? {
-        Some(part) => Ok(Some(part.len())),
-        None => Ok(None),
-    }
-}
-
 // The name of what a folder has, as a list shows it.
 fn shown(alloc: Global, entry: &DirEntry) -> Result<String> {
     let slash = if entry.is_folder { "/" } else { "" };
@@ -173,11 +139,6 @@ pub fn make<D: Disk>(alloc: Global, disk: &mut D, call: Call, seen: &mut Vec<u64
     match call {
         Len(name) => add_some(seen, len_of(alloc, disk, name)?),
         Holds(name, bytes) => add_some_answer(seen, held(alloc, disk, name, bytes)?),
-        PartLen(name, at, len) => add_some(seen, part_len(alloc, disk, name, at, len)?),
-        HoldsPart(name, at, bytes) => {
-            add_some_answer(seen, held_part(alloc, disk, name, at, bytes)?)
-        }
-        IsFile(name) => add_answer(seen, len_of(alloc, disk, name)?.is_some()),
         Count(folder) => add_some(seen, Some(count(alloc, disk, folder)?)),
         Lists(folder, text) => add_answer(seen, lists(alloc, disk, folder, text)?),
         _ => change(disk, call, seen),

@@ -163,8 +163,8 @@ const UNNAMED_FILES: &[&str] = &[
     "keyspaces/0/notes",
     "keyspaces/1/1.table",
     "keyspaces/7/3.table",
+    "keyspaces/7/4.table",
     "keyspaces/7/current",
-    "keyspaces/7/notes",
 ];
 
 // Writes a=b under number 5 into a journal that is torn behind it.

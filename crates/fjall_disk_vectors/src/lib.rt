@@ -1,4 +1,4 @@
-//! Folders on a disk in memory: read, changed, damaged, and cut short at each call; and a disk over a real folder.
+//! Folders on a disk in memory: read, changed, damaged, and cut short at each call.
 #![tactic(auto)]
 
 #[cfg(test)]
@@ -13,8 +13,6 @@ mod changes;
 mod faults;
 #[cfg(test)]
 mod folder;
-#[cfg(test)]
-mod folder_disk;
 #[cfg(test)]
 mod journaling;
 #[cfg(test)]

@@ -19,8 +19,8 @@ const UNNAMED: &[&str] = &[
     "keyspaces/1/1.table",
     "keyspaces/7",
     "keyspaces/7/3.table",
+    "keyspaces/7/4.table",
     "keyspaces/7/current",
-    "keyspaces/7/notes",
 ];
 
 /// The names in the folder of tree 0 that stay.
@@ -140,6 +140,18 @@ pub const SCRIPT: &[Row] = &[
     (Ask(Unnamed), Ok(&[0])),
     (Ask(Kept), Ok(&[3])),
     (On(Len("0.jnl")), Ok(&[49])),
+    // What isn't the engine's keeps the folder that it is in.
+    (New(Start::Swollen), DONE),
+    (On(Create("keyspaces/7/notes")), DONE),
+    (Open, Ok(&[49, 6, 1, 2, 2, 1, 1])),
+    (Ask(Unnamed), Ok(&[4])),
+    (On(Remove("keyspaces/7/notes")), DONE),
+    (On(MakeFolder("keyspaces/7/5.table")), DONE),
+    (Open, Ok(&[49, 6, 1, 2, 2, 1, 1])),
+    (Ask(Unnamed), Ok(&[4])),
+    (On(RemoveFolder("keyspaces/7/5.table")), DONE),
+    (Open, Ok(&[49, 6, 1, 2, 2, 1, 1])),
+    (Ask(Unnamed), Ok(&[0])),
     // A folder without journals gets one.
     (New(Start::Items), DONE),
     (Open, Ok(&[0, 1, 0, 2, 2, 1, 1])),
@@ -148,7 +160,7 @@ pub const SCRIPT: &[Row] = &[
     (New(Start::Unmarked), DONE),
     (On(Create("keyspaces/0/1.table")), DONE),
     (On(MakeFolder("keyspaces/7")), DONE),
-    (On(Create("keyspaces/7/notes")), DONE),
+    (On(Create("keyspaces/7/current")), DONE),
     (Open, Ok(&[0, 0, 0, 1, 1, 0])),
     (On(Len("0.jnl")), Ok(&[0])),
     (Ask(Unnamed), Ok(&[0])),

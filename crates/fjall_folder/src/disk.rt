@@ -7,7 +7,6 @@ ghost use Rattle.fjall_folder.specs.Refusals.{CountsChange, CountsRead, IsOpenin
 
 use crate::faults::{Faults, refusal};
 use crate::folder::Folder;
-use crate::kept::KeptFiles;
 use crate::lock::LockedFileGuard;
 use crate::names::LOCK;
 use crate::paths::make_folders;
@@ -21,10 +20,14 @@ use std::alloc::Global;
 ///
 /// A name that leads to nothing below the folder is a fault, `Error::Io(InvalidInput)`, and the system isn't
 /// asked: one with a part that is empty, `.` or `..`. So is `lock`, the disk's own file, which no list tells
-/// of. Lists pass over names that aren't UTF-8 too. Links in the folder are followed.
+/// of. A name that leads over a link below the folder is a fault too, `Error::Io(FilesystemLoop)`: what the
+/// link leads to isn't the folder's. Lists tell a link as a file, and pass over names that aren't UTF-8: what
+/// has such a name stays where it is, and a folder that holds nothing else counts as empty, and stays too
+/// where it is removed.
 ///
 /// A file that was made or appended to stays open, 16 at most, so that an append is one `write` and a sync
-/// one `fdatasync`. The folder's path is found once: a later change of the working directory doesn't matter.
+/// one `fdatasync`; so does one of which parts are read, 64 at most, so that a part is one `pread` after a look
+/// at the file's length. The folder's path is found once: a later change of the working directory doesn't matter.
 ///
 /// Want of memory is a fault in a call that changes something, as its trait wants it.
 #[derive(Drop)]
@@ -37,7 +40,11 @@ pub struct FolderDisk {
 
 impl FolderDisk {
     /// Makes the folder where it is missing, with those above it, and takes its lock, which is that of the
-    /// file `lock` in it and is given back where the disk is dropped.
+    /// file `lock` in it and is given back where the disk is dropped. A link to the folder is followed.
+    ///
+    /// Each folder's name is synced before the next one is made, so the folder above the first missing one must
+    /// be readable. Where the last that is there is empty, its own name is synced too: an opening that was cut
+    /// off may have made it.
     ///
     /// It fails with `Error::Locked` where the folder is open already, here or in another process, the lock
     /// having been asked for three times, with `Error::Io` where the system fails, as for an empty path or
@@ -50,12 +57,7 @@ impl FolderDisk {
         let lock_path = path.join(alloc, LOCK)?;
         let lock = LockedFileGuard::lock(rt, lock_path.as_path())?;
         Ok(FolderDisk {
-            folder: Folder {
-                rt: *rt,
-                alloc,
-                path,
-                kept: KeptFiles::new(alloc)?,
-            },
+            folder: Folder::new(*rt, alloc, path)?,
             faults: Faults { count: 0 },
             lock,
         })

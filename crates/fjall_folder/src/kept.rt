@@ -6,15 +6,12 @@ use std::alloc::{AllocError, Global};
 use std::fs::File;
 use std::io::{self, ErrorKind, Write};
 
-// So many files are kept open at most.
-const MOST: usize = 16;
-
-/// A file that is kept open, since it was appended to.
+/// A file that is kept open.
 #[derive(Drop)]
 pub(crate) struct KeptFile {
     pub(crate) name: String,
     pub(crate) file: File,
-    // no byte was appended since the last sync
+    // nothing was done to it since the last sync
     pub(crate) is_synced: bool,
 }
 
@@ -38,38 +35,30 @@ impl KeptFile {
         if self.file.metadata()?.len() < len {
             return Err(ErrorKind::InvalidInput.into());
         }
+        self.is_synced = false;
         self.file.set_len(len)?;
         self.sync()
     }
 }
 
-/// At most 16 open files, the one that was used last at the end.
+/// Some open files, so many at most, the one that was used last at the end.
 #[derive(Drop)]
 pub(crate) struct KeptFiles {
     pub(crate) files: Vec<KeptFile>,
-    ghost bounded: { vec_len files ≤ 16 },
+    pub(crate) most: usize,
+    ghost some: { 0 < most },
+    ghost bounded: { vec_len files ≤ most },
 }
 
 impl KeptFiles {
     /// Keeps no file yet, and has room for all that it may.
-    pub(crate) fn new(alloc: Global) -> Result<KeptFiles, AllocError> {
-        Ok(KeptFiles {
-            files: Vec::with_capacity(alloc, MOST)?,
-        })
-    }
-
-    fn position(&self, name: &str) -> Option<usize>
-        ensures { IfSome result (λ i. i < vec_len self.now.files) }
+    pub(crate) fn new(alloc: Global, most: usize) -> Result<KeptFiles, AllocError>
+        requires { 0 < most }
     {
-        self.files
-            .iter()
-            .position(|kept| kept.name.as_str() == name)
-    }
-
-    /// The file of that name, where it is kept.
-    pub(crate) fn find(&self, name: &str) -> Option<&File> {
-        let i = self.position(name)?;
-        Some(&self.files[i].file)
+        Ok(KeptFiles {
+            files: Vec::with_capacity(alloc, most)?,
+            most,
+        })
     }
 
     /// Puts the file of that name at the end, and answers its place there; `None` where it isn't kept.
@@ -85,9 +74,9 @@ impl KeptFiles {
     /// longest time, and syncs it before if it has to: the system may forget, once no handle is open, that
     /// it failed to write out what was appended.
     pub(crate) fn make_room(&mut self) -> io::Result<()>
-        ensures { OnOk result (vec_len self.new.files < 16) }
+        ensures { OnOk result (vec_len self.new.files < self.new.most) }
     {
-        if self.files.len() < MOST {
+        if self.files.len() < self.most {
             return Ok(());
         }
         let oldest = &mut self.files[0];
@@ -100,7 +89,7 @@ impl KeptFiles {
 
     /// Keeps one more file, and answers its place.
     pub(crate) fn keep(&mut self, file: KeptFile) -> io::Result<usize>
-        requires { vec_len self.old.files < 16 }
+        requires { vec_len self.old.files < self.old.most }
         ensures { IfOk result (λ i. i < vec_len self.new.files) }
     {
         self.files.push(file)?;
@@ -112,5 +101,13 @@ impl KeptFiles {
         if let Some(i) = self.position(name) {
             self.files.remove(i);
         }
+    }
+
+    fn position(&self, name: &str) -> Option<usize>
+        ensures { IfSome result (λ i. i < vec_len self.now.files) }
+    {
+        self.files
+            .iter()
+            .position(|kept| kept.name.as_str() == name)
     }
 }

@@ -14,7 +14,7 @@ use Rattle.fjall_versions.proofs.Slots.{SameButMaps, writes_maps, slot_after, sl
 use Rattle.fjall_versions.proofs.Replaying.{among, replay_makes_the_store}
 
 -- what a batch leaves at an id, where its word counts and where not
-abbrev slot_step : Bool → Bool → Option Pairs → ℕ → List Version → Option Pairs → Option Pairs
+abbrev pub slot_step : Bool → Bool → Option Pairs → ℕ → List Version → Option Pairs → Option Pairs
 slot_step counted is_cleared none id made slot = cond counted (slot_after (cond is_cleared none slot) id made) slot
 
 by_what_counts : (counted is_cleared : Bool) (nothing : Option Pairs) (id : ℕ) (made : List Version) (slot : Option Pairs)
@@ -23,7 +23,7 @@ by_what_counts true true nothing id made slot = refl
 by_what_counts true false nothing id made slot = refl
 by_what_counts false is_cleared nothing id made slot = refl
 
-after_at : (s : Keyspaces) (versions : List Version) (batch : Shown) (nothing : Option Pairs) (id : ℕ)
+pub after_at : (s : Keyspaces) (versions : List Version) (batch : Shown) (nothing : Option Pairs) (id : ℕ)
     → slot_after nothing id (versions_after s versions batch) ≡ slot_step (counts s batch.number id) (list_any (λ k. k == id) batch.clears) nothing id (map (version_of batch.number) batch.items) (slot_after nothing id versions)
 after_at s versions batch nothing id =
     let ids = emptied s batch in

@@ -11,3 +11,4 @@ pub mod Found
 pub mod Naming
 mod Taking
 mod Gathering
+pub mod Viewing

@@ -27,7 +27,7 @@ pairs_at (v ∷ versions) slot id =
     let next = altered (unwrap_or slot empty) v.key v.value in
     pairs_at versions (cond (id == v.keyspace_id) (Some next) slot) id ∙ ap (λ pairs. pairs_after pairs id versions) (slot_pairs (id == v.keyspace_id) next slot)
 
-nothing_in : (found : Option LivingKeyspace) → unwrap_or (option_map no_pairs found) empty ≡ empty
+pub nothing_in : (found : Option LivingKeyspace) → unwrap_or (option_map no_pairs found) empty ≡ empty
 nothing_in None = refl
 nothing_in (Some k) = refl
 

@@ -1,2 +1,3 @@
 pub mod Replays
 pub mod Versions
+pub mod Views

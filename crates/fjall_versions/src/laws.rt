@@ -1,6 +1,6 @@
 //! What holds of the definitions.
 
-ghost use Rattle.std.specs.Prelude.{◌≡◌, ◌<◌, ◌∷◌, [], ◌++◌, ◌↔◌, true, ℕ, List, length, map, All, Some, is_some};
+ghost use Rattle.std.specs.Prelude.{◌≡◌, ◌<◌, ◌≤◌, ◌^◌, ◌∷◌, [], ◌++◌, ◌↔◌, true, ℕ, List, length, map, All, Some, None, is_some};
 ghost use Rattle.std.specs.Option.{option_map, option_or};
 ghost use Rattle.std.specs.FinMap.{contains_key, get, len, values};
 ghost use Rattle.fjall_base.specs.Pairs.{Bytes, lookup};
@@ -11,6 +11,9 @@ ghost use Rattle.fjall_meta.specs.Keyspaces.{AreKeyspaces, Keyspaces, id_of, key
 ghost use Rattle.fjall_versions.specs.declared.version.Version.{Version};
 ghost use Rattle.fjall_versions.specs.Replays.{bare, commands_of, counts, first_fault, journal_commands, least_after, option_pairs, store_in, value_of};
 ghost use Rattle.fjall_versions.specs.Versions.{AreGiven, command_of, newest, pairs_in, store_of, versions_behind};
+ghost use Rattle.fjall_versions.specs.Views.{clears_of, versions_of};
+ghost use Rattle.fjall_views.specs.Jobs.{AreBelow, AreFrom};
+ghost use Rattle.fjall_views.specs.Views.{IsView};
 
 /// The versions that batches make stand for the store that the batches stand for.
 pub fn replay_makes_the_store()
@@ -112,4 +115,25 @@ pub fn names_stand_in_order()
 pub fn replayed_ids_were_given()
     ensures { (s : Keyspaces) → AreKeyspaces s → (batches : List Shown) (versions : List Version) → AreGiven s versions
         → AreGiven s (versions_behind s versions batches) }
+{}
+
+/// What batches without a fault make of a keyspace's map is the view of the versions and clears that they make of it, at
+/// each instant above their numbers. So it is at 2^63, which no number reaches.
+pub fn replay_is_a_view()
+    ensures above { (s : Keyspaces) (least : ℕ) (batches : List Shown) → first_fault least batches ≡ None → (id instant : ℕ)
+        → All (λ b. b.number < instant) batches → IsView instant (clears_of s id batches) (versions_of s id batches) (map_at (store_in s batches).maps id) }
+    ensures last { (s : Keyspaces) (least : ℕ) (batches : List Shown) → first_fault least batches ≡ None → (id : ℕ)
+        → IsView (2 ^ 63) (clears_of s id batches) (versions_of s id batches) (map_at (store_in s batches).maps id) }
+{}
+
+/// The versions and clears that batches make stand batch upon batch, under the batches' numbers.
+pub fn batches_make_their_versions()
+    ensures versions { (s : Keyspaces) (id : ℕ) (front behind : List Shown)
+        → versions_of s id (front ++ behind) ≡ versions_of s id front ++ versions_of s id behind }
+    ensures clears { (s : Keyspaces) (id : ℕ) (front behind : List Shown)
+        → clears_of s id (front ++ behind) ≡ clears_of s id front ++ clears_of s id behind }
+    ensures from { (s : Keyspaces) (id bound : ℕ) (batches : List Shown) → All (λ b. bound ≤ b.number) batches → AreFrom bound (versions_of s id batches) }
+    ensures below { (s : Keyspaces) (id bound : ℕ) (batches : List Shown) → All (λ b. b.number < bound) batches → AreBelow bound (versions_of s id batches) }
+    ensures clears_below { (s : Keyspaces) (id bound : ℕ) (batches : List Shown) → All (λ b. b.number < bound) batches
+        → All (λ n. n < bound) (clears_of s id batches) }
 {}

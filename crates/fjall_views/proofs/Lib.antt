@@ -1,0 +1,10 @@
+pub mod Clears
+pub mod Hiding
+pub mod Merging
+pub mod Needed
+pub mod Newest
+pub mod Once
+pub mod Sameness
+pub mod Shown
+pub mod Tests
+pub mod Writing
