@@ -71,7 +71,7 @@ pub record StaysAmid (old new : Meaning) (base : Store) (pending : List Command)
   pub any_moment : LeavesOnly old new (StandsAmid base [] pending)
   pub kinds : StaysTidy old new
 
--- nothing is left on the disk that no record of the core's names
+-- nothing of the engine's own is left on the disk that no record of the core's names
 abbrev pub Sweeps : Meaning → Held → Type 0
 Sweeps old core = IsSwept (state_in old) (state_in core.disk) core.catalog core.memory.keyspaces.living
 

@@ -18,7 +18,9 @@ use std::alloc::Global;
 
 impl<D: Disk> Core<D> {
     /// Opens the database on a disk: reads its folder whole, begins a database where none is there or goes on with one
-    /// whose making was cut short, cuts what a crash left unfinished, syncs what counts, and removes what nothing names.
+    /// whose making was cut short, cuts what a crash left unfinished, syncs what counts, and removes what nothing names. The
+    /// folder of a keyspace that doesn't live is removed only where all that stands in it are files with the engine's own
+    /// names, and otherwise left wholly as it stands.
     ///
     /// Refusals hand the disk back: `InvalidVersion`; `JournalRecovery`, `Unrecoverable` and `InvalidTag` for what
     /// stands in journals; `Storage` for what stands in records, tables and options; `OutOfMemory`; `Io`. All is read,
@@ -28,7 +30,7 @@ impl<D: Disk> Core<D> {
         ensures safe { IsTrue D.honest → (store : Store) → HoldsStore (state_in (D.meaning disk)) store → IfOk result (λ core. OpensAs core store) }
         ensures any_moment { IsTrue D.honest → IfOk result (λ core. KeepsStore (D.meaning disk) core.disk) }
         ensures any_moment_err { IsTrue D.honest → IfErr result (λ refused. KeepsStore (D.meaning disk) (D.meaning refused.value)) }
-        // Nothing is left that no record names.
+        // Nothing of the engine's own is left that no record names.
         ensures swept { IsTrue D.honest → IfOk result (λ core. Sweeps (D.meaning disk) core) }
         ensures stands { IfOk result (λ core. (store : Store) × (next : ℕ) × Opens core store next) }
         ensures later { IfOk result (λ core. (D.meaning disk).faults ≤ core.disk.faults) }

@@ -1,13 +1,28 @@
 -- What a crash leaves of a list of named entries.
-use Rattle.std.proofs.Common.{◌≡◌, inl, inr, ℕ, suc, ◌<◌, true, false, List, [], ◌∷◌, length, get_or, refl, ◌∙◌, ap, subst, arith, string_bytes}
+use Rattle.std.proofs.Common.{◌≡◌, inl, inr, ℕ, suc, ◌+◌, ◌<◌, min, true, false, List, [], ◌∷◌, ◌++◌, take, drop, length, get_or, refl, sym, ◌∙◌, ap, subst, arith, string_bytes}
+use Rattle.std.proofs.Math.Seq.{take-add}
+use Rattle.std.proofs.lemmas.List.{take_all, drop_all, take_min}
 use Rattle.std.specs.Str.{bytes_eq}
-use Rattle.fjall_base.specs.Disk.{Name, Missing, disk_of, folder_of, IsEmpty}
+use Rattle.fjall_base.specs.Disk.{Name, Missing, File, disk_of, folder_of, IsEmpty}
 use Rattle.fjall_base.specs.Crash.{keeping, crashed}
 use Rattle.fjall_base.proofs.Names.{bool_cases}
 use Rattle.fjall_base.proofs.Crashes.{is_missing}
 use Rattle.fjall_memory.specs.declared.node.Named.{Named}
 use Rattle.fjall_memory.specs.Memory.{place_of, state_of}
 use Rattle.fjall_memory.proofs.Names.{present}
+
+-- the synced bytes and so many of the others are a front of the whole
+front_kept : (bytes : List ℕ) (synced keep n : ℕ) → min n (length bytes) ≡ min (synced + keep) (length bytes)
+    → take n bytes ≡ take synced bytes ++ take keep (drop synced bytes)
+front_kept bytes synced keep n same =
+    sym (take_min n bytes) ∙ ap (λ (k : ℕ). take k bytes) same ∙ take_min (synced + keep) bytes ∙ take-add synced keep bytes
+
+-- a file that was cut behind them and synced
+pub cut_behind : (bytes kept : List ℕ) (synced keep n len : ℕ) → kept ≡ take n bytes
+    → min n (length bytes) ≡ min (synced + keep) (length bytes) → len ≡ length kept
+    → File (take len kept) (drop len kept) ≡ keeping keep (File (take synced bytes) (drop synced bytes))
+cut_behind bytes kept synced keep n len is same whole =
+    cc (take_all len kept (omega arith), drop_all len kept (omega arith), is, front_kept bytes synced keep n same)
 
 -- each entry is made what a crash leaves of it
 pub state_crashed : (old new : List Named) (keep : ℕ) → length old ≡ length new

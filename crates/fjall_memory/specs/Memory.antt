@@ -1,5 +1,5 @@
 -- What a disk in memory stands for.
-use Rattle.std.specs.Prelude.{◌≡◌, ◌⊎◌, ℕ, List, map, string_bytes}
+use Rattle.std.specs.Prelude.{◌≡◌, ◌⊎◌, ℕ, List, [], ◌∷◌, take, drop, map, string_bytes}
 use Rattle.std.specs.declared.io.ErrorKind.TheVariants.{NotFound}
 use Rattle.fjall_base.specs.declared.error.Error.{Error}
 use Rattle.fjall_base.specs.declared.error.Error.TheVariants.{Io, OutOfMemory}
@@ -7,8 +7,8 @@ use Rattle.fjall_base.specs.Disk.{Name, placed, Entry, Missing, File, Folder, Pl
 use Rattle.fjall_memory.specs.declared.node.Node.{Node}
 use Rattle.fjall_memory.specs.declared.node.Node as node
 use Rattle.fjall_memory.specs.declared.node.Named.{Named}
-use Rattle.fjall_memory.specs.declared.node.Change.{Change}
-use Rattle.fjall_memory.specs.declared.node.Change as logged
+use Rattle.fjall_memory.specs.declared.history.Change.{Change}
+use Rattle.fjall_memory.specs.declared.history.Change as taken
 use Rattle.fjall_memory.specs.declared.node.Kind.{Kind}
 use Rattle.fjall_memory.specs.declared.node.Kind as kind
 use Rattle.fjall_memory.specs.declared.node.FileChange.{FileChange}
@@ -17,7 +17,7 @@ use Rattle.fjall_memory.specs.declared.node.FileChange as of_file
 -- what stands at a name
 abbrev pub entry_of : Node → Entry
 entry_of node.TheVariants.Missing = Missing
-entry_of (node.TheVariants.File synced unsynced) = File synced.items unsynced.items
+entry_of (node.TheVariants.File bytes synced) = File (take synced bytes.items) (drop synced bytes.items)
 entry_of node.TheVariants.Folder = Folder
 
 -- what stands there now, and what stood there since the folder was synced
@@ -32,14 +32,13 @@ named_place named = (string_bytes named.name, place_of named)
 abbrev pub state_of : List Named → State
 state_of names = placed (map named_place names)
 
--- the step that a change is
-abbrev pub step_of : Change → Step
-step_of (logged.TheVariants.Put name entry) = Put (string_bytes name) (entry_of entry)
-step_of (logged.TheVariants.Append name bytes) = Append (string_bytes name) bytes.items
-step_of (logged.TheVariants.Sync name) = Sync (string_bytes name)
-step_of (logged.TheVariants.Loosen name len) = Loosen (string_bytes name) len
-step_of (logged.TheVariants.Cut name len) = Cut (string_bytes name) len
-step_of (logged.TheVariants.SyncFolder name) = SyncFolder (string_bytes name)
+-- the steps that a change is
+abbrev pub steps_of : Change → List Step
+steps_of (taken.TheVariants.Put name node) = Put name.now (entry_of node.now) ∷ []
+steps_of (taken.TheVariants.Append name bytes) = Append name.now bytes.now ∷ []
+steps_of (taken.TheVariants.Sync name) = Sync name.now ∷ []
+steps_of (taken.TheVariants.Cut name len) = Loosen name.now len ∷ Cut name.now len ∷ []
+steps_of (taken.TheVariants.SyncFolder folder) = SyncFolder folder.now ∷ []
 
 -- what the change makes of an entry
 abbrev pub changed : FileChange → Entry → Entry

@@ -1,26 +1,27 @@
-//! Named entries, and the list of their changes.
+//! Named entries, and the history of their changes.
 
 ghost use Rattle.std.specs.Prelude.{◌≡◌, ◌≢◌, ◌↔◌, [], ◌∷◌, IfOk, IfErr, IsOkUnless, OnOk, OnErr, IsTrue};
 ghost use Rattle.fjall_base.specs.Disk.{Took, Append, Sync, Loosen, Cut, Put, SyncFolder, HasFolder, IsThere, standing, put, Reads, IsFile, IsLong, IsNoFile, IsNoFolder, CanCreate, CanMakeFolder, CanRemoveFolder};
 ghost use Rattle.fjall_memory.specs.Memory.{entry_of, IsKind, IsRefusedUnless, state_of};
 ghost use Rattle.fjall_base.specs.Crash.{IsHoused};
 
+use crate::history::{Change, History};
 use crate::node::{
-    Change, FileChange, Kind, Named, Node, alter_at, folder_name, holds_any, is_long_at, is_there,
-    kind_at, push_reserved, put_at, read_at, settle_names,
+    FileChange, Kind, Named, Node, alter_at, folder_name, holds_any, is_long_at, is_there, kind_at,
+    put_at, read_at, settle_names,
 };
 use fjall_base::{Error, Result};
 use std::alloc::{AllocError, Global};
 use std::io::ErrorKind;
 
-/// Named entries that tell each change that they took.
+/// Named entries, with the history of the changes that they took.
 ///
 /// A change that fails, for want of memory or since no such file is there, has done nothing.
 #[derive(Drop)]
 pub struct Files {
     pub alloc: Global,
     pub names: Vec<Named>,
-    pub log: Vec<Change>,
+    pub history: History,
     // the folder of each name that is there stands too
     pub ghost housed: { IsHoused (state_of names.items) },
 }
@@ -129,13 +130,10 @@ impl Files {
         ensures err { OnErr result (Took (meaning_of self.old 0) (meaning_of self.new 0) []) }
         ensures cause { IfErr result (IsRefusedUnless (IsFile (state_of self.old.names.items name.now).now)) }
     {
-        let text = String::from_str(self.alloc, name)?;
-        let added = Vec::from_slice(self.alloc, bytes)?;
-        self.log.reserve(1)?;
         if !alter_at(&mut self.names, name, FileChange::Append(bytes))? {
             return Err(Error::Io(ErrorKind::NotFound));
         }
-        push_reserved(&mut self.log, Change::Append(text, added));
+        self.history = self.history.then(&Change::Append(name, bytes));
         Ok(())
     }
 
@@ -146,12 +144,10 @@ impl Files {
         ensures err { OnErr result (Took (meaning_of self.old 0) (meaning_of self.new 0) []) }
         ensures cause { IfErr result (IsRefusedUnless (IsFile (state_of self.old.names.items name.now).now)) }
     {
-        let text = String::from_str(self.alloc, name)?;
-        self.log.reserve(1)?;
         if !alter_at(&mut self.names, name, FileChange::Sync)? {
             return Err(Error::Io(ErrorKind::NotFound));
         }
-        push_reserved(&mut self.log, Change::Sync(text));
+        self.history = self.history.then(&Change::Sync(name));
         Ok(())
     }
 
@@ -162,29 +158,23 @@ impl Files {
         ensures err { OnErr result (Took (meaning_of self.old 0) (meaning_of self.new 0) []) }
         ensures cause { IfErr result (IsRefusedUnless (IsLong len (state_of self.old.names.items name.now).now)) }
     {
-        let text = String::from_str(self.alloc, name)?;
-        let again = String::from_str(self.alloc, name)?;
-        self.log.reserve(2)?;
         if !alter_at(&mut self.names, name, FileChange::Cut(len))? {
             return Err(Error::Io(ErrorKind::NotFound));
         }
-        push_reserved(&mut self.log, Change::Loosen(text, len));
-        push_reserved(&mut self.log, Change::Cut(again, len));
+        self.history = self.history.then(&Change::Cut(name, len));
         Ok(())
     }
 
-    /// Puts an entry at a name, `logged` being one that stands for the same.
-    pub fn put(&mut self, name: &str, node: Node, logged: Node) -> Result<()>
-        requires same { entry_of logged ≡ entry_of node }
+    /// Puts an entry at a name.
+    pub fn put(&mut self, name: &str, node: Node) -> Result<()>
         requires housed { IsHoused (put (state_of self.old.names.items) name.now (entry_of node)) }
         ensures ok { OnOk result (Took (meaning_of self.old 0) (meaning_of self.new 0) (Put name.now (entry_of node) ∷ [])) }
         ensures err { OnErr result (Took (meaning_of self.old 0) (meaning_of self.new 0) []) }
         ensures cause { IsOkUnless result Error.OutOfMemory }
     {
-        let text = String::from_str(self.alloc, name)?;
-        self.log.reserve(1)?;
+        let history = self.history.then(&Change::Put(name, &node));
         put_at(self.alloc, &mut self.names, name, node)?;
-        push_reserved(&mut self.log, Change::Put(text, logged));
+        self.history = history;
         Ok(())
     }
 
@@ -194,10 +184,8 @@ impl Files {
         ensures err { OnErr result (Took (meaning_of self.old 0) (meaning_of self.new 0) []) }
         ensures cause { IsOkUnless result Error.OutOfMemory }
     {
-        let text = String::from_str(self.alloc, folder)?;
-        self.log.reserve(1)?;
         settle_names(&mut self.names, folder);
-        push_reserved(&mut self.log, Change::SyncFolder(text));
+        self.history = self.history.then(&Change::SyncFolder(folder));
         Ok(())
     }
 }

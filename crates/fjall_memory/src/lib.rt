@@ -2,6 +2,7 @@
 #![tactic(auto)]
 
 mod files;
+mod history;
 mod memory;
 mod node;
 

@@ -4,9 +4,10 @@ ghost use Rattle.std.specs.Prelude.{◌≡◌, ◌≤◌, ◌-◌, ◌↔◌, []
 ghost use Rattle.fjall_base.specs.Disk.{IsImage, disk_of, state_in};
 ghost use Rattle.fjall_base.specs.Errors.{Rose};
 ghost use Rattle.fjall_base.specs.Crash.{crashed};
-ghost use Rattle.fjall_memory.specs.Memory.{named_place, step_of};
+ghost use Rattle.fjall_memory.specs.Memory.{named_place};
 
 use crate::files::Files;
+use crate::history::History;
 use crate::node::{Kind, Node, crash_names, holds_any, list_names};
 use fjall_base::{DirEntry, Disk, Error, Result};
 use std::alloc::Global;
@@ -85,7 +86,7 @@ impl MemoryDisk {
             files: Files {
                 alloc,
                 names: Vec::new(alloc),
-                log: Vec::new(alloc),
+                history: History::new(),
             },
             failing: Failing {
                 count: 0,
@@ -128,12 +129,16 @@ impl MemoryDisk {
         let Files {
             alloc,
             mut names,
-            mut log,
+            ..
         } = files;
         crash_names(&mut names, keep)?;
-        log.clear();
+        let history = History::new();
         Ok(MemoryDisk {
-            files: Files { alloc, names, log },
+            files: Files {
+                alloc,
+                names,
+                history,
+            },
             failing,
         })
     }
@@ -144,7 +149,7 @@ impl Disk for MemoryDisk {
 
     ghost meaning = { λ disk. record {
       places = map named_place disk.files.names.items;
-      steps = map step_of disk.files.log.items;
+      steps = disk.files.history.steps;
       faults = disk.failing.count;
       misuses = disk.failing.misuses;
     } };
@@ -199,11 +204,7 @@ impl Disk for MemoryDisk {
             Kind::Folder => Err(self.failing.fault()),
             Kind::Missing => {
                 let alloc = self.files.alloc;
-                if self
-                    .files
-                    .put(name, Node::file(alloc), Node::file(alloc))
-                    .is_err()
-                {
+                if self.files.put(name, Node::file(alloc)).is_err() {
                     return Err(self.failing.fault());
                 }
                 Ok(())
@@ -261,7 +262,7 @@ impl Disk for MemoryDisk {
             Kind::Missing => Ok(()),
             Kind::Folder => Err(self.failing.fault()),
             Kind::File => {
-                if self.files.put(name, Node::Missing, Node::Missing).is_err() {
+                if self.files.put(name, Node::Missing).is_err() {
                     return Err(self.failing.fault());
                 }
                 Ok(())
@@ -284,7 +285,7 @@ impl Disk for MemoryDisk {
                 if holds_any(self.files.names.as_slice(), name) {
                     return Err(self.failing.fault());
                 }
-                if self.files.put(name, Node::Missing, Node::Missing).is_err() {
+                if self.files.put(name, Node::Missing).is_err() {
                     return Err(self.failing.fault());
                 }
                 Ok(())
@@ -304,7 +305,7 @@ impl Disk for MemoryDisk {
             Kind::Folder => Ok(()),
             Kind::File => Err(self.failing.fault()),
             Kind::Missing => {
-                if self.files.put(name, Node::Folder, Node::Folder).is_err() {
+                if self.files.put(name, Node::Folder).is_err() {
                     return Err(self.failing.fault());
                 }
                 Ok(())

@@ -17,7 +17,8 @@ use std::mem;
 #[derive(Drop)]
 pub enum Node {
     Missing,
-    File { synced: Vec<u8>, unsynced: Vec<u8> },
+    /// The first `synced` bytes are synced, or all where there are fewer.
+    File { bytes: Vec<u8>, synced: usize },
     Folder,
 }
 
@@ -27,17 +28,6 @@ pub struct Named {
     pub name: String,
     pub now: Node,
     pub older: Vec<Node>,
-}
-
-/// One change that the disk took, with the name that it is of.
-#[derive(Drop)]
-pub enum Change {
-    Put(String, Node),
-    Append(String, Vec<u8>),
-    Sync(String),
-    Loosen(String, usize),
-    Cut(String, usize),
-    SyncFolder(String),
 }
 
 /// A change of what one file holds.
@@ -54,8 +44,8 @@ impl Node {
         ensures { entry_of result ≡ File [] [] }
     {
         Node::File {
-            synced: Vec::new(alloc),
-            unsynced: Vec::new(alloc),
+            bytes: Vec::new(alloc),
+            synced: 0,
         }
     }
 
@@ -67,8 +57,14 @@ impl Node {
         ensures err { OnErr result (entry_of self.new ≡ entry_of self.old) }
     {
         match self {
-            Node::File { unsynced, .. } => {
-                unsynced.extend_from_slice(bytes)?;
+            Node::File {
+                bytes: held,
+                synced,
+            } => {
+                // the new bytes stand behind the mark
+                let mark = held.len().min(*synced);
+                held.extend_from_slice(bytes)?;
+                *synced = mark;
                 Ok(true)
             }
             _ => Ok(false),
@@ -83,9 +79,8 @@ impl Node {
         ensures err { OnErr result (entry_of self.new ≡ entry_of self.old) }
     {
         match self {
-            Node::File { synced, unsynced } => {
-                synced.extend_from_slice(unsynced.as_slice())?;
-                unsynced.clear();
+            Node::File { bytes, synced } => {
+                *synced = bytes.len();
                 Ok(true)
             }
             _ => Ok(false),
@@ -100,18 +95,12 @@ impl Node {
         ensures err { OnErr result (entry_of self.new ≡ entry_of self.old) }
     {
         match self {
-            Node::File { synced, unsynced } => {
-                if len <= synced.len() {
-                    synced.truncate(len);
-                    unsynced.clear();
-                    return Ok(true);
-                }
-                let more = len - synced.len();
-                if unsynced.len() < more {
+            Node::File { bytes, synced } => {
+                if bytes.len() < len {
                     return Ok(false);
                 }
-                synced.extend_from_slice(&unsynced.as_slice()[..more])?;
-                unsynced.clear();
+                bytes.truncate(len);
+                *synced = len;
                 Ok(true)
             }
             _ => Ok(false),
@@ -136,10 +125,9 @@ impl Node {
     pub fn crash(&mut self, keep: usize) -> Result<(), AllocError>
         ensures { OnOk result (entry_of self.new ≡ keeping keep (entry_of self.old)) }
     {
-        if let Node::File { synced, unsynced } = self {
-            unsynced.truncate(keep);
-            synced.extend_from_slice(unsynced.as_slice())?;
-            unsynced.clear();
+        if let Node::File { bytes, synced } = self {
+            bytes.truncate(synced.saturating_add(keep));
+            *synced = bytes.len();
         }
         Ok(())
     }
@@ -160,9 +148,7 @@ impl Node {
         ensures { IsTrue result ↔ IsLong len (entry_of self.now) }
     {
         match self {
-            Node::File { synced, unsynced } => {
-                len <= synced.len() || len - synced.len() <= unsynced.len()
-            }
+            Node::File { bytes, .. } => len <= bytes.len(),
             _ => false,
         }
     }
@@ -172,11 +158,7 @@ impl Node {
         ensures { IfOk result (Reads (entry_of self.now)) }
     {
         match self {
-            Node::File { synced, unsynced } => {
-                let mut bytes = Vec::from_slice(alloc, synced.as_slice())?;
-                bytes.extend_from_slice(unsynced.as_slice())?;
-                Ok(Some(bytes))
-            }
+            Node::File { bytes, .. } => Ok(Some(Vec::from_slice(alloc, bytes.as_slice())?)),
             _ => Ok(None),
         }
     }

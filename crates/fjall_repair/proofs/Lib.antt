@@ -47,3 +47,4 @@ pub mod Numbering
 pub mod Openings
 pub mod Amid
 pub mod SweepServed
+pub mod Own

@@ -15,7 +15,7 @@ use Rattle.fjall_files.specs.Names.{keyspace_folder, table_name}
 use Rattle.fjall_meta.specs.declared.living.LivingKeyspace.{LivingKeyspace}
 use Rattle.fjall_repair.specs.declared.plan.UnnamedHome.{UnnamedHome}
 use Rattle.fjall_repair.specs.Listing.{AreTables}
-use Rattle.fjall_repair.specs.Sweeps.{FindsHomes, FindsTables, FindsTablesOf, IsHomeFound, IsUnnamedHome, IsUnnamedTable, Lives}
+use Rattle.fjall_repair.specs.Sweeps.{FindsHomes, FindsTables, FindsTablesOf, HoldsOnlyOwn, IsHomeFound, IsOwn, IsUnnamedHome, IsUnnamedTable, Lives}
 use Rattle.fjall_repair.proofs.Removals as Removals
 
 abbrev Text : Type 0
@@ -137,26 +137,33 @@ module _ (state now : State) (same : now ≡ state) (living : List LivingKeyspac
 
   -- a folder that is named
   pub named_passed : (homes : List UnnamedHome) → (id ≡ 0) ⊎ Lives living id → FindsHomes state living (take i ids) homes → FindsHomes state living (take (i + 1) ids) homes
-  named_passed homes named so_far x has some dead = ⊎_elim (λ before. so_far x before some dead)
+  named_passed homes named so_far x has some dead holds = ⊎_elim (λ before. so_far x before some dead holds)
       (λ is. ⊎_elim (λ none. absurd (some (sym is ∙ none))) (λ lives. absurd (dead (subst (Lives living) is lives))) named) (some_cases x has)
+
+  -- a folder that holds something else
+  pub foreign_passed : (homes : List UnnamedHome) → (HoldsOnlyOwn now id → ⊥) → FindsHomes state living (take i ids) homes → FindsHomes state living (take (i + 1) ids) homes
+  foreign_passed homes foreign so_far x has some dead holds = ⊎_elim (λ before. so_far x before some dead holds)
+      (λ is. absurd (foreign (subst (λ (s : State). HoldsOnlyOwn s id) (sym same) (subst (λ (n : ℕ). HoldsOnlyOwn state n) (sym is) holds)))) (some_cases x has)
 
   module _ (homes new : List UnnamedHome) (home : UnnamedHome) (new_is : new ≡ homes ++ home ∷ []) (unnamed : (id ≡ 0) ⊎ Lives living id → ⊥) where
     pub home_found : IsHomeFound now id home → FindsHomes state living (take i ids) homes → FindsHomes state living (take (i + 1) ids) new
-    home_found found so_far x has some dead = subst (Any (IsHomeFound state x)) (sym new_is) (⊎_elim (λ before. Any-more (IsHomeFound state x) homes (home ∷ []) (so_far x before some dead))
+    home_found found so_far x has some dead holds = subst (Any (IsHomeFound state x)) (sym new_is) (⊎_elim (λ before. Any-more (IsHomeFound state x) homes (home ∷ []) (so_far x before some dead holds))
         (λ is. any_last (IsHomeFound state x) homes home (subst (λ (s : State). IsHomeFound s x home) same (subst (λ (n : ℕ). IsHomeFound now n home) is found))) (some_cases x has))
 
-    pub home_unnamed : id < 2 ^ 64 → IsHomeFound now id home → All (λ file. folder_of (string_bytes file) ≡ keyspace_folder id) home.files.items → All (IsUnnamedHome living) homes → All (IsUnnamedHome living) new
-    home_unnamed fits found inside so_far = subst (All (IsUnnamedHome living)) (sym new_is) (All-push (IsUnnamedHome living) homes home so_far (record {
+    pub home_unnamed : id < 2 ^ 64 → IsHomeFound now id home → All (λ file. folder_of (string_bytes file) ≡ keyspace_folder id) home.files.items → All (λ file. IsOwn id (string_bytes file)) home.files.items
+        → All (IsUnnamedHome living) homes → All (IsUnnamedHome living) new
+    home_unnamed fits found inside own so_far = subst (All (IsUnnamedHome living)) (sym new_is) (All-push (IsUnnamedHome living) homes home so_far (record {
       id = id;
       fits = fits;
       some = λ none. unnamed (inl none);
       dead = λ lives. unnamed (inr lives);
       folder_is = found.folder_is;
       inside = inside;
+      own = own;
     }))
 
 pub homes_none : (state : State) (living : List LivingKeyspace) (homes : List UnnamedHome) → FindsHomes state living [] homes
-homes_none state living homes x has some dead = absurd (omega (arith, has.1))
+homes_none state living homes x has some dead holds = absurd (omega (arith, has.1))
 
 pub homes_all : (state : State) (living : List LivingKeyspace) (ids : List ℕ) (i : ℕ) (homes : List UnnamedHome) → length ids ≤ i → FindsHomes state living (take i ids) homes → FindsHomes state living ids homes
 homes_all state living ids i homes le found = subst (λ (l : List ℕ). FindsHomes state living l homes) (take_all i ids le) found

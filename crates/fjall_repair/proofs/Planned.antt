@@ -28,7 +28,7 @@ use Rattle.fjall_recovery.proofs.Trees.{folder_of-home}
 use Rattle.fjall_repair.specs.declared.plan.SweepPlan.{SweepPlan}
 use Rattle.fjall_repair.specs.declared.plan.UnnamedHome.{UnnamedHome}
 use Rattle.fjall_recovery.specs.Naming.{AreFolderIds}
-use Rattle.fjall_repair.specs.Sweeps.{AreGone, BringsNoTable, FindsAll, FindsTables, IsHomeFound, IsSwept, IsPlan, IsUnnamedHome, IsUnnamedTable, Lives, Removes, home_names, named_in, planned}
+use Rattle.fjall_repair.specs.Sweeps.{AreGone, BringsNoTable, FindsAll, FindsTables, HoldsOnlyOwn, IsHomeFound, IsSwept, IsPlan, IsUnnamedHome, IsUnnamedTable, Lives, Removes, home_names, named_in, planned}
 use Rattle.fjall_repair.proofs.Apart as Apart
 use Rattle.fjall_repair.proofs.Removals as Removals
 use Rattle.fjall_repair.proofs.Spared.{AtHome, IsSpare, spared}
@@ -215,8 +215,8 @@ module _ (old new : State) (last : Catalog) (living : List LivingKeyspace) (ids 
   at_planned : (name : Name) → Contains (planned plan) name → (new name).now ≡ Missing
   at_planned name has = All-contains (λ (n : Name). (new n).now ≡ Missing) (planned plan) name (All-from_recursion (λ (n : Name). (new n).now ≡ Missing) (planned plan) gone) has
 
-  found : (id : ℕ) → id < 2 ^ 64 → id ≢ 0 → (Lives living id → ⊥) → (old (keyspace_folder id)).now ≡ Folder → Any (IsHomeFound old id) plan.homes.items
-  found id fits some dead stands = finds.homes id ((are.each id).1 (fits, stands)) some dead
+  found : (id : ℕ) → id < 2 ^ 64 → id ≢ 0 → (Lives living id → ⊥) → (old (keyspace_folder id)).now ≡ Folder → HoldsOnlyOwn old id → Any (IsHomeFound old id) plan.homes.items
+  found id fits some dead stands holds = finds.homes id ((are.each id).1 (fits, stands)) some dead holds
 
   -- a name of a home that is planned
   home_name : (id : ℕ) (some : Any (IsHomeFound old id) plan.homes.items) (name : Name) → Contains (home_names some.1) name → (new name).now ≡ Missing
@@ -229,11 +229,11 @@ module _ (old new : State) (last : Catalog) (living : List LivingKeyspace) (ids 
 
   pub is_swept : IsSwept old new last living
   is_swept = record {
-    homes = λ id fits some dead stands.
-        let home = found id fits some dead stands in
+    homes = λ id fits some dead stands holds.
+        let home = found id fits some dead stands holds in
         home_name id home (keyspace_folder id) (subst (λ (n : Name). Contains (home_names home.1) n) home.4.folder_is (Contains-push (map string_bytes home.1.files.items) (string_bytes home.1.folder)));
-    files = λ id name fits some dead stands inside there.
-        let home = found id fits some dead stands in
+    files = λ id name fits some dead stands holds inside there.
+        let home = found id fits some dead stands holds in
         home_name id home name (Contains-append_left (map string_bytes home.1.files.items) (string_bytes home.1.folder ∷ []) name (home.4.whole name inside there));
     tables = λ id n fits lives. elim (missing_or_not (old (table_name id n)).now) [
       | inl none ↦ brings id n (small id lives) fits none

@@ -12,7 +12,7 @@ use Rattle.fjall_files.specs.Tidy.{IsTidy}
 use Rattle.fjall_files.proofs.OfKinds.{kind_now}
 use Rattle.fjall_meta.specs.declared.living.LivingKeyspace.{LivingKeyspace}
 use Rattle.fjall_repair.specs.declared.plan.UnnamedHome.{UnnamedHome}
-use Rattle.fjall_repair.specs.Sweeps.{AreGone, HasAll, IsHomeFound, IsUnnamedHome, IsUnnamedTable, Lives, Removes, removals}
+use Rattle.fjall_repair.specs.Sweeps.{AreGone, HasAll, HoldsOnlyOwn, IsHomeFound, IsOwnHome, IsUnnamedHome, IsUnnamedTable, Lives, Removes, removals}
 use Rattle.fjall_repair.proofs.Removals.{after_missing, stays_missing}
 
 -- ---- what is left of a name
@@ -114,5 +114,9 @@ table_no_folder state tidy named living name is = subst (λ (n : Name). IsNoFold
 pub has_all_of : (state now : State) → now ≡ state → (id : ℕ) (home : UnnamedHome) → IsHomeFound now id home → HasAll state home
 has_all_of state now same id home found = subst (λ (s : State). HasAll s home) same (λ name inside there. found.whole name (inside ∙ found.folder_is) there)
 
-pub have_all_more : (state : State) (homes new : List UnnamedHome) (home : UnnamedHome) → new ≡ homes ++ home ∷ [] → HasAll state home → All (HasAll state) homes → All (HasAll state) new
-have_all_more state homes new home is one all = subst (All (HasAll state)) (sym is) (All-push (HasAll state) homes home all one)
+pub have_all_more : (P : UnnamedHome → Type 0) (homes new : List UnnamedHome) (home : UnnamedHome) → new ≡ homes ++ home ∷ [] → P home → All P homes → All P new
+have_all_more P homes new home is one all = subst (All P) (sym is) (All-push P homes home all one)
+
+-- a home that holds only the engine's own files
+pub own_home : (state now : State) → now ≡ state → (id : ℕ) (home : UnnamedHome) → IsHomeFound now id home → HoldsOnlyOwn now id → IsOwnHome state home
+own_home state now same id home found holds = (id, found.folder_is, subst (λ (s : State). HoldsOnlyOwn s id) same holds)

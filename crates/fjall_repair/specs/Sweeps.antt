@@ -2,8 +2,8 @@
 use Rattle.std.specs.Prelude.{◌≡◌, ◌≢◌, ◌⊎◌, ℕ, ◌<◌, ◌^◌, List, [], ◌∷◌, ◌++◌, map, All, Any, Contains, Option, Some, string_bytes}
 use Rattle.std.specs.List.{flat_map, AllByRecursion}
 use Rattle.std.specs.Option.{option_map}
-use Rattle.fjall_base.specs.Disk.{Name, Missing, Folder, State, Step, Put, Meaning, Took, folder_of}
-use Rattle.fjall_files.specs.Names.{keyspace_folder, table_name}
+use Rattle.fjall_base.specs.Disk.{Name, Missing, Folder, IsNoFolder, State, Step, Put, Meaning, Took, folder_of}
+use Rattle.fjall_files.specs.Names.{IsNameOf, current_name, keyspace_folder, table_name}
 use Rattle.fjall_meta.specs.declared.living.LivingKeyspace.{LivingKeyspace}
 use Rattle.fjall_catalog.specs.declared.catalog.Catalog.{Catalog}
 use Rattle.fjall_recovery.specs.Halves.{Tree}
@@ -32,7 +32,11 @@ pub record IsUnnamedTable (named : Option ℕ) (living : List LivingKeyspace) (n
   pub name_is : name ≡ table_name id table
   pub unnamed : ((id ≡ 0) × (named ≢ Some table)) ⊎ Lives living id
 
--- The folder of a keyspace that doesn't live, and names that are right in it.
+-- a name that the engine gives in the folder of this id: that of its records, or of a table
+abbrev pub IsOwn : ℕ → Name → Type 0
+IsOwn id name = (name ≡ current_name id) ⊎ ((n : ℕ) × IsNameOf (table_name id) name n)
+
+-- The folder of a keyspace that doesn't live, and names that are right in it and that the engine gives.
 pub record IsUnnamedHome (living : List LivingKeyspace) (home : UnnamedHome) : Type 0 where
   pub id : ℕ
   pub fits : id < 2 ^ 64
@@ -40,6 +44,7 @@ pub record IsUnnamedHome (living : List LivingKeyspace) (home : UnnamedHome) : T
   pub dead : Lives living id → ⊥
   pub folder_is : string_bytes home.folder ≡ keyspace_folder id
   pub inside : All (λ file. folder_of (string_bytes file) ≡ keyspace_folder id) home.files.items
+  pub own : All (λ file. IsOwn id (string_bytes file)) home.files.items
 
 -- a plan of what no record names, where tree 0's names this table and these keyspaces live
 pub record IsPlan (named : Option ℕ) (living : List LivingKeyspace) (plan : SweepPlan) : Type 0 where
@@ -65,17 +70,28 @@ pub record IsHomeFound (state : State) (id : ℕ) (home : UnnamedHome) : Type 0 
 abbrev pub HasAll : State → UnnamedHome → Type 0
 HasAll state home = (name : Name) → folder_of name ≡ string_bytes home.folder → (state name).now ≢ Missing → Contains (map string_bytes home.files.items) name
 
--- each folder of these ids is one of these homes, unless it is tree 0's or its keyspace lives
+-- all that stands in the folder of this id are files with the engine's own names
+abbrev pub HoldsOnlyOwn : State → ℕ → Type 0
+HoldsOnlyOwn state id = (name : Name) → folder_of name ≡ keyspace_folder id → (state name).now ≢ Missing → IsOwn id name × IsNoFolder (state name).now
+
+-- the home is the folder of a keyspace that holds nothing but the engine's own files
+abbrev pub IsOwnHome : State → UnnamedHome → Type 0
+IsOwnHome state home = (id : ℕ) × (string_bytes home.folder ≡ keyspace_folder id) × HoldsOnlyOwn state id
+
+-- each folder of these ids that holds only the engine's own files is one of these homes, unless it is tree 0's or its keyspace
+-- lives
 abbrev pub FindsHomes : State → List LivingKeyspace → List ℕ → List UnnamedHome → Type 0
-FindsHomes state living ids homes = (id : ℕ) → Contains ids id → id ≢ 0 → (Lives living id → ⊥) → Any (IsHomeFound state id) homes
+FindsHomes state living ids homes = (id : ℕ) → Contains ids id → id ≢ 0 → (Lives living id → ⊥) → HoldsOnlyOwn state id → Any (IsHomeFound state id) homes
 
 -- The plan has all that no record names, of what stands in the folders of the keyspaces that live and in those of these ids,
--- and of each of its homes all that stands in it.
+-- and of each of its homes all that stands in it. A folder is one of its homes only where it holds nothing but the engine's own
+-- files: any other is left as it stands.
 pub record FindsAll (state : State) (named : Option ℕ) (living : List LivingKeyspace) (ids : List ℕ) (plan : SweepPlan) : Type 0 where
   pub tables : FindsTables state named (map string_bytes plan.tables.items)
   pub tables_of : FindsTablesOf state living (map string_bytes plan.tables.items)
   pub homes : FindsHomes state living ids plan.homes.items
   pub each : All (HasAll state) plan.homes.items
+  pub spares : All (IsOwnHome state) plan.homes.items
 
 -- ---- its removal
 
@@ -106,11 +122,12 @@ abbrev pub BringsNoTable : State → State → Type 0
 BringsNoTable old new = (id n : ℕ) → id < 2 ^ 64 → n < 2 ^ 64 → (old (table_name id n)).now ≡ Missing → (new (table_name id n)).now ≡ Missing
 
 -- Of what no record names this is gone from `keyspaces`. Of what stood there before: each folder of a keyspace that doesn't
--- live, and all in it. And no table is there in the folder of a keyspace that lives, nor one in tree 0's but that which its
--- last record names.
+-- live, and all in it, where all that stood in it were files with the engine's own names. And no table is there in the folder
+-- of a keyspace that lives, nor one in tree 0's but that which its last record names.
 pub record IsSwept (old new : State) (last : Catalog) (living : List LivingKeyspace) : Type 0 where
-  pub homes : (id : ℕ) → id < 2 ^ 64 → id ≢ 0 → (Lives living id → ⊥) → (old (keyspace_folder id)).now ≡ Folder → (new (keyspace_folder id)).now ≡ Missing
-  pub files : (id : ℕ) (name : Name) → id < 2 ^ 64 → id ≢ 0 → (Lives living id → ⊥) → (old (keyspace_folder id)).now ≡ Folder
+  pub homes : (id : ℕ) → id < 2 ^ 64 → id ≢ 0 → (Lives living id → ⊥) → (old (keyspace_folder id)).now ≡ Folder → HoldsOnlyOwn old id
+      → (new (keyspace_folder id)).now ≡ Missing
+  pub files : (id : ℕ) (name : Name) → id < 2 ^ 64 → id ≢ 0 → (Lives living id → ⊥) → (old (keyspace_folder id)).now ≡ Folder → HoldsOnlyOwn old id
       → folder_of name ≡ keyspace_folder id → (old name).now ≢ Missing → (new name).now ≡ Missing
   pub tables : (id n : ℕ) → n < 2 ^ 64 → Lives living id → (new (table_name id n)).now ≡ Missing
   pub others : (n : ℕ) → n < 2 ^ 64 → option_map (λ table. table.id) last.table ≢ Some n → (new (table_name 0 n)).now ≡ Missing

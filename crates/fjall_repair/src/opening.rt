@@ -89,7 +89,10 @@ fn open_finished<D: Disk>(alloc: Global, disk: &mut D, found: RecoveredFolder) -
 }
 
 /// Opens the database in a folder: the folder is read whole, a database is begun in it or the one that it holds is
-/// mended, and what no record names is removed.
+/// mended, and what no record names is removed: tables, and the folders of keyspaces that don't live.
+///
+/// Such a folder goes only where all that stands in it are files with the engine's own names, `current` or a table's. One
+/// that holds anything else is left wholly as it stands, and the opening goes on: once that is gone, the next one removes it.
 ///
 /// Where the folder is refused, or memory runs out, nothing of the disk has changed: the refusals are those of
 /// `read_folder`, and all memory is got before the first change. `Io` comes for a fault of the disk, and then a new open
@@ -98,7 +101,7 @@ fn open_finished<D: Disk>(alloc: Global, disk: &mut D, found: RecoveredFolder) -
 pub fn open_folder<D: Disk>(alloc: Global, disk: &mut D) -> Result<Opened>
     ensures opened { IsTrue D.honest → (folder : Option Contents) → Holds (state_in (D.meaning disk.old)) folder
         → IfOk result (Opens (state_in (D.meaning disk.new)) folder) }
-    // Nothing is left that no record names.
+    // Nothing of the engine's own is left that no record names.
     ensures swept { IsTrue D.honest → IfOk result (λ o. IsSwept (state_in (D.meaning disk.old)) (state_in (D.meaning disk.new)) o.catalog o.keyspaces.living) }
     ensures found { IsTrue D.honest → IfOk result (IsOpenedFrom (seen (D.meaning disk.old))) }
     ensures lawful { IfOk result IsLawful }

@@ -1,20 +1,20 @@
 //! What no record names: found before anything is removed.
 
 ghost use Rattle.std.specs.List.{list_any};
-ghost use Rattle.std.specs.Prelude.{◌≡◌, ◌==◌, ◌↔◌, ◌⊎◌, ◌≤◌, ◌<◌, ◌^◌, [], All, IfErr, IfOk, IsOkUnless, IsTrue, None, map, string_bytes};
+ghost use Rattle.std.specs.Prelude.{◌≡◌, ◌==◌, ◌↔◌, ◌⊎◌, ◌≤◌, ◌<◌, ◌^◌, [], All, IfErr, IfOk, IfSome, IsOkUnless, IsSome, IsTrue, None, map, string_bytes};
 ghost use Rattle.fjall_base.specs.Disk.{Lists, Took, folder_of, state_in};
 ghost use Rattle.fjall_recovery.specs.Refusals.{HasRisen, IsDue};
 ghost use Rattle.fjall_files.specs.Calls.{AllServed};
 ghost use Rattle.fjall_files.specs.Names.{keyspace_folder as folder_at};
-ghost use Rattle.fjall_repair.specs.Listing.{AreTables, as_file, other_tables};
-ghost use Rattle.fjall_repair.specs.Sweeps.{FindsAll, FindsHomes, FindsTables, FindsTablesOf, HasAll, IsHomeFound, IsPlan, IsUnnamedHome, IsUnnamedTable, Lives};
+ghost use Rattle.fjall_repair.specs.Listing.{AreTables, IsOwnFile, IsOwnFileName, as_file, other_tables};
+ghost use Rattle.fjall_repair.specs.Sweeps.{FindsAll, FindsHomes, FindsTables, FindsTablesOf, HasAll, HoldsOnlyOwn, IsHomeFound, IsOwn, IsOwnHome, IsPlan, IsUnnamedHome, IsUnnamedTable, Lives};
 
 use fjall_base::{DirEntry, Disk, Error, Result};
-use fjall_files::{keyspace_folder, table_name, tables};
+use fjall_files::{keyspace_folder, parse_number, table_name, tables};
 use fjall_meta::LivingKeyspace;
 use std::alloc::Global;
 
-/// The folder of a keyspace that doesn't live.
+/// The folder of a keyspace that doesn't live, where nothing but the engine's own files stands in it.
 #[derive(Drop)]
 pub struct UnnamedHome {
     /// Its name, as `keyspaces/7`.
@@ -150,11 +150,46 @@ fn is_named(living: &[LivingKeyspace], id: u64) -> bool
     id == 0 || lives(living, id)
 }
 
-/// The folder of this id, with the names of all that stands in it.
-fn list_home<D: Disk>(alloc: Global, disk: &mut D, id: u64) -> Result<UnnamedHome>
-    ensures found { IsTrue D.honest → IfOk result (IsHomeFound (state_in (D.meaning disk.old)) id) }
+/// Whether the engine calls a file so in a keyspace's folder: the one of its records, or a table.
+fn is_own_name(file: &str) -> bool
+    ensures { IsTrue result ↔ IsOwnFileName file.now }
+{
+    let table = file.strip_suffix(".table");
+    file == "current" || table.is_some_and(|id| parse_number(id).is_some())
+}
+
+/// Whether this entry of a keyspace's folder is one of the engine's own files.
+fn is_own(folder: &str, entry: &DirEntry) -> bool
+    ensures { IsTrue result ↔ IsOwnFile folder.now entry.now }
+{
+    let Some(inside) = entry.name.strip_prefix(folder) else {
+        return false;
+    };
+    match inside.strip_prefix('/') {
+        Some(file) => !entry.is_folder && is_own_name(file),
+        None => false,
+    }
+}
+
+/// Whether all that stands in a keyspace's folder are the engine's own files.
+fn holds_only_own(folder: &ListedFolder) -> bool
+    ensures { IsTrue result ↔ All (IsOwnFile (string_bytes folder.now.name)) folder.now.entries.items }
+{
+    folder
+        .entries
+        .iter()
+        .all(|entry| is_own(&folder.name, entry))
+}
+
+/// The folder of this id, with the names of all that stands in it, where these are the engine's own files alone: `None`
+/// where anything else stands there.
+fn list_home<D: Disk>(alloc: Global, disk: &mut D, id: u64) -> Result<Option<UnnamedHome>>
+    ensures found { IsTrue D.honest → IfOk result (λ found. IfSome found (IsHomeFound (state_in (D.meaning disk.old)) id)) }
     ensures fits { id < 2 ^ 64 }
-    ensures inside { IsTrue D.honest → IfOk result (λ home. All (λ file. folder_of (string_bytes file) ≡ folder_at id) home.files.items) }
+    ensures inside { IsTrue D.honest
+        → IfOk result (λ found. IfSome found (λ home. All (λ file. folder_of (string_bytes file) ≡ folder_at id) home.files.items)) }
+    ensures own { IsTrue D.honest → IfOk result (λ found. IfSome found (λ home. All (λ file. IsOwn id (string_bytes file)) home.files.items)) }
+    ensures exact { IsTrue D.honest → IfOk result (λ found. IsSome found ↔ HoldsOnlyOwn (state_in (D.meaning disk.old)) id) }
     ensures same { IsTrue D.honest → Took (D.meaning disk.old) (D.meaning disk.new) [] }
     ensures served { IsTrue D.honest → AllServed (D.meaning disk.old) (D.meaning disk.new) }
     ensures later { (D.meaning disk.old).faults ≤ (D.meaning disk.new).faults }
@@ -162,14 +197,18 @@ fn list_home<D: Disk>(alloc: Global, disk: &mut D, id: u64) -> Result<UnnamedHom
     ensures only { IfErr result (IsDue (λ error. ⊥)) }
 {
     let folder = list_folder(alloc, disk, id)?;
+    if !holds_only_own(&folder) {
+        return Ok(None);
+    }
     let files = names_of(alloc, folder.entries)?;
-    Ok(UnnamedHome {
+    Ok(Some(UnnamedHome {
         folder: folder.name,
         files,
-    })
+    }))
 }
 
-/// The folders of these ids but tree 0's and those of the keyspaces that live.
+/// The folders of these ids but tree 0's and those of the keyspaces that live. One in which anything but the engine's own
+/// files stands is passed over.
 fn list_homes<D: Disk>(
     alloc: Global,
     disk: &mut D,
@@ -184,11 +223,14 @@ fn list_homes<D: Disk>(
     ensures risen { IfErr result (HasRisen (D.meaning disk.old).faults (D.meaning disk.new).faults) }
     ensures only { IfErr result (IsDue (λ error. ⊥)) }
     ensures each { IsTrue D.honest → IfOk result (λ homes. All (HasAll (state_in (D.meaning disk.old))) homes.items) }
+    ensures spares { IsTrue D.honest → IfOk result (λ homes. All (IsOwnHome (state_in (D.meaning disk.old))) homes.items) }
 {
     let mut homes = Vec::new(alloc);
     for id in ids {
         if !is_named(living, *id) {
-            homes.push(list_home(alloc, disk, *id)?)?;
+            if let Some(home) = list_home(alloc, disk, *id)? {
+                homes.push(home)?;
+            }
         }
     }
     Ok(homes)
@@ -196,8 +238,10 @@ fn list_homes<D: Disk>(
 
 /// What no record names, of what stands in `keyspaces`: the tables in tree 0's folder but the named one, the tables in
 /// the folders of the keyspaces that live, whose records name none, and of the folders with these ids those of keyspaces
-/// that don't live. A folder that has a table's name counts as one, and so does one within such a folder, though neither
-/// can be removed like a file.
+/// that don't live. A folder that has a table's name counts as a table there, though it can't be removed like a file.
+///
+/// The folder of a keyspace that doesn't live is in the plan only where all that stands in it are files with the engine's
+/// own names: `current`, or a table's. One that holds anything else, as `keyspaces/7/notes`, is left wholly as it stands.
 ///
 /// Nothing of the disk changes. `OutOfMemory` and `Io` come as ever.
 pub fn plan_sweep<D: Disk>(

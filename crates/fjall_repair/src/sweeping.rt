@@ -58,11 +58,11 @@ fn remove_homes<D: Disk>(disk: &mut D, homes: &[UnnamedHome]) -> Result<()>
     Ok(())
 }
 
-/// Removes all that a plan has: its tables, and then each home's files and the home. No sync is owed: what a crash brings
-/// back is named by nothing.
+/// Removes all that a plan has: its tables, and then each home's files and the home. All else stays. No sync is owed: what
+/// a crash brings back is named by nothing.
 ///
-/// A folder that has a table's name, or stands within a home, is a fault of the disk. What a call that fails has removed
-/// was named by nothing either.
+/// A folder that has the name of one of the plan's tables, or of a home's file, is a fault of the disk. What a call that fails
+/// has removed was named by nothing either.
 pub fn sweep<D: Disk>(disk: &mut D, plan: &SweepPlan) -> Result<()>
     // Names of the plan are removed and nothing else is done, and after a success none of them is left.
     ensures removes { IsTrue D.honest → Removes (Contains (planned plan.now)) (D.meaning disk.old) (D.meaning disk.new) }

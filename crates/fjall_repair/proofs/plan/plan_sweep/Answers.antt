@@ -1,6 +1,6 @@
 use Rattle.std.proofs.Common.{All, subst}
 use Rattle.fjall_base.specs.Disk.{State}
-use Rattle.fjall_repair.specs.Sweeps.{FindsHomes, HasAll}
+use Rattle.fjall_repair.specs.Sweeps.{FindsHomes, HasAll, IsOwnHome}
 use Rattle.fjall_repair.proofs.plan.plan_sweep.Goals as goal
 
 pub returns-clause-right : goal.returns-clause-right
@@ -12,4 +12,5 @@ returns-clause-whole g c honest = record {
   tables_of = c.in_ok-tables.ensures.others honest;
   homes = subst (λ (s : State). FindsHomes s c.args.living.now c.args.folder_ids.now c.in_ok-homes.homes.items) (c.in_ok-tables.ensures.same honest).state (c.in_ok-homes.ensures.found honest);
   each = subst (λ (s : State). All (HasAll s) c.in_ok-homes.homes.items) (c.in_ok-tables.ensures.same honest).state (c.in_ok-homes.ensures.each honest);
+  spares = subst (λ (s : State). All (IsOwnHome s) c.in_ok-homes.homes.items) (c.in_ok-tables.ensures.same honest).state (c.in_ok-homes.ensures.spares honest);
 }

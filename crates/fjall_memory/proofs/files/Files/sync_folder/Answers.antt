@@ -3,5 +3,5 @@ use Rattle.fjall_base.specs.Crash.{IsHoused}
 use Rattle.fjall_memory.proofs.Housed.{housed_settle}
 use Rattle.fjall_memory.proofs.files.Files.sync_folder.Goals as goal
 
-pub invariant_of-self-2 : goal.invariant_of-self-2
-invariant_of-self-2 c = record { housed = subst IsHoused (sym c.settle_names.ensures) (housed_settle _ c.args.folder.now c.args.self.now.housed) }
+pub invariant_of-self : goal.invariant_of-self
+invariant_of-self c = record { housed = subst IsHoused (sym c.settle_names.ensures) (housed_settle _ c.args.folder.now c.args.self.now.housed) }

@@ -10,9 +10,9 @@ returns-else-is_err-clause-folder c honest =
     let state : state_of c.put.new.self.names.items ≡ put (state_of c.args.self.now.files.names.items) c.args.name.now (Folder) = search rules in
     put-now _ _ _ _ state
 
-pub put-requires-clause-housed : goal.put-requires-clause-housed
-put-requires-clause-housed c =
+pub put-requires : goal.put-requires
+put-requires c =
     let state = state_of c.args.self.now.files.names.items in
     let none : (state c.args.name.now).now ≡ Missing = search rules in
     let has : HasFolder state c.args.name.now = search rules in
-    housed_made _ _ _ none has c.args.self.now.files.housed
+    record { housed = housed_made _ _ _ none has c.args.self.now.files.housed }

@@ -4,10 +4,10 @@ use Rattle.fjall_memory.proofs.Housed.{housed_removed}
 use Rattle.fjall_base.proofs.Results.{ok_at, took_removing}
 use Rattle.fjall_memory.proofs.memory.MemoryDiskDisk.remove.Goals as goal
 
-pub put-requires-clause-housed : goal.put-requires-clause-housed
-put-requires-clause-housed c =
+pub put-requires : goal.put-requires
+put-requires c =
     let file = c.in-File.ensures in
-    housed_removed _ c.args.name.now (λ folder. let both : File file.0 file.1 ≡ Folder = sym file.2 ∙ folder in let bad : ⊥ = cc in absurd bad) c.args.self.now.files.housed
+    record { housed = housed_removed _ c.args.name.now (λ folder. let both : File file.0 file.1 ≡ Folder = sym file.2 ∙ folder in let bad : ⊥ = cc in absurd bad) c.args.self.now.files.housed }
 
 pub returns-else-is_err-clause-ok : goal.returns-else-is_err-clause-ok
 returns-else-is_err-clause-ok c honest =

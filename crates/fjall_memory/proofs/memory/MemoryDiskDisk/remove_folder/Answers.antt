@@ -7,10 +7,10 @@ use Rattle.fjall_memory.proofs.Housed.{housed_removed}
 use Rattle.fjall_base.proofs.Results.{ok_at, took_removing}
 use Rattle.fjall_memory.proofs.memory.MemoryDiskDisk.remove_folder.Goals as goal
 
-pub put-requires-clause-housed : goal.put-requires-clause-housed
-put-requires-clause-housed c =
+pub put-requires : goal.put-requires
+put-requires c =
     let empty = OnFalse_at c.if-holds_any.false c.holds_any.ensures.none in
-    housed_removed _ c.args.name.now (λ folder. subst (λ (names : List Named). IsEmpty (state_of names) c.args.name.now) c.as_slice.ensures.value empty) c.args.self.now.files.housed
+    record { housed = housed_removed _ c.args.name.now (λ folder. subst (λ (names : List Named). IsEmpty (state_of names) c.args.name.now) c.as_slice.ensures.value empty) c.args.self.now.files.housed }
 
 pub returns-else-is_err-clause-ok : goal.returns-else-is_err-clause-ok
 returns-else-is_err-clause-ok c honest =

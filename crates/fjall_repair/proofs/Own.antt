@@ -1,0 +1,78 @@
+-- Which of the entries of a folder are the engine's own files.
+use Rattle.std.proofs.Common.{◌≡◌, ◌≢◌, inl, inr, ℕ, Bool, List, ◌∷◌, ◌++◌, map, get_or, codes, decimal, All, None, lit<, refl, sym, ◌∙◌, ap, subst, append_assoc}
+use Rattle.std.specs.Prelude.{IsFalse, String, string_bytes}
+use Rattle.std.specs.Str.Pattern.{FindsTextPrefix, FindsCharPrefix, StripsPrefix}
+use Rattle.std.specs.declared.alloc.Global.{Global}
+use Rattle.std.proofs.lemmas.List.{append_cancel_left}
+use Rattle.std.proofs.lemmas.List.Elements.{All-map}
+use Rattle.std.proofs.lemmas.Str.Pattern.{drop_at_char, strip_prefix_char}
+use Rattle.fjall_base.specs.declared.disk.DirEntry.{DirEntry}
+use Rattle.fjall_base.specs.Disk.{Name, Entry, Missing, File, Folder, State, IsNoFolder, Lists, Tells}
+use Rattle.fjall_files.specs.Names.{keyspace_folder, name_in}
+use Rattle.fjall_repair.specs.Listing.{IsOwnFile, IsOwnFileName, IsOwnIn}
+use Rattle.fjall_repair.specs.Sweeps.{HoldsOnlyOwn, IsOwn}
+
+-- ---- by its name
+
+table_parts : (folder : Name) (n : ℕ) → name_in folder n ≡ folder ++ 47 ∷ (decimal n ++ codes ".table")
+table_parts folder n = append_assoc (folder ++ codes "/") (decimal n) (codes ".table") ∙ append_assoc folder (codes "/") (decimal n ++ codes ".table")
+
+-- what stands behind the folder in such a name
+behind : (folder name inside : List ℕ) → name ≡ folder ++ inside → IsOwnIn folder name → (file : List ℕ) × (inside ≡ 47 ∷ file) × IsOwnFileName file
+behind folder name inside at (inl is) = (codes "current", append_cancel_left folder inside (codes "/current") (sym at ∙ is), inl refl)
+behind folder name inside at (inr (n, (small, is))) =
+    (decimal n ++ codes ".table", append_cancel_left folder inside (47 ∷ (decimal n ++ codes ".table")) (sym at ∙ is ∙ table_parts folder n), inr (n, (small, refl)))
+
+before : (folder name file : List ℕ) → name ≡ folder ++ 47 ∷ file → IsOwnFileName file → IsOwnIn folder name
+before folder name file at (inl is) = inl (at ∙ ap (λ (l : List ℕ). folder ++ 47 ∷ l) is)
+before folder name file at (inr (n, (small, is))) = inr (n, (small, at ∙ ap (λ (l : List ℕ). folder ++ 47 ∷ l) is ∙ sym (table_parts folder n)))
+
+module _ (folder name inside : List ℕ) (front : StripsPrefix (FindsTextPrefix folder) name inside) where
+  behind_folder : name ≡ folder ++ inside
+  behind_folder = front.1.1 ∙ ap (λ l. folder ++ l) (sym front.2)
+
+  pub no_slash : FindsCharPrefix 47 inside None → IsOwnIn folder name → ⊥
+  no_slash none own = let (file, is, called) = behind folder name inside behind_folder own in strip_prefix_char 47 inside None none (lit< tt) file is
+
+  module _ (file : List ℕ) (slash : StripsPrefix (FindsCharPrefix 47) inside file) where
+    behind_slash : inside ≡ 47 ∷ file
+    behind_slash = drop_at_char 47 inside 0 slash.0 slash.1 (lit< tt) ∙ ap (λ l. 47 ∷ l) (sym slash.2)
+
+    pub own_if : IsOwnFileName file → IsOwnIn folder name
+    own_if called = before folder name file (behind_folder ∙ ap (λ l. folder ++ l) behind_slash) called
+
+    pub if_own : IsOwnIn folder name → IsOwnFileName file
+    if_own own =
+        let (other, is, called) = behind folder name inside behind_folder own in
+        let same : other ≡ file = let e : 47 ∷ other ≡ 47 ∷ file = sym is ∙ behind_slash in cc in
+        subst IsOwnFileName same called
+
+-- ---- all that stands in a folder
+
+abbrev Text : Type 0
+Text = String Global
+
+-- what isn't a folder is told as a file
+told_file : (e : Entry) (is_folder : Bool) → Tells e is_folder → IsNoFolder e → IsFalse is_folder
+told_file Missing is_folder tells kind = absurd tells
+told_file (File synced unsynced) is_folder tells kind = tells
+told_file Folder is_folder tells kind = absurd kind
+
+-- what is told is there
+told_there : (e : Entry) (is_folder : Bool) → Tells e is_folder → e ≢ Missing
+told_there Missing is_folder tells none = absurd tells
+told_there (File synced unsynced) is_folder tells none = cc
+told_there Folder is_folder tells none = cc
+
+module _ (state : State) (id : ℕ) (listed : List DirEntry) (lists : Lists state (keyspace_folder id) listed) where
+  pub own_entries : HoldsOnlyOwn state id → All (IsOwnFile (keyspace_folder id)) listed
+  own_entries holds i d lt =
+      let entry = get_or listed i d in
+      let told = (lists.each i d lt).1 in
+      let own = holds (string_bytes entry.name) (lists.each i d lt).0 (told_there (state (string_bytes entry.name)).now entry.is_folder told) in
+      (told_file (state (string_bytes entry.name)).now entry.is_folder told own.1, own.0)
+
+-- the names of its files are its own
+pub own_names : (id : ℕ) (listed : List DirEntry) (files : List Text) → files ≡ map (λ entry. entry.name) listed → All (IsOwnFile (keyspace_folder id)) listed → All (λ file. IsOwn id (string_bytes file)) files
+own_names id listed files files_are all = subst (All (λ file. IsOwn id (string_bytes file))) (sym files_are)
+    (All-map (λ file. IsOwn id (string_bytes file)) (λ (e : DirEntry). e.name) listed (λ i d lt. (all i d lt).1))
