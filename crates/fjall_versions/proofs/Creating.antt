@@ -25,13 +25,13 @@ none_of (v ∷ versions) next slot below =
     ap (λ b. slot_after (cond b altered_slot slot) next versions) other ∙ none_of versions next slot (All-tail (λ (w : Version). w.keyspace_id < next) v versions below)
 
 module _ (name : List ℕ) (options : List (List ℕ)) (number : ℕ) (s : Keyspaces) (all : AreKeyspaces s) where
-  abbrev new : LivingKeyspace
+  abbrev pub new : LivingKeyspace
   new = record { id = s.next; number = number; name = name; options = options }
 
-  abbrev more : Keyspaces
+  abbrev pub more : Keyspaces
   more = with_keyspace name options number s
 
-  fresh : keyspace_at s.next s.living ≡ None
+  pub fresh : keyspace_at s.next s.living ≡ None
   fresh = none_found s.living s.next s.next all.given (omega arith)
 
   -- with nothing in it
@@ -45,19 +45,19 @@ module _ (name : List ℕ) (options : List (List ℕ)) (number : ℕ) (s : Keysp
   map_created : (q : ℕ) → get (bare more).maps q ≡ cond (q == s.next) (Some empty) (get (bare s).maps q)
   map_created q = ap (λ (t : Store). get t.maps q) bare_created ∙ get_put (bare s).maps s.next empty q
 
-  turned : (q : ℕ) → (q == s.next) ≡ false → (s.next == q) ≡ false
+  pub turned : (q : ℕ) → (q == s.next) ≡ false → (s.next == q) ≡ false
   turned q e = grind (arith, nat_tests)
 
   -- what counts for other ids is as it was
-  others_count : (n q : ℕ) → (q == s.next) ≡ false → counts more n q ≡ counts s n q
+  pub others_count : (n q : ℕ) → (q == s.next) ≡ false → counts more n q ≡ counts s n q
   others_count n q other = ap (counts_of n) (found_other s.living new q (turned q other))
 
   -- and for its own nothing of what came before
-  older_is_out : (n : ℕ) → n < number → counts more n s.next ≡ false
+  pub older_is_out : (n : ℕ) → n < number → counts more n s.next ≡ false
   older_is_out n older = ap (counts_of n) (found_new s.living new fresh) ∙ (let out : nat_lt number n ≡ false = grind (arith, nat_tests) in out)
 
   -- stores whose maps agree at old ids, and have nothing at the new one
-  created : (a b : Store) → a.names ≡ (bare more).names → a.options ≡ (bare more).options → a.next ≡ s.next + 1 → b.names ≡ (bare s).names → b.options ≡ (bare s).options → b.next ≡ s.next
+  pub created : (a b : Store) → a.names ≡ (bare more).names → a.options ≡ (bare more).options → a.next ≡ s.next + 1 → b.names ≡ (bare s).names → b.options ≡ (bare s).options → b.next ≡ s.next
       → get a.maps s.next ≡ Some empty → ((q : ℕ) → (q == s.next) ≡ false → get a.maps q ≡ get b.maps q) → a ≡ apply b (Create name (option_pairs options))
   created a b a_names a_options a_next b_names b_options b_next here there =
       same_store a (apply b (Create name (option_pairs options)))

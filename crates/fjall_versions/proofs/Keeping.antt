@@ -30,7 +30,7 @@ none_of has (Some k) none = absurd (true≢false none)
 pub lives : (s : Keyspaces) (id : ℕ) → contains_key (bare s).names id ≡ is_some (keyspace_at id s.living)
 lives s id = ap is_some (get_by_id (λ k. k.name) s.living id) ∙ some_of (λ k. k.name) (keyspace_at id s.living)
 
-nothing_at : {X : Type 0} (has : LivingKeyspace → X) (s : Keyspaces) (id : ℕ) → contains_key (bare s).names id ≡ false → get (by_id has s.living) id ≡ None
+pub nothing_at : {X : Type 0} (has : LivingKeyspace → X) (s : Keyspaces) (id : ℕ) → contains_key (bare s).names id ≡ false → get (by_id has s.living) id ≡ None
 nothing_at has s id none = get_by_id has s.living id ∙ none_of has (keyspace_at id s.living) (sym (lives s id) ∙ none)
 
 never_counts : (n : ℕ) (found : Option LivingKeyspace) → is_some found ≡ false → counts_of n found ≡ false
@@ -52,7 +52,7 @@ nothing_to_keep s batches =
 -- ---- one keyspace less
 
 module _ (id : ℕ) (s : Keyspaces) where
-  abbrev less : Keyspaces
+  abbrev pub less : Keyspaces
   less = without_keyspace id s
 
   by_id_without : {X : Type 0} (has : LivingKeyspace → X) (q : ℕ) → get (by_id has less.living) q ≡ cond (q == id) None (get (by_id has s.living) q)
@@ -77,7 +77,7 @@ module _ (id : ℕ) (s : Keyspaces) where
       either false e = e
 
   -- stores of these keyspaces that agree at each other keyspace
-  deleted : (a b : Store) → a.names ≡ (bare less).names → a.options ≡ (bare less).options → a.next ≡ s.next → b.names ≡ (bare s).names → b.options ≡ (bare s).options → b.next ≡ s.next
+  pub deleted : (a b : Store) → a.names ≡ (bare less).names → a.options ≡ (bare less).options → a.next ≡ s.next → b.names ≡ (bare s).names → b.options ≡ (bare s).options → b.next ≡ s.next
       → ((q : ℕ) → (q == id) ≡ false → get a.maps q ≡ get b.maps q) → kept a ≡ kept (apply b (Delete id))
   deleted a b a_names a_options a_next b_names b_options b_next maps =
       let names : a.names ≡ remove b.names id = a_names ∙ names_without ∙ ap (λ n. remove n id) (sym b_names) in
@@ -90,7 +90,7 @@ module _ (id : ℕ) (s : Keyspaces) where
   map_left : (q : ℕ) → (q == id) ≡ false → get (bare less).maps q ≡ get (bare s).maps q
   map_left q other = by_id_without (λ k. empty) q ∙ ap (λ b. cond b None (get (bare s).maps q)) other
 
-  others_count : (n q : ℕ) → (q == id) ≡ false → counts less n q ≡ counts s n q
+  pub others_count : (n q : ℕ) → (q == id) ≡ false → counts less n q ≡ counts s n q
   others_count n q other = ap (counts_of n) (found_without s.living id q ∙ ap (λ b. cond b None (keyspace_at q s.living)) other)
 
   pub deletion_of_batches : (batches : List Shown) → store_in less batches ≡ kept (apply (store_in s batches) (Delete id))

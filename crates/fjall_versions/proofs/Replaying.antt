@@ -30,7 +30,7 @@ merged true false x y = refl
 merged false true x y = refl
 merged false false x y = refl
 
-clears_at : (ids : List ℕ) (t : Store) (q : ℕ) → get (fold t (map Clear ids)).maps q ≡ cond (list_any (λ id. id == q) ids) (Some empty) (get t.maps q)
+pub clears_at : (ids : List ℕ) (t : Store) (q : ℕ) → get (fold t (map Clear ids)).maps q ≡ cond (list_any (λ id. id == q) ids) (Some empty) (get t.maps q)
 clears_at [] t q = refl
 clears_at (id ∷ ids) t q =
     let later = list_any (λ (k : ℕ). k == q) ids in
@@ -82,10 +82,12 @@ same_writes counted number [] = refl
 same_writes counted number (item ∷ items) =
     write_step item number (filter (λ i. counted i.keyspace_id) items) (filter (λ v. counted v.keyspace_id) (map (version_of number) items)) (counted item.keyspace_id) (same_writes counted number items)
 
-items_make : (s : Keyspaces) (number : ℕ) (items : List ReadBatchItem) (t : Store)
-    → fold t (writing (map item_of (filter (λ item. counts s number item.keyspace_id) items))) ≡ fold t (map command_of (versions_in s number items))
-items_make s number items t =
-    written_one_by_one (map item_of (filter (λ item. counts s number item.keyspace_id) items)) t ∙ ap (fold t) (same_writes (counts s number) number items)
+-- the items of some ids, as one write and version upon version
+pub items_make : (counted : ℕ → Bool) (number : ℕ) (items : List ReadBatchItem) (t : Store)
+    → fold t (writing (map item_of (filter (λ item. counted item.keyspace_id) items)))
+    ≡ fold t (map command_of (filter (λ version. counted version.keyspace_id) (map (version_of number) items)))
+items_make counted number items t =
+    written_one_by_one (map item_of (filter (λ item. counted item.keyspace_id) items)) t ∙ ap (fold t) (same_writes counted number items)
 
 -- ---- batches
 
@@ -95,7 +97,7 @@ one_batch s versions batch =
     let left = cleared s batch versions in
     let made = versions_in s batch.number batch.items in
     fold-append (store_of s versions) (map Clear (emptied s batch)) items ∙ ap (λ t. fold t items) (clears_make s versions batch)
-    ∙ items_make s batch.number batch.items (store_of s left)
+    ∙ items_make (counts s batch.number) batch.number batch.items (store_of s left)
     ∙ sym (ap (fold (bare s)) (map-append command_of left made) ∙ fold-append (bare s) (map command_of left) (map command_of made))
 
 -- what batches command of a store of versions is what they make of the versions

@@ -28,7 +28,7 @@ use Rattle.fjall_versions.proofs.Replaying.{replay_makes_the_store}
 use Rattle.fjall_versions.proofs.Slots.{slot_after, slot_at}
 
 -- what a slot holds
-abbrev held : Option Pairs → Pairs
+abbrev pub held : Option Pairs → Pairs
 held slot = unwrap_or slot empty
 
 -- the slot of an id before all batches
@@ -36,7 +36,7 @@ abbrev nothing : Keyspaces → ℕ → Option Pairs
 nothing s id = get (bare s).maps id
 
 -- the same clears and versions have the same view
-as_view : (instant : ℕ) {clears others : List ℕ} {versions more : List Entry} → clears ≡ others → versions ≡ more → (pairs : Pairs)
+pub as_view : (instant : ℕ) {clears others : List ℕ} {versions more : List Entry} → clears ≡ others → versions ≡ more → (pairs : Pairs)
     → IsView instant clears versions pairs → IsView instant others more pairs
 as_view instant e f pairs view key = view key ∙ (λ i. value_at key instant (e i) (f i))
 
@@ -82,14 +82,14 @@ items_view instant number id clears (item ∷ items) versions slot low others be
 nothing_at : (s : Keyspaces) (id : ℕ) → held (nothing s id) ≡ empty
 nothing_at s id = ap held (get_by_id no_pairs s.living id) ∙ nothing_in (keyspace_at id s.living)
 
-batch_view : (s : Keyspaces) (id instant : ℕ) (b : Shown) (before : List Version) (clears : List ℕ) (versions : List Entry)
-    → b.number < instant → All (λ n. n < b.number) clears → AreBelow b.number versions
-    → IsView instant clears versions (held (slot_after (nothing s id) id before))
-    → IsView instant (clears ++ clear_in s id b) (versions ++ entries_in s id b) (held (slot_after (nothing s id) id (versions_after s before b)))
-batch_view s id instant b before clears versions low small below view =
-    subst (λ (slot : Option Pairs). IsView instant (clears ++ clear_in s id b) (versions ++ entries_in s id b) (held slot))
-    (sym (after_at s before b (nothing s id) id))
-    (by (counts s b.number id) (list_any (λ k. k == id) b.clears))
+-- its clear and its items, where they count
+pub step_view : (id instant : ℕ) (b : Shown) (none slot : Option Pairs) (clears : List ℕ) (versions : List Entry) → held none ≡ empty
+    → b.number < instant → All (λ n. n < b.number) clears → AreBelow b.number versions → IsView instant clears versions (held slot)
+    → (counted is_cleared : Bool)
+    → IsView instant (clears ++ cond (counted && is_cleared) (b.number ∷ []) [])
+    (versions ++ cond counted (map (entry_of b.number) (filter (λ i. i.keyspace_id == id) b.items)) [])
+    (held (slot_step counted is_cleared none id (map (version_of b.number) b.items) slot))
+step_view id instant b none slot clears versions nothing_there low small below view = by
   where
     up_to : All (λ v. v.number ≤ b.number) versions
     up_to = All-weaker (λ v. v.number < b.number) (λ v. v.number ≤ b.number) (λ v h. omega arith) versions below
@@ -97,24 +97,34 @@ batch_view s id instant b before clears versions low small below view =
     cleared_up_to : All (λ n. n ≤ b.number) clears
     cleared_up_to = All-weaker (λ n. n < b.number) (λ n. n ≤ b.number) (λ n h. omega arith) clears small
 
-    emptied : IsView instant (clears ++ (b.number ∷ [])) versions (held (nothing s id))
-    emptied key = ap (λ pairs. get pairs key) (nothing_at s id) ∙ get-empty byte_order key ∙ sym (clear_empties key instant clears b.number versions low below)
+    emptied : IsView instant (clears ++ (b.number ∷ [])) versions (held none)
+    emptied key = ap (λ pairs. get pairs key) nothing_there ∙ get-empty byte_order key ∙ sym (clear_empties key instant clears b.number versions low below)
 
     by : (counted is_cleared : Bool)
         → IsView instant (clears ++ cond (counted && is_cleared) (b.number ∷ []) [])
         (versions ++ cond counted (map (entry_of b.number) (filter (λ i. i.keyspace_id == id) b.items)) [])
-        (held (slot_step counted is_cleared (nothing s id) id (map (version_of b.number) b.items) (slot_after (nothing s id) id before)))
+        (held (slot_step counted is_cleared none id (map (version_of b.number) b.items) slot))
     by true true =
-        items_view instant b.number id (clears ++ (b.number ∷ [])) b.items versions (nothing s id) low up_to
+        items_view instant b.number id (clears ++ (b.number ∷ [])) b.items versions none low up_to
         (All-push (λ n. n ≤ b.number) clears b.number cleared_up_to (omega arith)) emptied
     by true false =
         as_view instant (sym (append-nil clears)) refl _
-        (items_view instant b.number id clears b.items versions (slot_after (nothing s id) id before) low up_to cleared_up_to view)
-    by false is_cleared = as_view instant (sym (append-nil clears)) (sym (append-nil versions)) (held (slot_after (nothing s id) id before)) view
+        (items_view instant b.number id clears b.items versions slot low up_to cleared_up_to view)
+    by false is_cleared = as_view instant (sym (append-nil clears)) (sym (append-nil versions)) (held slot) view
+
+batch_view : (s : Keyspaces) (id instant : ℕ) (b : Shown) (before : List Version) (clears : List ℕ) (versions : List Entry)
+    → b.number < instant → All (λ n. n < b.number) clears → AreBelow b.number versions
+    → IsView instant clears versions (held (slot_after (nothing s id) id before))
+    → IsView instant (clears ++ clear_in s id b) (versions ++ entries_in s id b) (held (slot_after (nothing s id) id (versions_after s before b)))
+batch_view s id instant b before clears versions low small below view =
+    subst (λ (slot : Option Pairs). IsView instant (clears ++ clear_in s id b) (versions ++ entries_in s id b) (held slot))
+    (sym (after_at s before b (nothing s id) id))
+    (step_view id instant b (nothing s id) (slot_after (nothing s id) id before) clears versions (nothing_at s id) low small below view
+    (counts s b.number id) (list_any (λ k. k == id) b.clears))
 
 -- ---- batches
 
-no_fault : (a b : Option Fault) → option_or a b ≡ None → (a ≡ None) × (b ≡ None)
+pub no_fault : (a b : Option Fault) → option_or a b ≡ None → (a ≡ None) × (b ≡ None)
 no_fault None b e = (refl, e)
 no_fault (Some f) b e = cc
 
@@ -122,7 +132,7 @@ in_bounds : (least bound n : ℕ) → (nat_lt n least || nat_le bound n) ≡ fal
 in_bounds least bound n e = let p = or_parts (nat_lt n least) (nat_le bound n) e in (grind (arith, nat_tests), grind (arith, nat_tests))
 
 -- a batch without a fault is numbered from the least number on, and below 2^63
-number_fits : (least : ℕ) (b : Shown) → fault_of least b ≡ None → (least ≤ b.number) × (b.number < 2 ^ 63)
+pub number_fits : (least : ℕ) (b : Shown) → fault_of least b ≡ None → (least ≤ b.number) × (b.number < 2 ^ 63)
 number_fits least b e = by (nat_lt b.number least || nat_le (2 ^ 63) b.number) refl e
   where
     by : (t : Bool) → (nat_lt b.number least || nat_le (2 ^ 63) b.number) ≡ t

@@ -1,0 +1,6 @@
+pub mod Given
+pub mod Held
+pub mod Beyond
+pub mod Commanding
+pub mod Following
+pub mod Keyspacing
