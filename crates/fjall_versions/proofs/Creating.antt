@@ -25,10 +25,10 @@ none_of (v ∷ versions) next slot below =
     ap (λ b. slot_after (cond b altered_slot slot) next versions) other ∙ none_of versions next slot (All-tail (λ (w : Version). w.keyspace_id < next) v versions below)
 
 module _ (name : List ℕ) (options : List (List ℕ)) (number : ℕ) (s : Keyspaces) (all : AreKeyspaces s) where
-  abbrev pub new : LivingKeyspace
+  abbrev new : LivingKeyspace
   new = record { id = s.next; number = number; name = name; options = options }
 
-  abbrev pub more : Keyspaces
+  abbrev more : Keyspaces
   more = with_keyspace name options number s
 
   pub fresh : keyspace_at s.next s.living ≡ None

@@ -52,7 +52,7 @@ nothing_to_keep s batches =
 -- ---- one keyspace less
 
 module _ (id : ℕ) (s : Keyspaces) where
-  abbrev pub less : Keyspaces
+  abbrev less : Keyspaces
   less = without_keyspace id s
 
   by_id_without : {X : Type 0} (has : LivingKeyspace → X) (q : ℕ) → get (by_id has less.living) q ≡ cond (q == id) None (get (by_id has s.living) q)
