@@ -20,12 +20,12 @@ use Rattle.fjall_versions.proofs.Faults.{first_fault-append}
 use Rattle.fjall_versions.proofs.Living.{counts_of, get_by_id, no_pairs}
 use Rattle.fjall_versions.proofs.Slots.{fold-append, same_store, slot_after}
 use Rattle.fjall_versions.proofs.Viewing.{as_view, held, no_fault, number_fits, step_view}
-use Rattle.fjall_views.proofs.Shown.{one_view}
+use Rattle.fjall_views.specs.Views.{view_of}
+use Rattle.fjall_views.proofs.Shown.{is_view, one_view}
 use Rattle.fjall_views.proofs.Tests.{all_of}
-use Rattle.fjall_contents.specs.Contents.{AreWithin, IsWithin, Stored, clears_held, commands_beyond, counts_beyond, is_beyond, journal_beyond, map_held, nothing_stored, store_held, versions_held, view_of}
+use Rattle.fjall_contents.specs.Contents.{AreWithin, IsWithin, Stored, clears_held, commands_beyond, counts_beyond, is_beyond, journal_beyond, map_held, nothing_stored, store_held, versions_held}
 use Rattle.fjall_contents.proofs.Beyond.{clear_beyond, clear_where, clears_are_below, clears_more, entries_beyond, entries_where, versions_are_below, versions_more}
 use Rattle.fjall_contents.proofs.Commanding.{commands_at, commands_change_maps, commands_where}
-use Rattle.fjall_contents.proofs.Given.{is_view}
 use Rattle.fjall_contents.proofs.Held.{held_at, living_has, others_have_none}
 
 -- ---- numbers

@@ -13,8 +13,8 @@ use Rattle.fjall_versions.proofs.Found.{found_has, found_passes}
 use Rattle.fjall_versions.proofs.Living.{get_by_id}
 use Rattle.fjall_versions.proofs.Slots.{same_id, same_maps}
 use Rattle.fjall_views.specs.Views.{value_at}
+use Rattle.fjall_views.proofs.Shown.{same_views}
 use Rattle.fjall_contents.specs.Contents.{Stored, clears_held, map_held, store_held, versions_held}
-use Rattle.fjall_contents.proofs.Given.{same_views}
 
 -- ---- by ids
 

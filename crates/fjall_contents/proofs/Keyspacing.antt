@@ -16,7 +16,8 @@ use Rattle.fjall_versions.proofs.Creating as Creating
 use Rattle.fjall_versions.proofs.Keeping as Keeping
 use Rattle.fjall_versions.proofs.Kept.{all_are_kept}
 use Rattle.fjall_versions.proofs.Living.{found_new, found_other, found_without}
-use Rattle.fjall_contents.specs.Contents.{Stored, clears_held, counts_beyond, is_beyond, map_held, store_held, versions_held, view_of}
+use Rattle.fjall_views.specs.Views.{view_of}
+use Rattle.fjall_contents.specs.Contents.{Stored, clears_held, counts_beyond, is_beyond, map_held, store_held, versions_held}
 use Rattle.fjall_contents.proofs.Beyond.{clear_where, clears_more, entries_where, no_clears, no_versions, versions_more}
 use Rattle.fjall_contents.proofs.Held.{held_at, same_stores}
 

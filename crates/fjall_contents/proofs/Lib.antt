@@ -1,4 +1,3 @@
-pub mod Given
 pub mod Held
 pub mod Beyond
 pub mod Commanding

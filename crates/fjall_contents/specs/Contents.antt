@@ -4,15 +4,14 @@
 -- beyond that number count.
 use Rattle.std.specs.Prelude.{◌≡◌, ℕ, ◌^◌, Bool, true, false, ◌&&◌, nat_lt, List, [], ◌∷◌, ◌++◌, map, filter, All, Option, Some, None}
 use Rattle.std.specs.List.{flat_map}
-use Rattle.std.specs.FinMap.{empty}
-use Rattle.fjall_base.specs.Pairs.{Bytes, Pairs, altered}
+use Rattle.fjall_base.specs.Pairs.{Pairs}
 use Rattle.fjall_base.specs.Store.{Store, Command, Clear}
 use Rattle.fjall_journal.specs.Batches.{Shown}
 use Rattle.fjall_meta.specs.Keyspaces.{Keyspaces}
 use Rattle.fjall_table.specs.Blocks.{Entry}
 use Rattle.fjall_versions.specs.Replays.{bare, by_id, counts, item_of, writing}
 use Rattle.fjall_versions.specs.Views.{clears_of, versions_of}
-use Rattle.fjall_views.specs.Views.{value_at}
+use Rattle.fjall_views.specs.Views.{view_of}
 
 -- ---- one keyspace's files
 
@@ -45,15 +44,6 @@ versions_held s h id batches = h.versions ++ filter (λ v. is_beyond h.persisted
 -- and its clears
 abbrev pub clears_held : Keyspaces → Stored → ℕ → List Shown → List ℕ
 clears_held s h id batches = h.clears ++ filter (is_beyond h.persisted) (clears_of s id batches)
-
--- the map that gives the keys of these versions their values
-abbrev pub given : (Bytes → Option Bytes) → List Entry → Pairs
-given value [] = empty
-given value (v ∷ versions) = altered (given value versions) v.key (value v.key)
-
--- the map that is the view of these clears and versions at an instant
-abbrev pub view_of : ℕ → List ℕ → List Entry → Pairs
-view_of instant clears versions = given (λ key. value_at key instant clears versions) versions
 
 -- the map of an id: the view above all numbers of what is held of it
 abbrev pub map_held : Keyspaces → Stored → ℕ → List Shown → Pairs

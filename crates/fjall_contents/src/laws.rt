@@ -4,24 +4,19 @@ ghost use Rattle.std.specs.Prelude.{◌≡◌, ◌<◌, ◌≤◌, ◌^◌, ◌�
 ghost use Rattle.std.specs.FinMap.{get};
 ghost use Rattle.fjall_base.specs.Pairs.{Bytes};
 ghost use Rattle.fjall_base.specs.Store.{Create, Delete, apply, fold, kept, map_at};
-ghost use Rattle.fjall_contents.specs.Contents.{AreWithin, IsWithin, Stored, clears_held, commands_beyond, counts_beyond, is_beyond, journal_beyond, map_held, nothing_stored, store_held, versions_held, view_of};
+ghost use Rattle.fjall_contents.specs.Contents.{AreWithin, IsWithin, Stored, clears_held, commands_beyond, counts_beyond, is_beyond, journal_beyond, map_held, nothing_stored, store_held, versions_held};
 ghost use Rattle.fjall_journal.specs.Batches.{Shown};
 ghost use Rattle.fjall_meta.specs.declared.living.LivingKeyspace.{LivingKeyspace};
 ghost use Rattle.fjall_meta.specs.Keyspaces.{AreKeyspaces, Keyspaces, keyspace_at, with_keyspace, without_keyspace};
 ghost use Rattle.fjall_table.specs.Blocks.{Entry};
 ghost use Rattle.fjall_versions.specs.Replays.{commands_of, first_fault, journal_commands, option_pairs, store_in};
-ghost use Rattle.fjall_views.specs.Views.{IsView, value_at};
+ghost use Rattle.fjall_views.specs.Views.{value_at};
 
 /// Within a persisted number is what is numbered at most it. Where there is none, nothing is.
 pub fn what_is_stored_has_its_number()
     ensures up_to { (h : Stored) (persisted : ℕ) → h.persisted ≡ Some persisted
         → IsWithin h ↔ (All (λ v. v.number ≤ persisted) h.versions × All (λ n. n ≤ persisted) h.clears) }
     ensures nothing { (h : Stored) → h.persisted ≡ None → IsWithin h → (h.versions ≡ []) × (h.clears ≡ []) }
-{}
-
-/// The map that is made of clears and versions is their view.
-pub fn the_view_is_a_map()
-    ensures { (instant : ℕ) (clears : List ℕ) (versions : List Entry) → IsView instant clears versions (view_of instant clears versions) }
 {}
 
 /// Under a living keyspace's id the store has the map of what is held of it, and under any other id it has none.

@@ -8,7 +8,7 @@ use Rattle.std.specs.FinMap.{empty, get, get-insert, get-remove, get-empty, same
 use Rattle.std.proofs.lemmas.Bool.{and_parts, true≢false, not-true}
 use Rattle.fjall_base.specs.Pairs.{Bytes, Pairs, byte_order, altered}
 use Rattle.fjall_table.specs.Blocks.{Entry}
-use Rattle.fjall_views.specs.Views.{is_seen, is_cleared, living, newest, value_in, value_at, value_left, IsView}
+use Rattle.fjall_views.specs.Views.{is_seen, is_cleared, living, newest, value_in, value_at, value_left, IsView, given, view_of}
 use Rattle.fjall_views.proofs.Newest.{top, still_none, still_newest, fewer, newest_among, newest_kept, newest_passes}
 use Rattle.fjall_views.proofs.Sameness.{same_key, key_turned}
 use Rattle.fjall_views.proofs.Clears.{alive, cleared_less}
@@ -67,29 +67,33 @@ pub one_view : (instant : ℕ) (clears : List ℕ) (versions : List Entry) (pair
 one_view instant clears versions pairs others view other =
     same_map nat_list_cmp_total (slice_cmp-IsAntisymmetric nat_cmp-IsAntisymmetric) pairs others (λ key. view key ∙ sym (other key))
 
--- the map that gives the keys of these versions their values
-filled : (Bytes → Option Bytes) → List Entry → Pairs
-filled value [] = empty
-filled value (v ∷ vs) = altered (filled value vs) v.key (value v.key)
-
-get_filled : (value : Bytes → Option Bytes) (vs : List Entry) (key : Bytes)
-    → get (filled value vs) key ≡ cond (list_any (λ v. bytes_eq key v.key) vs) (value key) None
-unfolding filled
-get_filled value [] key = get-empty byte_order key
-get_filled value (v ∷ vs) key = get_altered (filled value vs) v.key (value v.key) key ∙ by (bytes_eq key v.key) refl (get_filled value vs key)
+-- what the map of these versions' values has at a key
+get_given : (value : Bytes → Option Bytes) (versions : List Entry) (key : Bytes)
+    → get (given value versions) key ≡ cond (list_any (λ v. bytes_eq key v.key) versions) (value key) None
+get_given value [] key = get-empty byte_order key
+get_given value (v ∷ versions) key = get_altered (given value versions) v.key (value v.key) key ∙ by (bytes_eq key v.key) refl (get_given value versions key)
   where
-    by : (b : Bool) → bytes_eq key v.key ≡ b → get (filled value vs) key ≡ cond (list_any (λ w. bytes_eq key w.key) vs) (value key) None
-        → cond b (value v.key) (get (filled value vs) key) ≡ cond (b || list_any (λ w. bytes_eq key w.key) vs) (value key) None
-    by true e i = ap value (sym (same_key key v.key e))
-    by false e i = i
+    there : Bool
+    there = list_any (λ w. bytes_eq key w.key) versions
 
-pub some_view : (instant : ℕ) (clears : List ℕ) (versions : List Entry) → (pairs : Pairs) × IsView instant clears versions pairs
-some_view instant clears versions = (filled value versions, λ key. get_filled value versions key ∙ by key (list_any (λ v. bytes_eq key v.key) versions) refl)
+    by : (b : Bool) → bytes_eq key v.key ≡ b → get (given value versions) key ≡ cond there (value key) None
+        → cond b (value v.key) (get (given value versions) key) ≡ cond (b || there) (value key) None
+    by true e rest = ap value (sym (same_key key v.key e))
+    by false e rest = rest
+
+pub is_view : (instant : ℕ) (clears : List ℕ) (versions : List Entry) → IsView instant clears versions (view_of instant clears versions)
+is_view instant clears versions key = get_given value versions key ∙ by (list_any (λ v. bytes_eq key v.key) versions) refl
   where
     value : Bytes → Option Bytes
-    value key = value_at key instant clears versions
+    value k = value_at k instant clears versions
 
-    by : (key : Bytes) (b : Bool) → list_any (λ v. bytes_eq key v.key) versions ≡ b
-        → cond b (value_at key instant clears versions) None ≡ value_at key instant clears versions
-    by key true e = refl
-    by key false e = sym (no_value key instant clears versions e)
+    by : (b : Bool) → list_any (λ v. bytes_eq key v.key) versions ≡ b → cond b (value key) None ≡ value key
+    by true e = refl
+    by false e = sym (no_value key instant clears versions e)
+
+-- where each key has the same value it is the same map
+pub same_views : (instant : ℕ) (clears others : List ℕ) (versions more : List Entry)
+    → ((key : Bytes) → value_at key instant clears versions ≡ value_at key instant others more) → view_of instant clears versions ≡ view_of instant others more
+same_views instant clears others versions more same =
+    one_view instant clears versions (view_of instant clears versions) (view_of instant others more) (is_view instant clears versions)
+    (λ key. is_view instant others more key ∙ sym (same key))

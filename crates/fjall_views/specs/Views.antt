@@ -5,7 +5,8 @@
 use Rattle.std.specs.Prelude.{◌≡◌, ℕ, Bool, ◌&&◌, not, nat_lt, if◌then◌else◌, List, [], ◌∷◌, filter, Option, Some, None}
 use Rattle.std.specs.List.{list_any}
 use Rattle.std.specs.Str.{bytes_eq}
-use Rattle.fjall_base.specs.Pairs.{Bytes, Pairs, lookup}
+use Rattle.std.specs.FinMap.{empty}
+use Rattle.fjall_base.specs.Pairs.{Bytes, Pairs, altered, lookup}
 use Rattle.fjall_table.specs.Blocks.{Entry}
 
 -- ---- clears
@@ -62,3 +63,12 @@ value_left instant clears (Some v) = if is_cleared instant clears v.number then 
 -- The map is the view at an instant of what these clears and versions make.
 abbrev pub IsView : ℕ → List ℕ → List Entry → Pairs → Type 0
 IsView instant clears versions pairs = (key : Bytes) → lookup pairs key ≡ value_at key instant clears versions
+
+-- the map that gives the keys of these versions their values
+abbrev pub given : (Bytes → Option Bytes) → List Entry → Pairs
+given value [] = empty
+given value (v ∷ versions) = altered (given value versions) v.key (value v.key)
+
+-- the map that is the view of these clears and versions at an instant
+abbrev pub view_of : ℕ → List ℕ → List Entry → Pairs
+view_of instant clears versions = given (λ key. value_at key instant clears versions) versions

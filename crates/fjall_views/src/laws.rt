@@ -7,10 +7,11 @@ ghost use Rattle.fjall_base.specs.Pairs.{Bytes, Pairs, altered};
 ghost use Rattle.fjall_table.specs.Blocks.{Entry};
 ghost use Rattle.fjall_views.specs.Examples.{a_key, a_value, given_under, removed_under};
 ghost use Rattle.fjall_views.specs.Jobs.{AreBelow, AreFrom, IsAbove, OnceEach, Same, ShowsAbove, flushed, is_at, merged, merged_clears};
-ghost use Rattle.fjall_views.specs.Views.{IsView, later, newest, value_at, value_left};
+ghost use Rattle.fjall_views.specs.Views.{IsView, later, newest, value_at, value_left, view_of};
 
 /// At each instant there is one view.
 pub fn views_are_one()
+    ensures made { (instant : ℕ) (clears : List ℕ) (versions : List Entry) → IsView instant clears versions (view_of instant clears versions) }
     ensures some { (instant : ℕ) (clears : List ℕ) (versions : List Entry) → (pairs : Pairs) × IsView instant clears versions pairs }
     ensures one { (instant : ℕ) (clears : List ℕ) (versions : List Entry) (pairs others : Pairs)
         → IsView instant clears versions pairs → IsView instant clears versions others → pairs ≡ others }
