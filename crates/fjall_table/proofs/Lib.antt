@@ -10,3 +10,4 @@ pub mod TableReading
 pub mod Lookups
 pub mod TableBlocks
 pub mod TableScans
+pub mod TableFiles

@@ -4,3 +4,5 @@ pub mod Blocks
 pub mod Tables
 pub mod Writing
 pub mod TableReading
+pub mod Owned
+pub mod Files
