@@ -14,6 +14,7 @@ mod lookup;
 mod open_block;
 mod owned_block;
 mod owned_index;
+mod span;
 mod table;
 mod table_entry;
 mod table_file;
