@@ -1,4 +1,4 @@
-use Rattle.std.proofs.Common.{List, length, map, filter, rules, tests, ◌∙◌, arith}
+use Rattle.std.proofs.Common.{map, rules, tests, ◌∙◌, arith}
 use Rattle.std.specs.Ordering.{is_lt, is_le}
 use Rattle.std.proofs.lemmas.List.Sorted.{IsPartitionPoint-from_clause}
 use Rattle.fjall_base.specs.Pairs.{byte_order}

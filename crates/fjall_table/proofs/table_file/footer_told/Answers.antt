@@ -1,8 +1,6 @@
 use Rattle.std.proofs.Common.{refl, arith}
 use Rattle.std.proofs.lemmas.Result.{err_from_is_err_and}
-use Rattle.fjall_base.specs.declared.error.StorageError.TheVariants.{TableDamaged}
 use Rattle.fjall_table.specs.Files.{EndsNoTable}
-use Rattle.fjall_table.specs.TableReading.{IsNoFooter}
 use Rattle.fjall_table.proofs.TableFiles.{beyond, ends_elsewhere, no_footer_told, other_count}
 use Rattle.fjall_table.proofs.TableReading.{told}
 use Rattle.fjall_table.proofs.table_file.footer_told.Goals as goal

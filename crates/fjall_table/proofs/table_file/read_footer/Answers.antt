@@ -1,4 +1,4 @@
-use Rattle.std.proofs.Common.{◌≡◌, ◌∙◌, ◌+◌, ◌-◌, Err, List, ℕ, arith, refl, rules, subst, sym}
+use Rattle.std.proofs.Common.{◌≡◌, ◌+◌, ◌-◌, Err, List, ℕ, arith, refl, rules, subst, sym}
 use Rattle.fjall_base.specs.Disk.{Entry, State, state_in}
 use Rattle.fjall_table.specs.Files.{HasNoPart, HasPart}
 use Rattle.fjall_table.proofs.TableFiles.{footer_read, no_room, no_table_told, refused_if, refused_later, shorter}

@@ -1,5 +1,5 @@
 use Rattle.std.proofs.Common.{◌≡◌, Err, map, rules, subst, sym}
-use Rattle.fjall_base.specs.Disk.{State, state_in}
+use Rattle.fjall_base.specs.Disk.{State}
 use Rattle.fjall_table.specs.Files.{HasFooter, HoldsNoTable, HoldsTable}
 use Rattle.fjall_table.specs.Owned.{owned_handle}
 use Rattle.fjall_table.proofs.TableFiles.{refused_later}
