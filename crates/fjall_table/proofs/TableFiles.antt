@@ -87,10 +87,7 @@ module _ (end : List ℕ) (index_end count o l n : ℕ) (text : end ≡ footer_t
 pub no_room : (entry : disk.Entry) (info : TableInfo) → info.file_len < 36 → HoldsNoTable entry info
 no_room entry info lt hs h = too_short (bytes_in entry) hs info.entry_count (omega (arith, lt, h.is.len)) h.is.index
 
--- a file that has more bytes, or fewer
-pub longer : (entry : disk.Entry) (info : TableInfo) → info.file_len < length (bytes_in entry) → HoldsNoTable entry info
-longer entry info lt hs h = omega (arith, lt, h.is.len)
-
+-- a file that has fewer bytes
 pub shorter : (entry : disk.Entry) (info : TableInfo) (at len : ℕ) → at + len ≡ info.file_len → HasNoPart entry at len → HoldsNoTable entry info
 shorter entry info at len sum none hs h = omega (arith, none h.file, h.is.len, sum)
 
@@ -126,10 +123,6 @@ module _ (entry : disk.Entry) (info : TableInfo) (end : List ℕ) (index_end : �
 -- ---- the index of a file
 
 module _ (entry : disk.Entry) (info : TableInfo) (f : Footer) (has : HasFooter entry info f) where
-  -- the index stands whole before the footer
-  pub index_there : HasNoPart entry f.index_offset f.index_len → HoldsNoTable entry info
-  index_there none hs h = omega (arith, none h.file, has.len, has.whole)
-
   module _ (fo : f.index_offset < 2 ^ 64) (fl : f.index_len < 2 ^ 64) (fn : f.entry_count < 2 ^ 64) (framed : List ℕ) (part : HasPart entry f.index_offset f.index_len framed) where
     front : List ℕ
     front = take (f.index_offset + f.index_len) (bytes_in entry)

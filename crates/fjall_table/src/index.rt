@@ -10,7 +10,7 @@ ghost use Rattle.fjall_table.specs.TableReading.{handle_of, blocks_below, blocks
 
 use crate::block::read_block;
 use crate::frame::frame_of;
-use crate::keys::{is_at_most, is_below};
+use crate::span::span_of;
 use crate::table_entry::TableEntry;
 use fjall_base::{Error, Result, StorageError, bytes_of, u16_of, u64_of};
 use std::alloc::Global;
@@ -134,10 +134,6 @@ impl<'a> Index<'a> {
         ensures start { result.start ≡ blocks_below key.now (map handle_of self.now.handles.items) - 1 }
         ensures end { result.end ≡ blocks_up_to key.now (map handle_of self.now.handles.items) }
     {
-        let below = self.handles.partition_point(|h| is_below(h.first_key, key));
-        let up_to = self
-            .handles
-            .partition_point(|h| is_at_most(h.first_key, key));
-        below.saturating_sub(1)..up_to
+        span_of(&self.handles, key)
     }
 }

@@ -1,4 +1,4 @@
-//! One sorted table as bytes and back: data blocks, their index, the footer, and look-ups.
+//! One sorted table as bytes and back: data blocks, their index, the footer, and look-ups; and a table in a file of a disk.
 #![tactic(auto)]
 
 mod block;
@@ -14,6 +14,7 @@ mod lookup;
 mod open_block;
 mod owned_block;
 mod owned_index;
+mod span;
 mod table;
 mod table_entry;
 mod table_file;

@@ -1,19 +1,22 @@
 //! A table in a file of a disk, opened from the file's end.
 
-ghost use Rattle.std.specs.Prelude.{◌≡◌, ⊤, ◌+◌, ◌<◌, ◌≤◌, [], length, map, slice_get, IfOk, IfErr, IfSome, IsTrue};
+ghost use Rattle.std.specs.Prelude.{◌≡◌, ⊤, ◌+◌, ◌-◌, ◌<◌, ◌≤◌, [], length, map, slice_get, IfOk, IfErr, IfSome, IsTrue};
 ghost use Rattle.fjall_base.specs.declared.error.StorageError.TheVariants.{TableDamaged};
 ghost use Rattle.fjall_base.specs.Disk.{Took};
 ghost use Rattle.fjall_table.specs.Reading.{DamagedWhere};
 ghost use Rattle.fjall_table.specs.Tables.{footer_text};
+ghost use Rattle.fjall_table.specs.TableReading.{blocks_below, blocks_up_to};
 ghost use Rattle.fjall_table.specs.Files.{AllServed, EndsNoTable, HasFooter, HasNoPart, HasPart, HoldsBlock, HoldsNoBlock, HoldsNoTable, HoldsTable, IsRefused, bytes_in, entry_at, file_of, handles_in, name_of};
 ghost use Rattle.fjall_table.specs.Owned.{owned_handle};
 
 use crate::footer::{FOOTER_LEN, Footer};
 use crate::owned_block::OwnedBlock;
 use crate::owned_index::OwnedIndex;
+use crate::span::span_of;
 use crate::table_info::TableInfo;
 use fjall_base::{Disk, Error, Result, StorageError};
 use std::alloc::Global;
+use std::ops::Range;
 
 const DAMAGED: Error = Error::Storage(StorageError::TableDamaged);
 
@@ -158,6 +161,15 @@ impl TableFile {
         ensures { result ≡ length (handles_in self.now) }
     {
         self.index.handles.len()
+    }
+
+    /// The numbers of the blocks that may hold a key: from the last one that begins with a key below it, if there is
+    /// one, to the last one that begins with a key at most it.
+    pub fn span(&self, key: &[u8]) -> Range<usize>
+        ensures start { result.start ≡ blocks_below key.now (handles_in self.now) - 1 }
+        ensures end { result.end ≡ blocks_up_to key.now (handles_in self.now) }
+    {
+        span_of(&self.index.handles, key)
     }
 
     /// Reads and checks a block, counted from 0 on. One that is damaged or doesn't begin with the key that the index says
