@@ -1,0 +1,10 @@
+pub mod Views
+pub mod Naming
+pub mod Resting
+pub mod Runs
+pub mod Removals
+pub mod Writings
+pub mod Records
+pub mod Commits
+pub mod NoFolders
+pub mod Meanings
