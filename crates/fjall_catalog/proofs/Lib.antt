@@ -2,7 +2,7 @@ pub mod Naming
 pub mod Resting
 pub mod Runs
 pub mod Serving
-pub mod Commits
+pub mod Changes
 pub mod Shapes
 pub mod Meanings
 pub mod Pairs

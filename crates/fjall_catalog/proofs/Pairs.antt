@@ -75,19 +75,17 @@ table_of t bytes handles es entries level len index is same =
     let count : t.entry_count ≡ length es = (one_index bytes handles (tables.handles_of 0 own.0) t.entry_count (length es) index own.3).1 in
     record {
       level = level;
-      len = len;
-      table = subst (λ (l : List blocks.Entry). IsTable bytes l) (sym same) is;
-      count = count ∙ ap length (sym same) ∙ pairs_count entries;
+      is = record { len = len; table = subst (λ (l : List blocks.Entry). IsTable bytes l) (sym same) is; count = count ∙ ap length (sym same) };
     }
 
 pub no_index_of : (t : TableInfo) (bytes : List ℕ) → HasNoIndex bytes t → (entries : List MetaEntry) → IsTableOf t bytes entries → ⊥
 no_index_of t bytes none entries is =
-    let own = tables_have_an_index bytes (map table_entry entries) is.table in
-    let count : length (map table_entry entries) ≡ t.entry_count = pairs_count entries ∙ sym is.count in
-    none (tables.handles_of 0 own.0) is.len (subst (λ (n : ℕ). tables.HasIndex bytes (tables.handles_of 0 own.0) n) count own.3)
+    let own = tables_have_an_index bytes (map table_entry entries) is.is.table in
+    let count : length (map table_entry entries) ≡ t.entry_count = sym is.is.count in
+    none (tables.handles_of 0 own.0) is.is.len (subst (λ (n : ℕ). tables.HasIndex bytes (tables.handles_of 0 own.0) n) count own.3)
 
 pub no_table_of : (t : TableInfo) (bytes : List ℕ) → IsNoTable bytes → (entries : List MetaEntry) → IsTableOf t bytes entries → ⊥
-no_table_of t bytes none entries is = none (map table_entry entries) is.table
+no_table_of t bytes none entries is = none (map table_entry entries) is.is.table
 
 pub no_pairs_of : (t : TableInfo) (bytes : List ℕ) (es : List blocks.Entry) → IsTable bytes es → ((entries : List MetaEntry) → map table_entry entries ≡ es → ⊥) → (entries : List MetaEntry) → IsTableOf t bytes entries → ⊥
-no_pairs_of t bytes es table none entries is = none entries (one_list_of_entries bytes (map table_entry entries) es is.table table)
+no_pairs_of t bytes es table none entries is = none entries (one_list_of_entries bytes (map table_entry entries) es is.is.table table)

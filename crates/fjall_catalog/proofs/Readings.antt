@@ -22,10 +22,11 @@ use Rattle.fjall_options.specs.Options.{config_key, is_value, name_key, option_n
 use Rattle.fjall_base.specs.Results.{◌>>=◌}
 use Rattle.fjall_meta.specs.Reading.{IsReadingRefusal, first_fault, or_else, pairs_of, stored_keyspace, stored_name, valid_name}
 use Rattle.fjall_tree.proofs.Currents.{one_reading, texts_are_records}
-use Rattle.fjall_catalog.proofs.Naming.{bool_cases}
+use Rattle.fjall_base.proofs.Names.{bool_cases}
+use Rattle.fjall_home.specs.Homes.{HoldTables}
 use Rattle.fjall_catalog.proofs.Meanings.{held_one, last_one}
 use Rattle.fjall_catalog.specs.declared.catalog.Catalog.{Catalog}
-use Rattle.fjall_catalog.specs.Catalog.{fields, records_in, IsAtLevel1, IsTableOf, HoldsEntries, Says}
+use Rattle.fjall_catalog.specs.Catalog.{ArePairs, fields, records_in, IsAtLevel1, IsTableOf, HoldsEntries, Says}
 use Rattle.fjall_catalog.specs.Refusals.{HasLast, HasNoLast, IsDamage, IsTableRefused, IsRefusal, IsFaultIfIo}
 
 -- ---- a file
@@ -56,10 +57,26 @@ table_not_read image table before after (Io kind) is = is
 table_not_read image table before after OutOfMemory is = tt
 table_not_read image table before after _ is = absurd is
 
+-- the table that is held is the one that stands there
+held_table : (image : Image) (t : TableInfo) (entries : List MetaEntry) → HoldsEntries image (Some t) entries → IsTableOf t (text_in (image (table_name 0 t.id))) entries
+held_table image t entries holds = of holds.0 holds.1 holds.2
+  where
+    of : (texts : List (List ℕ)) → HoldTables image 0 (t ∷ []) texts → ArePairs (Some t) texts entries → IsTableOf t (text_in (image (table_name 0 t.id))) entries
+    of [] held pairs = absurd held
+    of (bytes ∷ []) held pairs = subst (λ (l : List ℕ). IsTableOf t l entries) (sym held.0.1) pairs
+    of (bytes ∷ more ∷ texts) held pairs = absurd pairs
+
+-- and the other way round
+pub holds_table : (image : Image) (t : TableInfo) (entries : List MetaEntry) (bytes : List ℕ) → ReadFile (image (table_name 0 t.id)) bytes → IsTableOf t bytes entries → HoldsEntries image (Some t) entries
+holds_table image t entries bytes read is = (bytes ∷ [], ((read.file, sym read.is), tt), is)
+
+pub holds_none : (image : Image) (entries : List MetaEntry) → entries ≡ [] → HoldsEntries image None entries
+holds_none image entries none = ([], tt, none)
+
 pub table_refused : (image : Image) (t : TableInfo) (before after : ℕ) (bytes : List ℕ) (e : Error) → bytes ≡ text_in (image (table_name 0 t.id)) → DamagedWhere TableDamaged ((entries : List MetaEntry) → IsTableOf t bytes entries → ⊥) e
     → IsTableRefused image (Some t) before after e
 table_refused image t before after bytes OutOfMemory at is = tt
-table_refused image t before after bytes (Storage cause) at is = (is.0, λ entries holds. is.1 entries (subst (λ (l : List ℕ). IsTableOf t l entries) (sym at) holds.is))
+table_refused image t before after bytes (Storage cause) at is = (is.0, λ entries holds. is.1 entries (subst (λ (l : List ℕ). IsTableOf t l entries) (sym at) (held_table image t entries holds)))
 table_refused image t before after bytes _ at is = absurd is
 
 pub not_read : (image : Image) (before after : ℕ) (e : Error) → IsFaultOrMemory before after e → IsRefusal image before after e
@@ -168,15 +185,28 @@ pairs_refused image last entries before after _ has holds is = absurd is
 -- ---- what is said
 
 pub said : (image : Image) (last : Catalog) (s : Keyspaces) → IsFile (image (current_name 0)) → (has : HasLast (records_in image) last) → HoldsEntries image last.table (entries_of s.living) → s.next ≡ last.next_keyspace_id → AreKeyspaces s → Says image has.records last s
-said image last s file has holds next are = record { file = file; end = has.end; whole = has.whole; last_is = has.last_is; entries = holds; next = next; are = are }
+said image last s file has holds next are = record {
+  texts = holds.0;
+  files = record { current = file; end = has.end; whole = has.whole; last_is = has.last_is; tables = holds.1 };
+  pairs = holds.2;
+  next = next;
+  are = are;
+}
 
 -- what an image says has its record and its pairs
 pub says_last : (image : Image) (records : List Fields) (last : Catalog) (s : Keyspaces) → Says image records last s → HasLast (records_in image) last
-says_last image records last s says = record { records = records; end = says.end; whole = says.whole; last_is = says.last_is; level = of last.table says.entries }
+says_last image records last s says =
+    record { records = records; end = says.files.end; whole = says.files.whole; last_is = says.files.last_is; level = of last.table says.texts says.pairs }
   where
-    of : (table : Option TableInfo) → HoldsEntries image table (entries_of s.living) → IsAtLevel1 table
-    of None holds = tt
-    of (Some t) holds = holds.is.level
+    of : (table : Option TableInfo) (texts : List (List ℕ)) → ArePairs table texts (entries_of s.living) → IsAtLevel1 table
+    of None texts pairs = tt
+    of (Some t) [] pairs = absurd pairs
+    of (Some t) (bytes ∷ []) pairs = pairs.level
+    of (Some t) (bytes ∷ more ∷ texts) pairs = absurd pairs
+
+-- and its table
+pub says_entries : (image : Image) (records : List Fields) (last : Catalog) (s : Keyspaces) → Says image records last s → HoldsEntries image last.table (entries_of s.living)
+says_entries image records last s says = (says.texts, says.files.tables, says.pairs)
 
 -- ---- at the exits
 
@@ -184,9 +214,12 @@ pub current_none : (image : Image) (found : Option (Vec ℕ Global)) (name : Nam
 current_none image None name at none is = nothing_there image (read_none (image (current_name 0)) (subst (λ (n : Name). Reads (image n) None) at is))
 current_none image (Some bytes) name at none is = absurd (none bytes refl)
 
+pub file_some : (image : Image) (found : Option (Vec ℕ Global)) (bytes : Vec ℕ Global) (name q : Name) → name ≡ q → found ≡ Some bytes → Reads (image name) found → ReadFile (image q) bytes.items
+file_some image found bytes name q at some is =
+    read_some (image q) bytes (subst (λ (n : Name). Reads (image n) (Some bytes)) at (subst (λ (f : Option (Vec ℕ Global)). Reads (image name) f) some is))
+
 pub current_some : (image : Image) (found : Option (Vec ℕ Global)) (bytes : Vec ℕ Global) (name : Name) → name ≡ current_name 0 → found ≡ Some bytes → Reads (image name) found → ReadFile (image (current_name 0)) bytes.items
-current_some image found bytes name at some is =
-    read_some (image (current_name 0)) bytes (subst (λ (n : Name). Reads (image n) (Some bytes)) at (subst (λ (f : Option (Vec ℕ Global)). Reads (image name) f) some is))
+current_some image found bytes name at some is = file_some image found bytes name (current_name 0) at some is
 
 pub record_is_read : (image : Image) (last : Catalog) (before after : ℕ) (bytes : List ℕ) (e : Error) → HasLast (records_in image) last → bytes ≡ records_in image → DamagedWhere RecordDamaged (HasNoLast bytes) e → IsFaultOrMemory before after e
 record_is_read image last before after bytes OutOfMemory has at is = tt
@@ -204,8 +237,8 @@ memory_alone before after e is = subst (λ (d : Error). IsFaultOrMemory before a
 
 -- the catalog that was read is the one that is said
 pub same_catalog : (image : Image) (records : List Fields) (c last : Catalog) (s : Keyspaces) → HasLast (records_in image) c → Says image records last s → c ≡ last
-same_catalog image records c last s has says = last_one (records_in image) has.records records has.end says.end c last has.whole says.whole has.last_is says.last_is
+same_catalog image records c last s has says = last_one (records_in image) has.records records has.end says.files.end c last has.whole says.files.whole has.last_is says.files.last_is
 
 -- and so are its pairs
 pub same_pairs : (image : Image) (records : List Fields) (c last : Catalog) (s : Keyspaces) (entries : List MetaEntry) → c ≡ last → HoldsEntries image c.table entries → Says image records last s → entries_of s.living ≡ entries
-same_pairs image records c last s entries same holds says = held_one image last.table (entries_of s.living) entries says.entries (subst (λ (d : Catalog). HoldsEntries image d.table entries) same holds)
+same_pairs image records c last s entries same holds says = held_one image last.table (entries_of s.living) entries (says_entries image records last s says) (subst (λ (d : Catalog). HoldsEntries image d.table entries) same holds)

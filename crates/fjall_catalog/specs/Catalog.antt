@@ -1,17 +1,13 @@
 -- The catalog: tree 0 on disk, whose last record and table say which keyspaces live.
-use Rattle.std.specs.Prelude.{◌≡◌, ◌↔◌, ℕ, ◌<◌, ◌≤◌, ◌^◌, ◌||◌, Bool, IsTrue, List, [], ◌∷◌, length, map, codes, Option, Some, None, IfSome}
-use Rattle.std.specs.Str.{bytes_eq}
-use Rattle.std.specs.List.{flat_map, AllByRecursion}
-use Rattle.fjall_base.specs.Disk.{Name, Entry, Missing, Folder, Place, State, Image, IsFile}
-use Rattle.fjall_files.specs.Regions.{is_under, IsSafe}
+use Rattle.std.specs.Prelude.{◌≡◌, ◌↔◌, ℕ, ◌<◌, Bool, IsTrue, List, [], ◌∷◌, length, map, Option, Some, None, IfSome}
+use Rattle.fjall_base.specs.Disk.{Image, State}
 use Rattle.fjall_table.specs.declared.level.Level.TheVariants.{L1}
 use Rattle.fjall_table.specs.declared.table_info.TableInfo.{TableInfo}
-use Rattle.fjall_tree.specs.Records.{Fields, IsRecord, IsRecords, record_text}
-use Rattle.fjall_base.specs.Lists.{last_of}
-use Rattle.fjall_files.specs.Texts.{text_in}
+use Rattle.fjall_tree.specs.Records.{Fields, IsRecords}
 use Rattle.fjall_table.specs.Blocks as blocks
-use Rattle.fjall_table.specs.Tables.{IsTable}
-use Rattle.fjall_files.specs.Names.{keyspace_folder, current_name, table_name}
+use Rattle.fjall_table.specs.Files as files
+use Rattle.fjall_home.specs.Homes as homes
+use Rattle.fjall_home.specs.Homes.{Home, HasFiles, HoldTables, IsFree, records_text}
 use Rattle.fjall_meta.specs.declared.entry.MetaEntry.{MetaEntry}
 use Rattle.fjall_meta.specs.Keyspaces.{Keyspaces, AreKeyspaces}
 use Rattle.fjall_meta.specs.Entries.{entries_of}
@@ -53,36 +49,37 @@ first_of number = record { persisted = None; highest = Some number; next_table_i
 abbrev pub table_entry : MetaEntry → blocks.Entry
 table_entry e = record { key = e.key; number = e.number; value = Some e.value }
 
--- The bytes are the table that the record names: at level 1, of the length and the count that the record says, with these pairs.
+-- The bytes are the table that the record names, at level 1, with these pairs.
 pub record IsTableOf (t : TableInfo) (bytes : List ℕ) (entries : List MetaEntry) : Type 0 where
   pub level : t.level ≡ L1
-  pub len : length bytes ≡ t.file_len
-  pub table : IsTable bytes (map table_entry entries)
-  pub count : t.entry_count ≡ length entries
+  pub is : files.IsTableOf t bytes (map table_entry entries)
+
+-- The tables that a record names have these bytes, and these pairs are in them: none where no table is named.
+abbrev pub ArePairs : Option TableInfo → List (List ℕ) → List MetaEntry → Type 0
+ArePairs None [] entries = entries ≡ []
+ArePairs (Some t) (bytes ∷ []) entries = IsTableOf t bytes entries
+ArePairs table texts entries = ⊥
+
+-- the home of a catalog: its record, and the bytes of the table that it names
+abbrev pub home_of : Catalog → List (List ℕ) → Home
+home_of c texts = record { last = fields c; texts = texts }
 
 -- ---- in an image
 
 -- the bytes of tree 0's records
 abbrev pub records_in : Image → List ℕ
-records_in image = text_in (image (current_name 0))
+records_in image = records_text image 0
 
--- the table that the record names stands in its file, with these pairs
-pub record HoldsTable (image : Image) (t : TableInfo) (entries : List MetaEntry) : Type 0 where
-  pub file : IsFile (image (table_name 0 t.id))
-  pub is : IsTableOf t (text_in (image (table_name 0 t.id))) entries
-
--- where no table is named there are no pairs
+-- the table that a record of tree 0 names stands in its file, with these pairs; where none is named there are no pairs
 abbrev pub HoldsEntries : Image → Option TableInfo → List MetaEntry → Type 0
-HoldsEntries image None entries = entries ≡ []
-HoldsEntries image (Some t) entries = HoldsTable image t entries
+HoldsEntries image table entries = (texts : List (List ℕ)) × HoldTables image 0 (listed table) texts × ArePairs table texts entries
 
--- The image's tree 0 says that these keyspaces live: by the last of its whole records, which is the catalog's, and the table that it names.
+-- The image's tree 0 says that these keyspaces live. It is the home of the id 0: the last of its whole records is the
+-- catalog's, and the table that this names has the keyspaces' pairs.
 pub record Says (image : Image) (records : List Fields) (last : Catalog) (s : Keyspaces) : Type 0 where
-  pub file : IsFile (image (current_name 0))
-  pub end : ℕ
-  pub whole : IsRecords (records_in image) records end
-  pub last_is : last_of records ≡ Some (fields last)
-  pub entries : HoldsEntries image last.table (entries_of s.living)
+  pub texts : List (List ℕ)
+  pub files : HasFiles image 0 records (home_of last texts)
+  pub pairs : ArePairs last.table texts (entries_of s.living)
   pub next : s.next ≡ last.next_keyspace_id
   pub are : AreKeyspaces s
 
@@ -94,41 +91,15 @@ pub record HasEnd (image : Image) (end : ℕ) (is_torn : Bool) : Type 0 where
 
 -- ---- on a disk
 
--- an entry that is synced, and its name too
-abbrev pub only : Entry → Place
-only entry = record { now = entry; older = [] }
-
--- the names that the catalog rests on: tree 0's folder and all under it, and the folder that it is in
-abbrev pub is_counted : Name → Bool
-is_counted name = bytes_eq name (codes "keyspaces") || is_under (keyspace_folder 0) name
-
--- the table that the record names is safe, with these pairs
-pub record IsSafeTable (state : State) (t : TableInfo) (entries : List MetaEntry) : Type 0 where
-  pub bytes : List ℕ
-  pub safe : IsSafe state (table_name 0 t.id) bytes
-  pub is : IsTableOf t bytes entries
-
--- the same, and no pairs where no table is named
-abbrev pub AreSafe : State → Option TableInfo → List MetaEntry → Type 0
-AreSafe state None entries = entries ≡ []
-AreSafe state (Some t) entries = IsSafeTable state t entries
-
--- All that the catalog says is safe: its folders, its records, which are whole, and the table that the last one names.
+-- All that the catalog says is safe: the home of the id 0 rests, with the keyspaces' pairs in its table.
 pub record Rests (state : State) (records : List Fields) (last : Catalog) (s : Keyspaces) : Type 0 where
-  pub keyspaces_folder : state (codes "keyspaces") ≡ only Folder
-  pub folder : state (keyspace_folder 0) ≡ only Folder
-  pub current : IsSafe state (current_name 0) (flat_map record_text records)
-  pub each : AllByRecursion IsRecord records
-  pub last_is : last_of records ≡ Some (fields last)
-  pub entries : AreSafe state last.table (entries_of s.living)
+  pub texts : List (List ℕ)
+  pub home : homes.Rests state 0 records (home_of last texts)
+  pub pairs : ArePairs last.table texts (entries_of s.living)
   pub next : s.next ≡ last.next_keyspace_id
   pub are : AreKeyspaces s
-
--- no table stands under an id from this one on
-abbrev pub IsFree : State → ℕ → Type 0
-IsFree state next = (id : ℕ) → next ≤ id → id < 2 ^ 64 → (state (table_name 0 id)).now ≡ Missing
 
 -- Between two changes: all is safe, and no table stands under an id that is still to be given out.
 pub record IsReady (state : State) (records : List Fields) (last : Catalog) (s : Keyspaces) : Type 0 where
   pub rests : Rests state records last s
-  pub free : IsFree state last.next_table_id
+  pub free : IsFree state 0 last.next_table_id

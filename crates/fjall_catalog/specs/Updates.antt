@@ -12,8 +12,9 @@ use Rattle.fjall_meta.specs.Keyspaces.{Keyspaces}
 use Rattle.fjall_meta.specs.Entries.{entries_of}
 use Rattle.fjall_catalog.specs.declared.catalog.Catalog.{Catalog}
 use Rattle.fjall_catalog.specs.declared.update.Update.{Update}
-use Rattle.fjall_catalog.specs.declared.update.TableFile.{TableFile}
-use Rattle.fjall_catalog.specs.Catalog.{fields, IsTableOf, AreSafe, Says, Rests, IsFree}
+use Rattle.fjall_home.specs.declared.writing.TableFile.{TableFile}
+use Rattle.fjall_home.specs.Homes.{AreSafe, IsFree}
+use Rattle.fjall_catalog.specs.Catalog.{ArePairs, fields, listed, IsTableOf, Says, Rests}
 
 -- ---- what is prepared
 
@@ -68,11 +69,13 @@ IsPreparingRefusal old s number error = ⊥
 
 -- ---- how far it has come
 
--- The catalog rests as before, and beside it the table of the next one is safe.
+-- The catalog rests as before, and beside it the table of the next one is safe, with the pairs of its keyspaces.
 pub record IsWritten (state : State) (records : List Fields) (last : Catalog) (s : Keyspaces) (next : Catalog) (t : Keyspaces) : Type 0 where
   pub rests : Rests state records last s
-  pub table : AreSafe state next.table (entries_of t.living)
-  pub free : IsFree state next.next_table_id
+  pub texts : List (List ℕ)
+  pub tables : AreSafe state 0 (listed next.table) texts
+  pub pairs : ArePairs next.table texts (entries_of t.living)
+  pub free : IsFree state 0 next.next_table_id
 
 -- the change counts or doesn't
 abbrev pub SaysEither : List Fields → Catalog → Keyspaces → Catalog → Keyspaces → Image → Type 0

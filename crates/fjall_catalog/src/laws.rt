@@ -7,7 +7,8 @@ ghost use Rattle.fjall_tree.specs.Records.{Fields, IsRecord};
 ghost use Rattle.fjall_files.specs.Names.{keyspace_folder};
 ghost use Rattle.fjall_meta.specs.Keyspaces.{Keyspaces};
 ghost use Rattle.fjall_catalog.specs.declared.catalog.Catalog.{Catalog};
-ghost use Rattle.fjall_catalog.specs.Catalog.{Says, Rests, fields, is_counted};
+ghost use Rattle.fjall_catalog.specs.Catalog.{Says, Rests, fields};
+ghost use Rattle.fjall_home.specs.Homes.{is_counted};
 
 /// Whatever a crash leaves of a catalog that rests says it.
 pub fn crashes_say_the_catalog()
@@ -18,7 +19,7 @@ pub fn crashes_say_the_catalog()
 /// So does whatever a crash leaves in a region of the names that has those that the catalog rests on.
 pub fn regions_say_the_catalog()
     ensures { (region : Name → Bool) (state : State) (image : Image) (records : List Fields) (last : Catalog) (s : Keyspaces)
-        → ((q : Name) → is_counted q ≡ true → region q ≡ true)
+        → ((q : Name) → is_counted 0 q ≡ true → region q ≡ true)
         → Rests state records last s → IsImageIn Survives region state image → Says image records last s }
 {}
 

@@ -13,5 +13,5 @@ pub use laws::{
     crashes_say_the_catalog, last_is_a_record, one_catalog, regions_say_the_catalog, says_alike,
 };
 pub use reading::{LoadedCatalog, read_catalog};
-pub use update::{TableFile, Update, prepare, prepare_deletion};
+pub use update::{Update, prepare, prepare_deletion};
 pub use writing::{commit, remove_old, write_table};

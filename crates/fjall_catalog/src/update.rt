@@ -11,20 +11,13 @@ use crate::catalog::Catalog;
 use crate::table::encode_entries;
 use fjall_base::{Error, Result};
 use fjall_files::table_name;
+use fjall_home::TableFile;
 use fjall_meta::{MetaEntry, MetaKeyspace};
 use fjall_table::{Level, TableInfo};
 use std::alloc::Global;
 
 /// Numbers of changes end here.
 const NUMBER_LIMIT: u64 = 1 << 63;
-
-/// The file of a table that is to be written.
-#[derive(Debug, Drop)]
-pub struct TableFile {
-    /// Its name, from the root on.
-    pub name: String,
-    pub bytes: Vec<u8>,
-}
 
 /// A change of the catalog.
 #[derive(Debug, Drop)]

@@ -14,7 +14,9 @@ ghost use Rattle.fjall_catalog.specs.Updates.{IsTableGone, IsUpdate, IsWritten, 
 use crate::catalog::Catalog;
 use crate::update::Update;
 use fjall_base::{Disk, Result};
-use fjall_files::{TREE_FOLDER, TREE_RECORDS, make_file};
+use fjall_files::{TREE_FOLDER, TREE_RECORDS};
+use fjall_home::{append_record, put_tables, remove_tables};
+use std::slice;
 
 /// Writes the new table of a change, and syncs it and its name; nothing where no keyspace lives. The old catalog still
 /// counts.
@@ -38,8 +40,7 @@ pub fn write_table<D: Disk>(disk: &mut D, update: &Update) -> Result<()>
     let Some(table) = &update.table else {
         return Ok(());
     };
-    make_file(disk, table.name.as_str(), &table.bytes)?;
-    disk.sync_folder(TREE_FOLDER)
+    put_tables(disk, TREE_FOLDER, slice::from_ref(table))
 }
 
 /// Appends the record of a change whose table is written, and syncs it: from then on the new catalog counts.
@@ -59,8 +60,7 @@ pub fn commit<D: Disk>(disk: &mut D, update: &Update) -> Result<()>
     ensures cause { OnlyFaults (D.meaning disk.old) (D.meaning disk.new) result }
     ensures kinds { IsTrue D.honest → StaysTidy (D.meaning disk.old) (D.meaning disk.new) }
 {
-    disk.append(TREE_RECORDS, &update.record_text)?;
-    disk.sync(TREE_RECORDS)
+    append_record(disk, TREE_RECORDS, &update.record_text)
 }
 
 /// Removes the table of the catalog before a change that counts, where it had one. A crash may bring its file back until
@@ -88,5 +88,5 @@ pub fn remove_old<D: Disk>(disk: &mut D, update: &Update) -> Result<()>
     let Some(name) = &update.old_table else {
         return Ok(());
     };
-    disk.remove(name.as_str())
+    remove_tables(disk, slice::from_ref(name))
 }

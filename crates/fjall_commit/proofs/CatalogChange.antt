@@ -13,12 +13,13 @@ use Rattle.fjall_meta.specs.Keyspaces.{AreKeyspaces, Keyspaces}
 use Rattle.fjall_catalog.specs.declared.catalog.Catalog.{Catalog}
 use Rattle.fjall_catalog.specs.Catalog.{Says, IsReady, fields}
 use Rattle.fjall_catalog.specs.Updates.{SaysEither}
+use Rattle.fjall_files.proofs.Fitting.{folder_of-current}
+use Rattle.fjall_home.proofs.Naming.{some_folder}
 use Rattle.fjall_catalog.proofs.Resting.{last_record}
-use Rattle.fjall_recovery.specs.Halves.{Tree}
+use Rattle.fjall_recovery.specs.Halves.{Tree, outside}
 use Rattle.fjall_recovery.specs.Places.{LiesInTree}
+use Rattle.fjall_recovery.proofs.Composing.{AreOthers, Beside, beside_along, not_under, tree_left}
 use Rattle.fjall_commit.specs.Changes.{AreHoused, HasEither}
-use Rattle.fjall_commit.proofs.FolderNames.{outside, not_under, some_home, folder_of-current}
-use Rattle.fjall_commit.proofs.OtherFolders.{AreOthers, Beside, beside_along, tree_left}
 
 -- an image that a crash left has nothing in a folder that is gone
 abbrev pub IsHoused : Image → Type 0
@@ -38,8 +39,8 @@ folder_there image lost file = of (image (keyspace_folder 0)) refl
 
     of : (entry : Entry) → image (keyspace_folder 0) ≡ entry → image (keyspace_folder 0) ≡ Folder
     of Folder is = is
-    of Missing is = absurd (gone (λ there. ⊎_elim (λ root. some_home 0 root) (λ folder. let no : Missing ≡ Folder = sym is ∙ folder in cc) there))
-    of (File synced unsynced) is = absurd (gone (λ there. ⊎_elim (λ root. some_home 0 root) (λ folder. let no : File synced unsynced ≡ Folder = sym is ∙ folder in cc) there))
+    of Missing is = absurd (gone (λ there. ⊎_elim (λ root. some_folder 0 root) (λ folder. let no : Missing ≡ Folder = sym is ∙ folder in cc) there))
+    of (File synced unsynced) is = absurd (gone (λ there. ⊎_elim (λ root. some_folder 0 root) (λ folder. let no : File synced unsynced ≡ Folder = sym is ∙ folder in cc) there))
 
 -- what an image has at each moment of a run in a keyspace's folder, it has beside all that a crash before the run left elsewhere
 seen : (id : ℕ) (old new : Meaning) (P Q : Image → Type 0) → Within (keyspace_folder id) old new → LeavesOnly old new P
@@ -50,7 +51,7 @@ seen id old new P Q run has to =
       added = run.added;
       took = run.took;
       each = λ image left. to image (has.each image (subst (λ (l : List Step). Leaves (state_in old) l image) same left))
-          (region_run (outside id) (keyspace_folder id) (some_home id) (not_under id) (state_in old) (state_in old) run.added image run.under (λ q out. refl) left)
+          (region_run (outside id) (keyspace_folder id) (some_folder id) (not_under id) (state_in old) (state_in old) run.added image run.under (λ q out. refl) left)
           (housed (state_in old) run.added image left);
     }
 
@@ -77,8 +78,8 @@ module _ (records : List Fields) (t next : Tree) (last : Catalog) (at : next.las
 
   begun : Both m0
   begun = record {
-    old_homes = record { folder = lies.rests.catalog.keyspaces_folder; named = lies.rests.named; safe = lies.rests.homes };
-    new_homes = record { folder = lies.rests.catalog.keyspaces_folder; named = lies.rests.named; safe = new.homes };
+    old_homes = record { folder = lies.rests.catalog.home.keyspaces_folder; named = lies.rests.named; safe = lies.rests.homes };
+    new_homes = record { folder = lies.rests.catalog.home.keyspaces_folder; named = lies.rests.named; safe = new.homes };
   }
 
   others : AreOthers 0 t.keyspaces.living
@@ -89,14 +90,14 @@ module _ (records : List Fields) (t next : Tree) (last : Catalog) (at : next.las
 
   either : (mid : Meaning) (image : Image) → Both mid → SaysEither records t.last t.keyspaces last next.keyspaces image → IsImageIn Survives (outside 0) (state_in mid) image → IsHoused image → HasEither t next image
   either mid image homes (inl says) is lost =
-      inl (tree_left 0 (omega arith) (state_in mid) image is records t others homes.old_homes lies.rests.made (folder_there image lost says.file) says)
+      inl (tree_left 0 (omega arith) (state_in mid) image is records t others homes.old_homes lies.rests.made (folder_there image lost says.files.current) says)
   either mid image homes (inr says) is lost =
-      inr (tree_left 0 (omega arith) (state_in mid) image is (records ++ fields last ∷ []) next new_others homes.new_homes new.made (folder_there image lost says.file)
+      inr (tree_left 0 (omega arith) (state_in mid) image is (records ++ fields last ∷ []) next new_others homes.new_homes new.made (folder_there image lost says.files.current)
       (subst (λ (c : Catalog). Says image (records ++ fields last ∷ []) c next.keyspaces) (sym at) says))
 
   both_on : (mid then : Meaning) → Within (keyspace_folder 0) mid then → Both mid → Both then
   both_on mid then run homes =
-      let agree = within_state (keyspace_folder 0) (some_home 0) mid then run in
+      let agree = within_state (keyspace_folder 0) (some_folder 0) mid then run in
       record {
         old_homes = beside_along 0 (omega arith) (state_in mid) (state_in then) t.keyspaces.living t.homes agree others homes.old_homes;
         new_homes = beside_along 0 (omega arith) (state_in mid) (state_in then) next.keyspaces.living next.homes agree new_others homes.new_homes;

@@ -1,6 +1,3 @@
-pub mod FolderNames
-pub mod Homes
-pub mod OtherFolders
 pub mod CatalogChange
 pub mod NextKeyspaces
 pub mod UnnamedHomes

@@ -11,7 +11,7 @@ use Rattle.fjall_files.specs.Names.{keyspace_folder}
 use Rattle.fjall_recovery.specs.Halves.{Tree}
 use Rattle.fjall_recovery.specs.Places.{LiesInTree}
 use Rattle.fjall_commit.specs.Changes.{HasRoom}
-use Rattle.fjall_commit.proofs.FolderNames.{keyspaces_outside, some_home}
+use Rattle.fjall_home.proofs.Naming.{some_folder}
 
 removed_kind : (file : Name) (m1 m2 : Meaning) (there : Entry) → (state_in m1 file).now ≡ there → IsNoFolder there → Took m1 m2 (removing file there) → IsNoFolder (state_in m2 file).now
 removed_kind file m1 m2 Missing is kind took = subst (λ (e : Entry). IsNoFolder e) (sym (ap (λ (s : State). (s file).now) took.state ∙ is)) tt
@@ -31,12 +31,12 @@ still_can folder file inside some m1 m2 took there can =
 
 pub can_make_home : (id : ℕ) (folder : Name) → folder ≡ keyspace_folder id → folder_of (keyspace_folder id) ≡ codes "keyspaces" → (state : State) (records : List Fields) (t : Tree) → LiesInTree state records t → HasRoom state id → CanMakeFolder state folder
 can_make_home id folder at inside state records t lies room = record {
-  named = λ e. some_home id (sym at ∙ e);
-  housed = subst (λ (f : Name). IsThere (standing state) f) (sym (ap (λ (n : Name). folder_of n) at ∙ inside)) (inr (ap (λ (p : Place). p.now) lies.rests.catalog.keyspaces_folder));
+  named = λ e. some_folder id (sym at ∙ e);
+  housed = subst (λ (f : Name). IsThere (standing state) f) (sym (ap (λ (n : Name). folder_of n) at ∙ inside)) (inr (ap (λ (p : Place). p.now) lies.rests.catalog.home.keyspaces_folder));
   kind = subst (λ (n : Name). IsNoFile (state n).now) (sym at) room.folder;
 }
 
 -- `keyspaces` stands as before whatever was done in a keyspace's folder
 pub keyspaces_there : (id : ℕ) (old new : Meaning) (records : List Fields) (t : Tree) → LiesInTree (state_in old) records t → Within (keyspace_folder id) old new → IsThere (standing (state_in new)) (codes "keyspaces")
 keyspaces_there id old new records t lies run =
-    inr (ap (λ (p : Place). p.now) (within_state (keyspace_folder id) (some_home id) old new run (codes "keyspaces") (keyspaces_outside id) ∙ lies.rests.catalog.keyspaces_folder))
+    inr (ap (λ (p : Place). p.now) (within_state (keyspace_folder id) (some_folder id) old new run (codes "keyspaces") refl ∙ lies.rests.catalog.home.keyspaces_folder))

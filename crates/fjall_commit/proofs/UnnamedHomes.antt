@@ -23,21 +23,24 @@ use Rattle.fjall_files.specs.Names.{keyspace_folder, current_name, table_name}
 use Rattle.fjall_meta.specs.Keyspaces.{Keyspaces}
 use Rattle.fjall_catalog.specs.declared.catalog.Catalog.{Catalog}
 use Rattle.fjall_catalog.specs.declared.update.Update.{Update}
-use Rattle.fjall_catalog.specs.Catalog.{fields, first_of, is_counted, only}
 use Rattle.fjall_catalog.specs.Updates.{IsUpdate}
-use Rattle.fjall_catalog.proofs.Meanings.{regions_say}
-use Rattle.fjall_catalog.proofs.Naming.{bool_cases, table_under}
-use Rattle.fjall_catalog.proofs.Resting.{folder_left, rests_along}
-use Rattle.fjall_catalog.proofs.Runs as Runs
-use Rattle.fjall_catalog.proofs.Runs.{missing_now}
 use Rattle.fjall_catalog.proofs.Shapes.{first_fits}
-use Rattle.fjall_recovery.specs.Homes.{HasLast}
 use Rattle.fjall_recovery.proofs.Listed.{in_keyspaces}
-use Rattle.fjall_recovery.specs.Halves.{HasTree, Tree}
 use Rattle.fjall_recovery.specs.Places.{HasSafeHome, LiesInTree}
 use Rattle.fjall_commit.specs.Removals.{IsRemoved, IsUnused}
-use Rattle.fjall_commit.proofs.FolderNames.{outside, outside_test, not_under, some_home, folder_of-current, current_under, other_home, keyspaces_outside, within_keyspaces}
-use Rattle.fjall_commit.proofs.OtherFolders.{AreOthers, Beside, beside_along, beside_settled, settled_at, tree_left}
+use Rattle.fjall_files.proofs.Fitting.{folder_of-current}
+use Rattle.fjall_home.specs.Homes as homes
+use Rattle.fjall_home.specs.Homes.{is_counted, only}
+use Rattle.fjall_home.proofs.Naming.{current_under, some_folder, table_counts}
+use Rattle.fjall_home.proofs.Outside.{counted_outside, within_keyspaces}
+use Rattle.fjall_home.proofs.Removals.{missing_now}
+use Rattle.fjall_home.proofs.Resting.{region_home, rests_where}
+use Rattle.fjall_home.proofs.Views.{usual_region}
+use Rattle.fjall_catalog.specs.Catalog.{fields, first_of, home_of}
+use Rattle.fjall_catalog.proofs.Resting.{files_say, rests_with}
+use Rattle.fjall_recovery.specs.Halves.{HasTree, Tree, outside}
+use Rattle.fjall_recovery.proofs.Composing.{AreOthers, Beside, beside_along, beside_settled, not_under, outside_test, settled_at, settled_home, tree_left}
+use Rattle.fjall_commit.specs.Changes.{first_home}
 
 -- ---- calls within the folder, and syncs
 
@@ -48,51 +51,38 @@ module _ (id : ℕ) (records : List Fields) (t : Tree) (unused : IsUnused id t.k
   not_zero : 0 ≢ id
   not_zero e = let some = unused.positive in omega (arith, e, some)
 
-  -- all of tree 0 is outside
-  zero_out : (q : Name) → is_under (keyspace_folder 0) q ≡ true → is_under (keyspace_folder id) q ≡ false
-  zero_out q in_zero = other_home id 0 q unused.fits (omega arith) not_zero in_zero
-
-  counted_out : (q : Name) → is_counted q ≡ true → outside id q ≡ true
-  counted_out q counted = outside_test id q (elim (bool_cases (bytes_eq q (codes "keyspaces"))) [
-    | inl is ↦ subst (λ (n : Name). is_under (keyspace_folder id) n ≡ false) (sym ((bytes_eq-Decides q (codes "keyspaces")).0 is)) (keyspaces_outside id)
-    | inr not_it ↦ let in_zero : is_under (keyspace_folder 0) q ≡ true = rw not_it at counted in zero_out q in_zero
-  ])
+  -- all that tree 0 rests on is outside
+  counted_out : (q : Name) → is_counted 0 q ≡ true → is_under (keyspace_folder id) q ≡ false
+  counted_out q counts = counted_outside id 0 q unused.fits (omega arith) not_zero counts
 
   module _ (state : State) (lies : LiesInTree state records t) where
     others : AreOthers id t.keyspaces.living
     others k d lt = let given = lies.rests.catalog.are.given k d lt in let fits = lies.rests.catalog.are.fits in (omega (arith, given, fits), unused.unused k d lt)
 
     besides : Beside state t.keyspaces.living t.homes
-    besides = record { folder = lies.rests.catalog.keyspaces_folder; named = lies.rests.named; safe = lies.rests.homes }
+    besides = record { folder = lies.rests.catalog.home.keyspaces_folder; named = lies.rests.named; safe = lies.rests.homes }
 
     tree_at : (image : Image) → IsImageIn Survives (outside id) state image → P image
     tree_at image is =
         let rests = lies.rests.catalog in
-        tree_left id unused.fits state image is records t others besides lies.rests.made
-        (folder_left (outside id) state image is (outside_test id (codes "keyspaces") (keyspaces_outside id)) (outside_test id (keyspace_folder 0) (zero_out (keyspace_folder 0) (under_self (keyspace_folder 0)))) rests.keyspaces_folder rests.folder)
-        (regions_say (outside id) state image records t.last t.keyspaces counted_out rests is)
+        let region : (q : Name) → is_counted 0 q ≡ true → outside id q ≡ true = λ q counts. outside_test id q (counted_out q counts) in
+        let home = region_home (outside id) state image 0 records (home_of t.last rests.texts) (omega arith) region rests.home (usual_region (outside id) state image is) in
+        tree_left id unused.fits state image is records t others besides lies.rests.made home.folder (files_say state image records t.last t.keyspaces rests home.files)
 
   lies_along : (old new : State) → SameOutside (is_under (keyspace_folder id)) old new → LiesInTree old records t → LiesInTree new records t
   lies_along old new agree lies =
       let besides = beside_along id unused.fits old new t.keyspaces.living t.homes agree (others old lies) (besides old lies) in
+      let same : (q : Name) → is_counted 0 q ≡ true → new q ≡ old q = λ q counts. agree q (counted_out q counts) in
+      let rests = lies.rests.catalog in
       record {
         rests = record {
           named = besides.named;
-          catalog = rests_along old new records t.last t.keyspaces (record {
-            keyspaces_folder = agree (codes "keyspaces") (keyspaces_outside id);
-            folder = agree (keyspace_folder 0) (zero_out (keyspace_folder 0) (under_self (keyspace_folder 0)));
-            current = agree (current_name 0) (zero_out (current_name 0) (current_under 0));
-            table = table t.last.table;
-          }) lies.rests.catalog;
+          catalog = rests_with old new records t.last t.keyspaces rests (rests_where old new 0 records (home_of t.last rests.texts) same rests.home);
           made = lies.rests.made;
           homes = besides.safe;
         };
-        free = λ i above below. ap (λ (p : Place). p.now) (agree (table_name 0 i) (zero_out (table_name 0 i) (table_under i))) ∙ lies.free i above below;
+        free = λ i above below. ap (λ (p : Place). p.now) (same (table_name 0 i) (table_counts 0 i)) ∙ lies.free i above below;
       }
-    where
-      table : (found : Option TableInfo) → IfSome found (λ i. new (table_name 0 i.id) ≡ old (table_name 0 i.id))
-      table None = tt
-      table (Some i) = agree (table_name 0 i.id) (zero_out (table_name 0 i.id) (table_under i.id))
 
   -- at each moment and at the end all is as it was
   pub record Still (old new : Meaning) : Type 0 where
@@ -104,17 +94,19 @@ module _ (id : ℕ) (records : List Fields) (t : Tree) (unused : IsUnused id t.k
 
   within_on : (old mid new : Meaning) → Still old mid → Within (keyspace_folder id) mid new → Still old new
   within_on old mid new so_far run = record {
-    run = runs_on old mid new P so_far.run (leaves_outside (outside id) (keyspace_folder id) (some_home id) (not_under id) mid new P run (tree_at (state_in mid) so_far.lies));
-    lies = lies_along (state_in mid) (state_in new) (within_state (keyspace_folder id) (some_home id) mid new run) so_far.lies;
+    run = runs_on old mid new P so_far.run (leaves_outside (outside id) (keyspace_folder id) (some_folder id) (not_under id) mid new P run (tree_at (state_in mid) so_far.lies));
+    lies = lies_along (state_in mid) (state_in new) (within_state (keyspace_folder id) (some_folder id) mid new run) so_far.lies;
   }
 
   lies_settled : (mid new : Meaning) (folder : Name) → Took mid new (SyncFolder folder ∷ []) → LiesInTree (state_in mid) records t → LiesInTree (state_in new) records t
   lies_settled mid new folder took lies =
       let besides = subst (λ (s : State). Beside s t.keyspaces.living t.homes) (sym took.state) (beside_settled (state_in mid) folder t.keyspaces.living t.homes (besides (state_in mid) lies)) in
+      let rests = lies.rests.catalog in
+      let h = home_of t.last rests.texts in
       record {
         rests = record {
           named = besides.named;
-          catalog = (Runs.synced records t.last t.keyspaces mid mid new folder (Runs.start records t.last t.keyspaces mid lies.rests.catalog) took).rests;
+          catalog = rests_with (state_in mid) (state_in new) records t.last t.keyspaces rests (subst (λ (s : State). homes.Rests s 0 records h) (sym took.state) (settled_home (state_in mid) folder 0 records h rests.home));
           made = lies.rests.made;
           homes = besides.safe;
         };
@@ -176,31 +168,30 @@ made folder current m1 m2 new text (Ok done) inside some there taken filling run
 pub number_small : (old : Catalog) (s : Keyspaces) (number : ℕ) (u : Update) → IsUpdate old s number u → number < 2 ^ 63
 number_small old s number u is = subst (λ (n : Option ℕ). IfSome n (λ m. m < 2 ^ 63)) is.persisted is.is_record.consistent.persisted
 
-first_is_last : (number : ℕ) → number < 2 ^ 63 → HasLast (record_text (fields (first_of number))) (fields (first_of number))
-first_is_last number small =
-    let is = first_fits (Some number) 0 small (omega arith) in
-    let one : List Fields = fields (first_of number) ∷ [] in
-    let text : flat_map record_text one ≡ record_text (fields (first_of number)) = flat_map-cons record_text (fields (first_of number)) [] ∙ append-nil (record_text (fields (first_of number))) in
-    record {
-      records = one;
-      end = length (flat_map record_text one);
-      whole = subst (λ (l : List ℕ). IsRecords l one (length (flat_map record_text one))) text (texts_are_records one (is, tt));
-      is = refl;
-      plain = record { persisted = refl; tables = refl; clears = refl };
-    }
+-- the records of a keyspace that was made: the first one alone
+first_text : (number : ℕ) → flat_map record_text (fields (first_of number) ∷ []) ≡ record_text (fields (first_of number))
+first_text number = flat_map-cons record_text (fields (first_of number)) [] ∙ append-nil (record_text (fields (first_of number)))
 
 pub home_safe : (id number : ℕ) (m1 m2 new : Meaning) (text : List ℕ) (r : Result Unit Error) → id < 2 ^ 64 → number < 2 ^ 63 → text ≡ record_text (fields (first_of number)) → IsMade (state_in m1) (keyspace_folder id) (current_name id) text
-    → Took m1 m2 (SyncFolder (keyspace_folder id) ∷ []) → OnOk r (Took m2 new (SyncFolder (codes "keyspaces") ∷ [])) → OnOk r (HasSafeHome (state_in new) id (fields (first_of number)))
+    → Took m1 m2 (SyncFolder (keyspace_folder id) ∷ []) → OnOk r (Took m2 new (SyncFolder (codes "keyspaces") ∷ [])) → OnOk r (state_in new (codes "keyspaces") ≡ only Folder → HasSafeHome (state_in new) id (first_home number))
 home_safe id number m1 m2 new text (Err e) small below is made first then = tt
-home_safe id number m1 m2 new text (Ok done) small below is made first then =
+home_safe id number m1 m2 new text (Ok done) small below is made first then = λ outer.
     let ok : Result Unit Error = Ok done in
+    let one : List Fields = fields (first_of number) ∷ [] in
     let safe : IsSafe (state_in m2) (current_name id) text = safe_file (keyspace_folder id) (current_name id) (folder_of-current id) m1 m1 m2 text ok made.file_now first in
     let there : (state_in m2 (keyspace_folder id)).now ≡ Folder = ap (λ (s : State). (s (keyspace_folder id)).now) first.state ∙ settle-now (state_in m1) (keyspace_folder id) (keyspace_folder id) ∙ made.folder_now in
+    let settled : IsSafe (state_in new) (current_name id) text = ap (λ (s : State). s (current_name id)) then.state ∙ settled_at (state_in m2) (codes "keyspaces") (current_name id) (File text []) safe ∙ safe in
     record {
-      folder = ap (λ (s : State). s (keyspace_folder id)) then.state ∙ settle-in (state_in m2) (codes "keyspaces") (keyspace_folder id) (in_keyspaces id small) ∙ ap (λ (e : Entry). only e) there;
-      text = text;
-      current = ap (λ (s : State). s (current_name id)) then.state ∙ settled_at (state_in m2) (codes "keyspaces") (current_name id) (File text []) safe ∙ safe;
-      last_is = subst (λ (l : List ℕ). HasLast l (fields (first_of number))) (sym is) (first_is_last number below);
+      records = one;
+      rests = record {
+        keyspaces_folder = outer;
+        folder = ap (λ (s : State). s (keyspace_folder id)) then.state ∙ settle-in (state_in m2) (codes "keyspaces") (keyspace_folder id) (in_keyspaces id small) ∙ ap (λ (e : Entry). only e) there;
+        current = subst (IsSafe (state_in new) (current_name id)) (is ∙ sym (first_text number)) settled;
+        each = (first_fits (Some number) 0 below (omega arith), tt);
+        last_is = refl;
+        tables = tt;
+      };
+      plain = record { persisted = refl; tables = refl; clears = refl };
     }
 
 -- ---- names as the call has them
@@ -273,4 +264,4 @@ nothing_inside state folder some housed gone name inside = of (state name).now r
 -- Where the folder is missing for good, nothing of the keyspace is left.
 pub all_removed : (id : ℕ) (state : State) (r : Result Unit Error) → IsHoused state → OnOk r (state (keyspace_folder id) ≡ only Missing) → OnOk r (IsRemoved id state)
 all_removed id state (Err e) housed gone = tt
-all_removed id state (Ok done) housed gone = record { folder = gone; inside = nothing_inside state (keyspace_folder id) (some_home id) housed (ap (λ (p : Place). p.now) gone) }
+all_removed id state (Ok done) housed gone = record { folder = gone; inside = nothing_inside state (keyspace_folder id) (some_folder id) housed (ap (λ (p : Place). p.now) gone) }

@@ -9,17 +9,24 @@ use Rattle.fjall_catalog.specs.Catalog.{fields, first_of}
 use Rattle.fjall_catalog.specs.Updates.{IsUpdate}
 use Rattle.fjall_recovery.specs.Folders.{AreMade, past_record}
 use Rattle.fjall_recovery.specs.Halves.{HasTree, Tree}
-use Rattle.fjall_recovery.specs.Places.{HaveSafeHomes, homes_without, LiesInTree}
+use Rattle.fjall_recovery.specs.Places.{HaveSafeHomes, LiesInTree}
+use Rattle.fjall_recovery.specs.Homes.{plain_home}
+use Rattle.fjall_home.specs.Homes.{Home}
+use Rattle.std.specs.FinMap.{insert, remove}
 use Rattle.fjall_commit.specs.declared.creation.Creation.{Creation}
 use Rattle.fjall_catalog.specs.declared.update.Update.{Update}
 use Rattle.fjall_commit.specs.Removals.{IsUnused}
 
--- the tree after the change of this number made a keyspace of this name; the keyspace's first record says so
+-- the home of a keyspace that the change of this number made: its first record says so
+abbrev pub first_home : ℕ → Home
+first_home number = plain_home (fields (first_of number))
+
+-- the tree after the change of this number made a keyspace of this name
 abbrev pub with_home : List ℕ → List (List ℕ) → ℕ → Catalog → Tree → Tree
 with_home name options number next t = record {
   last = next;
   keyspaces = with_keyspace name options number t.keyspaces;
-  homes = t.homes ++ fields (first_of number) ∷ [];
+  homes = insert t.homes t.keyspaces.next (first_home number);
 }
 
 -- the tree after the keyspace of this id was deleted
@@ -27,7 +34,7 @@ abbrev pub without_home : ℕ → Catalog → Tree → Tree
 without_home id next t = record {
   last = next;
   keyspaces = without_keyspace id t.keyspaces;
-  homes = homes_without id t.keyspaces.living t.homes;
+  homes = remove t.homes id;
 }
 
 -- What is prepared of a creation: the names of the new keyspace's folder and of its file, its first record, and the

@@ -3,7 +3,7 @@ use Rattle.std.specs.Prelude.{◌≡◌, ◌≢◌, ℕ, ◌<◌, ◌^◌, [], �
 use Rattle.fjall_base.specs.Disk.{IsEmpty, Missing, State, Meaning, Name, state_in}
 use Rattle.fjall_meta.specs.Keyspaces.{Keyspaces}
 use Rattle.fjall_files.specs.Names.{keyspace_folder, current_name}
-use Rattle.fjall_catalog.specs.Catalog.{only}
+use Rattle.fjall_home.specs.Homes.{only}
 use Rattle.fjall_commit.specs.declared.removal.Removal.{Removal}
 use Rattle.std.specs.declared.alloc.Global.{Global}
 use Rattle.fjall_files.specs.Regions.{HoldsOnly, is_under}

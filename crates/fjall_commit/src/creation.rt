@@ -4,11 +4,12 @@ ghost use Rattle.std.specs.Prelude.{◌≡◌, ◌++◌, ◌∷◌, [], true, If
 ghost use Rattle.fjall_base.specs.Disk.{File, Folder, LeavesOnly, OnlyFaults, folder_of, state_in};
 ghost use Rattle.fjall_files.specs.Regions.{IsMade, Within, is_under};
 ghost use Rattle.fjall_files.specs.Tidy.{FitsAt, StaysTidy};
-ghost use Rattle.fjall_catalog.specs.Catalog.{fields, first_of};
+ghost use Rattle.fjall_home.specs.Homes.{only};
+ghost use Rattle.fjall_catalog.specs.Catalog.{fields};
 ghost use Rattle.fjall_catalog.specs.Updates.{IsPreparingRefusal, IsTableGone};
 ghost use Rattle.fjall_recovery.specs.Halves.{HasTree};
 ghost use Rattle.fjall_recovery.specs.Places.{HasSafeHome, LiesInTree};
-ghost use Rattle.fjall_commit.specs.Changes.{HasEither, HasRoom, IsCreation, ForCreation, ForCreationOn, ForHomeOn, ForNewId, ServesFirstFile, ServesHome};
+ghost use Rattle.fjall_commit.specs.Changes.{HasEither, HasRoom, IsCreation, ForCreation, ForCreationOn, ForHomeOn, ForNewId, ServesFirstFile, ServesHome, first_home};
 
 use crate::change::change_tree;
 use fjall_base::{Disk, Result};
@@ -76,8 +77,9 @@ fn build_home<D: Disk>(disk: &mut D, creation: &Creation) -> Result<()>
         LeavesOnly (D.meaning disk.old) (D.meaning disk.new) (λ image. HasTree image t)) }
     // They lie as they did, also where the call fails.
     ensures lies { IsTrue D.honest → ForHomeOn (D.meaning disk.old) creation.now (λ records t. LiesInTree (state_in (D.meaning disk.new)) records t) }
-    ensures home { IsTrue D.honest → ForNewId creation.now (λ id number.
-        OnOk result (HasSafeHome (state_in (D.meaning disk.new)) id (fields (first_of number)))) }
+    // Where the folder of all keyspaces is safe, so is all of the new home.
+    ensures home { IsTrue D.honest → ForNewId creation.now (λ id number. OnOk result (state_in (D.meaning disk.new) (codes "keyspaces") ≡ only Folder
+        → HasSafeHome (state_in (D.meaning disk.new)) id (first_home number))) }
     // A folder that is already there may be used; a file in its place, or a folder in that of its file, no disk can pass by.
     ensures served { IsTrue D.honest → ServesHome (D.meaning disk.old) (D.meaning disk.new) creation.now }
     ensures cause { OnlyFaults (D.meaning disk.old) (D.meaning disk.new) result }

@@ -5,7 +5,7 @@ ghost use Rattle.fjall_base.specs.Disk.{LeavesOnly, Missing, Name, OnlyFaults, s
 ghost use Rattle.fjall_files.specs.Regions.{HoldsOnly, Within};
 ghost use Rattle.fjall_files.specs.Names.{keyspace_folder};
 ghost use Rattle.fjall_files.specs.Tidy.{StaysTidy};
-ghost use Rattle.fjall_catalog.specs.Catalog.{only};
+ghost use Rattle.fjall_home.specs.Homes.{only};
 ghost use Rattle.fjall_recovery.specs.Halves.{HasTree};
 ghost use Rattle.fjall_recovery.specs.Places.{LiesInTree};
 ghost use Rattle.fjall_commit.specs.Removals.{IsRemoval, IsRemoved, AreUnder, ForRemoval, ForRemovalOn, HoldsOnlyFiles, ServesRemoval};

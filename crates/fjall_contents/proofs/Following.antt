@@ -26,7 +26,8 @@ use Rattle.fjall_views.proofs.Tests.{all_of}
 use Rattle.fjall_contents.specs.Contents.{AreWithin, IsWithin, Stored, clears_held, commands_beyond, counts_beyond, is_beyond, journal_beyond, map_held, nothing_stored, store_held, versions_held}
 use Rattle.fjall_contents.proofs.Beyond.{clear_beyond, clear_where, clears_are_below, clears_more, entries_beyond, entries_where, versions_are_below, versions_more}
 use Rattle.fjall_contents.proofs.Commanding.{commands_at, commands_change_maps, commands_where}
-use Rattle.fjall_contents.proofs.Held.{held_at, living_has, others_have_none}
+use Rattle.fjall_versions.proofs.Ids.{living_has}
+use Rattle.fjall_contents.proofs.Held.{held_at, others_have_none}
 
 -- ---- numbers
 
@@ -53,7 +54,7 @@ last_number least batches b sound =
 -- ---- one map
 
 -- where there was a map there is one
-some_after : (pairs : Pairs) (id : ℕ) (versions : List Version) → Some (held (slot_after (Some pairs) id versions)) ≡ slot_after (Some pairs) id versions
+pub some_after : (pairs : Pairs) (id : ℕ) (versions : List Version) → Some (held (slot_after (Some pairs) id versions)) ≡ slot_after (Some pairs) id versions
 some_after pairs id [] = refl
 some_after pairs id (v ∷ versions) = by (id == v.keyspace_id) (some_after pairs id versions) (some_after (altered pairs v.key v.value) id versions)
   where

@@ -1,5 +1,5 @@
 -- What the store has under the id of a keyspace.
-use Rattle.std.proofs.Common.{◌≡◌, ℕ, ◌^◌, ◌==◌, List, All, Option, None, Some, unwrap_or, refl, sym, ◌∙◌, ap, subst}
+use Rattle.std.proofs.Common.{◌≡◌, ℕ, ◌^◌, List, All, Option, None, Some, unwrap_or, refl, sym, ◌∙◌, ap}
 use Rattle.std.proofs.lemmas.List.Elements.{All-weaker}
 use Rattle.std.specs.Option.{option_map}
 use Rattle.std.specs.FinMap.{empty, get}
@@ -9,17 +9,14 @@ use Rattle.fjall_journal.specs.Batches.{Shown}
 use Rattle.fjall_meta.specs.declared.living.LivingKeyspace.{LivingKeyspace}
 use Rattle.fjall_meta.specs.Keyspaces.{Keyspaces, keyspace_at}
 use Rattle.fjall_versions.specs.Replays.{by_id}
-use Rattle.fjall_versions.proofs.Found.{found_has, found_passes}
+use Rattle.fjall_versions.proofs.Ids.{living_has, own_id}
 use Rattle.fjall_versions.proofs.Living.{get_by_id}
-use Rattle.fjall_versions.proofs.Slots.{same_id, same_maps}
+use Rattle.fjall_versions.proofs.Slots.{same_maps}
 use Rattle.fjall_views.specs.Views.{value_at}
 use Rattle.fjall_views.proofs.Shown.{same_views}
 use Rattle.fjall_contents.specs.Contents.{Stored, clears_held, map_held, store_held, versions_held}
 
 -- ---- by ids
-
-own_id : (living : List LivingKeyspace) (id : ℕ) (k : LivingKeyspace) → keyspace_at id living ≡ Some k → k.id ≡ id
-own_id living id k e = same_id k.id id (found_passes (λ j. j.id == id) living k e)
 
 -- what is told of ids stands under each that lives
 pub has_at : {X : Type 0} (has : ℕ → X) (living : List LivingKeyspace) (id : ℕ)
@@ -30,11 +27,6 @@ has_at {X} has living id = get_by_id (λ k. has k.id) living id ∙ by (keyspace
         → option_map (λ (k : LivingKeyspace). has k.id) found ≡ option_map (λ (k : LivingKeyspace). has id) found
     by None e = refl
     by (Some k) e = ap (λ i. Some (has i)) (own_id living id k e)
-
--- and what holds of all that live holds of it
-pub living_has : (P : ℕ → Type 0) (living : List LivingKeyspace) (id : ℕ) (k : LivingKeyspace) → keyspace_at id living ≡ Some k
-    → All (λ j. P j.id) living → P id
-living_has P living id k e all = subst P (own_id living id k e) (found_has (λ j. j.id == id) (λ j. P j.id) living k e all)
 
 -- ---- the store's maps
 

@@ -1,5 +1,7 @@
-pub mod Held
 pub mod Beyond
 pub mod Commanding
 pub mod Following
 pub mod Keyspacing
+pub mod Held
+pub mod Loaded
+pub mod Adding

@@ -2,7 +2,7 @@
 --
 -- What is numbered at most a keyspace's persisted number lies in its tables and in its last record. Of the batches those
 -- beyond that number count.
-use Rattle.std.specs.Prelude.{◌≡◌, ℕ, ◌^◌, Bool, true, false, ◌&&◌, nat_lt, List, [], ◌∷◌, ◌++◌, map, filter, All, Option, Some, None}
+use Rattle.std.specs.Prelude.{◌≡◌, ℕ, ◌^◌, Bool, true, false, ◌&&◌, nat_lt, List, [], ◌++◌, map, filter, All, Option, Some, None}
 use Rattle.std.specs.List.{flat_map}
 use Rattle.fjall_base.specs.Pairs.{Pairs}
 use Rattle.fjall_base.specs.Store.{Store, Command, Clear}

@@ -28,7 +28,7 @@ use Rattle.fjall_state.specs.Remembered.{Remembered}
 use Rattle.fjall_core.specs.Holding.{Held}
 use Rattle.fjall_core.specs.Durables.{Durable, Lies, Rests, StandsAmid, StaysFinished}
 use Rattle.fjall_core.specs.Standing.{Poisons, StandsOn}
-use Rattle.fjall_core.proofs.Refusals.{bool_cases}
+use Rattle.fjall_base.proofs.Names.{bool_cases}
 use Rattle.fjall_core.proofs.CrashesInRuns.{amid_more}
 use Rattle.fjall_core.proofs.CrashImages.{folder_amid}
 use Rattle.fjall_core.proofs.RootUnchanged.{leaves_beside, within_root, writing_along}

@@ -6,7 +6,6 @@ use Rattle.fjall_base.specs.Disk.{LeavesOnly, state_in}
 use Rattle.fjall_base.proofs.Moments.{weaken}
 use Rattle.fjall_files.specs.Regions.{Within}
 use Rattle.fjall_journal.specs.Batches.{shown}
-use Rattle.fjall_tree.specs.Records.{Fields}
 use Rattle.fjall_meta.specs.Keyspaces.{AreKeyspaces, with_keyspace, without_keyspace}
 use Rattle.fjall_catalog.specs.declared.catalog.Catalog.{Catalog}
 use Rattle.fjall_catalog.specs.declared.update.Update.{Update}
@@ -20,6 +19,7 @@ use Rattle.fjall_recovery.specs.Folders.{past_record}
 use Rattle.fjall_recovery.specs.Folders as folders
 use Rattle.fjall_recovery.specs.Journals.{batches_in}
 use Rattle.fjall_recovery.specs.Halves.{HasTree, Tree}
+use Rattle.fjall_recovery.specs.Homes.{Homes}
 use Rattle.fjall_recovery.specs.Places.{Journaling, LiesInRoot, LiesInTree, contents_with, journals_with}
 use Rattle.fjall_recovery.proofs.Roots.{crashes_leave_the_root, fewer_sound}
 use Rattle.fjall_commit.specs.declared.creation.Creation.{Creation}
@@ -35,7 +35,7 @@ use Rattle.fjall_core.proofs.RootUnchanged.{leaves_beside}
 use Rattle.fjall_core.proofs.JournalWrites.{held_on}
 
 -- the tree of a core
-abbrev pub tree_held : Held → List Fields → Tree
+abbrev pub tree_held : Held → Homes → Tree
 tree_held core homes = record { last = core.catalog; keyspaces = core.memory.keyspaces; homes = homes }
 
 same_tree : (core : Held) (d : Durable) (lies : Lies core d) → tree_held core lies.tree.homes ≡ lies.tree

@@ -19,7 +19,7 @@ use Rattle.fjall_meta.specs.declared.living.LivingKeyspace.{LivingKeyspace}
 use Rattle.fjall_meta.specs.Entries.{entries_of, name_entry, option_entries, option_entry}
 use Rattle.fjall_meta.specs.Keyspaces.{AreKeyspaces, Keyspaces, is_name, keyspace_at, with_keyspace, without_keyspace}
 use Rattle.fjall_meta.proofs.Rising.{Rises, from_pairs}
-use Rattle.fjall_catalog.specs.declared.update.TableFile.{TableFile}
+use Rattle.fjall_home.specs.declared.writing.TableFile.{TableFile}
 use Rattle.fjall_catalog.specs.Updates.{IsNewTable, IsTooLong}
 use Rattle.fjall_catalog.proofs.Pairs.{pairs_some}
 use Rattle.fjall_versions.specs.declared.version.Version.{Version}
@@ -30,7 +30,7 @@ use Rattle.fjall_versions.proofs.Naming.{living_names, settings}
 use Rattle.fjall_versions.proofs.Slots.{same_id}
 use Rattle.fjall_state.specs.Machine.{HasLongOption, is_living}
 use Rattle.fjall_state.proofs.Facts.{counted_is}
-use Rattle.fjall_core.proofs.Refusals.{bool_cases}
+use Rattle.fjall_base.proofs.Names.{bool_cases}
 
 -- ---- whether a table is written
 
@@ -44,7 +44,7 @@ unwritten : (next after : ℕ) (entries : List MetaEntry) (info : Option TableIn
 unwritten next after entries None None none new = new.1
 unwritten next after entries None (Some file) none new = absurd new
 unwritten next after entries (Some t) None none new = absurd new
-unwritten next after entries (Some t) (Some file) none new = let some = pairs_some file.bytes.items entries new.1.is.table in absurd (omega (arith, some, none))
+unwritten next after entries (Some t) (Some file) none new = let some = pairs_some file.bytes.items entries new.1.is.is.table in absurd (omega (arith, some, none))
 
 -- each keyspace has a pair
 pairs_of : (living : List LivingKeyspace) → length living ≤ length (entries_of living)

@@ -18,6 +18,7 @@ use Rattle.fjall_versions.proofs.Naming.{living_names}
 use Rattle.fjall_versions.proofs.Replaying.{one_item, one_more_version}
 use Rattle.fjall_versions.proofs.Slots.{fold-append}
 use Rattle.fjall_catalog.specs.Catalog.{fields}
+use Rattle.fjall_recovery.specs.Homes.{lasts}
 use Rattle.fjall_recovery.specs.Folders.{past_records}
 use Rattle.fjall_recovery.specs.Places.{Journaling}
 use Rattle.fjall_commit.specs.Journaling.{CanFollow, IsWriting, LeavesRoot, next_number, with_batch}
@@ -158,7 +159,7 @@ write_lies old new base pending id key o goes admitted grows lies out =
     let commands : journal_commands t.keyspaces (map shown (batch ∷ [])) ≡ write_of id key (value_in o) ∷ [] =
     ap (λ (s : Keyspaces). journal_commands s (map shown (batch ∷ []))) lies.keyspaces ∙ batch_commands old id key o admitted in
     let number = next-batch goes j batch in
-    let past = past_records (fields t.last ∷ t.homes) in
+    let past = past_records (fields t.last ∷ lasts t.keyspaces.living t.homes) in
     record {
       journals = with_batch goes j batch;
       records = lies.records;

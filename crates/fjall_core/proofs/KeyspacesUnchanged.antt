@@ -1,36 +1,25 @@
 -- Keyspaces lie as they did where only the root changed.
-use Rattle.std.proofs.Common.{◌≡◌, ℕ, true, Option, Some, None, List, [], refl, sym, ◌∙◌, ap, subst, codes, All}
+use Rattle.std.proofs.Common.{◌≡◌, ℕ, true, List, [], refl, sym, ◌∙◌, ap, subst, codes}
 use Rattle.fjall_base.specs.Disk.{Name, Place, State}
+use Rattle.fjall_files.specs.Names.{table_name}
 use Rattle.fjall_files.proofs.Under.{in_folder}
-use Rattle.fjall_table.specs.declared.table_info.TableInfo.{TableInfo}
 use Rattle.fjall_tree.specs.Records.{Fields}
-use Rattle.fjall_files.specs.Names.{current_name, keyspace_folder, table_name}
-use Rattle.fjall_meta.specs.declared.entry.MetaEntry.{MetaEntry}
-use Rattle.fjall_meta.specs.declared.living.LivingKeyspace.{LivingKeyspace}
-use Rattle.fjall_meta.specs.Entries.{entries_of}
-use Rattle.fjall_catalog.specs.Catalog.{AreSafe}
+use Rattle.fjall_home.specs.Homes as homes
+use Rattle.fjall_home.specs.Homes.{Home}
+use Rattle.fjall_home.proofs.Resting.{rests_where}
+use Rattle.fjall_catalog.specs.Catalog.{home_of}
+use Rattle.fjall_catalog.proofs.Resting.{rests_with}
 use Rattle.fjall_recovery.specs.Halves.{Tree, is_of_keyspaces}
-use Rattle.fjall_recovery.specs.Places.{HasSafeHome, IsNeverFolder, LiesInTree}
-use Rattle.fjall_commit.proofs.Homes.{homes_along}
+use Rattle.fjall_recovery.specs.Places.{IsNeverFolder, LiesInTree}
+use Rattle.fjall_recovery.proofs.Housing.{homes_along}
+use Rattle.fjall_recovery.proofs.Named.{counted_within}
 
 -- what stands in `keyspaces` is the same
 abbrev pub SameKeyspaces : State → State → Type 0
 SameKeyspaces old new = (q : Name) → is_of_keyspaces q ≡ true → new q ≡ old q
 
-table_along : (old new : State) → SameKeyspaces old new → (info : Option TableInfo) (entries : List MetaEntry) → AreSafe old info entries → AreSafe new info entries
-table_along old new same None entries safe = safe
-table_along old new same (Some info) entries safe = record { bytes = safe.bytes; safe = same (table_name 0 info.id) refl ∙ safe.safe; is = safe.is }
-
-home_along : (old new : State) → SameKeyspaces old new → (id : ℕ) (last : Fields) → HasSafeHome old id last → HasSafeHome new id last
-home_along old new same id last home = record {
-  folder = same (keyspace_folder id) refl ∙ home.folder;
-  text = home.text;
-  current = same (current_name id) refl ∙ home.current;
-  last_is = home.last_is;
-}
-
-every : (living : List LivingKeyspace) → All (λ k. Unit {0}) living
-every living k d lt = tt
+home_along : (old new : State) → SameKeyspaces old new → (id : ℕ) (records : List Fields) (h : Home) → homes.Rests old id records h → homes.Rests new id records h
+home_along old new same id records h rests = rests_where old new id records h (λ q counts. same q (counted_within id q counts)) rests
 
 in_root : codes "keyspaces" ≡ [] → ⊥
 in_root e = cc
@@ -42,18 +31,10 @@ tree_along old new records t same lies =
     record {
       rests = record {
         named = λ name at none. subst IsNeverFolder (sym (same name (in_folder (codes "keyspaces") name in_root at))) (rests.named name at none);
-        catalog = record {
-          keyspaces_folder = same (codes "keyspaces") refl ∙ catalog.keyspaces_folder;
-          folder = same (keyspace_folder 0) refl ∙ catalog.folder;
-          current = same (current_name 0) refl ∙ catalog.current;
-          each = catalog.each;
-          last_is = catalog.last_is;
-          entries = table_along old new same t.last.table (entries_of t.keyspaces.living) catalog.entries;
-          next = catalog.next;
-          are = catalog.are;
-        };
+        catalog = rests_with old new records t.last t.keyspaces catalog (home_along old new same 0 records (home_of t.last catalog.texts) catalog.home);
         made = rests.made;
-        homes = homes_along old new (λ id. Unit {0}) (λ id last any home. home_along old new same id last home) t.keyspaces.living t.homes (every t.keyspaces.living) rests.homes;
+        homes = homes_along (λ id. Unit {0}) t.keyspaces.living t.homes (λ k d lt. tt) old new
+            (λ id h any home. record { records = home.records; rests = home_along old new same id home.records h home.rests; plain = home.plain }) rests.homes;
       };
       free = λ id least small. ap (λ (p : Place). p.now) (same (table_name 0 id) refl) ∙ lies.free id least small;
     }

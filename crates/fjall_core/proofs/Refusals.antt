@@ -16,10 +16,6 @@ use Rattle.fjall_state.specs.Machine.{Facts, State, handles_of, is_read, is_unkn
 use Rattle.fjall_core.specs.Crashes.{asked, attempt, IsSync}
 use Rattle.fjall_core.specs.Standing.{is_io}
 
-pub bool_cases : (b : Bool) → (b ≡ true) ⊎ (b ≡ false)
-bool_cases true = inl refl
-bool_cases false = inr refl
-
 -- where none is due, no cause holds
 pub none_due : (refusals : List (Bool × Error)) → first_due refusals ≡ None → AllByRecursion (λ refusal. refusal.0 ≡ false) refusals
 none_due [] none = tt

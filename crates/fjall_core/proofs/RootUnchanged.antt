@@ -17,7 +17,7 @@ use Rattle.fjall_recovery.proofs.Named.{journal_within, keyspaces_not_misnamed, 
 use Rattle.fjall_commit.specs.Journaling.{IsWriting}
 use Rattle.fjall_commit.proofs.RootAfterWrites.{active_fits}
 use Rattle.fjall_core.specs.Durables.{StaysFinished}
-use Rattle.fjall_core.proofs.Refusals.{bool_cases}
+use Rattle.fjall_base.proofs.Names.{bool_cases}
 use Rattle.fjall_core.proofs.CrashImages.{root_finished}
 
 -- what stands outside `keyspaces` is the same

@@ -1,5 +1,5 @@
 -- What came of the work of a call is what the call owes, and a crash leaves what it may.
-use Rattle.std.proofs.Common.{◌≡◌, ℕ, false, List, [], IfSome, Option, None, Some, refl, sym, ◌∙◌, ap, subst}
+use Rattle.std.proofs.Common.{◌≡◌, ℕ, false, List, [], ◌∷◌, IfSome, Option, None, Some, refl, sym, ◌∙◌, ap, subst}
 use Rattle.std.proofs.lemmas.Bool.{true≢false}
 use Rattle.fjall_base.specs.Store.{Command}
 use Rattle.fjall_base.specs.Disk.{Meaning, state_in}
@@ -9,9 +9,9 @@ use Rattle.fjall_base.specs.declared.error.Error.TheVariants.{Io, OutOfMemory, V
 use Rattle.fjall_files.specs.Regions.{IsSafe}
 use Rattle.fjall_table.specs.declared.table_info.TableInfo.{TableInfo}
 use Rattle.fjall_files.specs.Names.{table_name}
-use Rattle.fjall_meta.specs.declared.entry.MetaEntry.{MetaEntry}
 use Rattle.fjall_catalog.specs.declared.catalog.Catalog.{Catalog}
-use Rattle.fjall_catalog.specs.Catalog.{AreSafe}
+use Rattle.fjall_home.specs.Homes.{AreSafe}
+use Rattle.fjall_catalog.specs.Catalog.{listed}
 use Rattle.fjall_catalog.specs.Updates.{IsTableGone}
 use Rattle.fjall_files.specs.Tidy.{IsTidy, StaysTidy}
 use Rattle.fjall_files.proofs.Tidying.{stays_start}
@@ -116,11 +116,12 @@ answer_serves core call reply owes disk blames none unsynced =
 table_there : (core : Held) (d : Durable) → StandsOn core d → core.memory.poisoned ≡ false → HasTable (state_in core.disk) core.catalog
 table_there core d on well =
     let lies = on.lies well in
-    subst (λ (m : Meaning). HasTable (state_in m) core.catalog) on.same (subst (λ (c : Catalog). HasTable (state_in d.meaning) c) lies.last (of (state_in d.meaning) lies.tree.last.table _ lies.in_tree.rests.catalog.entries))
+    subst (λ (m : Meaning). HasTable (state_in m) core.catalog) on.same (subst (λ (c : Catalog). HasTable (state_in d.meaning) c) lies.last (of (state_in d.meaning) lies.tree.last.table _ lies.in_tree.rests.catalog.home.tables))
   where
-    of : (state : disk.State) (table : Option TableInfo) (entries : List MetaEntry) → AreSafe state table entries → IfSome table (λ t. (bytes : List ℕ) × IsSafe state (table_name 0 t.id) bytes)
-    of state None entries is = tt
-    of state (Some t) entries is = (is.bytes, is.safe)
+    of : (state : disk.State) (table : Option TableInfo) (texts : List (List ℕ)) → AreSafe state 0 (listed table) texts → IfSome table (λ t. (bytes : List ℕ) × IsSafe state (table_name 0 t.id) bytes)
+    of state None texts safe = tt
+    of state (Some t) [] safe = absurd safe
+    of state (Some t) (bytes ∷ texts) safe = (bytes, safe.0)
 
 -- The old table is gone, and the new one is there wherever the call leads the core.
 pub replaces_table : (old new : Held) (call : Call) (reply : Reply) → IsTableGone (state_in new.disk) old.catalog → new.memory.poisoned ≡ false → ((s : State) (d : Durable) → StandsFor old s → StandsOn old d → Led new s d call reply) → ReplacesTable old new

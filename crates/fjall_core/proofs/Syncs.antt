@@ -10,6 +10,7 @@ use Rattle.fjall_journal.specs.declared.persist_mode.PersistMode.TheVariants.{Bu
 use Rattle.fjall_catalog.specs.Catalog.{fields}
 use Rattle.fjall_versions.specs.Replays.{least_after, store_in}
 use Rattle.fjall_versions.specs.Versions.{store_of}
+use Rattle.fjall_recovery.specs.Homes.{lasts}
 use Rattle.fjall_recovery.specs.Folders.{past_records}
 use Rattle.fjall_recovery.specs.Journals.{Journal, batches_in}
 use Rattle.fjall_recovery.specs.Places.{Journaling, journals_with}
@@ -79,7 +80,7 @@ sync_lies old new base pending same lies out =
       made = ap (λ (l : List Command). kept (fold base l)) lies.waits ∙ kept_with base j t j.later lies.made
           ∙ ap (λ (l : List Journal). store_in t.keyspaces (map shown (batches_in l))) (sym (synced_journals j));
       waits = refl;
-      next = same.next ∙ lies.next ∙ ap (λ (l : List Journal). max (least_after 0 (map shown (batches_in l))) (past_records (fields t.last ∷ t.homes))) (sym (synced_journals j));
+      next = same.next ∙ lies.next ∙ ap (λ (l : List Journal). max (least_after 0 (map shown (batches_in l))) (past_records (fields t.last ∷ lasts t.keyspaces.living t.homes))) (sym (synced_journals j));
     }
 
 pub sync_empty : (old new : Held) (base : Store) (pending : List Command) (same : StaysSame old new) (lies : Lies old (held_on old base pending)) (out : Persisted old new SyncAll true) → (sync_lies old new base pending same lies out).journals.later ≡ []

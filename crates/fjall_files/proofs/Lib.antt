@@ -10,9 +10,11 @@ pub mod Tidying
 pub mod OfKinds
 pub mod Trimmed
 pub mod Under
+pub mod Wider
 pub mod Changes
 pub mod Parts
 pub mod Made
 pub mod Removed
 pub mod Fitting
 pub mod Serving
+pub mod FilesRead

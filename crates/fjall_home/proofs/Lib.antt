@@ -8,3 +8,7 @@ pub mod Records
 pub mod Commits
 pub mod NoFolders
 pub mod Meanings
+pub mod Outside
+pub mod Standing
+pub mod Read
+pub mod Openings

@@ -42,7 +42,7 @@ module _ (image other : Image) (id : ℕ) (agree : (q : Name) → is_under (keys
 
 -- ---- one home
 
-texts_one : (image : Image) (id : ℕ) (tables : List TableInfo) (texts others : List (List ℕ)) → HoldTables image id tables texts → HoldTables image id tables others → texts ≡ others
+pub texts_one : (image : Image) (id : ℕ) (tables : List TableInfo) (texts others : List (List ℕ)) → HoldTables image id tables texts → HoldTables image id tables others → texts ≡ others
 texts_one image id [] [] [] one two = refl
 texts_one image id [] [] (y ∷ others) one two = absurd two
 texts_one image id [] (x ∷ texts) others one two = absurd one

@@ -1,2 +1,3 @@
 pub mod Homes
 pub mod Changes
+pub mod Reading

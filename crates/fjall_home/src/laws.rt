@@ -1,11 +1,17 @@
 //! What holds of homes.
 
 ghost use Rattle.std.specs.Prelude.{◌≡◌, ◌≢◌, ◌<◌, ◌^◌, ℕ, Bool, true, false, List};
+ghost use Rattle.fjall_base.specs.declared.error.StorageError.{StorageError};
 ghost use Rattle.fjall_base.specs.Disk.{Image, IsImageBy, Name, State, Survives};
 ghost use Rattle.fjall_files.specs.Names.{keyspace_folder};
 ghost use Rattle.fjall_files.specs.Regions.{IsImageIn, is_under};
-ghost use Rattle.fjall_tree.specs.Records.{Fields, IsRecord};
+ghost use Rattle.fjall_table.specs.declared.table_info.TableInfo.{TableInfo};
+ghost use Rattle.fjall_table.specs.Blocks.{Entry};
+ghost use Rattle.fjall_table.specs.Tables.{Handle};
+ghost use Rattle.fjall_tree.specs.Records.{Fields, IsRecord, view};
 ghost use Rattle.fjall_home.specs.Homes.{HasFiles, HasHome, Home, IsReady, KeepsSynced, Rests, SyncedStays, is_counted};
+ghost use Rattle.fjall_home.specs.declared.reading.LoadedHome.{LoadedHome};
+ghost use Rattle.fjall_home.specs.Reading.{AreIndexed, AreOpened, AreRight, IsDamage, IsLoaded, IsOpenable};
 
 /// In the usual view of crashes what is synced stays, and so it does in the widest one.
 pub fn views_that_keep_what_is_synced()
@@ -56,4 +62,23 @@ pub fn what_stays_is_safe()
 /// No name in a keyspace's folder, at any depth, is one that another keyspace's home rests on.
 pub fn homes_are_apart()
     ensures { (id other : ℕ) (q : Name) → id < 2 ^ 64 → other < 2 ^ 64 → id ≢ other → is_under (keyspace_folder id) q ≡ true → is_counted other q ≡ false }
+{}
+
+/// Of a home that an opening finds right nothing is damaged, so it is read unless the disk fails or memory runs out.
+pub fn openable_homes_are_read()
+    ensures { (image : Image) (id : ℕ) (records : List Fields) (h : Home) (indexes : List (List Handle)) (cause : StorageError)
+        → IsOpenable image id records h indexes → IsDamage image id cause → ⊥ }
+{}
+
+/// What is read of it is its last record, the end of its whole ones, and its tables, each with its index.
+pub fn one_loading()
+    ensures { (image : Image) (id : ℕ) (records : List Fields) (h : Home) (indexes : List (List Handle)) (home : LoadedHome)
+        → (is : IsOpenable image id records h indexes) → IsLoaded image id home
+        → (view home.record ≡ h.last) × (home.end ≡ is.files.end) × AreOpened id h.last.tables indexes home.tables.items }
+{}
+
+/// Tables that are right whole are right at their ends.
+pub fn right_tables_are_indexed()
+    ensures { (tables : List TableInfo) (texts : List (List ℕ)) (entries : List (List Entry)) → AreRight tables texts entries
+        → (indexes : List (List Handle)) × AreIndexed tables texts indexes }
 {}

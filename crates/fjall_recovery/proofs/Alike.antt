@@ -1,5 +1,5 @@
 -- Images in which all that counts reads alike.
-use Rattle.std.proofs.Common.{◌≡◌, inl, inr, ℕ, ◌<◌, ◌^◌, List, [], ◌∷◌, ◌++◌, codes, Option, Some, None, refl, sym, ◌∙◌, ap, subst}
+use Rattle.std.proofs.Common.{◌≡◌, inl, inr, ℕ, ◌<◌, ◌^◌, List, [], ◌∷◌, ◌++◌, codes, Some, refl, sym, ◌∙◌, ap, subst}
 use Rattle.std.proofs.lemmas.List.{append-nil}
 use Rattle.std.specs.Prelude.{◌↔◌}
 use Rattle.std.specs.List.{AllByRecursion}
@@ -11,16 +11,17 @@ use Rattle.fjall_files.specs.Texts.{text_in}
 use Rattle.fjall_journal.specs.declared.batch.Tail.TheVariants.{Clean, Torn}
 use Rattle.fjall_journal.specs.Batches.{NoneAt}
 use Rattle.fjall_table.specs.declared.table_info.TableInfo.{TableInfo}
-use Rattle.fjall_tree.specs.Records.{Fields, IsRecords}
+use Rattle.fjall_tree.specs.Records.{IsRecords}
 use Rattle.fjall_files.specs.Marker.{marker_tells}
 use Rattle.fjall_files.specs.Names.{journal_name, keyspace_folder, current_name, table_name}
-use Rattle.fjall_meta.specs.declared.entry.MetaEntry.{MetaEntry}
 use Rattle.fjall_meta.specs.declared.living.LivingKeyspace.{LivingKeyspace}
 use Rattle.fjall_meta.specs.Entries.{entries_of}
-use Rattle.fjall_catalog.specs.Catalog.{HoldsEntries, IsTableOf}
+use Rattle.fjall_home.specs.Homes.{HoldTables, Home}
+use Rattle.fjall_catalog.specs.Catalog.{HoldsEntries, listed}
 use Rattle.fjall_catalog.specs.Catalog as catalog
 use Rattle.fjall_recovery.specs.Folders.{Contents, IsBegun, IsSound, IsUnfinished, StandsFor, file_bytes}
-use Rattle.fjall_recovery.specs.Homes.{HasLast, HaveHomes}
+use Rattle.fjall_recovery.specs.Homes.{HasPlainHome, HaveHomes, Homes}
+use Rattle.fjall_recovery.proofs.Housing.{homes_alike}
 use Rattle.fjall_recovery.specs.Journals.{Journal, ReadsAs, AreRead, journal_text}
 use Rattle.fjall_recovery.specs.Naming.{JournalsAreNamed, KeyspacesAreNamed}
 use Rattle.fjall_recovery.specs.Amid.{StandsAmid}
@@ -57,11 +58,15 @@ sound_by image other c sound marker named files texts keyspaces folder file reco
   folder = folder;
   records = sound.records;
   catalog = record {
-    file = file;
-    end = sound.catalog.end;
-    whole = subst (λ t. IsRecords t sound.records sound.catalog.end) (sym records) sound.catalog.whole;
-    last_is = sound.catalog.last_is;
-    entries = entries;
+    texts = entries.0;
+    files = record {
+      current = file;
+      end = sound.catalog.files.end;
+      whole = subst (λ t. IsRecords t sound.records sound.catalog.files.end) (sym records) sound.catalog.files.whole;
+      last_is = sound.catalog.files.last_is;
+      tables = entries.1;
+    };
+    pairs = entries.2;
     next = sound.catalog.next;
     are = sound.catalog.are;
   };
@@ -96,18 +101,32 @@ module _ (image other : Image) (alike : (q : Name) → Alike (image q) (other q)
   texts_all [] = tt
   texts_all (j ∷ journals) = ((alike (journal_name j.id)).text, texts_all journals)
 
-  entries_all : (table : Option TableInfo) (entries : List MetaEntry) → HoldsEntries image table entries → HoldsEntries other table entries
-  entries_all None entries none = none
-  entries_all (Some t) entries holds = record { file = (alike (table_name 0 t.id)).file.0 holds.file; is = subst (λ text. IsTableOf t text entries) (sym (alike (table_name 0 t.id)).counted) holds.is }
+  tables_all : (id : ℕ) (tables : List TableInfo) (texts : List (List ℕ)) → HoldTables image id tables texts → HoldTables other id tables texts
+  tables_all id [] [] hold = tt
+  tables_all id [] (bytes ∷ texts) hold = absurd hold
+  tables_all id (t ∷ tables) [] hold = absurd hold
+  tables_all id (t ∷ tables) (bytes ∷ texts) hold =
+      let at = alike (table_name id t.id) in
+      ((at.file.0 hold.0.0, at.text ∙ hold.0.1), tables_all id tables texts hold.1)
 
-  homes_all : (living : List LivingKeyspace) (homes : List Fields) → HaveHomes image living homes → HaveHomes other living homes
-  homes_all [] [] have = tt
-  homes_all [] (h ∷ homes) have = absurd have
-  homes_all (k ∷ living) [] have = absurd have
-  homes_all (k ∷ living) (h ∷ homes) have = (
-    record { folder = (alike (keyspace_folder k.id)).folder.0 have.0.folder; last_is = subst (λ text. HasLast text h) (sym (alike (current_name k.id)).text) have.0.last_is },
-    homes_all living homes have.1,
-  )
+  home_all : (id : ℕ) (h : Home) → HasPlainHome image id h → HasPlainHome other id h
+  home_all id h has = record {
+    records = has.records;
+    home = record {
+      folder = (alike (keyspace_folder id)).folder.0 has.home.folder;
+      files = record {
+        current = (alike (current_name id)).file.0 has.home.files.current;
+        end = has.home.files.end;
+        whole = subst (λ text. IsRecords text has.records has.home.files.end) (sym (alike (current_name id)).text) has.home.files.whole;
+        last_is = has.home.files.last_is;
+        tables = tables_all id h.last.tables h.texts has.home.files.tables;
+      };
+    };
+    plain = has.plain;
+  }
+
+  homes_all : (living : List LivingKeyspace) (homes : Homes) → HaveHomes image living homes → HaveHomes other living homes
+  homes_all living homes have = homes_alike (λ id. Unit {0}) living homes (λ k d lt. tt) image other (λ id h any has. home_all id h has) have
 
   named_all : JournalsAreNamed image → JournalsAreNamed other
   named_all named name in_root file = named name in_root ((alike name).file.1 file)
@@ -117,8 +136,8 @@ module _ (image other : Image) (alike : (q : Name) → Alike (image q) (other q)
 
   pub alike_sound : (c : Contents) → IsSound image c → IsSound other c
   alike_sound c sound = sound_by image other c sound (alike (codes "version")).bytes (named_all sound.journals_named) (λ id small. ((alike (journal_name id)).file.1, (alike (journal_name id)).file.0)) (texts_all c.journals)
-      (keyspaces_all sound.keyspaces_named) ((alike (keyspace_folder 0)).folder.0 sound.folder) ((alike (current_name 0)).file.0 sound.catalog.file) (alike (current_name 0)).counted
-      (entries_all c.last.table (entries_of c.keyspaces.living) sound.catalog.entries) (homes_all c.keyspaces.living c.homes sound.homes)
+      (keyspaces_all sound.keyspaces_named) ((alike (keyspace_folder 0)).folder.0 sound.folder) ((alike (current_name 0)).file.0 sound.catalog.files.current) (alike (current_name 0)).counted
+      (sound.catalog.texts, tables_all 0 (listed c.last.table) sound.catalog.texts sound.catalog.files.tables, sound.catalog.pairs) (homes_all c.keyspaces.living c.homes sound.homes)
 
   pub alike_unfinished : IsUnfinished image → IsUnfinished other
   alike_unfinished begun = record {

@@ -1,5 +1,5 @@
--- An image holds one list of journals, and each keyspace's folder one last record.
-use Rattle.std.proofs.Common.{◌≡◌, ◌⊎◌, inl, inr, ⊎_elim, ℕ, zero, suc, ◌<◌, List, [], ◌∷◌, map, All, Some, Result, Ok, refl, sym, ◌∙◌, ap, subst, arith}
+-- An image holds one list of journals, and each keyspace's folder one home.
+use Rattle.std.proofs.Common.{◌≡◌, ◌⊎◌, inl, inr, ⊎_elim, ℕ, zero, suc, ◌<◌, List, [], ◌∷◌, map, All, Option, Some, None, Result, Ok, refl, sym, ◌∙◌, ap, subst, arith}
 use Rattle.std.specs.Prelude.{◌↔◌, Contains}
 use Rattle.std.specs.List.Sorted.{IsStrictlyIncreasing}
 use Rattle.std.proofs.lemmas.List.Kept.{AllPairs-from_increasing}
@@ -9,17 +9,19 @@ use Rattle.fjall_base.specs.Disk.{Image}
 use Rattle.fjall_journal.specs.Batches.{IsWhole}
 use Rattle.fjall_journal.proofs.Wholes as Wholes
 use Rattle.fjall_tree.specs.Records.{Fields}
-use Rattle.fjall_base.specs.Lists.{last_of}
-use Rattle.fjall_tree.proofs.Currents as Currents
-use Rattle.fjall_meta.specs.Keyspaces.{Keyspaces}
+use Rattle.std.specs.FinMap.{get}
+use Rattle.fjall_home.specs.Homes.{Home}
+use Rattle.fjall_home.proofs.Meanings.{last_one, one_home}
+use Rattle.fjall_meta.specs.Keyspaces.{Keyspaces, keyspace_at}
 use Rattle.fjall_meta.specs.declared.living.LivingKeyspace.{LivingKeyspace}
 use Rattle.fjall_meta.proofs.Rising.{Rises, from_pairs}
 use Rattle.fjall_files.specs.declared.marker.Marker.{Marker}
 use Rattle.fjall_files.specs.declared.marker.Marker.TheVariants.{Whole, Unfinished}
 use Rattle.fjall_files.specs.Marker.{marker_tells}
+use Rattle.fjall_versions.proofs.Slots.{same_maps}
 use Rattle.fjall_catalog.proofs.Meanings.{one_catalog}
 use Rattle.fjall_recovery.specs.Folders.{Contents, IsSound, StandsFor, marker_bytes, store_of}
-use Rattle.fjall_recovery.specs.Homes.{HasLast, HaveHomes}
+use Rattle.fjall_recovery.specs.Homes.{HasHomeAt, HasLast, HaveHomes, Homes}
 use Rattle.fjall_recovery.specs.Journals.{Journal, AreRead, AreJournalIds, HoldsJournals, journal_text}
 
 -- ---- rising lists
@@ -92,20 +94,19 @@ one_list_of_journals image journals others a b = one_reading image journals othe
 
 -- ---- keyspaces
 
-some_same : (a b : Fields) → Some a ≡ Some b → a ≡ b
-some_same a b e = cc
-
 pub one_last : (text : List ℕ) (a b : Fields) → HasLast text a → HasLast text b → a ≡ b
-one_last text a b x y = some_same a b (sym x.is ∙ ap last_of (Currents.one_reading text x.records y.records x.end y.end x.whole y.whole).0 ∙ y.is)
+one_last text a b x y = last_one text x.records y.records x.end y.end a b x.whole y.whole x.is y.is
 
-pub one_list_of_homes : (image : Image) (living : List LivingKeyspace) (homes others : List Fields) → HaveHomes image living homes → HaveHomes image living others → homes ≡ others
-one_list_of_homes image [] [] [] a b = refl
-one_list_of_homes image [] [] (y ∷ others) a b = absurd b
-one_list_of_homes image [] (x ∷ homes) others a b = absurd a
-one_list_of_homes image (k ∷ living) [] others a b = absurd a
-one_list_of_homes image (k ∷ living) (x ∷ homes) [] a b = absurd b
-one_list_of_homes image (k ∷ living) (x ∷ homes) (y ∷ others) a b =
-    ap (λ z. z ∷ homes) (one_last _ x y a.0.last_is b.0.last_is) ∙ ap (λ (l : List Fields). y ∷ l) (one_list_of_homes image living homes others a.1 b.1)
+one_at : (image : Image) (id : ℕ) (k : Option LivingKeyspace) (a b : Option Home) → HasHomeAt image id k a → HasHomeAt image id k b → a ≡ b
+one_at image id (Some k) (Some x) (Some y) one two = ap Some (one_home image id one.records two.records x y one.home.files two.home.files).1
+one_at image id (Some k) (Some x) None one two = absurd two
+one_at image id (Some k) None b one two = absurd one
+one_at image id None (Some x) b one two = absurd one
+one_at image id None None (Some y) one two = absurd two
+one_at image id None None None one two = refl
+
+pub one_map_of_homes : (image : Image) (living : List LivingKeyspace) (homes others : Homes) → HaveHomes image living homes → HaveHomes image living others → homes ≡ others
+one_map_of_homes image living homes others a b = same_maps homes others (λ id. one_at image id (keyspace_at id living) (get homes id) (get others id) (a id) (b id))
 
 -- ---- the whole folder
 
@@ -119,7 +120,7 @@ same_contents c d journals keyspaces last homes =
 pub one_contents : (image : Image) (c d : Contents) → IsSound image c → IsSound image d → c ≡ d
 one_contents image c d a b =
     let catalog = one_catalog image a.records b.records c.last d.last c.keyspaces d.keyspaces a.catalog b.catalog in
-    let homes = one_list_of_homes image d.keyspaces.living c.homes d.homes (subst (λ (s : Keyspaces). HaveHomes image s.living c.homes) catalog.2 a.homes) b.homes in
+    let homes = one_map_of_homes image d.keyspaces.living c.homes d.homes (subst (λ (s : Keyspaces). HaveHomes image s.living c.homes) catalog.2 a.homes) b.homes in
     same_contents c d (one_list_of_journals image c.journals d.journals a.journals b.journals) catalog.2 catalog.1 homes
 
 not_both : (told : Result Marker Error) → told ≡ Ok Whole → told ≡ Ok Unfinished → ⊥

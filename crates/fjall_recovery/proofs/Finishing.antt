@@ -1,6 +1,10 @@
 -- A folder that was made to its end, read part by part.
-use Rattle.std.proofs.Common.{◌≡◌, inl, inr, ℕ, Bool, List, [], ◌∷◌, ◌++◌, map, Option, Some, None, Result, Ok, Err, refl, sym, ◌∙◌, ap, subst}
+use Rattle.std.proofs.Common.{◌≡◌, inl, inr, ℕ, ◌==◌, Bool, true, false, cond, List, [], ◌∷◌, ◌++◌, map, Option, Some, None, Result, Ok, Err, refl, sym, ◌∙◌, ap, subst, arith}
 use Rattle.std.proofs.lemmas.Bool.{true≢false}
+use Rattle.std.proofs.lemmas.Bool.Decides.{nat_tests}
+use Rattle.std.specs.FinMap.{empty, get, insert, get-empty}
+use Rattle.std.specs.List.{AllByRecursion}
+use Rattle.std.specs.Ordering.{nat_cmp}
 use Rattle.std.specs.Prelude.{Vec, IfErr, OnOk, IsSomeAnd, IsNone}
 use Rattle.std.specs.declared.alloc.Global.{Global}
 use Rattle.fjall_base.specs.declared.error.Error.{Error}
@@ -10,12 +14,14 @@ use Rattle.fjall_base.specs.Disk.{Entry, Missing, File, Folder, Image, Reads}
 use Rattle.fjall_journal.specs.Batches.{Shown, view}
 use Rattle.fjall_tree.specs.Records.{Fields}
 use Rattle.fjall_tree.specs.Records as records
-use Rattle.fjall_meta.specs.Keyspaces.{Keyspaces}
+use Rattle.fjall_home.specs.Homes.{Home, records_text}
+use Rattle.fjall_meta.specs.Keyspaces.{Keyspaces, keyspace_at}
 use Rattle.fjall_meta.specs.declared.living.LivingKeyspace.{LivingKeyspace}
 use Rattle.fjall_files.specs.declared.marker.Marker.{Marker}
 use Rattle.fjall_files.specs.declared.marker.Marker.TheVariants.{Whole, Unfinished}
 use Rattle.fjall_files.specs.Marker.{marker_tells}
 use Rattle.fjall_files.specs.Names.{keyspace_folder}
+use Rattle.fjall_versions.proofs.Slots.{get_put, same_id}
 use Rattle.fjall_catalog.specs.declared.catalog.Catalog.{Catalog}
 use Rattle.fjall_catalog.specs.Catalog.{HasEnd, Says, records_in}
 use Rattle.fjall_catalog.specs.Refusals.{IsRefusal}
@@ -23,11 +29,13 @@ use Rattle.fjall_base.specs.Errors.{IsFaultOrMemory}
 use Rattle.fjall_recovery.specs.declared.folder.RecoveredFolder.{RecoveredFolder}
 use Rattle.fjall_recovery.specs.declared.homes.KeyspaceRecords.{KeyspaceRecords}
 use Rattle.fjall_recovery.specs.Folders.{AreEmpty, AreMade, Contents, IsBegun, IsFinished, IsSound, ReadsFolder, Shows, file_bytes, marker_bytes}
-use Rattle.fjall_recovery.specs.Homes.{AreHomesRead, HaveHomes}
+use Rattle.fjall_recovery.specs.Homes.{AreHomesRead, HasHomeAt, HasPlainHome, HaveHomes, Homes, last_in, lasts, plain_home}
 use Rattle.fjall_recovery.specs.Journals.{Journal, AreFound, AreJournalIds, HoldsJournals}
 use Rattle.fjall_recovery.specs.Naming.{AreFolderIds, JournalsAreNamed, KeyspacesAreNamed}
 use Rattle.fjall_recovery.specs.Refusals.{BegunRefuses, CatalogRefuses, FinishedRefuses, FolderRefuses, HomesRefuse, IsDue, JournalsRefuse, TreeRefuses, UnfinishedRefuses}
+use Rattle.fjall_recovery.proofs.Alone.{one_last}
 use Rattle.fjall_recovery.proofs.Gathering.{due}
+use Rattle.fjall_recovery.proofs.Housing.{IsHoused, all_housed, has_last, plain_read}
 
 -- ---- causes
 
@@ -71,11 +79,47 @@ catalog_refuses image old new error folder is all = absurd is
 
 -- ---- what the folder holds
 
-homes_held : (image : Image) (living : List LivingKeyspace) (homes : List KeyspaceRecords) → AreHomesRead image living homes → HaveHomes image living (map (λ (h : KeyspaceRecords). records.view h.record) homes)
-homes_held image [] [] all = tt
+-- the homes of these keyspaces as they were read
+homes_from : List LivingKeyspace → List KeyspaceRecords → Homes
+homes_from (k ∷ living) (home ∷ homes) = insert (homes_from living homes) k.id (plain_home (records.view home.record))
+homes_from living homes = empty
+
+home_held : (image : Image) (k : LivingKeyspace) (living : List LivingKeyspace) (h : Home) (homes : Homes) → HasPlainHome image k.id h → (id : ℕ) → HasHomeAt image id (keyspace_at id living) (get homes id)
+    → HasHomeAt image id (keyspace_at id (k ∷ living)) (get (insert homes k.id h) id)
+home_held image k living h homes one id rest =
+    subst (λ (o : Option Home). HasHomeAt image id (keyspace_at id (k ∷ living)) o) (sym (get_put homes k.id h id))
+    (either (k.id == id) refl (id == k.id) refl)
+  where
+    either : (b : Bool) → (k.id == id) ≡ b → (c : Bool) → (id == k.id) ≡ c → HasHomeAt image id (cond b (Some k) (keyspace_at id living)) (cond c (Some h) (get homes id))
+    either true at true at' = subst (λ i. HasPlainHome image i h) (same_id k.id id at) one
+    either false at false at' = rest
+    either true at false at' = let no : ⊥ = grind (arith, nat_tests) in absurd no
+    either false at true at' = let no : ⊥ = grind (arith, nat_tests) in absurd no
+
+none_held : (image : Image) (id : ℕ) → HasHomeAt image id None (get {R = nat_cmp} empty id)
+none_held image id = subst (λ (o : Option Home). HasHomeAt image id None o) (sym (get-empty nat_cmp id)) tt
+
+homes_held : (image : Image) (living : List LivingKeyspace) (homes : List KeyspaceRecords) → AreHomesRead image living homes → HaveHomes image living (homes_from living homes)
+unfolding homes_from
+homes_held image [] [] all = none_held image
 homes_held image [] (h ∷ homes) all = absurd all
 homes_held image (k ∷ living) [] all = absurd all
-homes_held image (k ∷ living) (h ∷ homes) all = (record { folder = all.0.folder; last_is = all.0.read.has }, homes_held image living homes all.1)
+homes_held image (k ∷ living) (h ∷ homes) all = λ id.
+    home_held image k living (plain_home (records.view h.record)) (homes_from living homes) (plain_read image k.id (records.view h.record) all.0.folder all.0.read.has) id (homes_held image living homes all.1 id)
+
+-- the records that were read are those of the homes that are there
+pub lasts_read : (image : Image) (living : List LivingKeyspace) (found : List KeyspaceRecords) (homes : Homes) → AreHomesRead image living found → HaveHomes image living homes
+    → map (λ (h : KeyspaceRecords). records.view h.record) found ≡ lasts living homes
+lasts_read image living found homes all have = of living found all (all_housed image living homes have)
+  where
+    of : (some : List LivingKeyspace) (found : List KeyspaceRecords) → AreHomesRead image some found → AllByRecursion (λ k. IsHoused image homes k.id) some → map (λ (h : KeyspaceRecords). records.view h.record) found ≡ lasts some homes
+    of [] [] all each = refl
+    of [] (h ∷ found) all each = absurd all
+    of (k ∷ some) [] all each = absurd all
+    of (k ∷ some) (h ∷ found) all each =
+        let last : records.view h.record ≡ each.0.0.last = one_last (records_text image k.id) (records.view h.record) each.0.0.last all.0.read.has (has_last image k.id each.0.0 each.0.2) in
+        let at : records.view h.record ≡ last_in (get homes k.id) = last ∙ ap (λ (o : Option Home). last_in o) (sym each.0.1) in
+        ap (λ (r : Fields). r ∷ map (λ (h : KeyspaceRecords). records.view h.record) found) at ∙ ap (λ (l : List Fields). last_in (get homes k.id) ∷ l) (of some found all.1 each.1)
 
 -- what was read of a sound folder is what it holds
 pub record Holds (image : Image) (f : RecoveredFolder) : Type 0 where
@@ -86,8 +130,10 @@ pub record Holds (image : Image) (f : RecoveredFolder) : Type 0 where
 pub held : (image : Image) (f : RecoveredFolder) → marker_tells (marker_bytes image) ≡ Ok Whole → JournalsAreNamed image → IsFinished image f → Holds image f
 held image f marker named finished =
     let found = finished.journals in
+    let homes = homes_from f.catalog.keyspaces.living f.homes.items in
+    let have = homes_held image f.catalog.keyspaces.living f.homes.items finished.homes in
     record {
-      contents = record { journals = found.journals; keyspaces = f.catalog.keyspaces; last = f.catalog.catalog; homes = map (λ (h : KeyspaceRecords). records.view h.record) f.homes.items };
+      contents = record { journals = found.journals; keyspaces = f.catalog.keyspaces; last = f.catalog.catalog; homes = homes };
       sound = record {
         marker = marker;
         journals_named = named;
@@ -97,7 +143,7 @@ held image f marker named finished =
         records = finished.records;
         catalog = finished.catalog;
         made = finished.made;
-        homes = homes_held image f.catalog.keyspaces.living f.homes.items finished.homes;
+        homes = have;
       };
       shows = record {
         ids = sym found.named;
@@ -105,7 +151,7 @@ held image f marker named finished =
         least = found.gathers.next;
         keyspaces = refl;
         last = refl;
-        homes = refl;
+        homes = lasts_read image f.catalog.keyspaces.living f.homes.items homes finished.homes have;
       };
     }
 
@@ -150,16 +196,16 @@ file_read Folder found bytes reads is = absurd (true≢false (subst (λ (o : Opt
 -- ---- an unfinished folder
 
 pub begun_names : (image other : Image) (error : Error) → other ≡ image → AreEmpty image → IsDue (λ e. (e ≡ Unrecoverable) × (KeyspacesAreNamed other → ⊥)) error → IsDue (UnfinishedRefuses image) error
-begun_names image other error same empty due =
-    due_as (λ e. (e ≡ Unrecoverable) × (KeyspacesAreNamed other → ⊥)) (UnfinishedRefuses image) error (λ e refused. inr (empty, inl (refused.0, subst (λ i. KeyspacesAreNamed i → ⊥) same refused.1))) due
+begun_names image other error same none due =
+    due_as (λ e. (e ≡ Unrecoverable) × (KeyspacesAreNamed other → ⊥)) (UnfinishedRefuses image) error (λ e refused. inr (none, inl (refused.0, subst (λ i. KeyspacesAreNamed i → ⊥) same refused.1))) due
 
 pub begun_tree : (image other : Image) (error : Error) → other ≡ image → AreEmpty image → KeyspacesAreNamed image → IsDue (BegunRefuses (records_in other)) error → IsDue (UnfinishedRefuses image) error
-begun_tree image other error same empty named due =
-    due_as (BegunRefuses (records_in other)) (UnfinishedRefuses image) error (λ e refused. inr (empty, inr (named, subst (λ i. BegunRefuses (records_in i) e) same refused))) due
+begun_tree image other error same none named due =
+    due_as (BegunRefuses (records_in other)) (UnfinishedRefuses image) error (λ e refused. inr (none, inr (named, subst (λ i. BegunRefuses (records_in i) e) same refused))) due
 
 pub begun_tree_err : {X : Type 0} (image other : Image) (result : Result X Error) → other ≡ image → AreEmpty image → KeyspacesAreNamed image → IfErr result (IsDue (BegunRefuses (records_in other))) → IfErr result (IsDue (UnfinishedRefuses image))
-begun_tree_err image other (Ok x) same empty named cause = tt
-begun_tree_err image other (Err e) same empty named cause = begun_tree image other e same empty named cause
+begun_tree_err image other (Ok x) same none named cause = tt
+begun_tree_err image other (Err e) same none named cause = begun_tree image other e same none named cause
 
 pub ok_along : {X : Type 0} (P : Image → Type 0) (image other : Image) (result : Result X Error) → other ≡ image → OnOk result (P other) → OnOk result (P image)
 ok_along P image other (Ok x) same is = subst P same is
@@ -191,10 +237,10 @@ reads_finished image other f same tells named finished =
     (here, (it.contents, it.sound, it.shows))
 
 pub reads_unfinished : (image other : Image) → other ≡ image → marker_tells (marker_bytes image) ≡ Ok Unfinished → JournalsAreNamed image → AreEmpty other → KeyspacesAreNamed other → IsBegun (records_in other) → ReadsFolder image None
-reads_unfinished image other same tells named empty keyspaces begun = record {
+reads_unfinished image other same tells named none keyspaces begun = record {
   marker = tells;
   journals_named = named;
-  journals = subst AreEmpty same empty;
+  journals = subst AreEmpty same none;
   keyspaces_named = subst KeyspacesAreNamed same keyspaces;
   catalog = subst (λ i. IsBegun (records_in i)) same begun;
 }

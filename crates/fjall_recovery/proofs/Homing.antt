@@ -15,8 +15,9 @@ use Rattle.fjall_base.specs.Lists.{last_of}
 use Rattle.fjall_tree.proofs.Currents.{contradiction_has_no_reading}
 use Rattle.fjall_meta.specs.declared.living.LivingKeyspace.{LivingKeyspace}
 use Rattle.fjall_recovery.specs.declared.homes.KeyspaceRecords.{KeyspaceRecords}
-use Rattle.fjall_recovery.specs.Homes.{AreHomesRead, HasNoRecord, IsPlain, IsRead, IsReadFrom}
+use Rattle.fjall_recovery.specs.Homes.{AreHomesRead, HasNoRecord, IsPlain, IsRead, IsReadFrom, plain_home}
 use Rattle.fjall_recovery.specs.Refusals.{HomeRefuses, HomesRefuse, IsDue}
+use Rattle.fjall_recovery.proofs.Housing.{plain_read}
 
 -- ---- one keyspace
 
@@ -68,7 +69,7 @@ module _ (image text_image : Image) (living : List LivingKeyspace) (n : ℕ) (d 
   pub home_passed : (home : KeyspaceRecords) (error : Error) → IsRead text_image k.id home → HomesRefuse image (drop (n + 1) living) error → HomesRefuse image (drop n living) error
   home_passed home error one refused =
       let read : IsRead image k.id home = subst (λ i. IsRead i k.id home) same one in
-      here error (inr ((view home.record, record { folder = read.folder; last_is = read.read.has }), refused))
+      here error (inr ((plain_home (view home.record), plain_read image k.id (view home.record) read.folder read.read.has), refused))
 
   pub home_refused : (error : Error) → ((error : Error) → HomesRefuse image (drop n living) error → HomesRefuse image living error) → IsDue (HomeRefuses text_image k.id) error → IsDue (HomesRefuse image living) error
   home_refused OutOfMemory so_far is = tt

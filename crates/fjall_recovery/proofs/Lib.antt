@@ -8,10 +8,13 @@ pub mod Opened
 pub mod Kept
 pub mod Numbers
 pub mod Causes
+pub mod Housing
+pub mod Composing
 pub mod Named
 pub mod Seen
 pub mod Trees
 pub mod Roots
 pub mod Holding
+pub mod Changing
 pub mod Alike
 pub mod Amidst

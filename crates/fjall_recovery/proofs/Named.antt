@@ -7,16 +7,13 @@ use Rattle.std.proofs.lemmas.Bool.{true≢false}
 use Rattle.std.proofs.lemmas.List.Folds.{list_any-append}
 use Rattle.std.proofs.lemmas.Slice.Eq.{bytes_eq-Decides}
 use Rattle.fjall_base.specs.Disk.{Name, folder_of}
+use Rattle.fjall_base.proofs.Names.{bool_cases}
 use Rattle.fjall_files.specs.Regions.{is_under}
 use Rattle.fjall_files.proofs.Under.{in_folder, under_front, under_inner}
 use Rattle.fjall_files.specs.Names.{IsMisnamed, journal_name, keyspace_folder, current_name}
-use Rattle.fjall_catalog.specs.Catalog.{is_counted}
+use Rattle.fjall_home.specs.Homes.{is_counted}
 use Rattle.fjall_recovery.proofs.Listed.{in_root}
 use Rattle.fjall_recovery.specs.Halves.{is_of_keyspaces, is_of_root}
-
-bool_cases : (b : Bool) → (b ≡ true) ⊎ (b ≡ false)
-bool_cases true = inl refl
-bool_cases false = inr refl
 
 -- ---- in `keyspaces`
 
@@ -36,11 +33,11 @@ under_within id q is =
 pub inside_within : (q : Name) → folder_of q ≡ codes "keyspaces" → is_of_keyspaces q ≡ true
 inside_within q inside = in_folder (codes "keyspaces") q (λ none. cc) inside
 
--- what tree 0 rests on
-pub counted_within : (q : Name) → is_counted q ≡ true → is_of_keyspaces q ≡ true
-counted_within q is = elim (bool_cases (bytes_eq q (codes "keyspaces"))) [
+-- what a home rests on
+pub counted_within : (id : ℕ) (q : Name) → is_counted id q ≡ true → is_of_keyspaces q ≡ true
+counted_within id q is = elim (bool_cases (bytes_eq q (codes "keyspaces"))) [
   | inl at ↦ ap (λ (n : Name). is_of_keyspaces n) ((bytes_eq-Decides q (codes "keyspaces")).0 at)
-  | inr other ↦ under_within 0 q (rw other at is)
+  | inr other ↦ under_within id q (rw other at is)
 ]
 
 -- ---- in the root

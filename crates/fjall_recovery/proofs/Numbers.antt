@@ -2,15 +2,18 @@
 use Rattle.std.proofs.Common.{◌≡◌, ℕ, ◌+◌, ◌<◌, ◌≤◌, ◌^◌, ◌||◌, max, nat_lt, nat_le, Bool, true, false, if◌then◌else◌, List, [], ◌∷◌, map, Option, None, Some, refl, arith}
 use Rattle.std.proofs.lemmas.Bool.Decides.{nat_tests}
 use Rattle.std.specs.Prelude.{IfSome}
+use Rattle.std.specs.FinMap.{get}
 use Rattle.fjall_base.specs.Disk.{Image}
 use Rattle.fjall_journal.specs.Batches.{Shown, shown}
 use Rattle.fjall_versions.specs.Replays.{Fault, fault_of, first_fault, least_after}
 use Rattle.fjall_tree.specs.Records.{Fields, IsRecord}
 use Rattle.fjall_meta.specs.declared.living.LivingKeyspace.{LivingKeyspace}
+use Rattle.fjall_meta.specs.Keyspaces.{keyspace_at}
 use Rattle.fjall_catalog.specs.Catalog.{fields}
-use Rattle.fjall_catalog.proofs.Resting.{last_has}
+use Rattle.fjall_home.specs.Homes.{Home}
+use Rattle.fjall_home.proofs.Resting.{last_has}
 use Rattle.fjall_recovery.specs.Folders.{Contents, IsSound, number_of, past, past_record, past_records}
-use Rattle.fjall_recovery.specs.Homes.{HaveHomes}
+use Rattle.fjall_recovery.specs.Homes.{HasHomeAt, HaveHomes, Homes, last_in, lasts}
 use Rattle.fjall_recovery.specs.Journals.{batches_in}
 use Rattle.fjall_recovery.proofs.Opened.{none_of_two}
 
@@ -42,20 +45,23 @@ both_low a b low less = omega (arith, low, less)
 record_is_low : (r : Fields) → IsRecord r → past_record r ≤ 2 ^ 63
 record_is_low r is = both_low (past r.persisted) (past r.highest) (past_is_low r.persisted is.consistent.persisted) (past_is_low r.highest is.consistent.highest)
 
-homes_are_low : (image : Image) (living : List LivingKeyspace) (homes : List Fields) → HaveHomes image living homes → past_records homes ≤ 2 ^ 63
-homes_are_low image [] [] have = omega arith
-homes_are_low image [] (last ∷ homes) have = absurd have
-homes_are_low image (k ∷ living) [] have = absurd have
-homes_are_low image (k ∷ living) (last ∷ homes) have =
-    let has = have.0.last_is in
-    both_low (past_record last) (past_records homes) (record_is_low last (last_has IsRecord has.records last has.whole.each has.is)) (homes_are_low image living homes have.1)
+last_is_low : (image : Image) (id : ℕ) (k : Option LivingKeyspace) (h : Option Home) → HasHomeAt image id k h → past_record (last_in h) ≤ 2 ^ 63
+last_is_low image id (Some k) (Some h) has = record_is_low h.last (last_has IsRecord has.records h.last has.home.files.whole.each has.home.files.last_is)
+last_is_low image id (Some k) None has = absurd has
+last_is_low image id None (Some h) has = absurd has
+last_is_low image id None None has = omega arith
+
+homes_are_low : (image : Image) (living some : List LivingKeyspace) (homes : Homes) → HaveHomes image living homes → past_records (lasts some homes) ≤ 2 ^ 63
+homes_are_low image living [] homes have = omega arith
+homes_are_low image living (k ∷ some) homes have =
+    both_low (past_record (last_in (get homes k.id))) (past_records (lasts some homes)) (last_is_low image k.id (keyspace_at k.id living) (get homes k.id) (have k.id)) (homes_are_low image living some homes have)
 
 -- ---- the whole folder
 
 pub number_is_low : (image : Image) (c : Contents) → IsSound image c → number_of c ≤ 2 ^ 63
 number_is_low image c sound =
-    both_low (least_after 0 (map shown (batches_in c.journals))) (past_records (fields c.last ∷ c.homes))
+    both_low (least_after 0 (map shown (batches_in c.journals))) (past_records (fields c.last ∷ lasts c.keyspaces.living c.homes))
     (least_is_low 0 (map shown (batches_in c.journals)) (omega arith) sound.journals.sound)
-    (both_low (past_record (fields c.last)) (past_records c.homes)
-    (record_is_low (fields c.last) (last_has IsRecord sound.records (fields c.last) sound.catalog.whole.each sound.catalog.last_is))
-    (homes_are_low image c.keyspaces.living c.homes sound.homes))
+    (both_low (past_record (fields c.last)) (past_records (lasts c.keyspaces.living c.homes))
+    (record_is_low (fields c.last) (last_has IsRecord sound.records (fields c.last) sound.catalog.files.whole.each sound.catalog.files.last_is))
+    (homes_are_low image c.keyspaces.living c.keyspaces.living c.homes sound.homes))

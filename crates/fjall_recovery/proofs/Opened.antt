@@ -1,6 +1,7 @@
 -- A folder that stands for a store is refused for no cause that its parts could have.
 use Rattle.std.proofs.Common.{◌≡◌, ◌⊎◌, inl, inr, ⊎_elim, ℕ, Bool, true, false, List, [], ◌∷◌, length, drop, map, Option, None, Some, refl, sym, ◌∙◌, ap, subst, arith}
 use Rattle.std.proofs.lemmas.List.{map-append}
+use Rattle.std.specs.List.{AllByRecursion}
 use Rattle.std.specs.Option.{option_or}
 use Rattle.fjall_base.specs.Disk.{Image}
 use Rattle.fjall_base.specs.declared.error.Error.{Error}
@@ -14,13 +15,14 @@ use Rattle.fjall_journal.specs.declared.batch.Tail.TheVariants.{Clean, Torn, Dam
 use Rattle.fjall_journal.specs.Batches.{Written, IsTail, shown}
 use Rattle.fjall_journal.proofs.Wholes as Wholes
 use Rattle.fjall_versions.specs.Replays.{Fault, first_fault, least_after, NamesFault}
-use Rattle.fjall_recovery.specs.Homes.{HasHome, HaveHomes}
+use Rattle.fjall_home.specs.Homes.{Home}
+use Rattle.fjall_recovery.specs.Homes.{HasPlainHome, HaveHomes, Homes}
 use Rattle.fjall_recovery.specs.Journals.{Journal, ReadsAs, AreRead, HoldsJournals, AreJournalIds, batches_in, journal_text}
 use Rattle.fjall_recovery.specs.Refusals.{HomeRefuses, HomesRefuse, JournalsRefuse, TailRefuses}
 use Rattle.fjall_recovery.proofs.Alone.{one_list_of_ids}
+use Rattle.fjall_recovery.proofs.Housing.{IsHoused, all_housed, has_last}
 use Rattle.fjall_versions.proofs.Faults.{first_fault-append}
 use Rattle.fjall_meta.specs.declared.living.LivingKeyspace.{LivingKeyspace}
-use Rattle.fjall_tree.specs.Records.{Fields}
 
 -- ---- tails
 
@@ -113,14 +115,14 @@ module _ (image : Image) where
 
   -- ---- keyspaces
 
-  pub home_is_kept : (id : ℕ) (last : Fields) (error : Error) → HasHome image id last → HomeRefuses image id error → ⊥
-  home_is_kept id last Unrecoverable has refused = refused has.folder
-  home_is_kept id last (Storage RecordDamaged) has refused = refused.1 last has.last_is
-  home_is_kept id last error has refused = refused
+  pub home_is_kept : (id : ℕ) (h : Home) (error : Error) → HasPlainHome image id h → HomeRefuses image id error → ⊥
+  home_is_kept id h Unrecoverable has refused = refused has.home.folder
+  home_is_kept id h (Storage RecordDamaged) has refused = refused.1 h.last (has_last image id h has)
+  home_is_kept id h error has refused = refused
 
-  pub homes_are_kept : (living : List LivingKeyspace) (homes : List Fields) (error : Error) → HaveHomes image living homes → HomesRefuse image living error → ⊥
-  homes_are_kept [] [] error have refused = refused
-  homes_are_kept [] (last ∷ homes) error have refused = absurd have
-  homes_are_kept (k ∷ living) [] error have refused = absurd have
-  homes_are_kept (k ∷ living) (last ∷ homes) error have refused =
-      ⊎_elim (λ here. home_is_kept k.id last error have.0 here) (λ behind. homes_are_kept living homes error have.1 behind.1) refused
+  pub homes_are_kept : (living : List LivingKeyspace) (homes : Homes) (error : Error) → HaveHomes image living homes → HomesRefuse image living error → ⊥
+  homes_are_kept living homes error have refused = of living (all_housed image living homes have) refused
+    where
+      of : (some : List LivingKeyspace) → AllByRecursion (λ k. IsHoused image homes k.id) some → HomesRefuse image some error → ⊥
+      of [] each refused = refused
+      of (k ∷ some) each refused = ⊎_elim (λ here. home_is_kept k.id each.0.0 error each.0.2 here) (λ behind. of some each.1 behind.1) refused

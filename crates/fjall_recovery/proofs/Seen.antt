@@ -6,7 +6,7 @@ use Rattle.fjall_base.specs.Disk.{Name, Entry, Missing, File, Folder, Place, Sta
 use Rattle.fjall_base.proofs.States.{survives_whole}
 use Rattle.fjall_files.specs.Texts.{text_in}
 use Rattle.fjall_files.specs.Regions.{IsImageIn, IsSafe}
-use Rattle.fjall_catalog.specs.Catalog.{only}
+use Rattle.fjall_home.specs.Homes.{only}
 use Rattle.fjall_recovery.specs.Places.{IsNeverFile, IsNeverFolder}
 
 -- what stands there now, or what a crash may leave of it
@@ -96,6 +96,3 @@ module _ (region : Name → Bool) (state : State) (image : Image) (seen : IsSeen
   -- a file that is safe stands there with its bytes
   pub safe_seen : (q : Name) (bytes : List ℕ) → region q ≡ true → IsThere image (folder_of q) → IsSafe state q bytes → image q ≡ File bytes []
   safe_seen q bytes in_it there is = safe_shows bytes (image q) (shows_at q (File bytes []) in_it there is)
-
-  pub safe_text : (q : Name) (bytes : List ℕ) → region q ≡ true → IsThere image (folder_of q) → IsSafe state q bytes → text_in (image q) ≡ bytes
-  safe_text q bytes in_it there is = ap (λ (e : Entry). text_in e) (safe_seen q bytes in_it there is) ∙ append-nil bytes

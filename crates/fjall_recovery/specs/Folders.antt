@@ -13,7 +13,7 @@ use Rattle.fjall_catalog.specs.declared.catalog.Catalog.{Catalog}
 use Rattle.fjall_catalog.specs.Catalog.{HasEnd, Says, fields, first_catalog, records_in}
 use Rattle.fjall_versions.specs.Replays.{bare, store_in, least_after}
 use Rattle.fjall_recovery.specs.declared.folder.RecoveredFolder.{RecoveredFolder}
-use Rattle.fjall_recovery.specs.Homes.{AreHomesRead, HaveHomes}
+use Rattle.fjall_recovery.specs.Homes.{AreHomesRead, HaveHomes, Homes, lasts}
 use Rattle.fjall_recovery.specs.Journals.{Journal, HoldsJournals, AreFound, AreJournalIds, batches_in, journal_text}
 use Rattle.fjall_recovery.specs.Naming.{AreFolderIds, JournalsAreNamed, KeyspacesAreNamed}
 
@@ -43,13 +43,12 @@ past_records (r ∷ rs) = max (past_record r) (past_records rs)
 abbrev pub AreMade : Catalog → Keyspaces → Type 0
 AreMade last s = All (λ k. k.number < past_record (fields last)) s.living
 
--- What a folder holds: its journals, the keyspaces that live with the last record of tree 0, and the last record of each
--- of them.
+-- What a folder holds: its journals, the keyspaces that live with the last record of tree 0, and the home of each of them.
 pub record Contents : Type 0 where
   pub journals : List Journal
   pub keyspaces : Keyspaces
   pub last : Catalog
-  pub homes : List Fields
+  pub homes : Homes
 
 -- The image is a sound folder that was made to its end, and this is what it holds.
 pub record IsSound (image : Image) (c : Contents) : Type 0 where
@@ -89,7 +88,7 @@ store_of c = store_in c.keyspaces (map shown (batches_in c.journals))
 
 -- one past the greatest number that is found in a folder, and 0 where there is none
 abbrev pub number_of : Contents → ℕ
-number_of c = max (least_after 0 (map shown (batches_in c.journals))) (past_records (fields c.last ∷ c.homes))
+number_of c = max (least_after 0 (map shown (batches_in c.journals))) (past_records (fields c.last ∷ lasts c.keyspaces.living c.homes))
 
 -- The image stands for the store. A folder whose making was cut short stands for one without keyspaces.
 abbrev pub StandsFor : Image → Store → Type 0
@@ -117,7 +116,7 @@ pub record Shows (f : RecoveredFolder) (c : Contents) : Type 0 where
   pub least : f.journals.least ≡ least_after 0 (map shown (batches_in c.journals))
   pub keyspaces : f.catalog.keyspaces ≡ c.keyspaces
   pub last : f.catalog.catalog ≡ c.last
-  pub homes : map (λ h. records.view h.record) f.homes.items ≡ c.homes
+  pub homes : map (λ h. records.view h.record) f.homes.items ≡ lasts c.keyspaces.living c.homes
 
 -- What was read of a folder: what it holds, or that its making was cut short.
 abbrev pub ReadsFolder : Image → Option RecoveredFolder → Type 0

@@ -1,5 +1,6 @@
 -- The two halves of a sound folder: the root with its journals, and the keyspaces.
-use Rattle.std.specs.Prelude.{◌≡◌, Bool, not, List, codes, Ok}
+use Rattle.std.specs.Prelude.{◌≡◌, ℕ, Bool, not, List, codes, Ok}
+use Rattle.std.specs.FinMap.{insert}
 use Rattle.fjall_base.specs.Disk.{Name, Folder, Image}
 use Rattle.fjall_files.specs.Regions.{is_under}
 use Rattle.fjall_tree.specs.Records.{Fields}
@@ -10,7 +11,8 @@ use Rattle.fjall_meta.specs.Keyspaces.{Keyspaces}
 use Rattle.fjall_catalog.specs.declared.catalog.Catalog.{Catalog}
 use Rattle.fjall_catalog.specs.Catalog.{Says}
 use Rattle.fjall_recovery.specs.Folders.{AreMade, marker_bytes}
-use Rattle.fjall_recovery.specs.Homes.{HaveHomes}
+use Rattle.fjall_home.specs.Homes.{Home}
+use Rattle.fjall_recovery.specs.Homes.{HaveHomes, Homes}
 use Rattle.fjall_recovery.specs.Journals.{Journal, HoldsJournals}
 use Rattle.fjall_recovery.specs.Naming.{JournalsAreNamed, KeyspacesAreNamed}
 
@@ -22,17 +24,25 @@ is_of_keyspaces name = is_under (codes "keyspaces") name
 abbrev pub is_of_root : Name → Bool
 is_of_root name = not (is_of_keyspaces name)
 
+-- all but the folder of the keyspace of this id, and what is in it
+abbrev pub outside : ℕ → Name → Bool
+outside id name = not (is_under (keyspace_folder id) name)
+
 -- the root of an image that is a sound folder, with these journals
 pub record HasRoot (image : Image) (journals : List Journal) : Type 0 where
   pub marker : marker_tells (marker_bytes image) ≡ Ok Whole
   pub named : JournalsAreNamed image
   pub holds : HoldsJournals image journals
 
--- what tree 0's last record says, the keyspaces that live, and the last record of each of them
+-- what tree 0's last record says, the keyspaces that live, and the home of each of them
 pub record Tree : Type 0 where
   pub last : Catalog
   pub keyspaces : Keyspaces
-  pub homes : List Fields
+  pub homes : Homes
+
+-- the tree where the keyspace of this id has that home
+abbrev pub with_home_at : ℕ → Home → Tree → Tree
+with_home_at id h t = record { last = t.last; keyspaces = t.keyspaces; homes = insert t.homes id h }
 
 -- the keyspaces of an image that is a sound folder
 pub record HasTree (image : Image) (t : Tree) : Type 0 where

@@ -1,16 +1,21 @@
--- The folders of keyspaces, and the records in them.
-use Rattle.std.specs.Prelude.{◌≡◌, ℕ, List, [], ◌∷◌, length, Some, None}
+-- The homes of keyspaces: the folder of each, with its records.
+use Rattle.std.specs.Prelude.{◌≡◌, ℕ, List, [], ◌∷◌, length, map, Option, Some, None}
+use Rattle.std.specs.Ordering.{nat_cmp}
+use Rattle.std.specs.FinMap.{FinMap, get}
 use Rattle.fjall_base.specs.Disk.{Folder, Image}
-use Rattle.fjall_tree.specs.Records.{Fields, IsRecords, view}
 use Rattle.fjall_base.specs.Lists.{last_of}
-use Rattle.fjall_files.specs.Texts.{text_in}
+use Rattle.fjall_files.specs.Names.{keyspace_folder}
+use Rattle.fjall_tree.specs.Records.{Fields, IsRecords, view}
+use Rattle.fjall_home.specs.Homes.{HasHome, Home, records_text}
 use Rattle.fjall_meta.specs.declared.living.LivingKeyspace.{LivingKeyspace}
-use Rattle.fjall_files.specs.Names.{keyspace_folder, current_name}
+use Rattle.fjall_meta.specs.Keyspaces.{keyspace_at}
 use Rattle.fjall_recovery.specs.declared.homes.KeyspaceRecords.{KeyspaceRecords}
 
--- the bytes of a keyspace's records in an image
-abbrev pub records_text : Image → ℕ → List ℕ
-records_text image id = text_in (image (current_name id))
+-- the homes of keyspaces by their ids
+abbrev pub Homes : Type 0
+Homes = FinMap nat_cmp Home
+
+-- ---- one home
 
 -- The data of keyspaces come from the journals alone, so a record tells of no table and of no clear, and nothing is
 -- persisted.
@@ -19,6 +24,43 @@ pub record IsPlain (last : Fields) : Type 0 where
   pub tables : last.tables ≡ []
   pub clears : last.clears ≡ []
 
+-- The keyspace of this id has this home in the image, and its last record is plain.
+pub record HasPlainHome (image : Image) (id : ℕ) (h : Home) : Type 0 where
+  pub records : List Fields
+  pub home : HasHome image id records h
+  pub plain : IsPlain h.last
+
+-- the home of these records' last one, which names no table
+abbrev pub plain_home : Fields → Home
+plain_home last = record { last = last; texts = [] }
+
+-- ---- all of them
+
+-- a keyspace that lives has its home, and no other id has one
+abbrev pub HasHomeAt : Image → ℕ → Option LivingKeyspace → Option Home → Type 0
+HasHomeAt image id (Some k) (Some h) = HasPlainHome image id h
+HasHomeAt image id None None = Unit {0}
+HasHomeAt image id k h = ⊥
+
+-- these keyspaces have these homes
+abbrev pub HaveHomes : Image → List LivingKeyspace → Homes → Type 0
+HaveHomes image living homes = (id : ℕ) → HasHomeAt image id (keyspace_at id living) (get homes id)
+
+-- a record that tells nothing
+abbrev pub no_fields : Fields
+no_fields = record { persisted = None; highest = None; next_table_id = 0; next_keyspace_id = 0; tables = []; clears = [] }
+
+-- the last record of a home, where there is one
+abbrev pub last_in : Option Home → Fields
+last_in None = no_fields
+last_in (Some h) = h.last
+
+-- the last records of these keyspaces' homes, in the keyspaces' order
+abbrev pub lasts : List LivingKeyspace → Homes → List Fields
+lasts living homes = map (λ k. last_in (get homes k.id)) living
+
+-- ---- as they are read
+
 -- the last of the whole records at the front of these bytes
 pub record HasLast (text : List ℕ) (last : Fields) : Type 0 where
   pub records : List Fields
@@ -26,17 +68,6 @@ pub record HasLast (text : List ℕ) (last : Fields) : Type 0 where
   pub whole : IsRecords text records end
   pub is : last_of records ≡ Some last
   pub plain : IsPlain last
-
--- the keyspace's folder holds records, and this is the last whole one
-pub record HasHome (image : Image) (id : ℕ) (last : Fields) : Type 0 where
-  pub folder : image (keyspace_folder id) ≡ Folder
-  pub last_is : HasLast (records_text image id) last
-
--- each of these keyspaces has its folder, with these records
-abbrev pub HaveHomes : Image → List LivingKeyspace → List Fields → Type 0
-HaveHomes image [] [] = Unit {0}
-HaveHomes image (k ∷ living) (last ∷ homes) = HasHome image k.id last × HaveHomes image living homes
-HaveHomes image living homes = ⊥
 
 -- what was read of a keyspace's records: the last one, where the whole ones end, and how many bytes there are
 pub record IsReadFrom (text : List ℕ) (home : KeyspaceRecords) : Type 0 where

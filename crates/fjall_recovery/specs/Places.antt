@@ -1,19 +1,23 @@
 -- Where everything of a database lies on a disk, exactly.
-use Rattle.std.specs.Prelude.{◌≡◌, ℕ, ◌<◌, ◌^◌, ◌==◌, if◌then◌else◌, List, [], ◌∷◌, ◌++◌, map, take, codes, All, Contains, Some, None, Ok}
+use Rattle.std.specs.Prelude.{◌≡◌, ℕ, ◌<◌, ◌^◌, List, [], ◌∷◌, ◌++◌, map, take, codes, All, Contains, Option, Some, None, Ok}
 use Rattle.std.specs.List.{flat_map, AllByRecursion}
 use Rattle.std.specs.List.Sorted.{IsStrictlyIncreasing}
-use Rattle.fjall_base.specs.Disk.{Name, Place, State, File, Folder, IsNoFile, IsNoFolder, folder_of}
+use Rattle.fjall_base.specs.Disk.{Name, Place, State, File, IsNoFile, IsNoFolder, folder_of}
 use Rattle.fjall_files.specs.Regions.{IsSafe}
 use Rattle.fjall_journal.specs.Batches.{Written, IsWritten, batch_text, shown}
 use Rattle.fjall_tree.specs.Records.{Fields}
 use Rattle.fjall_files.specs.declared.marker.Marker.TheVariants.{Whole}
 use Rattle.fjall_files.specs.Marker.{marker_tells}
-use Rattle.fjall_files.specs.Names.{IsMisnamed, IsNameOf, journal_name, keyspace_folder, current_name}
+use Rattle.fjall_files.specs.Names.{IsMisnamed, IsNameOf, journal_name, keyspace_folder}
 use Rattle.fjall_meta.specs.declared.living.LivingKeyspace.{LivingKeyspace}
-use Rattle.fjall_catalog.specs.Catalog.{Rests, IsFree, only}
+use Rattle.std.specs.FinMap.{get}
+use Rattle.fjall_home.specs.Homes as homes
+use Rattle.fjall_home.specs.Homes.{Home, IsFree}
+use Rattle.fjall_meta.specs.Keyspaces.{keyspace_at}
+use Rattle.fjall_catalog.specs.Catalog.{Rests}
 use Rattle.fjall_versions.specs.Replays.{first_fault}
 use Rattle.fjall_recovery.specs.Folders.{AreMade, Contents}
-use Rattle.fjall_recovery.specs.Homes.{HasLast}
+use Rattle.fjall_recovery.specs.Homes.{Homes, IsPlain}
 use Rattle.fjall_recovery.specs.Journals.{Journal, batches_in}
 use Rattle.fjall_recovery.specs.Halves.{Tree}
 
@@ -65,21 +69,24 @@ pub record LiesInRoot (state : State) (j : Journaling) : Type 0 where
 
 -- ---- the keyspaces
 
--- the folder of a keyspace and its records are safe, and this is the last record
-pub record HasSafeHome (state : State) (id : ℕ) (last : Fields) : Type 0 where
-  pub folder : state (keyspace_folder id) ≡ only Folder
-  pub text : List ℕ
-  pub current : IsSafe state (current_name id) text
-  pub last_is : HasLast text last
+-- The keyspace of this id has this home, all of it safe, and its last record is plain.
+pub record HasSafeHome (state : State) (id : ℕ) (h : Home) : Type 0 where
+  pub records : List Fields
+  pub rests : homes.Rests state id records h
+  pub plain : IsPlain h.last
 
--- one after another
-abbrev pub HaveSafeHomes : State → List LivingKeyspace → List Fields → Type 0
-HaveSafeHomes state [] [] = Unit {0}
-HaveSafeHomes state (k ∷ living) (last ∷ homes) = HasSafeHome state k.id last × HaveSafeHomes state living homes
-HaveSafeHomes state living homes = ⊥
+-- a keyspace that lives has a safe home, and no other id has one
+abbrev pub HasSafeHomeAt : State → ℕ → Option LivingKeyspace → Option Home → Type 0
+HasSafeHomeAt state id (Some k) (Some h) = HasSafeHome state id h
+HasSafeHomeAt state id None None = Unit {0}
+HasSafeHomeAt state id k h = ⊥
 
--- The keyspaces' files rest so: tree 0's catalog and each living keyspace's folder and records are safe, and no folder in
--- `keyspaces` is named but by an id.
+-- these keyspaces have these homes
+abbrev pub HaveSafeHomes : State → List LivingKeyspace → Homes → Type 0
+HaveSafeHomes state living homes = (id : ℕ) → HasSafeHomeAt state id (keyspace_at id living) (get homes id)
+
+-- The keyspaces' files rest so: tree 0's catalog and each living keyspace's home are safe, and no folder in `keyspaces` is
+-- named but by an id.
 pub record RestsInTree (state : State) (records : List Fields) (t : Tree) : Type 0 where
   pub named : (name : Name) → folder_of name ≡ codes "keyspaces" → ((id : ℕ) → IsNameOf keyspace_folder name id → ⊥) → IsNeverFolder (state name)
   pub catalog : Rests state records t.last t.keyspaces
@@ -89,15 +96,10 @@ pub record RestsInTree (state : State) (records : List Fields) (t : Tree) : Type
 -- The same, and tree 0 is ready for a change: no table stands under an id that is still to be given out.
 pub record LiesInTree (state : State) (records : List Fields) (t : Tree) : Type 0 where
   pub rests : RestsInTree state records t
-  pub free : IsFree state t.last.next_table_id
+  pub free : IsFree state 0 t.last.next_table_id
 
 -- ---- both
 
 -- what the folder holds where the active journal has these batches behind its synced ones
 abbrev pub contents_with : Journaling → Tree → List Written → Contents
 contents_with j t behind = record { journals = journals_with j behind; keyspaces = t.keyspaces; last = t.last; homes = t.homes }
-
--- the homes of the keyspaces but that of this id
-abbrev pub homes_without : ℕ → List LivingKeyspace → List Fields → List Fields
-homes_without id (k ∷ living) (last ∷ homes) = if k.id == id then homes_without id living homes else last ∷ homes_without id living homes
-homes_without id living homes = []

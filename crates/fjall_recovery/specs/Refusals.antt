@@ -22,7 +22,8 @@ use Rattle.fjall_catalog.specs.declared.catalog.Catalog.{Catalog}
 use Rattle.fjall_catalog.specs.Catalog.{Says, records_in}
 use Rattle.fjall_catalog.specs.Refusals.{IsDamage}
 use Rattle.fjall_recovery.specs.Folders.{AreEmpty, AreMade, IsBegun, marker_bytes}
-use Rattle.fjall_recovery.specs.Homes.{HasHome, HasNoRecord, records_text}
+use Rattle.fjall_home.specs.Homes.{Home, records_text}
+use Rattle.fjall_recovery.specs.Homes.{HasNoRecord, HasPlainHome}
 use Rattle.fjall_recovery.specs.Journals.{Journal, ReadsAs, AreJournalIds, HoldsJournals, journal_text}
 use Rattle.fjall_recovery.specs.Naming.{JournalsAreNamed, KeyspacesAreNamed}
 
@@ -72,7 +73,7 @@ HomeRefuses image id error = ⊥
 -- the first of these keyspaces that is refused, where those before it aren't
 abbrev pub HomesRefuse : Image → List LivingKeyspace → Error → Type 0
 HomesRefuse image [] error = ⊥
-HomesRefuse image (k ∷ living) error = HomeRefuses image k.id error ⊎ (((last : Fields) × HasHome image k.id last) × HomesRefuse image living error)
+HomesRefuse image (k ∷ living) error = HomeRefuses image k.id error ⊎ (((h : Home) × HasPlainHome image k.id h) × HomesRefuse image living error)
 
 -- the image says of no keyspaces that they live
 abbrev pub SaysNothing : Image → Type 0

@@ -3,7 +3,8 @@
 ghost use Rattle.std.specs.Prelude.{◌≡◌, ◌≤◌, ◌↔◌, [], IsTrue, IfErr, IfOk};
 ghost use Rattle.fjall_base.specs.Disk.{Took};
 ghost use Rattle.fjall_tree.specs.Records.{view};
-ghost use Rattle.fjall_recovery.specs.Homes.{AreHomesRead, HasNoRecord, IsPlain, IsRead, IsReadFrom, records_text};
+ghost use Rattle.fjall_home.specs.Homes.{records_text};
+ghost use Rattle.fjall_recovery.specs.Homes.{AreHomesRead, HasNoRecord, IsPlain, IsRead, IsReadFrom};
 ghost use Rattle.fjall_recovery.specs.Naming.{AreFolderIds};
 ghost use Rattle.fjall_recovery.specs.Refusals.{HasRisen, HomeRefuses, HomesRefuse, IsDue, IsOpeningRefusal};
 ghost use Rattle.fjall_files.specs.Calls.{seen, AllServed};

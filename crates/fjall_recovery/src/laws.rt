@@ -1,19 +1,23 @@
 //! What holds of folders, and of how they lie on a disk.
 
-ghost use Rattle.std.specs.Prelude.{◌≡◌, List, ◌++◌, ◌<◌, ◌^◌, ℕ, [], Option, Some, true};
-ghost use Rattle.fjall_base.specs.Disk.{Image, Leaves, Name, State, Step, Survives, disk_of};
+ghost use Rattle.std.specs.Prelude.{◌≡◌, List, ◌++◌, ◌<◌, ◌^◌, ℕ, [], Option, Some, is_some, true};
+ghost use Rattle.fjall_base.specs.Disk.{Folder, Image, Leaves, Name, State, Step, Survives, disk_of};
 ghost use Rattle.fjall_base.specs.declared.error.Error.{Error};
 ghost use Rattle.fjall_base.specs.Store.{Store};
-ghost use Rattle.fjall_recovery.specs.Folders.{Contents, IsSound, StandsFor};
+ghost use Rattle.fjall_home.specs.Homes.{Home};
+ghost use Rattle.fjall_meta.specs.Keyspaces.{keyspace_at};
+ghost use Rattle.fjall_catalog.specs.Catalog.{Rests, Says};
+ghost use Rattle.fjall_recovery.specs.Homes.{HasPlainHome, HaveHomes};
+ghost use Rattle.fjall_recovery.specs.Folders.{AreMade, Contents, IsSound, StandsFor};
 ghost use Rattle.fjall_recovery.specs.Journals.{Journal, HoldsJournals};
 ghost use Rattle.fjall_recovery.specs.Refusals.{AreOne, FolderRefuses};
 ghost use Rattle.fjall_files.specs.Regions.{IsImageIn};
 ghost use Rattle.fjall_journal.specs.Batches.{Written};
 ghost use Rattle.fjall_tree.specs.Records.{Fields};
-ghost use Rattle.fjall_files.specs.Names.{journal_name};
-ghost use Rattle.fjall_recovery.specs.Halves.{HasRoot, HasTree, Tree, is_of_keyspaces, is_of_root};
+ghost use Rattle.fjall_files.specs.Names.{journal_name, keyspace_folder};
+ghost use Rattle.fjall_recovery.specs.Halves.{HasRoot, HasTree, Tree, is_of_keyspaces, is_of_root, outside, with_home_at};
 ghost use Rattle.fjall_recovery.specs.Held.{Holds, IsFolder, store_held};
-ghost use Rattle.fjall_recovery.specs.Places.{Journaling, LiesInRoot, RestsInTree, contents_with, journals_with};
+ghost use Rattle.fjall_recovery.specs.Places.{HasSafeHome, HaveSafeHomes, Journaling, LiesInRoot, RestsInTree, contents_with, journals_with};
 
 /// An image holds one list of journals.
 pub fn one_list_of_journals()
@@ -57,6 +61,33 @@ pub fn roots_alike()
 /// The keyspaces of an image are sound by what stands in `keyspaces`.
 pub fn trees_alike()
     ensures { (image other : Image) (t : Tree) → ((q : Name) → is_of_keyspaces q ≡ true → other q ≡ image q) → HasTree image t → HasTree other t }
+{}
+
+/// A change within the folder of a keyspace that lives, which has that home then, leaves all else of the tree as it is: in
+/// what stands, on a disk where all rests, and in whatever a crash leaves of that elsewhere.
+pub fn one_home_changes()
+    ensures image { (image other : Image) (t : Tree) (id : ℕ) (h : Home) → HasTree image t → is_some (keyspace_at id t.keyspaces.living) ≡ true
+        → ((q : Name) → outside id q ≡ true → other q ≡ image q) → HasPlainHome other id h → HasTree other (with_home_at id h t) }
+    ensures rests { (old new : State) (records : List Fields) (t : Tree) (id : ℕ) (h : Home) → RestsInTree old records t
+        → is_some (keyspace_at id t.keyspaces.living) ≡ true → ((q : Name) → outside id q ≡ true → new q ≡ old q) → HasSafeHome new id h
+        → RestsInTree new records (with_home_at id h t) }
+    ensures crash { (state : State) (image : Image) (records : List Fields) (t : Tree) (id : ℕ) (h : Home) → RestsInTree state records t
+        → is_some (keyspace_at id t.keyspaces.living) ≡ true → IsImageIn Survives (outside id) state image → HasPlainHome image id h
+        → HasTree image (with_home_at id h t) }
+{}
+
+/// A change within tree 0's folder, after which it says that other keyspaces live, leaves the homes as they are: the tree is
+/// that of the keyspaces that live then, where each of them has its home already.
+pub fn the_catalog_changes()
+    ensures image { (image other : Image) (records : List Fields) (t next : Tree) → HasTree image t → HaveHomes image next.keyspaces.living next.homes
+        → AreMade next.last next.keyspaces → ((q : Name) → outside 0 q ≡ true → other q ≡ image q) → other (keyspace_folder 0) ≡ Folder
+        → Says other records next.last next.keyspaces → HasTree other next }
+    ensures rests { (old new : State) (records others : List Fields) (t next : Tree) → RestsInTree old records t
+        → HaveSafeHomes old next.keyspaces.living next.homes → AreMade next.last next.keyspaces → ((q : Name) → outside 0 q ≡ true → new q ≡ old q)
+        → Rests new others next.last next.keyspaces → RestsInTree new others next }
+    ensures crash { (state : State) (image : Image) (records others : List Fields) (t next : Tree) → RestsInTree state records t
+        → HaveSafeHomes state next.keyspaces.living next.homes → AreMade next.last next.keyspaces → IsImageIn Survives (outside 0) state image
+        → image (keyspace_folder 0) ≡ Folder → Says image others next.last next.keyspaces → HasTree image next }
 {}
 
 /// No journal's name is in `keyspaces`.

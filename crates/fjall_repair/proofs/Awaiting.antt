@@ -1,10 +1,12 @@
 -- All that lies on the disk when only the marker is still to be written.
-use Rattle.std.proofs.Common.{◌≡◌, ◌≢◌, ℕ, ◌<◌, ◌^◌, Bool, true, false, not, List, [], ◌∷◌, ◌++◌, length, map, get_or, codes, All, refl, sym, ◌∙◌, ap, subst, arith, lit<}
+use Rattle.std.proofs.Common.{◌≡◌, ◌≢◌, ℕ, ◌<◌, ◌^◌, Bool, true, false, not, List, [], ◌∷◌, ◌++◌, length, map, get_or, codes, All, Option, None, refl, sym, ◌∙◌, ap, subst, arith, lit<}
 use Rattle.std.specs.Prelude.{Contains}
 use Rattle.std.proofs.lemmas.Bool.{true≢false}
 use Rattle.std.proofs.lemmas.List.{append-nil, get_or_default}
 use Rattle.std.proofs.lemmas.List.Elements.{All-cons, All-head, All-nil, All-tail}
 use Rattle.std.specs.List.{AllByRecursion}
+use Rattle.std.specs.FinMap.{get, get-empty}
+use Rattle.std.specs.Ordering.{nat_cmp}
 use Rattle.std.specs.List.Sorted.{IsStrictlyIncreasing}
 use Rattle.fjall_base.specs.declared.error.FormatVersion.TheVariants.{V3}
 use Rattle.fjall_base.specs.Disk.{Name, Entry, Missing, File, Folder, Place, State, SyncFolder, Meaning, Took, IsFile, IsNoFile, IsNoFolder, folder_of, standing, state_in}
@@ -14,18 +16,19 @@ use Rattle.fjall_files.proofs.Changes.{settle-now, within_state}
 use Rattle.fjall_journal.specs.Batches.{Written, IsWritten, shown}
 use Rattle.fjall_files.specs.Marker.{header}
 use Rattle.fjall_files.specs.Names.{IsMisnamed, IsNameOf, journal_name, keyspace_folder, current_name}
-use Rattle.fjall_meta.specs.Keyspaces.{AreKeyspaces, no_keyspaces}
-use Rattle.fjall_catalog.specs.Catalog.{fields, first_catalog, only}
-use Rattle.fjall_catalog.proofs.Naming.{folder_of-folder}
+use Rattle.fjall_meta.specs.Keyspaces.{AreKeyspaces, keyspace_at, no_keyspaces}
+use Rattle.fjall_files.proofs.Fitting.{folder_of-folder, folder_of-journal as in_root}
+use Rattle.fjall_home.specs.Homes.{Home, only}
+use Rattle.fjall_catalog.specs.Catalog.{fields, first_catalog}
 use Rattle.fjall_versions.specs.Replays.{first_fault}
 use Rattle.fjall_recovery.specs.Journals.{Journal, batches_in}
-use Rattle.fjall_recovery.proofs.Listed.{in_root}
-use Rattle.fjall_recovery.specs.Places.{IsNeverFile, IsNeverFolder, LiesInRoot, RestsInTree, journal_ids, journals_with, texts_of}
+use Rattle.fjall_recovery.specs.Places.{HasSafeHomeAt, IsNeverFile, IsNeverFolder, LiesInRoot, RestsInTree, journal_ids, journals_with, texts_of}
 use Rattle.fjall_recovery.proofs.Named.{journal_within}
 use Rattle.fjall_repair.specs.Making.{IsMaking}
 use Rattle.fjall_repair.specs.Plans.{AreToBe, AwaitsMarker, HasFirstTree, empty_journals, first_text, first_tree, marked}
 use Rattle.fjall_repair.proofs.Emptying.{AreEmptied}
-use Rattle.fjall_repair.proofs.Named.{current_inside, current_no_journal, folder_no_journal, journals_apart, keyspaces_no_journal, marker_no_journal, marker_no_misnomer}
+use Rattle.fjall_repair.proofs.Named.{current_inside, current_no_journal, folder_no_journal, keyspaces_no_journal, marker_no_journal, marker_no_misnomer}
+use Rattle.fjall_repair.proofs.Naming.{journals_apart}
 use Rattle.fjall_repair.proofs.Trees.{first_record_is}
 
 -- ---- the journals
@@ -104,6 +107,10 @@ lawful = record {
 outside : (b : Bool) → not b ≡ true → b ≡ false
 outside true is = absurd (true≢false (sym is))
 outside false is = refl
+
+-- where no keyspace lives there is no home
+no_home : (state : State) (id : ℕ) → HasSafeHomeAt state id (keyspace_at id no_keyspaces.living) (get first_tree.homes id)
+no_home state id = subst (λ (h : Option Home). HasSafeHomeAt state id None h) (sym (get-empty nat_cmp id)) tt
 
 -- ---- what is made, one after another
 
@@ -187,17 +194,21 @@ module _ {X : Type 0} (text : X → Name) (old one two new : Meaning) (xs : List
   rests = record {
     named = no_stray;
     catalog = record {
-      keyspaces_folder = outer;
-      folder = inner (keyspace_folder 0) (in_keyspaces (keyspace_folder 0) folder_of-folder) (λ id small. folder_no_journal id) ∙ tree.folder;
-      current = inner (current_name 0) current_inside (λ id small. current_no_journal id) ∙ tree.current ∙ ap (λ (l : List ℕ). only (File l [])) (sym (append-nil first_text));
-      each = (first_record_is, tt);
-      last_is = refl;
-      entries = refl;
+      texts = [];
+      home = record {
+        keyspaces_folder = outer;
+        folder = inner (keyspace_folder 0) (in_keyspaces (keyspace_folder 0) (folder_of-folder 0 (omega arith))) (λ id small. folder_no_journal id) ∙ tree.folder;
+        current = inner (current_name 0) current_inside (λ id small. current_no_journal id) ∙ tree.current ∙ ap (λ (l : List ℕ). only (File l [])) (sym (append-nil first_text));
+        each = (first_record_is, tt);
+        last_is = refl;
+        tables = tt;
+      };
+      pairs = refl;
       next = refl;
       are = lawful;
     };
     made = All-nil _;
-    homes = tt;
+    homes = λ id. no_home (marked (state_in new)) id;
   }
 
   pub awaits : AwaitsMarker (state_in new) sealed active

@@ -7,6 +7,7 @@ use Rattle.std.proofs.lemmas.List.Elements.{recursion_from_All}
 use Rattle.fjall_base.specs.declared.error.Error.{Error}
 use Rattle.fjall_base.specs.Disk.{Name, Entry, Missing, File, Folder, Place, State, Image, IsFile, Append, Sync, SyncFolder, Meaning, Took, TookOrNot, TookPart, TookCut, alter, all_synced, appended, cut_to, loosened, making, standing, state_in}
 use Rattle.fjall_base.proofs.States.{alter-same, put-same, settle-in}
+use Rattle.fjall_base.proofs.Names.{bool_cases, same, same_test}
 use Rattle.fjall_files.proofs.Changes.{settle-now}
 use Rattle.fjall_files.specs.Names.{journal_name}
 use Rattle.fjall_recovery.specs.Folders.{Contents, IsSound, IsUnfinished}
@@ -16,7 +17,6 @@ use Rattle.fjall_repair.specs.Making.{ComesBackUnfinished, IsKept, MayStand}
 use Rattle.fjall_repair.specs.Plans.{AwaitsMarker, empty_journals}
 use Rattle.fjall_repair.proofs.Awaiting.{marked_other}
 use Rattle.fjall_repair.proofs.Named.{marker_no_journal}
-use Rattle.fjall_repair.proofs.Fronts.{bool_cases, same, same_test}
 use Rattle.fjall_repair.proofs.Standing.{making_of, some_left, unfinished_of}
 
 -- ---- what stood at a name before
@@ -97,7 +97,7 @@ marking_back new kept older begun = kept_back new (record {
   where
     same_or_not : (name : Name) → (name ≡ codes "version") ⊎ (name ≢ codes "version")
     same_or_not name = elim (bool_cases (bytes_eq name (codes "version"))) [
-      | inl at ↦ inl (same name (codes "version") at)
+      | inl at ↦ inl (same at)
       | inr out ↦ inr (λ is. let yes = subst (λ (n : Name). bytes_eq n (codes "version") ≡ true) (sym is) (same_test (codes "version")) in let no : true ≡ false = sym yes ∙ out in cc)
     ]
 

@@ -92,7 +92,7 @@ module _ (image other : Image) (f : Name) (len : ℕ) (at : Cuts image other f l
         } in
         sound_of other c left
         (tree_along image other (tree_of c) (folder_back image other f len at) (folder_stays image other f len at) (λ k. elsewhere image other f len at (current_name k) (λ same. journal_current id k (sym named ∙ sym same)))
-        (λ m. elsewhere image other f len at (table_name 0 m) (λ same. journal_table id 0 m (sym named ∙ sym same))) (tree_in image c sound))
+        (λ k m. elsewhere image other f len at (table_name k m) (λ same. journal_table id k m (sym named ∙ sym same))) (tree_in image c sound))
 
 -- ---- what stays
 

@@ -3,14 +3,14 @@ use Rattle.std.proofs.Common.{◌≡◌, inl, inr, ℕ, false, List, [], ◌∷�
 use Rattle.std.proofs.lemmas.List.{append-nil, take_all}
 use Rattle.std.specs.List.{AllByRecursion}
 use Rattle.std.specs.Str.{bytes_eq}
-use Rattle.fjall_base.specs.Disk.{Name, Entry, Missing, File, Folder, State, Image, Survives, SomeSurvives, Meaning, Took, LeavesOnly, all_synced, standing, state_in}
-use Rattle.fjall_base.proofs.Moments.{runs_on, started, stays, weaken}
+use Rattle.fjall_base.specs.Disk.{Name, Entry, Missing, File, Folder, State, Image, Survives, SomeSurvives, Meaning, LeavesOnly, all_synced, standing, state_in}
+use Rattle.fjall_base.proofs.Moments.{runs_on, weaken}
+use Rattle.fjall_base.proofs.Names.{bool_cases, same, same_test}
 use Rattle.fjall_meta.specs.Keyspaces.{no_keyspaces}
 use Rattle.fjall_versions.specs.Replays.{bare}
 use Rattle.fjall_recovery.specs.Folders.{IsUnfinished, StandsFor}
 use Rattle.fjall_repair.specs.Making.{AreLeft, ComesBackUnfinished, GoesOn, IsKept, IsMaking, MayStand}
-use Rattle.fjall_repair.proofs.Fronts.{bool_cases, same, same_test}
-use Rattle.fjall_repair.proofs.Standing.{some_left, kept_image, making_of, stands_same, unfinished_of}
+use Rattle.fjall_repair.proofs.Standing.{some_left, making_of, stands_same, unfinished_of}
 
 -- what holds of each image meanwhile
 abbrev pub StandsBare : Image → Type 0
@@ -21,9 +21,6 @@ unfinished_stands image making = inr (unfinished_of image making, refl)
 
 pub before : (old new : Meaning) → IsKept false (state_in old) → GoesOn false old new → LeavesOnly old new StandsBare
 before old new kept goes = weaken old new (IsMaking false) StandsBare (goes.moments kept) unfinished_stands
-
-pub nothing_done : (old new : Meaning) → IsKept false (state_in old) → Took old new [] → LeavesOnly old new StandsBare
-nothing_done old new kept took = stays old old new StandsBare (started old StandsBare (λ image is. unfinished_stands image (kept_image false (state_in old) image kept is))) took
 
 pub then_done : (old mid new : Meaning) → LeavesOnly old mid StandsBare → LeavesOnly mid new StandsBare → LeavesOnly old new StandsBare
 then_done old mid new one two = runs_on old mid new StandsBare one two
@@ -48,7 +45,7 @@ module _ (state : State) (unfinished : ComesBackUnfinished state) where
   are_left : (name : Name) (entry : Entry) → SomeSurvives ((state name).now ∷ (state name).older) (all_synced entry) → AreLeft state (with_entry name entry)
   unfolding with_entry
   are_left name entry here q = elim (bool_cases (bytes_eq q name)) [
-    | inl at ↦ rw at (subst (λ (n : Name). SomeSurvives ((state n).now ∷ (state n).older) (all_synced entry)) (sym (same q name at)) here)
+    | inl at ↦ rw at (subst (λ (n : Name). SomeSurvives ((state n).now ∷ (state n).older) (all_synced entry)) (sym (same at)) here)
     | inr out ↦ rw out (inl (survives_synced (state q).now))
   ]
 

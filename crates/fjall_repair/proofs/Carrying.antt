@@ -1,13 +1,13 @@
 -- The steps of a plan, one after another.
-use Rattle.std.proofs.Common.{◌≡◌, inl, inr, ⊎_elim, ℕ, suc, ◌+◌, ◌<◌, ◌≤◌, ◌^◌, List, [], ◌∷◌, ◌++◌, length, take, map, All, Some, Result, Ok, Err, String, Global, string_bytes, refl, sym, ◌∙◌, ap, subst, arith}
-use Rattle.std.specs.Prelude.{OnOk}
+use Rattle.std.proofs.Common.{◌≡◌, inl, inr, ⊎_elim, ℕ, zero, suc, ◌+◌, ◌<◌, ◌≤◌, ◌^◌, List, [], ◌∷◌, ◌++◌, length, take, map, All, Some, Result, Ok, Err, String, Global, string_bytes, refl, sym, ◌∙◌, ap, subst, arith}
+use Rattle.std.specs.Prelude.{Contains, OnOk}
 use Rattle.std.specs.List.{AllByRecursion}
 use Rattle.std.proofs.lemmas.List.{append-nil, length-take}
 use Rattle.std.proofs.Math.Seq.{take-append-add}
 use Rattle.fjall_base.specs.declared.error.Error.{Error}
 use Rattle.fjall_base.specs.Disk.{Name, Entry, Missing, File, Folder, Place, State, Image, IsImage, IsFile, LeavesOnly, Meaning, Survives, SomeSurvives, all_synced, folder_of, standing, state_in}
 use Rattle.fjall_base.proofs.Moments.{at_end, runs_on, weaken}
-use Rattle.fjall_tree.specs.Records.{Fields, IsRecords}
+use Rattle.fjall_tree.specs.Records.{IsRecords}
 use Rattle.fjall_base.specs.Lists.{last_of}
 use Rattle.fjall_files.specs.Texts.{text_in}
 use Rattle.fjall_tree.proofs.Currents as Currents
@@ -19,10 +19,10 @@ use Rattle.fjall_recovery.specs.Held.{Holds}
 use Rattle.fjall_recovery.specs.Places.{texts_of}
 use Rattle.fjall_repair.specs.declared.mending.plan.FileEnd.{FileEnd}
 use Rattle.fjall_repair.specs.declared.mending.plan.MendPlan.{MendPlan}
-use Rattle.fjall_repair.specs.Steps.{End, IsEnded, IsOpened, IsRested, IsRightEnd, IsSame, IsSynced, Stays, Suits, active_of, end_of, ended_names, folder_names, opened, whole_names, with_active}
+use Rattle.fjall_repair.specs.Steps.{End, EndsWithRecords, IsEnded, IsOpened, IsRested, IsRightEnd, IsSame, IsSynced, Stays, Suits, active_of, end_of, ended_names, folder_names, opened, whole_names, with_active}
 use Rattle.fjall_repair.proofs.Naming.{folder_of-current, folder_of-journal, journal_current}
 use Rattle.fjall_repair.proofs.Cutting.{begin_records}
-use Rattle.fjall_repair.proofs.Items.{along_map, back_map}
+use Rattle.fjall_repair.proofs.Items.{along_map, back_map, contains_map}
 use Rattle.fjall_repair.proofs.MendOpened.{active_small, ids_of, same_store}
 use Rattle.fjall_repair.proofs.Mended.{last_named, same_active}
 use Rattle.fjall_repair.proofs.Turns.{AreRight, AreSettled}
@@ -85,9 +85,13 @@ first_named : (P : FileEnd → Type 0) (ends : List FileEnd) (n : Name) (ns : Li
 first_named P [] n ns is all = let bad : ⊥ = cc in absurd bad
 first_named P (e ∷ ends) n ns is all = (e, (let same : name_of_end e ≡ n = cc in same), all 0 e (omega arith))
 
-second_named : (P : FileEnd → Type 0) (ends : List FileEnd) (n m : Name) (ns : List Name) → map name_of_end ends ≡ n ∷ m ∷ ns → All P ends → (e : FileEnd) × (string_bytes e.name ≡ m) × P e
-second_named P [] n m ns is all = let bad : ⊥ = cc in absurd bad
-second_named P (e ∷ ends) n m ns is all = let rest : map name_of_end ends ≡ m ∷ ns = cc in first_named P ends m ns rest (λ k d lt. all (suc k) d (omega (arith, lt)))
+-- one of ends with these names
+one_named : (P : FileEnd → Type 0) (ends : List FileEnd) (ns : List Name) (n : Name) → map name_of_end ends ≡ ns → Contains ns n → All P ends → (e : FileEnd) × (string_bytes e.name ≡ n) × P e
+one_named P ends [] n is has all = let lt = has.1 in absurd (omega (arith, lt))
+one_named P [] (m ∷ ns) n is has all = let bad : ⊥ = cc in absurd bad
+one_named P (e ∷ ends) (m ∷ ns) n is (zero, lt, at) all = (e, (let same : name_of_end e ≡ m = cc in same ∙ at), all 0 e (omega arith))
+one_named P (e ∷ ends) (m ∷ ns) n is (suc k, lt, at) all =
+    let rest : map name_of_end ends ≡ ns = cc in one_named P ends ns n rest (k, omega (arith, lt), at) (λ i d less. all (suc i) d (omega (arith, less)))
 
 currents_settled : (s : State) (ids : List ℕ) → AllByRecursion (λ f. (q : Name) → folder_of q ≡ f → (s q).older ≡ []) (map keyspace_folder ids) → AllByRecursion (λ n. (s n).older ≡ []) (map current_name ids)
 currents_settled s [] folders = tt
@@ -184,19 +188,26 @@ module _ (P : Image → Type 0) (m3 m4 : Meaning) (c : Contents) (p : MendPlan) 
       omega (arith, count, l, len, is))
       (λ records. absurd (journal_current journal.id records.id (sym at ∙ records.named))) first.2.0.kind
 
-  tree_short : (records : List Fields) (end : ℕ) → IsRecords (text_in (state_in m4 (current_name 0)).now) records end → length (text_in (state_in m4 (current_name 0)).now) ≤ end
-  tree_short records end reads =
-      let second = second_named EndedRight p.ends.items _ _ _ before.ended both in
-      let text = text_in (state_in m3 (string_bytes second.0.name)).now in
-      let left : text_in (state_in m4 (current_name 0)).now ≡ take second.0.len text = ap (λ (n : Name). text_in (state_in m4 n).now) (sym second.1) ∙ text_left second.0 second.2.1 in
+  -- the file of these records was ended
+  ended_current : (id : ℕ) → Contains (0 ∷ map (λ k. k.id) c.keyspaces.living) id → (e : FileEnd) × (string_bytes e.name ≡ current_name id) × EndedRight e
+  ended_current id has =
+      let names = contains_map current_name (0 ∷ map (λ k. k.id) c.keyspaces.living) id has in
+      one_named EndedRight p.ends.items (ended_names (active_of (ids_of c.journals)) (map (λ k. k.id) c.keyspaces.living)) (current_name id) before.ended
+      (suc names.0, (let lt = names.1 in omega (arith, lt)), names.2) both
+
+  records_short : (id : ℕ) → Contains (0 ∷ map (λ k. k.id) c.keyspaces.living) id → EndsWithRecords (text_in (state_in m4 (current_name id)).now)
+  records_short id has records end reads =
+      let one = ended_current id has in
+      let text = text_in (state_in m3 (string_bytes one.0.name)).now in
+      let left : text_in (state_in m4 (current_name id)).now ≡ take one.0.len text = ap (λ (n : Name). text_in (state_in m4 n).now) (sym one.1) ∙ text_left one.0 one.2.1 in
       let count = ap length left in
-      let l = length-take second.0.len text in
+      let l = length-take one.0.len text in
       ⊎_elim
-      (λ batches. absurd (journal_current batches.journal.id 0 (sym batches.named ∙ second.1)))
+      (λ batches. absurd (journal_current batches.journal.id id (sym batches.named ∙ one.1)))
       (λ rs.
-      let here = begin_records text rs.records second.0.len second.0.len rs.whole (omega arith) in
-      let same = (Currents.one_reading (take second.0.len text) rs.records records second.0.len end here (subst (λ t. IsRecords t records end) left reads)).1 in
-      omega (arith, count, l, same)) second.2.0.kind
+      let here = begin_records text rs.records one.0.len one.0.len rs.whole (omega arith) in
+      let same = (Currents.one_reading (take one.0.len text) rs.records records one.0.len end here (subst (λ t. IsRecords t records end) left reads)).1 in
+      omega (arith, count, l, same)) one.2.0.kind
 
   pub rested : ((journal : Journal) → last_of c.journals ≡ Some journal → journal_name journal.id ≡ journal_name (active_of (ids_of c.journals))) → IsRested (state_in m4) c
   rested named = record {
@@ -207,7 +218,7 @@ module _ (P : Image → Type 0) (m3 m4 : Meaning) (c : Contents) (p : MendPlan) 
     ended = subst (AllByRecursion (λ f. IsSynced (state_in m4 f).now)) before.ended
         (along_map (λ f. IsSynced (state_in m4 f).now) name_of_end p.ends.items (λ k d lt. (_, ended k d lt)));
     active = λ journal last. active_short journal last (named journal last);
-    tree = tree_short;
+    records = records_short;
   }
 
 -- ---- the call

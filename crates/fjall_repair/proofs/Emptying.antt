@@ -4,9 +4,9 @@ use Rattle.std.proofs.lemmas.List.Elements.{All-append, All-cons, All-head, All-
 use Rattle.std.proofs.Math.Seq.{take-suc}
 use Rattle.std.specs.Str.{bytes_eq}
 use Rattle.fjall_base.specs.Disk.{Name, File, Place, State}
+use Rattle.fjall_base.proofs.Names.{bool_cases, same}
 use Rattle.fjall_files.specs.Names.{journal_name}
 use Rattle.fjall_repair.specs.Making.{CanHold}
-use Rattle.fjall_repair.proofs.Fronts.{bool_cases, same}
 use Rattle.fjall_repair.proofs.Holding.{journal_holds}
 
 -- the name at a place is that of the journal whose id is there
@@ -42,7 +42,7 @@ module _ {X : Type 0} (text : X → Name) where
   emptied_more xs k d name old new at lt so_far other here =
       let x = get_or xs k d in
       let before : AreEmptied new (take k xs) = λ i e below. elim (bool_cases (bytes_eq (text (get_or (take k xs) i e)) name)) [
-        | inl is ↦ ap (λ (n : Name). (new n).now) (same (text (get_or (take k xs) i e)) name is) ∙ here
+        | inl is ↦ ap (λ (n : Name). (new n).now) (same is) ∙ here
         | inr not ↦ ap (λ (p : Place). p.now) (other (text (get_or (take k xs) i e)) not) ∙ so_far i e below
       ] in
       subst (AreEmptied new) (sym (ap (λ (n : ℕ). take n xs) (add-one k) ∙ take-suc xs k d lt))

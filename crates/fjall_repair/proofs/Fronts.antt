@@ -1,5 +1,5 @@
 -- Beginnings of texts: a beginning of what may stand in a file may stand there.
-use Rattle.std.proofs.Common.{◌≡◌, ◌⊎◌, inl, inr, ⊎_elim, ℕ, ◌<◌, ◌≤◌, ◌^◌, Bool, true, false, ◌&&◌, nat_lt, List, [], ◌∷◌, ◌++◌, length, take, drop, Option, Some, None, Ok, refl, sym, ◌∙◌, ap, subst, arith, append_assoc, take-append-drop}
+use Rattle.std.proofs.Common.{◌≡◌, inl, inr, ⊎_elim, ℕ, ◌<◌, ◌≤◌, ◌^◌, Bool, true, false, ◌&&◌, nat_lt, List, [], ◌∷◌, ◌++◌, length, take, drop, Option, Some, None, Ok, refl, sym, ◌∙◌, ap, subst, arith, append_assoc, take-append-drop}
 use Rattle.std.proofs.lemmas.List.{append-nil, length-append, length-take, take_at, take-append-le, drop-append-le, nil_from_length}
 use Rattle.std.proofs.lemmas.Bool.{cases_lt, true≢false}
 use Rattle.std.proofs.lemmas.Bool.Decides.{nat_tests}
@@ -13,24 +13,13 @@ use Rattle.fjall_table.specs.Frame.{NoFrame, framed}
 use Rattle.fjall_table.specs.Reading.{frame_at}
 use Rattle.fjall_tree.specs.Records.{Fields, IsRecord, body, record_text}
 use Rattle.fjall_base.proofs.Codecs.{one_text}
+use Rattle.fjall_base.proofs.Names.{bool_cases}
 use Rattle.fjall_table.proofs.Frames.{frame4}
 use Rattle.fjall_files.specs.declared.marker.Marker.TheVariants.{Unfinished}
 use Rattle.fjall_files.specs.Marker.{accepted, header, is_cut_short, marker_tells, version_at}
 use Rattle.fjall_catalog.specs.Catalog.{fields, first_catalog}
 use Rattle.fjall_recovery.specs.Folders.{IsBegun}
 use Rattle.fjall_repair.specs.Making.{MayMark}
-
--- ---- tests
-
-pub bool_cases : (b : Bool) → (b ≡ true) ⊎ (b ≡ false)
-bool_cases true = inl refl
-bool_cases false = inr refl
-
-pub same : (q r : List ℕ) → bytes_eq q r ≡ true → q ≡ r
-same q r is = (bytes_eq-Decides q r).0 is
-
-pub same_test : (q : List ℕ) → bytes_eq q q ≡ true
-same_test q = (bytes_eq-Decides q q).1 refl
 
 -- ---- journals
 

@@ -1,22 +1,20 @@
 -- What a sound folder says of its root and of its keyspaces, and images in which these stand alike.
-use Rattle.std.proofs.Common.{◌≡◌, inl, inr, ℕ, List, [], ◌∷◌, codes, sym, ◌∙◌, ap, subst, Option, Some, None}
+use Rattle.std.proofs.Common.{◌≡◌, inl, inr, ℕ, List, [], ◌∷◌, codes, refl, sym, ◌∙◌, ap, subst}
 use Rattle.fjall_base.specs.Disk.{Name, Entry, Folder, Image, IsFile}
 use Rattle.fjall_journal.specs.declared.batch.Tail.TheVariants.{Clean, Torn}
 use Rattle.fjall_table.specs.declared.table_info.TableInfo.{TableInfo}
 use Rattle.fjall_tree.specs.Records.{Fields, IsRecords}
-use Rattle.fjall_base.specs.Lists.{last_of}
 use Rattle.fjall_files.specs.Texts.{text_in}
 use Rattle.fjall_files.specs.Marker.{marker_tells}
 use Rattle.fjall_files.specs.Names.{journal_name, keyspace_folder, current_name, table_name}
-use Rattle.fjall_meta.specs.declared.entry.MetaEntry.{MetaEntry}
-use Rattle.fjall_meta.specs.declared.living.LivingKeyspace.{LivingKeyspace}
-use Rattle.fjall_meta.specs.Entries.{entries_of}
-use Rattle.fjall_catalog.specs.Catalog.{HoldsEntries, IsTableOf}
-use Rattle.fjall_catalog.specs.Catalog as catalog
+use Rattle.fjall_home.specs.Homes.{HasFiles, HoldTables, Home, records_text}
+use Rattle.fjall_catalog.specs.Catalog.{home_of}
 use Rattle.fjall_recovery.specs.Folders.{file_bytes}
-use Rattle.fjall_recovery.specs.Homes.{HasLast, HaveHomes, records_text}
+use Rattle.fjall_recovery.specs.Homes.{HasPlainHome}
 use Rattle.fjall_recovery.specs.Journals.{Journal, ReadsAs, AreRead, journal_text}
 use Rattle.fjall_recovery.specs.Halves.{HasRoot, HasTree, Tree}
+use Rattle.fjall_repair.proofs.Cutting.{Lasts}
+use Rattle.fjall_repair.proofs.Living.{have_along}
 pub use Rattle.fjall_recovery.proofs.Holding.{tree_of, root_of, tree_in, made as sound_of}
 
 -- ---- kinds of entries
@@ -57,47 +55,59 @@ module _ (image other : Image) where
     };
   }
 
-  -- ---- keyspaces in which all that counts stands alike
+  -- ---- keyspaces in which all that counts says the same
 
-  entries_along : (table : Option TableInfo) (entries : List MetaEntry) → ((n : ℕ) → other (table_name 0 n) ≡ image (table_name 0 n)) → HoldsEntries image table entries → HoldsEntries other table entries
-  entries_along None entries tables none = none
-  entries_along (Some t) entries tables holds = record {
-    file = file_is _ _ (sym (tables t.id)) holds.file;
-    is = subst (λ text. IsTableOf t text entries) (ap text_in (sym (tables t.id))) holds.is;
-  }
+  tables_along : (id : ℕ) → ((n : ℕ) → other (table_name id n) ≡ image (table_name id n)) → (tables : List TableInfo) (texts : List (List ℕ)) → HoldTables image id tables texts → HoldTables other id tables texts
+  tables_along id alike [] [] holds = tt
+  tables_along id alike [] (bytes ∷ texts) holds = absurd holds
+  tables_along id alike (t ∷ tables) [] holds = absurd holds
+  tables_along id alike (t ∷ tables) (bytes ∷ texts) holds =
+      (subst (λ (e : Entry). IsFile e × (text_in e ≡ bytes)) (sym (alike t.id)) holds.0, tables_along id alike tables texts holds.1)
 
-  pub homes_along : (living : List LivingKeyspace) (homes : List Fields) → ((id : ℕ) → image (keyspace_folder id) ≡ Folder → other (keyspace_folder id) ≡ Folder)
-      → ((id : ℕ) (last : Fields) → HasLast (records_text image id) last → HasLast (records_text other id) last) → HaveHomes image living homes → HaveHomes other living homes
-  homes_along [] [] folders lasts have = tt
-  homes_along [] (h ∷ homes) folders lasts have = absurd have
-  homes_along (k ∷ living) [] folders lasts have = absurd have
-  homes_along (k ∷ living) (h ∷ homes) folders lasts have =
-      (record { folder = folders k.id have.0.folder; last_is = lasts k.id h have.0.last_is }, homes_along living homes folders lasts have.1)
+  -- the same folders and tables are there, and the records may have changed, where they say the same
+  pub record SaysSame : Type 0 where
+    pub back : (q : Name) → other q ≡ Folder → image q ≡ Folder
+    pub stays : (q : Name) → image q ≡ Folder → other q ≡ Folder
+    pub files : (id : ℕ) → IsFile (image (current_name id)) → IsFile (other (current_name id))
+    pub lasts : (id : ℕ) (records : List Fields) (end : ℕ) → IsRecords (records_text image id) records end → Lasts (records_text other id) records
+    pub tables : (id n : ℕ) → other (table_name id n) ≡ image (table_name id n)
 
-  -- the records may have changed, where they say the same
-  pub tree_with : (t : Tree) (tree : HasTree image t) → ((q : Name) → other q ≡ Folder → image q ≡ Folder) → ((q : Name) → image q ≡ Folder → other q ≡ Folder)
-      → IsFile (other (current_name 0)) → (records : List Fields) (end : ℕ) → IsRecords (catalog.records_in other) records end → last_of records ≡ Some (catalog.fields t.last)
-      → ((n : ℕ) → other (table_name 0 n) ≡ image (table_name 0 n)) → ((id : ℕ) (last : Fields) → HasLast (records_text image id) last → HasLast (records_text other id) last) → HasTree other t
-  tree_with t tree back stays file records end whole last tables lasts = record {
-    named = λ name inside folder none. tree.named name inside (back name folder) none;
-    folder = stays (keyspace_folder 0) tree.folder;
-    records = records;
-    catalog = record {
-      file = file;
-      end = end;
-      whole = whole;
-      last_is = last;
-      entries = entries_along t.last.table (entries_of t.keyspaces.living) tables tree.catalog.entries;
-      next = tree.catalog.next;
-      are = tree.catalog.are;
-    };
-    made = tree.made;
-    homes = homes_along t.keyspaces.living t.homes (λ id. stays (keyspace_folder id)) lasts tree.homes;
-  }
+  files_along : SaysSame → (id : ℕ) (records : List Fields) (h : Home) → HasFiles image id records h → (others : List Fields) × HasFiles other id others h
+  files_along same id records h has =
+      let l = same.lasts id records has.end has.whole in (
+        l.records,
+        record {
+          current = same.files id has.current;
+          end = l.end;
+          whole = l.whole;
+          last_is = l.is ∙ has.last_is;
+          tables = tables_along id (same.tables id) h.last.tables h.texts has.tables;
+        },
+      )
+
+  home_along : SaysSame → (id : ℕ) (h : Home) → HasPlainHome image id h → HasPlainHome other id h
+  home_along same id h has =
+      let files = files_along same id has.records h has.home.files in
+      record { records = files.0; home = record { folder = same.stays (keyspace_folder id) has.home.folder; files = files.1 }; plain = has.plain }
+
+  pub tree_with : (t : Tree) → SaysSame → HasTree image t → HasTree other t
+  tree_with t same tree =
+      let files = files_along same 0 tree.records (home_of t.last tree.catalog.texts) tree.catalog.files in
+      record {
+        named = λ name inside folder none. tree.named name inside (same.back name folder) none;
+        folder = same.stays (keyspace_folder 0) tree.folder;
+        records = files.0;
+        catalog = record { texts = tree.catalog.texts; files = files.1; pairs = tree.catalog.pairs; next = tree.catalog.next; are = tree.catalog.are };
+        made = tree.made;
+        homes = have_along image t.keyspaces.living t.homes other (λ id h lives has. home_along same id h has) tree.homes;
+      }
 
   pub tree_along : (t : Tree) → ((q : Name) → other q ≡ Folder → image q ≡ Folder) → ((q : Name) → image q ≡ Folder → other q ≡ Folder)
-      → ((id : ℕ) → other (current_name id) ≡ image (current_name id)) → ((n : ℕ) → other (table_name 0 n) ≡ image (table_name 0 n)) → HasTree image t → HasTree other t
-  tree_along t back stays currents tables tree =
-      tree_with t tree back stays (file_is _ _ (sym (currents 0)) tree.catalog.file) tree.records tree.catalog.end
-      (subst (λ text. IsRecords text tree.records tree.catalog.end) (ap text_in (sym (currents 0))) tree.catalog.whole) tree.catalog.last_is tables
-      (λ id last has. subst (λ text. HasLast text last) (ap text_in (sym (currents id))) has)
+      → ((id : ℕ) → other (current_name id) ≡ image (current_name id)) → ((id n : ℕ) → other (table_name id n) ≡ image (table_name id n)) → HasTree image t → HasTree other t
+  tree_along t back stays currents tables = tree_with t (record {
+    back = back;
+    stays = stays;
+    files = λ id. file_is _ _ (sym (currents id));
+    lasts = λ id records end whole. record { records = records; end = end; whole = subst (λ (e : Entry). IsRecords (text_in e) records end) (sym (currents id)) whole; is = refl };
+    tables = tables;
+  })

@@ -1,8 +1,9 @@
 -- What each element of a list has, as a loop goes over it.
 use Rattle.std.proofs.Common.{◌≡◌, zero, suc, ℕ, ◌+◌, ◌<◌, List, [], ◌∷◌, ◌++◌, length, take, get_or, map, All, sym, ◌∙◌, ap, subst, add-one, arith}
-use Rattle.std.specs.List.{AllByRecursion}
-use Rattle.std.proofs.lemmas.List.Elements.{All-append}
-use Rattle.std.proofs.lemmas.List.{map-append}
+use Rattle.std.specs.List.{AllByRecursion, Contains}
+use Rattle.std.proofs.Math.ListN as ListN
+use Rattle.std.proofs.lemmas.List.Elements.{All-append, All-contains, All-from_recursion}
+use Rattle.std.proofs.lemmas.List.{length-map, map-append}
 use Rattle.std.proofs.Math.Seq.{take-suc}
 
 pub item_has : {X : Type 0} (P : X → Type 0) (xs : List X) (i : ℕ) (x : X) → x ≡ get_or xs i x → i < length xs → All P xs → P x
@@ -40,3 +41,11 @@ pub back_map : {X Y : Type 0} (P : Y → Type 0) (f : X → Y) (xs : List X) →
 back_map P f [] all k d lt = absurd (omega (arith, lt))
 back_map P f (x ∷ xs) all zero d lt = all.0
 back_map P f (x ∷ xs) all (suc k) d lt = back_map P f xs all.1 k d (omega (arith, lt))
+
+-- ---- an item that a list has
+
+pub contains_map : {A B : Type 0} (f : A → B) (xs : List A) (x : A) → Contains xs x → Contains (map f xs) (f x)
+contains_map f xs x (k, lt, at) = (k, subst (λ n. k < n) (sym (length-map xs f)) lt, ListN.get_or-map f xs k x ∙ ap (λ y. f y) at)
+
+pub each_in : {A : Type 0} (P : A → Type 0) (xs : List A) (x : A) → Contains xs x → AllByRecursion P xs → P x
+each_in P xs x has all = All-contains P xs x (All-from_recursion P xs all) has

@@ -13,6 +13,8 @@ pub mod Begun
 pub mod BeginServed
 pub mod Backs
 pub mod Naming
+pub mod Living
+pub mod Homing
 pub mod Halving
 pub mod Cutting
 pub mod Trimming

@@ -162,8 +162,5 @@ module _ (state now : State) (same : now ≡ state) (living : List LivingKeyspac
       own = own;
     }))
 
-pub homes_none : (state : State) (living : List LivingKeyspace) (homes : List UnnamedHome) → FindsHomes state living [] homes
-homes_none state living homes x has some dead holds = absurd (omega (arith, has.1))
-
 pub homes_all : (state : State) (living : List LivingKeyspace) (ids : List ℕ) (i : ℕ) (homes : List UnnamedHome) → length ids ≤ i → FindsHomes state living (take i ids) homes → FindsHomes state living ids homes
 homes_all state living ids i homes le found = subst (λ (l : List ℕ). FindsHomes state living l homes) (take_all i ids le) found

@@ -11,13 +11,15 @@ use Rattle.fjall_base.specs.Disk.{Name, Entry, Missing, File, Folder, Place, Sta
 use Rattle.fjall_base.proofs.Covers.{LeftAt}
 use Rattle.fjall_base.proofs.Moments.{stays, steps_on}
 use Rattle.fjall_base.proofs.States.{settle-in, settle-out}
+use Rattle.fjall_base.proofs.Names.{bool_cases, same}
 use Rattle.fjall_files.specs.Regions.{IsImageIn}
 use Rattle.fjall_files.proofs.Parts.{in_region, region_along, region_settle}
 use Rattle.fjall_journal.specs.Batches.{Written, shown}
 use Rattle.fjall_files.specs.declared.marker.Marker.TheVariants.{Unfinished}
 use Rattle.fjall_files.specs.Marker.{header, marker_tells}
 use Rattle.fjall_meta.specs.Keyspaces.{no_keyspaces}
-use Rattle.fjall_catalog.specs.Catalog.{fields, first_catalog, only}
+use Rattle.fjall_home.specs.Homes.{only}
+use Rattle.fjall_catalog.specs.Catalog.{fields, first_catalog}
 use Rattle.fjall_versions.specs.Replays.{bare, store_in}
 use Rattle.fjall_recovery.specs.Folders.{StandsFor, file_bytes, store_of}
 use Rattle.fjall_recovery.specs.Places.{contents_with, LiesInRoot, RestsInTree}
@@ -26,7 +28,6 @@ use Rattle.fjall_repair.specs.Begun.{IsBegunOn}
 use Rattle.fjall_repair.specs.Making.{ChangesAt, GoesOn, IsKept, IsMaking, KeepsTables, StaysAt}
 use Rattle.fjall_repair.specs.Plans.{AwaitsMarker, empty_journals, first_tree, marked}
 use Rattle.fjall_repair.proofs.Awaiting.{batches_none}
-use Rattle.fjall_repair.proofs.Fronts.{bool_cases, same}
 use Rattle.fjall_repair.proofs.Moments.{elsewhere, settle_carries, step_elsewhere, table_stays}
 use Rattle.fjall_repair.proofs.Named.{marker_no_table}
 use Rattle.fjall_repair.proofs.Standing.{kept_image, unfinished_of}
@@ -105,11 +106,11 @@ module _ (state : State) (image : Image) (marking : IsMarking state image) where
   marked_image : image (codes "version") ≡ File (header V3) [] → IsImage (marked state) image
   marked_image whole = record {
     kept = λ q there. elim (bool_cases (bytes_eq q (codes "version"))) [
-      | inl at ↦ subst (λ (n : Name). LeftAt Survives (marked state n) (image n)) (sym (same q (codes "version") at)) (inl (0, whole))
+      | inl at ↦ subst (λ (n : Name). LeftAt Survives (marked state n) (image n)) (sym (same {q = q} {r = codes "version"} at)) (inl (0, whole))
       | inr out ↦ subst (λ (p : Place). LeftAt Survives p (image q)) (sym (unmarked q out)) (marking.elsewhere.kept q (other_of q out) there)
     ];
     lost = λ q gone. elim (bool_cases (bytes_eq q (codes "version"))) [
-      | inl at ↦ absurd (gone (inl (ap (λ (n : Name). folder_of n) (same q (codes "version") at))))
+      | inl at ↦ absurd (gone (inl (ap (λ (n : Name). folder_of n) (same {q = q} {r = codes "version"} at))))
       | inr out ↦ marking.elsewhere.lost q (other_of q out) gone
     ];
   }
@@ -160,7 +161,7 @@ module _ (old mid new : Meaning) (sealed : List ℕ) (active : ℕ) (awaits : Aw
       let was = elsewhere (codes "version") old mid q out stays_at in
       elim (bool_cases (bytes_eq (folder_of q) [])) [
         | inl root ↦
-            let at = same (folder_of q) [] root in
+            let at : folder_of q ≡ [] = same root in
             ap (λ (s : State). s q) took.state ∙ settle-in (state_in mid) [] q at ∙ ap (λ (p : Place). only p.now) was ∙ sym (rested (state_in old q) (awaits.settled q at))
         | inr inner ↦ ap (λ (s : State). s q) took.state ∙ settle-out (state_in mid) [] q inner ∙ was
       ]
@@ -173,7 +174,7 @@ module _ (old mid new : Meaning) (sealed : List ℕ) (active : ℕ) (awaits : Aw
     where
       at_each : (q : Name) → marked (state_in old) q ≡ state_in new q
       at_each q = elim (bool_cases (bytes_eq q (codes "version"))) [
-        | inl at ↦ rw at (sym (ap (λ (n : Name). state_in new n) (same q (codes "version") at) ∙ at_marker))
+        | inl at ↦ rw at (sym (ap (λ (n : Name). state_in new n) (same {q = q} {r = codes "version"} at) ∙ at_marker))
         | inr out ↦ rw out (sym (at_other q out))
       ]
 

@@ -101,7 +101,7 @@ module _ (image made : Image) (active : Name) (is : IsOpened image made active) 
       let id = active_of (ids_of c.journals) in
       sound_of made (with_active c) (root_opened c.journals named (root_of image c sound))
       (tree_along image made (tree_of c) opened_back opened_stays (λ k. is.elsewhere (current_name k) (λ same. journal_current id k (sym named ∙ sym same)))
-      (λ n. is.elsewhere (table_name 0 n) (λ same. journal_table id 0 n (sym named ∙ sym same))) (tree_in image c sound))
+      (λ k n. is.elsewhere (table_name k n) (λ same. journal_table id k n (sym named ∙ sym same))) (tree_in image c sound))
 
 -- ---- what a crash leaves of it
 

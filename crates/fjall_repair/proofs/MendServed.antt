@@ -6,7 +6,6 @@ use Rattle.std.proofs.lemmas.List.{append-nil, length-take}
 use Rattle.fjall_base.specs.Crash.{IsHoused}
 use Rattle.fjall_base.specs.Disk.{Name, Entry, Missing, File, Folder, Place, State, Image, IsFile, IsLong, IsThere, CanCreate, all_synced, standing}
 use Rattle.fjall_files.specs.Texts.{text_in}
-use Rattle.fjall_tree.specs.Records.{Fields}
 use Rattle.fjall_files.specs.declared.marker.Marker.TheVariants.{Whole}
 use Rattle.fjall_files.specs.Marker.{marker_tells}
 use Rattle.fjall_files.specs.Names.{Current, journal_name, keyspace_folder, current_name}
@@ -18,13 +17,15 @@ use Rattle.fjall_meta.specs.declared.living.LivingKeyspace.{LivingKeyspace}
 use Rattle.fjall_recovery.specs.declared.folder.RecoveredFolder.{RecoveredFolder}
 use Rattle.fjall_recovery.specs.declared.homes.KeyspaceRecords.{KeyspaceRecords}
 use Rattle.fjall_recovery.specs.Folders.{Contents, IsFinished, IsSound, file_bytes}
-use Rattle.fjall_recovery.specs.Homes.{HaveHomes}
+use Rattle.fjall_recovery.specs.Homes.{HaveHomes, Homes}
+use Rattle.fjall_recovery.proofs.Housing as Housing
 use Rattle.fjall_repair.specs.declared.mending.plan.FileEnd.{FileEnd}
 use Rattle.fjall_repair.specs.declared.mending.plan.MendPlan.{MendPlan}
 use Rattle.fjall_repair.specs.Mended.{IsMendingOf}
 use Rattle.fjall_repair.specs.Steps.{End, IsOpened, IsPlanOf, IsRightEnd, IsSame, Suits, active_of, end_of, folder_names, sealed_of, whole_names, with_active}
 use Rattle.fjall_repair.proofs.Naming.{journal_current, marker_current}
 use Rattle.fjall_repair.proofs.Items.{back_map}
+use Rattle.fjall_repair.proofs.Living.{ids_fit}
 use Rattle.fjall_repair.proofs.Ending.{MayBeEnded, one_end}
 use Rattle.fjall_repair.proofs.MendOpened.{active_small, ids_of}
 use Rattle.fjall_repair.proofs.Turns.{AreRight}
@@ -47,10 +48,12 @@ active_fits image f p finished is =
 
 -- ---- folders
 
-homes_there : (image : Image) (living : List LivingKeyspace) (homes : List Fields) → HaveHomes image living homes → AllByRecursion (IsThere image) (map keyspace_folder (map (λ (k : LivingKeyspace). k.id) living))
-homes_there image [] homes have = tt
-homes_there image (k ∷ living) [] have = absurd have
-homes_there image (k ∷ living) (last ∷ homes) have = (inr have.0.folder, homes_there image living homes have.1)
+homes_there : (image : Image) (living : List LivingKeyspace) (homes : Homes) → HaveHomes image living homes → AllByRecursion (IsThere image) (map keyspace_folder (map (λ (k : LivingKeyspace). k.id) living))
+homes_there image living homes have = of living (Housing.all_housed image living homes have)
+  where
+    of : (living : List LivingKeyspace) → AllByRecursion (λ k. Housing.IsHoused image homes k.id) living → AllByRecursion (IsThere image) (map keyspace_folder (map (λ (k : LivingKeyspace). k.id) living))
+    of [] all = tt
+    of (k ∷ living) all = (inr all.0.2.home.folder, of living all.1)
 
 all_keyspaces : (state : State) → IsHoused state → (state (keyspace_folder 0)).now ≡ Folder → (state (codes "keyspaces")).now ≡ Folder
 all_keyspaces state housed is =
@@ -171,10 +174,6 @@ module _ (id : ℕ) (small : id < 2 ^ 64) where
   home_whole f tree p plan = back_map (λ (q : Name). current_name id ≢ q) string_bytes p.whole.items
       (subst (AllByRecursion (λ (q : Name). current_name id ≢ q)) (sym plan.whole) ((λ same. marker_current id (sym same)), no_journals (sealed_of f.journal_ids.items)))
 
-  living_fit : (living : List LivingKeyspace) (next : ℕ) → next < 2 ^ 64 → All (λ k. k.id < next) living → AllByRecursion (λ k. k < 2 ^ 64) (map (λ (k : LivingKeyspace). k.id) living)
-  living_fit [] next fits all = tt
-  living_fit (k ∷ living) next fits all = ((let lt = all 0 k (omega arith) in omega (arith, lt, fits)), living_fit living next fits (λ i d lt. all (suc i) d (omega (arith, lt))))
-
   pub home_ends : (image : Image) (f : RecoveredFolder) (tree : End) (p : MendPlan) → 0 < id → IsFinished image f → tree.name ≡ current_name 0 → IsPlanOf f tree p → (Contains (map (λ (k : LivingKeyspace). k.id) f.catalog.keyspaces.living) id → ⊥)
       → All (λ (e : FileEnd). current_name id ≢ string_bytes e.name) p.ends.items
   home_ends image f tree p some finished named plan dead =
@@ -186,6 +185,6 @@ module _ (id : ℕ) (small : id < 2 ^ 64) where
         (λ same. journal_current (active_of f.journal_ids.items) id (sym same)),
         (
           other_current 0 (omega arith) (λ is. omega (arith, some, is)),
-          subst (λ (l : List ℕ). AllByRecursion (λ (q : Name). current_name id ≢ q) (map current_name l)) (sym ids) (no_currents (map (λ (k : LivingKeyspace). k.id) living) (living_fit living f.catalog.keyspaces.next are.fits are.given) dead),
+          subst (λ (l : List ℕ). AllByRecursion (λ (q : Name). current_name id ≢ q) (map current_name l)) (sym ids) (no_currents (map (λ (k : LivingKeyspace). k.id) living) (ids_fit f.catalog.keyspaces are).1 dead),
         ),
       ))

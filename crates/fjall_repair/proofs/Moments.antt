@@ -8,12 +8,12 @@ use Rattle.fjall_base.specs.declared.error.Error.{Error}
 use Rattle.fjall_base.specs.Disk.{Name, Entry, Missing, File, Folder, Place, State, Image, Step, Put, Append, Sync, Loosen, Cut, SyncFolder, Meaning, Took, TookCut, TookOrNot, TookPart, Leaves, after, all_synced, alter, appended, change, cut_to, folder_of, loosened, making, put, settle, state_in}
 use Rattle.fjall_base.proofs.States.{alter-same, alter-other, differs, put-same, put-other, settle-in, settle-out}
 use Rattle.fjall_base.proofs.Moments.{runs_on, stays}
+use Rattle.fjall_base.proofs.Names.{bool_cases, same}
 use Rattle.fjall_files.specs.Texts.{text_in}
 use Rattle.fjall_files.specs.Regions.{AreUnder, Within, is_under, target}
 use Rattle.fjall_files.proofs.Made.{took_both}
 use Rattle.fjall_files.specs.Names.{table_name}
 use Rattle.fjall_repair.specs.Making.{CanHold, ChangesAt, GoesOn, IsKept, IsMaking, KeepsTables, MayStand, StaysAt}
-use Rattle.fjall_repair.proofs.Fronts.{bool_cases, same}
 use Rattle.fjall_repair.proofs.Standing.{all_appended_stands, appended_stands, cut_stands, kept_image, loosened_stands, synced_stands}
 
 -- ---- one step
@@ -35,7 +35,7 @@ each_more P (y ∷ xs) x all is = (all.0, each_more P xs x all.1 is)
 -- a fact at each name, where one name changed
 at_each : (P : Name → Place → Type 0) (old new : State) (name : Name) → ((q : Name) → bytes_eq q name ≡ false → new q ≡ old q) → P name (new name) → ((q : Name) → P q (old q)) → (q : Name) → P q (new q)
 at_each P old new name other here all q = elim (bool_cases (bytes_eq q name)) [
-  | inl is ↦ subst (λ (n : Name). P n (new n)) (sym (same q name is)) here
+  | inl is ↦ subst (λ (n : Name). P n (new n)) (sym (same is)) here
   | inr not ↦ subst (λ (p : Place). P q p) (sym (other q not)) (all q)
 ]
 
@@ -80,7 +80,7 @@ alter_carries marking state name f no_table stands =
 
 settled_at : (P : Place → Type 0) (state : State) (folder q : Name) → P (state q) → P (record { now = (state q).now; older = [] }) → P (settle state folder q)
 settled_at P state folder q all none = elim (bool_cases (bytes_eq (folder_of q) folder)) [
-  | inl is ↦ subst P (sym (settle-in state folder q (same (folder_of q) folder is))) none
+  | inl is ↦ subst P (sym (settle-in state folder q (same is))) none
   | inr not ↦ subst P (sym (settle-out state folder q not)) all
 ]
 

@@ -1,13 +1,12 @@
 -- The names of what is made differ, and none is a table's.
 use Rattle.std.proofs.Common.{◌≡◌, ◌≢◌, ℕ, ◌<◌, ◌^◌, Bool, true, false, ◌||◌, ◌==◌, [], ◌∷◌, ◌++◌, codes, decimal, refl, sym, ◌∙◌, ap, arith, lit<}
 use Rattle.std.specs.List.{list_any}
-use Rattle.std.proofs.lemmas.List.{append_cancel_right}
 use Rattle.std.proofs.lemmas.List.Folds.{list_any-append}
-use Rattle.std.proofs.lemmas.Fmt.{decimal_injective}
 use Rattle.fjall_base.specs.Disk.{Name, folder_of}
 use Rattle.fjall_files.specs.Names.{IsMisnamed, IsNameOf, journal_name, keyspace_folder, current_name, table_name}
-use Rattle.fjall_catalog.proofs.Naming.{current_zero, folder_zero, folder_of-current, some_folder}
-use Rattle.fjall_recovery.proofs.Listed.{in_root}
+use Rattle.fjall_files.proofs.Fitting.{folder_of-current, folder_of-journal as in_root}
+use Rattle.fjall_home.proofs.Naming.{some_folder}
+use Rattle.fjall_catalog.proofs.Naming.{current_zero, folder_zero}
 use Rattle.fjall_repair.proofs.Moments.{IsNoTable}
 
 abbrev dot : ℕ → Bool
@@ -79,13 +78,10 @@ table_inside id n is = let no : first_byte (folder_of (table_name id n)) ≡ 0 =
 pub journal_no_table : (id : ℕ) → id < 2 ^ 64 → IsNoTable (journal_name id)
 journal_no_table id small other n small' small2 is = table_inside other n (sym (ap (λ (m : Name). folder_of m) is) ∙ in_root id small)
 
-pub journals_apart : (id other : ℕ) → id < 2 ^ 64 → other < 2 ^ 64 → journal_name id ≡ journal_name other → id ≡ other
-journals_apart id other small small' is = decimal_injective id other small small' (append_cancel_right (decimal id) (decimal other) (codes ".jnl") is)
-
 -- ---- the marker and the others
 
 pub current_inside : folder_of (current_name 0) ≡ [] → ⊥
-current_inside is = some_folder (sym folder_of-current ∙ is)
+current_inside is = some_folder 0 (sym (folder_of-current 0) ∙ is)
 
 pub current_no_marker : current_name 0 ≢ codes "version"
 current_no_marker is = current_inside (ap (λ (n : Name). folder_of n) is)

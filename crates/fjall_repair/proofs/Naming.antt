@@ -1,5 +1,5 @@
 -- Which names differ, and which folders they are in.
-use Rattle.std.proofs.Common.{◌≡◌, ◌≢◌, ◌⊎◌, inl, inr, ℕ, ◌<◌, ◌^◌, Bool, true, false, List, [], ◌∷◌, ◌++◌, Some, codes, decimal, refl, sym, ◌∙◌, ap, arith, append_assoc}
+use Rattle.std.proofs.Common.{◌≡◌, ◌≢◌, ◌⊎◌, inl, inr, ℕ, ◌<◌, ◌^◌, true, false, List, [], ◌∷◌, ◌++◌, Some, codes, decimal, sym, ◌∙◌, ap, arith, append_assoc}
 use Rattle.std.proofs.lemmas.List.{append_cancel_right}
 use Rattle.std.proofs.lemmas.Fmt.{decimal_injective}
 use Rattle.std.specs.Str.{bytes_eq}
@@ -7,6 +7,7 @@ use Rattle.std.proofs.lemmas.Slice.Eq.{bytes_eq-Decides}
 use Rattle.fjall_base.specs.Disk.{Name}
 use Rattle.fjall_base.proofs.Lists.{last_behind}
 use Rattle.fjall_base.specs.Lists.{last_of}
+use Rattle.fjall_base.proofs.Names.{bool_cases}
 use Rattle.fjall_files.specs.Names.{journal_name, keyspace_folder, current_name, table_name}
 pub use Rattle.fjall_files.proofs.Fitting.{folder_of-journal, folder_of-folder, folder_of-current, folder_of-table}
 
@@ -55,13 +56,7 @@ marker_table id n is = let no = ends_alike (codes "versio") (table_front id n) 1
 pub journals_apart : (id other : ℕ) → id < 2 ^ 64 → other < 2 ^ 64 → journal_name id ≡ journal_name other → id ≡ other
 journals_apart id other small small' is = decimal_injective id other small small' (append_cancel_right (decimal id) (decimal other) (codes ".jnl") is)
 
--- ---- folders
-
 -- ---- one name or another
-
-pub bool_cases : (b : Bool) → (b ≡ true) ⊎ (b ≡ false)
-bool_cases true = inl refl
-bool_cases false = inr refl
 
 pub same_or_not : (q r : Name) → (q ≡ r) ⊎ (q ≢ r)
 same_or_not q r = elim (bool_cases (bytes_eq q r)) [

@@ -22,11 +22,11 @@ use Rattle.fjall_base.specs.Lists.{last_of}
 use Rattle.fjall_tree.specs.Records as records
 use Rattle.fjall_meta.specs.declared.living.LivingKeyspace.{LivingKeyspace}
 use Rattle.fjall_catalog.specs.Catalog.{fields}
-use Rattle.fjall_catalog.proofs.Resting.{last_has}
+use Rattle.fjall_home.proofs.Resting.{last_has}
 use Rattle.fjall_recovery.specs.Folders.{Contents, IsFinished, IsSound, IsUnfinished, Shows, StandsFor, number_of, past_record, past_records, store_of}
 use Rattle.fjall_recovery.specs.declared.folder.RecoveredFolder.{RecoveredFolder}
 use Rattle.fjall_recovery.specs.declared.homes.KeyspaceRecords.{KeyspaceRecords}
-use Rattle.fjall_recovery.specs.Homes.{AreHomesRead}
+use Rattle.fjall_recovery.specs.Homes.{AreHomesRead, lasts}
 use Rattle.fjall_recovery.specs.Refusals.{FolderRefuses, HasRisen, IsDue}
 use Rattle.fjall_recovery.proofs.Alone.{one_contents}
 use Rattle.fjall_journal.proofs.Writing.{took_none}
@@ -80,7 +80,7 @@ module _ (state : State) (contents : Contents) (active : Name) (end : ℕ) (is :
   same_store = ap (λ (b : List Written). store_in contents.keyspaces (map shown b)) is.batches
 
   same_number : number_of (contents_with is.j (tree_of contents) []) ≡ number_of contents
-  same_number = ap (λ (b : List Written). max (least_after 0 (map shown b)) (past_records (fields contents.last ∷ contents.homes))) is.batches
+  same_number = ap (λ (b : List Written). max (least_after 0 (map shown b)) (past_records (fields contents.last ∷ lasts contents.keyspaces.living contents.homes))) is.batches
 
   at_end : (writer : Journal) → writer ≡ record { name = active; buffer = []; len = end } → writer ≡ record { name = journal_name is.j.active; buffer = []; len = length (texts_of is.j.whole) }
   at_end writer writing =
@@ -120,7 +120,7 @@ home_numbers image (k ∷ living) (home ∷ homes) read =
 module _ (image : Image) (found : RecoveredFolder) (read : IsFinished image found) where
   pub numbers : All HasNumbers (records_of found)
   numbers = All-from_recursion HasNumbers (records_of found)
-      (record_numbers read.records (fields found.catalog.catalog) read.catalog.whole.each read.catalog.last_is, home_numbers image found.catalog.keyspaces.living found.homes.items read.homes)
+      (record_numbers read.records (fields found.catalog.catalog) read.catalog.files.whole.each read.catalog.files.last_is, home_numbers image found.catalog.keyspaces.living found.homes.items read.homes)
 
   -- each keyspace was made before
   pub made_before : (number : ℕ) (living : List LivingKeyspace) → number ≡ max found.journals.least (past_records (records_of found)) → living ≡ found.catalog.keyspaces.living → All (λ k. k.number < number) living

@@ -1,9 +1,9 @@
 -- What a plan has is spared.
 use Rattle.std.proofs.Common.{◌≡◌, ◌≢◌, ◌⊎◌, inl, inr, ⊎_elim, ℕ, ◌<◌, ◌^◌, true, List, [], ◌∷◌, map, get_or, codes, All, Any, Option, None, Some, Result, Ok, Err, OnOk, lit<, refl, sym, ◌∙◌, ap, subst, arith}
-use Rattle.std.specs.Prelude.{IfSome, string_bytes}
+use Rattle.std.specs.Prelude.{string_bytes}
 use Rattle.std.specs.List.{AllByRecursion, Contains, flat_map}
+use Rattle.std.specs.FinMap.{get}
 use Rattle.std.specs.Option.{option_map}
-use Rattle.std.proofs.lemmas.List.{get_or-map}
 use Rattle.std.proofs.lemmas.List.Elements.{All-append, All-contains, All-from_recursion, All-map, Contains-append_left, Contains-append_right, Contains-push, recursion_from_All}
 use Rattle.std.proofs.lemmas.List.Concat.{flat_map-cons}
 use Rattle.fjall_base.specs.declared.error.Error.{Error}
@@ -13,114 +13,149 @@ use Rattle.fjall_files.proofs.Under.{in_folder}
 use Rattle.fjall_table.specs.declared.table_info.TableInfo.{TableInfo}
 use Rattle.fjall_tree.specs.Records.{Fields}
 use Rattle.fjall_files.specs.Names.{keyspace_folder, current_name, table_name}
+use Rattle.fjall_home.specs.Homes.{Home, IsFree}
+use Rattle.fjall_home.proofs.Resting.{At, IsGiven, all_given, each_more}
 use Rattle.fjall_meta.specs.declared.living.LivingKeyspace.{LivingKeyspace}
-use Rattle.fjall_meta.specs.Keyspaces.{AreKeyspaces, Keyspaces}
+use Rattle.fjall_meta.specs.Keyspaces.{AreKeyspaces, Keyspaces, keyspace_at}
+use Rattle.fjall_versions.proofs.Ids.{living_has}
 use Rattle.fjall_catalog.specs.declared.catalog.Catalog.{Catalog}
-use Rattle.fjall_catalog.specs.Catalog.{IsFree}
-use Rattle.fjall_catalog.proofs.Naming.{folder_of-current}
-use Rattle.fjall_catalog.proofs.Resting.{last_record, table_id}
-use Rattle.fjall_catalog.proofs.Runs.{given}
-use Rattle.fjall_recovery.proofs.Listed.{in_keyspaces}
+use Rattle.fjall_catalog.specs.Catalog.{fields, listed}
+use Rattle.fjall_catalog.proofs.Resting.{last_record}
 use Rattle.fjall_recovery.specs.Halves.{Tree}
-use Rattle.fjall_recovery.specs.Places.{LiesInTree, RestsInTree}
+use Rattle.fjall_recovery.specs.Homes.{IsPlain}
+use Rattle.fjall_recovery.specs.Places.{HasSafeHomeAt, LiesInTree, RestsInTree}
 use Rattle.fjall_recovery.proofs.Named.{under_within}
-use Rattle.fjall_recovery.proofs.Trees.{folder_of-home}
 use Rattle.fjall_repair.specs.declared.plan.SweepPlan.{SweepPlan}
 use Rattle.fjall_repair.specs.declared.plan.UnnamedHome.{UnnamedHome}
 use Rattle.fjall_recovery.specs.Naming.{AreFolderIds}
 use Rattle.fjall_repair.specs.Sweeps.{AreGone, BringsNoTable, FindsAll, FindsTables, HoldsOnlyOwn, IsHomeFound, IsSwept, IsPlan, IsUnnamedHome, IsUnnamedTable, Lives, Removes, home_names, named_in, planned}
 use Rattle.fjall_repair.proofs.Apart as Apart
 use Rattle.fjall_repair.proofs.Removals as Removals
-use Rattle.fjall_repair.proofs.Spared.{AtHome, IsSpare, spared}
+use Rattle.fjall_repair.proofs.Spared.{IsSpare, spared}
 
 -- ---- of living keyspaces
 
--- what holds of each keyspace, given its id is that of one
-each_living : (living : List LivingKeyspace) (P : LivingKeyspace → Type 0) → ((k : LivingKeyspace) → Lives living k.id → k.id < 2 ^ 64 → P k) → All (λ k. k.id < 2 ^ 64) living → AllByRecursion P living
-each_living living P to small = recursion_from_All P living (λ i d lt.
-    let at = get_or-map (λ (k : LivingKeyspace). k.id) living i d 0 lt in
-    to _ (Removals.contains_map (λ (k : LivingKeyspace). k.id) living i d lt) (small i d lt))
+-- an id of a keyspace that lives is a u64
+pub lives_small : (s : Keyspaces) → AreKeyspaces s → (id : ℕ) → Lives s.living id → id < 2 ^ 64
+lives_small s are id has =
+    let below = All-contains (λ (i : ℕ). i < s.next) (map (λ k. k.id) s.living) id (All-map (λ (i : ℕ). i < s.next) (λ k. k.id) s.living are.given) has in
+    let fits = are.fits in
+    omega (arith, below, fits)
 
-module _ (t : Tree) (are : AreKeyspaces t.keyspaces) where
-  small_ids : All (λ k. k.id < 2 ^ 64) t.keyspaces.living
-  small_ids i d lt = let below = are.given i d lt in omega (arith, below, are.fits)
+-- and isn't tree 0's
+lives_some : (s : Keyspaces) → AreKeyspaces s → (id : ℕ) → Lives s.living id → id ≢ 0
+lives_some s are id lives none =
+    let some : All (λ n. 0 < n) (map (λ (k : LivingKeyspace). k.id) s.living) = All-map (λ (n : ℕ). 0 < n) (λ (k : LivingKeyspace). k.id) s.living are.ids in
+    let more : 0 < id = All-contains (λ (n : ℕ). 0 < n) (map (λ (k : LivingKeyspace). k.id) s.living) id some lives in
+    omega (arith, more, none)
 
-  -- an id that lives isn't tree 0's
-  living_some : (id : ℕ) → Lives t.keyspaces.living id → id ≢ 0
-  living_some id lives none =
-      let some : All (λ n. 0 < n) (map (λ (k : LivingKeyspace). k.id) t.keyspaces.living) = All-map (λ (n : ℕ). 0 < n) (λ (k : LivingKeyspace). k.id) t.keyspaces.living are.ids in
-      let more : 0 < id = All-contains (λ (n : ℕ). 0 < n) (map (λ (k : LivingKeyspace). k.id) t.keyspaces.living) id some lives in
-      omega (arith, more, none)
+-- a keyspace that is found by its id lives
+found_lives : (living : List LivingKeyspace) (id : ℕ) (k : LivingKeyspace) → keyspace_at id living ≡ Some k → Lives living id
+found_lives living id k e = living_has (Lives living) living id k e (λ i d lt. Removals.contains_map (λ (j : LivingKeyspace). j.id) living i d lt)
 
-  module _ (small : IfSome t.last.table (λ table. table.id < 2 ^ 64)) where
-    -- a table that is unnamed
-    table_spare : (name : Name) → IsUnnamedTable (named_in t) t.keyspaces.living name → IsSpare t name
-    table_spare name un = subst (IsSpare t) (sym un.name_is) (record {
+-- a plain home rests on no table
+at_plain : (P : Name → Type 0) (id : ℕ) (last : Fields) → IsPlain last → P (codes "keyspaces") → P (keyspace_folder id) → P (current_name id) → At id last.tables P
+at_plain P id last plain all folder current =
+    record { keyspaces_folder = all; folder = folder; current = current; each = subst (λ (l : List TableInfo). AllByRecursion (λ i. P (table_name id i.id)) l) (sym plain.tables) tt }
+
+module _ (state : State) (records : List Fields) (t : Tree) (rests : RestsInTree state records t) where
+  -- the id of the table that tree 0's last record names has its place, and was given out
+  named_given : AllByRecursion (IsGiven t.last.next_table_id) (listed t.last.table)
+  named_given = all_given (fields t.last) (last_record state records t.last t.keyspaces rests.catalog)
+
+  -- a home is that of a keyspace that lives, and plain
+  home_lives : (id : ℕ) (h : Home) → get t.homes id ≡ Some h → Lives t.keyspaces.living id × IsPlain h.last
+  home_lives id h is = of (keyspace_at id t.keyspaces.living) refl (get t.homes id) is (rests.homes id)
+    where
+      of : (k : Option LivingKeyspace) → keyspace_at id t.keyspaces.living ≡ k → (there : Option Home) → there ≡ Some h → HasSafeHomeAt state id k there → Lives t.keyspaces.living id × IsPlain h.last
+      of (Some k) e (Some i) is safe = let same : i ≡ h = cc in (found_lives t.keyspaces.living id k e, subst (λ (j : Home). IsPlain j.last) same safe.plain)
+      of None e (Some i) is safe = absurd safe
+      of (Some k) e None is safe = absurd safe
+      of None e None is safe = let no : None ≡ Some h = is in cc
+
+  -- what holds of each keyspace that lives holds of each home
+  at_homes : (P : Name → Type 0) → P (codes "keyspaces") → ((id : ℕ) → Lives t.keyspaces.living id → id < 2 ^ 64 → P (keyspace_folder id) × P (current_name id)) → (id : ℕ) (h : Home) → get t.homes id ≡ Some h → At id h.last.tables P
+  at_homes P all to id h is =
+      let here = home_lives id h is in
+      let both = to id here.0 (lives_small t.keyspaces rests.catalog.are id here.0) in
+      at_plain P id h.last here.1 all both.0 both.1
+
+  -- a table that is unnamed
+  table_spare : (name : Name) → IsUnnamedTable (named_in t) t.keyspaces.living name → IsSpare t name
+  table_spare name un = subst (IsSpare t) (sym un.name_is) (record {
+    catalog = record {
+      keyspaces_folder = not_it;
+      folder = λ e. folders 0 (omega arith) e;
+      current = λ e. Apart.not_current un.id 0 un.table un.table_fits e;
+      each = named_apart t.last.table refl named_given;
+    };
+    homes = at_homes (λ q. q ≢ table_name un.id un.table) not_it (λ id lives fits. (folders id fits, λ e. Apart.not_current un.id id un.table un.table_fits e));
+    strays = λ q in_all stray e. Apart.not_all un.id (sym in_all ∙ ap (λ (n : Name). folder_of n) e ∙ Apart.in_folder un.id un.table un.table_fits);
+  })
+    where
+      inside : (q : Name) → q ≡ table_name un.id un.table → folder_of q ≡ keyspace_folder un.id
+      inside q e = ap (λ (n : Name). folder_of n) e ∙ Apart.in_folder un.id un.table un.table_fits
+
+      not_it : codes "keyspaces" ≢ table_name un.id un.table
+      not_it e = let no : [] ≡ keyspace_folder un.id = inside (codes "keyspaces") e in cc
+
+      folders : (id : ℕ) → id < 2 ^ 64 → keyspace_folder id ≢ table_name un.id un.table
+      folders id fits e = Apart.not_all un.id (sym (Apart.in_keyspaces id fits) ∙ inside (keyspace_folder id) e)
+
+      named_apart : (table : Option TableInfo) → t.last.table ≡ table → AllByRecursion (IsGiven t.last.next_table_id) (listed table) → AllByRecursion (λ i. table_name 0 i.id ≢ table_name un.id un.table) (listed table)
+      named_apart None is given = tt
+      named_apart (Some i) is given = (
+        λ e.
+            let same = Apart.same_table un.id un.table i.id un.id_fits un.table_fits given.0.0 e in
+            ⊎_elim (λ (tree : (un.id ≡ 0) × (named_in t ≢ Some un.table)). tree.1 (ap (λ o. option_map (λ (i : TableInfo). i.id) o) is ∙ ap (λ (n : ℕ). Some n) same.1))
+            (λ lives. lives_some t.keyspaces rests.catalog.are un.id lives same.0) un.unnamed,
+        tt,
+      )
+
+  module _ (home : UnnamedHome) (un : IsUnnamedHome t.keyspaces.living home) where
+    other_id : (id : ℕ) → Lives t.keyspaces.living id → id ≢ un.id
+    other_id id lives e = un.dead (subst (Lives t.keyspaces.living) e lives)
+
+    table_of : (P : Name → Type 0) → ((n : ℕ) → n < 2 ^ 64 → P (table_name 0 n)) → AllByRecursion (λ i. P (table_name 0 i.id)) (listed t.last.table)
+    table_of P to = each_more (IsGiven t.last.next_table_id) (λ i. P (table_name 0 i.id)) (λ i given. to i.id given.0) (listed t.last.table) named_given
+
+    -- its folder
+    folder_spare : IsSpare t (string_bytes home.folder)
+    folder_spare = subst (IsSpare t) (sym un.folder_is) (record {
       catalog = record {
-        keyspaces_folder = λ e. let no : [] ≡ keyspace_folder un.id = inside (codes "keyspaces") e in cc;
-        folder = λ e. folders 0 (omega arith) e;
-        current = λ e. Apart.not_current un.id 0 un.table un.table_fits e;
-        table = named_apart t.last.table refl small;
+        keyspaces_folder = Apart.not_all un.id;
+        folder = λ e. un.some (sym (Apart.folders_apart 0 un.id (omega arith) un.fits e));
+        current = λ e. currents 0 (omega arith) e;
+        each = table_of (λ q. q ≢ keyspace_folder un.id) (λ n fits e. Apart.not_all 0 (sym (Apart.in_keyspaces un.id un.fits) ∙ ap (λ (n : Name). folder_of n) (sym e) ∙ Apart.in_folder 0 n fits));
       };
-      homes = each_living t.keyspaces.living (AtHome (λ q. q ≢ table_name un.id un.table)) (λ k lives fits. (folders k.id fits, λ e. Apart.not_current un.id k.id un.table un.table_fits e)) small_ids;
-      strays = λ q in_all stray e. Apart.not_all un.id (sym in_all ∙ inside q e);
+      homes = at_homes (λ q. q ≢ keyspace_folder un.id) (Apart.not_all un.id) (λ id lives fits. (λ e. other_id id lives (Apart.folders_apart id un.id fits un.fits e), currents id fits));
+      strays = λ q in_all stray e. stray un.id (un.fits, e);
     })
       where
-        inside : (q : Name) → q ≡ table_name un.id un.table → folder_of q ≡ keyspace_folder un.id
-        inside q e = ap (λ (n : Name). folder_of n) e ∙ Apart.in_folder un.id un.table un.table_fits
+        currents : (id : ℕ) → id < 2 ^ 64 → current_name id ≢ keyspace_folder un.id
+        currents id fits e = Apart.not_all id (sym (Apart.in_keyspaces un.id un.fits) ∙ ap (λ (n : Name). folder_of n) (sym e) ∙ Apart.of_current id)
 
-        folders : (id : ℕ) → id < 2 ^ 64 → keyspace_folder id ≢ table_name un.id un.table
-        folders id fits e = Apart.not_all un.id (sym (in_keyspaces id fits) ∙ inside (keyspace_folder id) e)
+    -- what is in it
+    inner_spare : (file : Name) → folder_of file ≡ keyspace_folder un.id → IsSpare t file
+    inner_spare file inside = record {
+      catalog = record {
+        keyspaces_folder = not_it;
+        folder = λ e. Apart.not_all un.id (sym (Apart.in_keyspaces 0 (omega arith)) ∙ at (keyspace_folder 0) e);
+        current = λ e. un.some (sym (Apart.folders_apart 0 un.id (omega arith) un.fits (sym (Apart.of_current 0) ∙ at (current_name 0) e)));
+        each = table_of (λ q. q ≢ file) (λ n fits e. un.some (sym (Apart.folders_apart 0 un.id (omega arith) un.fits (sym (Apart.in_folder 0 n fits) ∙ at (table_name 0 n) e))));
+      };
+      homes = at_homes (λ q. q ≢ file) not_it (λ id lives fits. (
+        (λ e. Apart.not_all un.id (sym (Apart.in_keyspaces id fits) ∙ at (keyspace_folder id) e)),
+        (λ e. other_id id lives (Apart.folders_apart id un.id fits un.fits (sym (Apart.of_current id) ∙ at (current_name id) e))),
+      ));
+      strays = λ q in_all stray e. Apart.not_all un.id (sym in_all ∙ at q e);
+    }
+      where
+        at : (q : Name) → q ≡ file → folder_of q ≡ keyspace_folder un.id
+        at q e = ap (λ (n : Name). folder_of n) e ∙ inside
 
-        named_apart : (table : Option TableInfo) → t.last.table ≡ table → IfSome table (λ i. i.id < 2 ^ 64) → IfSome table (λ i. table_name 0 i.id ≢ table_name un.id un.table)
-        named_apart None is fits = tt
-        named_apart (Some i) is fits = λ e.
-            let same = Apart.same_table un.id un.table i.id un.id_fits un.table_fits fits e in
-            ⊎_elim (λ (tree : (un.id ≡ 0) × (named_in t ≢ Some un.table)). tree.1 (ap (λ o. option_map (λ (i : TableInfo). i.id) o) is ∙ ap (λ (n : ℕ). Some n) same.1))
-            (λ lives. living_some un.id lives same.0) un.unnamed
-
-    module _ (home : UnnamedHome) (un : IsUnnamedHome t.keyspaces.living home) where
-      other_id : (id : ℕ) → Lives t.keyspaces.living id → id ≢ un.id
-      other_id id lives e = un.dead (subst (Lives t.keyspaces.living) e lives)
-
-      table_of : (P : Name → Type 0) (table : Option TableInfo) → IfSome table (λ i. i.id < 2 ^ 64) → ((n : ℕ) → n < 2 ^ 64 → P (table_name 0 n)) → IfSome table (λ i. P (table_name 0 i.id))
-      table_of P None fits to = tt
-      table_of P (Some i) fits to = to i.id fits
-
-      -- its folder
-      folder_spare : IsSpare t (string_bytes home.folder)
-      folder_spare = subst (IsSpare t) (sym un.folder_is) (record {
-        catalog = record {
-          keyspaces_folder = Apart.not_all un.id;
-          folder = λ e. un.some (sym (Apart.folders_apart 0 un.id (omega arith) un.fits e));
-          current = λ e. currents 0 (omega arith) e;
-          table = table_of (λ q. q ≢ keyspace_folder un.id) t.last.table small (λ n fits e. Apart.not_all 0 (sym (in_keyspaces un.id un.fits) ∙ ap (λ (n : Name). folder_of n) (sym e) ∙ Apart.in_folder 0 n fits));
-        };
-        homes = each_living t.keyspaces.living (AtHome (λ q. q ≢ keyspace_folder un.id)) (λ k lives fits. (λ e. other_id k.id lives (Apart.folders_apart k.id un.id fits un.fits e), currents k.id fits)) small_ids;
-        strays = λ q in_all stray e. stray un.id (un.fits, e);
-      })
-        where
-          currents : (id : ℕ) → id < 2 ^ 64 → current_name id ≢ keyspace_folder un.id
-          currents id fits e = Apart.not_all id (sym (in_keyspaces un.id un.fits) ∙ ap (λ (n : Name). folder_of n) (sym e) ∙ folder_of-home id)
-
-      -- what is in it
-      inner_spare : (file : Name) → folder_of file ≡ keyspace_folder un.id → IsSpare t file
-      inner_spare file inside = record {
-        catalog = record {
-          keyspaces_folder = λ e. let no : [] ≡ keyspace_folder un.id = at (codes "keyspaces") e in cc;
-          folder = λ e. Apart.not_all un.id (sym (in_keyspaces 0 (omega arith)) ∙ at (keyspace_folder 0) e);
-          current = λ e. un.some (sym (Apart.folders_apart 0 un.id (omega arith) un.fits (sym folder_of-current ∙ at (current_name 0) e)));
-          table = table_of (λ q. q ≢ file) t.last.table small (λ n fits e. un.some (sym (Apart.folders_apart 0 un.id (omega arith) un.fits (sym (Apart.in_folder 0 n fits) ∙ at (table_name 0 n) e))));
-        };
-        homes = each_living t.keyspaces.living (AtHome (λ q. q ≢ file)) (λ k lives fits. (
-          (λ e. Apart.not_all un.id (sym (in_keyspaces k.id fits) ∙ at (keyspace_folder k.id) e)),
-          (λ e. other_id k.id lives (Apart.folders_apart k.id un.id fits un.fits (sym (folder_of-home k.id) ∙ at (current_name k.id) e))),
-        )) small_ids;
-        strays = λ q in_all stray e. Apart.not_all un.id (sym in_all ∙ at q e);
-      }
-        where
-          at : (q : Name) → q ≡ file → folder_of q ≡ keyspace_folder un.id
-          at q e = ap (λ (n : Name). folder_of n) e ∙ inside
+        not_it : codes "keyspaces" ≢ file
+        not_it e = let no : [] ≡ keyspace_folder un.id = at (codes "keyspaces") e in cc
 
 -- ---- all that a plan has
 
@@ -148,16 +183,13 @@ planned_within named living plan is = planned_all (λ name. is_under (codes "key
     ))
 
 module _ (state : State) (records : List Fields) (t : Tree) (rests : RestsInTree state records t) where
-  small_table : IfSome t.last.table (λ table. table.id < 2 ^ 64)
-  small_table = table_id t.last (last_record state records t.last t.keyspaces rests.catalog)
-
   -- keyspaces that rest don't rest on any of them
   pub planned_spare : (plan : SweepPlan) → IsPlan (named_in t) t.keyspaces.living plan → All (IsSpare t) (planned plan)
   planned_spare plan is = planned_all (IsSpare t) plan
-      (λ i d lt. table_spare t rests.catalog.are small_table _ (is.tables i d lt))
+      (λ i d lt. table_spare state records t rests _ (is.tables i d lt))
       (λ i d lt. let un = is.homes i d lt in (
-        folder_spare t rests.catalog.are small_table _ un,
-        λ j e less. inner_spare t rests.catalog.are small_table _ un _ (un.inside j e less),
+        folder_spare state records t rests _ un,
+        λ j e less. inner_spare state records t rests _ un _ (un.inside j e less),
       ))
 
   pub spare_run : (plan : SweepPlan) (old new : Meaning) → IsPlan (named_in t) t.keyspaces.living plan → Removes (Contains (planned plan)) old new → Removes (IsSpare t) old new
@@ -175,19 +207,19 @@ missing_or_not (File synced unsynced) = inr (λ e. let no : File synced unsynced
 missing_or_not Folder = inr (λ e. let no : Folder ≡ Missing = e in cc)
 
 -- the table that is named has an id below the next one
-named_below : (t : Tree) (id : ℕ) → IfSome t.last.table (λ i. i.id < t.last.next_table_id) → named_in t ≡ Some id → id < t.last.next_table_id
-named_below t id below named = of t.last.table below named
+named_below : (t : Tree) (id : ℕ) → AllByRecursion (IsGiven t.last.next_table_id) (listed t.last.table) → named_in t ≡ Some id → id < t.last.next_table_id
+named_below t id given named = of t.last.table given named
   where
-    of : (table : Option TableInfo) → IfSome table (λ i. i.id < t.last.next_table_id) → option_map (λ (i : TableInfo). i.id) table ≡ Some id → id < t.last.next_table_id
-    of None below named = let no : None ≡ Some id = named in cc
-    of (Some i) below named = let same : i.id ≡ id = cc in subst (λ (n : ℕ). n < t.last.next_table_id) same below
+    of : (table : Option TableInfo) → AllByRecursion (IsGiven t.last.next_table_id) (listed table) → option_map (λ (i : TableInfo). i.id) table ≡ Some id → id < t.last.next_table_id
+    of None given named = let no : None ≡ Some id = named in cc
+    of (Some i) given named = let same : i.id ≡ id = cc in subst (λ (n : ℕ). n < t.last.next_table_id) same given.0.1
 
 pub tables_free : (old new : Meaning) (records : List Fields) (t : Tree) (plan : SweepPlan) → RestsInTree (state_in old) records t → FindsTables (state_in old) (named_in t) (map string_bytes plan.tables.items)
-    → Removes (Contains (planned plan)) old new → AreGone (state_in new) (planned plan) → IsFree (state_in new) t.last.next_table_id
+    → Removes (Contains (planned plan)) old new → AreGone (state_in new) (planned plan) → IsFree (state_in new) 0 t.last.next_table_id
 tables_free old new records t plan rests finds run gone id least small = elim (missing_or_not (state_in old (table_name 0 id)).now) [
   | inl none ↦ Removals.stays_missing (Contains (planned plan)) old new (table_name 0 id) run none
   | inr some ↦ ⊎_elim
-      (λ named. let below = named_below t id (given t.last (last_record (state_in old) records t.last t.keyspaces rests.catalog)) named in absurd (omega (arith, least, below)))
+      (λ named. let below = named_below t id (named_given (state_in old) records t rests) named in absurd (omega (arith, least, below)))
       (λ has. All-contains (λ (n : Name). (state_in new n).now ≡ Missing) (planned plan) (table_name 0 id) (All-from_recursion (λ (n : Name). (state_in new n).now ≡ Missing) (planned plan) gone)
       (Contains-append_left (map string_bytes plan.tables.items) (flat_map home_names plan.homes.items) (table_name 0 id) has))
       (finds id small some)
@@ -202,13 +234,6 @@ swept old new records t plan (Ok done) rests finds is run gone = record {
 swept old new records t plan (Err e) rests finds is run gone = tt
 
 -- ---- what is left
-
--- an id of a keyspace that lives is a u64
-pub lives_small : (s : Keyspaces) → AreKeyspaces s → (id : ℕ) → Lives s.living id → id < 2 ^ 64
-lives_small s are id has =
-    let below = All-contains (λ (i : ℕ). i < s.next) (map (λ k. k.id) s.living) id (All-map (λ (i : ℕ). i < s.next) (λ k. k.id) s.living are.given) has in
-    let fits = are.fits in
-    omega (arith, below, fits)
 
 module _ (old new : State) (last : Catalog) (living : List LivingKeyspace) (ids : List ℕ) (plan : SweepPlan) (finds : FindsAll old (option_map (λ table. table.id) last.table) living ids plan) (are : AreFolderIds (standing old) ids) (gone : AreGone new (planned plan))
     (small : (id : ℕ) → Lives living id → id < 2 ^ 64) (brings : BringsNoTable old new) where

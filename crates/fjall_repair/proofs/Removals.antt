@@ -1,5 +1,5 @@
 -- Runs that remove names and do nothing else.
-use Rattle.std.proofs.Common.{◌≡◌, ◌⊎◌, inl, inr, ℕ, ◌+◌, ◌<◌, Bool, true, false, List, [], ◌∷◌, ◌++◌, map, length, take, drop, get_or, Result, Ok, Err, OnOk, OnErr, refl, sym, ◌∙◌, ap, subst, add-one, lit<, take-append-drop}
+use Rattle.std.proofs.Common.{◌≡◌, inl, inr, ℕ, ◌+◌, ◌<◌, true, List, [], ◌∷◌, ◌++◌, map, length, take, drop, get_or, Result, Ok, Err, OnOk, OnErr, refl, sym, ◌∙◌, ap, subst, add-one, lit<, take-append-drop}
 use Rattle.std.specs.List.{AllByRecursion, Contains, flat_map}
 use Rattle.std.specs.Str.{bytes_eq}
 use Rattle.std.proofs.lemmas.List.{append-nil, map-append, map_more, length-map, get_or-map}
@@ -11,6 +11,7 @@ use Rattle.std.proofs.Math.Seq.{take-suc}
 use Rattle.fjall_base.specs.declared.error.Error.{Error}
 use Rattle.fjall_base.specs.Disk.{Name, Entry, Missing, File, Folder, Place, State, Step, Put, Meaning, Took, IsNoFile, IsNoFolder, after, put, removing, state_in}
 use Rattle.fjall_base.proofs.States.{put-now, put-other, put-same}
+use Rattle.fjall_base.proofs.Names.{bool_cases}
 use Rattle.fjall_files.specs.Regions.{is_under, AreUnder, Within}
 use Rattle.fjall_files.proofs.Made.{gone, took_both}
 use Rattle.fjall_repair.specs.Sweeps.{AreGone, Removes, removals}
@@ -73,10 +74,6 @@ pub weaker : (P Q : Name → Type 0) (old new : Meaning) → ((name : Name) → 
 weaker P Q old new to run = record { names = run.names; took = run.took; each = all_weaker P Q run.names to run.each }
 
 -- ---- what is gone
-
-bool_cases : (b : Bool) → (b ≡ true) ⊎ (b ≡ false)
-bool_cases true = inl refl
-bool_cases false = inr refl
 
 put_missing : (state : State) (name q : Name) → (state q).now ≡ Missing → (put state name Missing q).now ≡ Missing
 put_missing state name q gone = elim (bool_cases (bytes_eq q name)) [

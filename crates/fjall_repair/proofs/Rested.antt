@@ -1,6 +1,6 @@
 -- Where nothing waits for a sync, all that whatever a crash leaves says lies on the disk.
-use Rattle.std.proofs.Common.{◌≡◌, ◌⊎◌, inl, inr, ⊎_elim, ℕ, suc, ◌-◌, ◌<◌, ◌≤◌, ◌^◌, List, [], ◌∷◌, ◌++◌, length, get_or, map, All, codes, Option, None, Some, refl, sym, ◌∙◌, ap, subst, arith}
-use Rattle.std.specs.Prelude.{Contains, IfSome}
+use Rattle.std.proofs.Common.{◌≡◌, ◌⊎◌, inl, inr, ⊎_elim, ℕ, ◌-◌, ◌<◌, ◌≤◌, ◌^◌, List, [], ◌∷◌, ◌++◌, length, get_or, map, All, codes, None, Some, refl, sym, ◌∙◌, ap, subst, arith}
+use Rattle.std.specs.Prelude.{Contains}
 use Rattle.std.specs.List.{flat_map, AllByRecursion}
 use Rattle.std.specs.List.Sorted.{IsStrictlyIncreasing}
 use Rattle.std.proofs.lemmas.List.{append-nil, get_or_default, length-append, length-drop, map-append, nil_from_length, take_all, take_at}
@@ -17,19 +17,23 @@ use Rattle.fjall_files.specs.Texts.{text_in}
 use Rattle.fjall_base.proofs.Lists.{last_behind}
 use Rattle.fjall_files.specs.Marker.{marker_tells}
 use Rattle.fjall_files.specs.Names.{journal_name, keyspace_folder, current_name, table_name}
-use Rattle.fjall_meta.specs.declared.entry.MetaEntry.{MetaEntry}
-use Rattle.fjall_meta.specs.declared.living.LivingKeyspace.{LivingKeyspace}
-use Rattle.fjall_meta.specs.Entries.{entries_of}
+use Rattle.fjall_home.specs.Homes as homes
+use Rattle.fjall_home.specs.Homes.{AreSafe, HasHome, HoldTables, HoldsText, Home, only, records_text}
+use Rattle.fjall_home.proofs.Resting.{IsGiven, all_given, each_more, last_has}
 use Rattle.fjall_versions.specs.Replays.{first_fault}
-use Rattle.fjall_catalog.specs.Catalog.{AreSafe, HoldsEntries, IsTableOf, fields, only}
-use Rattle.fjall_catalog.proofs.Resting.{last_has, table_id}
+use Rattle.fjall_catalog.specs.Catalog.{Rests, home_of}
 use Rattle.fjall_recovery.specs.Folders.{Contents, IsSound, file_bytes}
-use Rattle.fjall_recovery.specs.Homes.{HasLast, HaveHomes}
+use Rattle.fjall_recovery.specs.Homes.{HasPlainHome}
 use Rattle.fjall_recovery.specs.Journals.{Journal, ReadsAs, AreRead, batches_in, journal_text}
-use Rattle.fjall_recovery.specs.Places.{HaveSafeHomes, IsNeverFile, Journaling, LiesInRoot, RestsInTree, journal_ids, journals_with, texts_of}
+use Rattle.fjall_recovery.specs.Places.{HasSafeHome, IsNeverFile, Journaling, LiesInRoot, RestsInTree, journal_ids, journals_with, texts_of}
+use Rattle.fjall_recovery.proofs.Housing.{is_housed}
 use Rattle.fjall_repair.specs.Steps.{IsRested, IsSynced, active_of, sealed_of}
+use Rattle.fjall_repair.specs.Sweeps.{Lives}
 use Rattle.fjall_repair.proofs.Naming.{folder_of-journal, folder_of-folder, folder_of-current, folder_of-table}
 use Rattle.fjall_repair.proofs.Halving.{tree_of}
+use Rattle.fjall_repair.proofs.Homing.{HasCounts, catalog_counts, plain_counts}
+use Rattle.fjall_repair.proofs.Items.{contains_map, each_in}
+use Rattle.fjall_repair.proofs.Living.{homes_safe, ids_fit, ids_with, lives_found, with_living}
 use Rattle.fjall_repair.proofs.Cutting.{whole_length}
 use Rattle.fjall_repair.proofs.Trimming.{fits_all}
 use Rattle.fjall_repair.proofs.Crashing.{left, left_is, left_there}
@@ -251,78 +255,108 @@ module _ (s : State) (c : Contents) (rest : IsRested s c) where
       let at = folder_of-folder id small in
       folder_place (keyspace_folder id) (names_left (codes "keyspaces") (inr keyspaces_there) (keyspace_folder id) at) is (rest.folders.0 (keyspace_folder id) at)
 
-  current_seen : (id : ℕ) (bytes : List ℕ) → image (keyspace_folder id) ≡ Folder → (s (current_name id)).now ≡ File bytes [] → text_in (image (current_name id)) ≡ bytes
-  current_seen id bytes folder is = whole_text (current_name id) bytes (subst (IsThere image) (sym (folder_of-current id)) (inr folder)) is
+  -- ---- a home of tree 0 or of a keyspace that lives
 
-  -- the table is synced: a crash that keeps all its bytes leaves as many as one that keeps none of the unsynced ones
-  table_count : (k : ℕ) (t : TableInfo) (entries : List MetaEntry) → t.id < 2 ^ 64 → HoldsEntries (left k s) (Some t) entries → IsThere (left k s) (keyspace_folder 0) → length (text_in (keeping k (s (table_name 0 t.id)).now)) ≡ t.file_len
-  table_count k t entries small holds there =
-      let at = left_there k s (table_name 0 t.id) (subst (IsThere (left k s)) (sym (folder_of-table 0 t.id small)) there) in
-      ap (λ (e : Entry). length (text_in e)) (sym at) ∙ holds.is.len
+  module _ (id : ℕ) (has : Contains (ids_with c.keyspaces.living) id) where
+    small : id < 2 ^ 64
+    small = each_in (λ n. n < 2 ^ 64) (ids_with c.keyspaces.living) id has (ids_fit c.keyspaces sound.catalog.are)
 
-  table_safe : (table : Option TableInfo) (entries : List MetaEntry) → c.last.table ≡ table → entries_of c.keyspaces.living ≡ entries → AreSafe s table entries
-  table_safe None entries table_is entries_is = let here = sound.catalog.entries in subst (λ (t : Option TableInfo). HoldsEntries image t entries) table_is (subst (HoldsEntries image c.last.table) entries_is here)
-  table_safe (Some t) entries table_is entries_is =
-      let record_is = last_has IsRecord sound.records (fields c.last) sound.catalog.whole.each sound.catalog.last_is in
-      let small : t.id < 2 ^ 64 = subst (λ (o : Option TableInfo). IfSome o (λ u. u.id < 2 ^ 64)) table_is (table_id c.last record_is) in
-      let holds : (k : ℕ) → HoldsEntries (left k s) (Some t) entries = λ k. (let one = rest.images (left k s) (left_is k s) in subst (λ (o : Option TableInfo). HoldsEntries (left k s) o entries) table_is (subst (HoldsEntries (left k s) c.last.table) entries_is one.catalog.entries)) in
-      let at = names_left (keyspace_folder 0) (inr sound.folder) (table_name 0 t.id) (folder_of-table 0 t.id small) in
-      let file : IsFile (s (table_name 0 t.id)).now = was_file (s (table_name 0 t.id)).now (subst IsFile at (holds 0).file) in
-      let whole = same_whole (s (table_name 0 t.id)).now t.file_len file (λ k. table_count k t entries small (holds k) (inr (rest.images (left k s) (left_is k s)).folder)) in
-      let text : text_in (image (table_name 0 t.id)) ≡ whole.0 = ap text_in at ∙ whole.2 in
+    inside : (q : Name) → folder_of q ≡ keyspace_folder id → (s q).older ≡ []
+    inside = each_in (λ f. (q : Name) → folder_of q ≡ f → (s q).older ≡ []) (map keyspace_folder (ids_with c.keyspaces.living)) (keyspace_folder id) (contains_map keyspace_folder (ids_with c.keyspaces.living) id has) rest.folders.1
+
+    file_synced : IsSynced (s (current_name id)).now
+    file_synced = each_in (λ f. IsSynced (s f).now) (map current_name (ids_with c.keyspaces.living)) (current_name id) (contains_map current_name (ids_with c.keyspaces.living) id has) rest.ended.1
+
+    -- all of its records are whole
+    records_safe : (records : List Fields) (h : Home) → HasHome image id records h → IsSafe s (current_name id) (flat_map record_text records)
+    records_safe records h stands =
+        let bytes = file_synced.0 in
+        let text : records_text image id ≡ bytes = whole_text (current_name id) bytes (subst (IsThere image) (sym (folder_of-current id)) (inr stands.folder)) file_synced.1 in
+        let whole : IsRecords bytes records stands.files.end = subst (λ t. IsRecords t records stands.files.end) text stands.files.whole in
+        let now_text : text_in (s (current_name id)).now ≡ bytes = ap text_in file_synced.1 ∙ append-nil bytes in
+        let short = rest.records id has records stands.files.end (subst (λ t. IsRecords t records stands.files.end) (sym now_text) whole) in
+        let count = ap length now_text in
+        let all : bytes ≡ flat_map record_text records = sym (take_all stands.files.end bytes (omega (arith, short, count))) ∙ whole.texts in
+        safe (current_name id) (flat_map record_text records) (file_synced.1 ∙ ap (λ l. File l []) all) (inside (current_name id) (folder_of-current id))
+
+    -- a table is synced: a crash that keeps all its bytes leaves as many as one that keeps none of the unsynced ones
+    table_safe : (n : ℕ) (bytes : List ℕ) → n < 2 ^ 64 → ((k : ℕ) → (left k s (keyspace_folder id) ≡ Folder) × ((text : List ℕ) × HoldsText (left k s) (table_name id n) text × (length text ≡ length bytes)))
+        → HoldsText image (table_name id n) bytes → IsSafe s (table_name id n) bytes
+    table_safe n bytes fits all here =
+        let name = table_name id n in
+        let at : (k : ℕ) → left k s name ≡ keeping k (s name).now = λ k. left_there k s name (subst (IsThere (left k s)) (sym (folder_of-table id n fits)) (inr (all k).0)) in
+        let counts : (k : ℕ) → length (text_in (keeping k (s name).now)) ≡ length bytes = λ k. (let one = (all k).1 in ap (λ (e : Entry). length (text_in e)) (sym (at k)) ∙ ap length one.1.1 ∙ one.2) in
+        let whole = same_whole (s name).now (length bytes) (was_file (s name).now (subst IsFile (at 0) here.0)) counts in
+        let text : whole.0 ≡ bytes = sym whole.2 ∙ ap text_in (sym (at 0)) ∙ here.1 in
+        safe name bytes (whole.1 ∙ ap (λ l. File l []) text) (inside name (folder_of-table id n fits))
+      where
+        was_file : (e : Entry) → IsFile (keeping 0 e) → IsFile e
+        was_file Missing file = file
+        was_file Folder file = file
+        was_file (File synced unsynced) file = tt
+
+    -- whatever it keeps, a crash leaves the folder with as many bytes in each of these tables
+    abbrev Leaves : List TableInfo → List (List ℕ) → Type 0
+    Leaves tables texts = (k : ℕ) → (left k s (keyspace_folder id) ≡ Folder) × ((others : List (List ℕ)) × HoldTables (left k s) id tables others × (map length others ≡ map length texts))
+
+    first_left : (t : TableInfo) (tables : List TableInfo) (bytes : List ℕ) (texts others : List (List ℕ)) (k : ℕ) → HoldTables (left k s) id (t ∷ tables) others → map length others ≡ map length (bytes ∷ texts)
+        → ((text : List ℕ) × HoldsText (left k s) (table_name id t.id) text × (length text ≡ length bytes)) × ((rests : List (List ℕ)) × HoldTables (left k s) id tables rests × (map length rests ≡ map length texts))
+    first_left t tables bytes texts [] k holds counts = absurd holds
+    first_left t tables bytes texts (text ∷ others) k holds counts = ((text, holds.0, cc), (others, holds.1, cc))
+
+    tables_safe : (tables : List TableInfo) (texts : List (List ℕ)) → AllByRecursion (λ t. t.id < 2 ^ 64) tables → HoldTables image id tables texts → Leaves tables texts → AreSafe s id tables texts
+    tables_safe [] [] fits holds leaves = tt
+    tables_safe [] (bytes ∷ texts) fits holds leaves = absurd holds
+    tables_safe (t ∷ tables) [] fits holds leaves = absurd holds
+    tables_safe (t ∷ tables) (bytes ∷ texts) fits holds leaves = (
+      table_safe t.id bytes fits.0 (λ k. let all = leaves k in (all.0, (first_left t tables bytes texts all.1.0 k all.1.1 all.1.2).0)) holds.0,
+      tables_safe tables texts fits.1 holds.1 (λ k. let all = leaves k in (all.0, (first_left t tables bytes texts all.1.0 k all.1.1 all.1.2).1)),
+    )
+
+    home_rests : (records : List Fields) (h : Home) → HasHome image id records h → ((k : ℕ) → HasCounts (left k s) id h) → homes.Rests s id records h
+    home_rests records h stands counts =
+        let fits = each_more (IsGiven h.last.next_table_id) (λ (t : TableInfo). t.id < 2 ^ 64) (λ t given. given.0) h.last.tables (all_given h.last (last_has IsRecord records h.last stands.files.whole.each stands.files.last_is)) in
+        record {
+          keyspaces_folder = keyspaces_place;
+          folder = home_place id small stands.folder;
+          current = records_safe records h stands;
+          each = stands.files.whole.each;
+          last_is = stands.files.last_is;
+          tables = tables_safe h.last.tables h.texts fits stands.files.tables (λ k. let all = counts k in (all.folder, (all.texts, all.tables, all.counts)));
+        }
+
+  -- ---- the keyspaces
+
+  -- what another crash leaves holds the same
+  others : (k : ℕ) → IsSound (left k s) c
+  others k = rest.images (left k s) (left_is k s)
+
+  catalog_rests : Rests s sound.records c.last c.keyspaces
+  catalog_rests =
+      let says = sound.catalog in
       record {
-        bytes = whole.0;
-        safe = safe (table_name 0 t.id) whole.0 whole.1 (rest.folders.1.0 (table_name 0 t.id) (folder_of-table 0 t.id small));
-        is = subst (λ (bytes : List ℕ). IsTableOf t bytes entries) text (holds 0).is;
+        texts = says.texts;
+        home = home_rests 0 (0, omega arith, refl) sound.records (home_of c.last says.texts) (record { folder = sound.folder; files = says.files })
+            (λ k. catalog_counts image (left k s) sound.records (others k).records c.last c.last c.keyspaces c.keyspaces says refl (others k).catalog (others k).folder);
+        pairs = says.pairs;
+        next = says.next;
+        are = says.are;
       }
-    where
-      was_file : (e : Entry) → IsFile (keeping 0 e) → IsFile e
-      was_file Missing file = file
-      was_file Folder file = file
-      was_file (File synced unsynced) file = tt
 
-  homes_safe : (living : List LivingKeyspace) (homes : List Fields) → AllByRecursion (λ (k : LivingKeyspace). k.id < 2 ^ 64) living
-      → AllByRecursion (λ f. (q : Name) → folder_of q ≡ f → (s q).older ≡ []) (map keyspace_folder (map (λ (k : LivingKeyspace). k.id) living))
-      → AllByRecursion (λ f. IsSynced (s f).now) (map current_name (map (λ (k : LivingKeyspace). k.id) living)) → HaveHomes image living homes → HaveSafeHomes s living homes
-  homes_safe [] [] small folders synced have = tt
-  homes_safe [] (h ∷ homes) small folders synced have = absurd have
-  homes_safe (k ∷ living) [] small folders synced have = absurd have
-  homes_safe (k ∷ living) (h ∷ homes) small folders synced have = (
-    record {
-      folder = home_place k.id small.0 have.0.folder;
-      text = synced.0.0;
-      current = safe (current_name k.id) synced.0.0 synced.0.1 (folders.0 (current_name k.id) (folder_of-current k.id));
-      last_is = subst (λ text. HasLast text h) (current_seen k.id synced.0.0 have.0.folder synced.0.1) have.0.last_is;
-    },
-    homes_safe living homes small.1 folders.1 synced.1 have.1,
-  )
-
-  small_all : (next : ℕ) (living : List LivingKeyspace) → next < 2 ^ 64 → All (λ k. k.id < next) living → AllByRecursion (λ (k : LivingKeyspace). k.id < 2 ^ 64) living
-  small_all next [] fits given = tt
-  small_all next (k ∷ living) fits given = ((let less : k.id < next = given 0 k (omega arith) in omega (arith, less, fits)), small_all next living fits (λ n d lt. given (suc n) d (omega (arith, lt))))
+  safe_home : (id : ℕ) (h : Home) → Lives c.keyspaces.living id → HasPlainHome image id h → HasSafeHome s id h
+  safe_home id h lives stands =
+      let folder : (k : ℕ) → left k s (keyspace_folder id) ≡ Folder = λ k. (is_housed (left k s) c.keyspaces.living c.homes id (others k).homes (lives_found c.keyspaces.living id lives)).2.home.folder in
+      record {
+        records = stands.records;
+        rests = home_rests id (with_living c.keyspaces.living id lives) stands.records h stands.home (λ k. plain_counts image (left k s) id h stands (folder k));
+        plain = stands.plain;
+      }
 
   pub rests_in_tree : RestsInTree s sound.records (tree_of c)
-  rests_in_tree =
-      let synced = rest.ended.1.0 in
-      let text : text_in (image (current_name 0)) ≡ synced.0 = current_seen 0 synced.0 sound.folder synced.1 in
-      let whole : IsRecords synced.0 sound.records sound.catalog.end = subst (λ t. IsRecords t sound.records sound.catalog.end) text sound.catalog.whole in
-      let now_text : text_in (s (current_name 0)).now ≡ synced.0 = ap text_in synced.1 ∙ append-nil synced.0 in
-      let short = rest.tree sound.records sound.catalog.end (subst (λ t. IsRecords t sound.records sound.catalog.end) (sym now_text) whole) in
-      let count = ap length now_text in
-      let all : synced.0 ≡ flat_map record_text sound.records = sym (take_all sound.catalog.end synced.0 (omega (arith, short, count))) ∙ whole.texts in
-      record {
-        named = λ name inside none. subst (λ (es : List Entry). AllByRecursion IsNoFolder ((s name).now ∷ es)) (sym (rest.folders.0 name inside))
-            (no_folder (s name).now (λ folder. sound.keyspaces_named name inside (names_left (codes "keyspaces") (inr keyspaces_there) name inside ∙ ap (keeping 0) folder) none), tt);
-        catalog = record {
-          keyspaces_folder = keyspaces_place;
-          folder = home_place 0 (omega arith) sound.folder;
-          current = safe (current_name 0) (flat_map record_text sound.records) (synced.1 ∙ ap (λ l. File l []) all) (rest.folders.1.0 (current_name 0) (folder_of-current 0));
-          each = whole.each;
-          last_is = sound.catalog.last_is;
-          entries = table_safe c.last.table (entries_of c.keyspaces.living) refl refl;
-          next = sound.catalog.next;
-          are = sound.catalog.are;
-        };
-        made = sound.made;
-        homes = homes_safe c.keyspaces.living c.homes (small_all c.keyspaces.next c.keyspaces.living sound.catalog.are.fits sound.catalog.are.given) rest.folders.1.1 rest.ended.1.1 sound.homes;
-      }
+  rests_in_tree = record {
+    named = λ name inside none. subst (λ (es : List Entry). AllByRecursion IsNoFolder ((s name).now ∷ es)) (sym (rest.folders.0 name inside))
+        (no_folder (s name).now (λ folder. sound.keyspaces_named name inside (names_left (codes "keyspaces") (inr keyspaces_there) name inside ∙ ap (keeping 0) folder) none), tt);
+    catalog = catalog_rests;
+    made = sound.made;
+    homes = homes_safe image c.keyspaces.living c.homes s safe_home sound.homes;
+  }

@@ -1,6 +1,6 @@
 -- Where all that counts is synced, an image that is sound is what stands.
-use Rattle.std.proofs.Common.{◌≡◌, inl, inr, ⊎_elim, ℕ, suc, ◌<◌, ◌^◌, List, [], ◌∷◌, length, take, map, All, codes, Option, None, Some, refl, sym, ◌∙◌, ap, subst, arith}
-use Rattle.std.specs.Prelude.{◌↔◌, IfSome}
+use Rattle.std.proofs.Common.{◌≡◌, inl, inr, ⊎_elim, ℕ, ◌<◌, ◌^◌, List, [], ◌∷◌, length, take, map, codes, refl, sym, ◌∙◌, ap, subst, arith}
+use Rattle.std.specs.Prelude.{◌↔◌, Contains}
 use Rattle.std.specs.List.{AllByRecursion}
 use Rattle.std.proofs.lemmas.List.{take_all, length-take}
 use Rattle.fjall_base.specs.Disk.{Name, Entry, Missing, File, Folder, State, Image, IsFile, IsImage, IsThere, Survives, SomeSurvives, folder_of, standing}
@@ -9,21 +9,22 @@ use Rattle.fjall_files.specs.Texts.{text_in}
 use Rattle.fjall_table.specs.declared.table_info.TableInfo.{TableInfo}
 use Rattle.fjall_tree.specs.Records.{Fields, IsRecord, IsRecords}
 use Rattle.fjall_files.specs.Names.{journal_name, keyspace_folder, current_name, table_name}
-use Rattle.fjall_meta.specs.declared.entry.MetaEntry.{MetaEntry}
-use Rattle.fjall_meta.specs.declared.living.LivingKeyspace.{LivingKeyspace}
-use Rattle.fjall_meta.specs.Entries.{entries_of}
-use Rattle.fjall_catalog.specs.declared.catalog.Catalog.{Catalog}
-use Rattle.fjall_catalog.specs.Catalog.{HoldsEntries, IsTableOf, fields}
+use Rattle.fjall_home.specs.Homes.{HasFiles, HoldTables, HoldsText, Home}
+use Rattle.fjall_home.proofs.Resting.{IsGiven, all_given, each_more, last_has}
+use Rattle.fjall_catalog.specs.Catalog.{home_of}
 use Rattle.fjall_catalog.specs.Catalog as catalog
 use Rattle.fjall_catalog.proofs.Meanings.{last_one}
-use Rattle.fjall_catalog.proofs.Resting.{last_has, table_id}
 use Rattle.fjall_recovery.specs.Folders.{Contents, IsSound, file_bytes}
-use Rattle.fjall_recovery.specs.Homes.{HasLast, HaveHomes}
+use Rattle.fjall_recovery.specs.Homes.{HasPlainHome}
 use Rattle.fjall_recovery.specs.Journals.{Journal, journal_text}
 use Rattle.fjall_recovery.proofs.Alike.{sound_by}
 use Rattle.fjall_recovery.proofs.Holding.{there_or_not}
 use Rattle.fjall_repair.specs.Steps.{IsSynced, active_of, ended_names, folder_names, whole_names}
+use Rattle.fjall_repair.specs.Sweeps.{Lives}
 use Rattle.fjall_repair.proofs.Naming.{folder_of-journal, folder_of-folder, folder_of-current, folder_of-table}
+use Rattle.fjall_repair.proofs.Homing.{HasCounts, catalog_counts, plain_counts}
+use Rattle.fjall_repair.proofs.Items.{contains_map, each_in}
+use Rattle.fjall_repair.proofs.Living.{have_along, ids_fit, ids_with, with_living}
 use Rattle.fjall_repair.proofs.Trimming.{fits_all}
 use Rattle.fjall_repair.proofs.MendOpened.{ids_of}
 use Rattle.fjall_repair.proofs.Rested.{Parted, active_parted, each_both, each_front, last_parted, parted, sealed_parted}
@@ -44,10 +45,6 @@ same_by_length text part n count is all some =
     let l = ap length is in
     let m = length-take n text in
     is ∙ take_all n text (omega (arith, l, m, all, some))
-
-small_all : (next : ℕ) (living : List LivingKeyspace) → next < 2 ^ 64 → All (λ k. k.id < next) living → AllByRecursion (λ (k : LivingKeyspace). k.id < 2 ^ 64) living
-small_all next [] fits given = tt
-small_all next (k ∷ living) fits given = ((let less : k.id < next = given 0 k (omega arith) in omega (arith, less, fits)), small_all next living fits (λ n d lt. given (suc n) d (omega (arith, lt))))
 
 -- ---- an image of a disk on which all that counts is synced
 
@@ -96,46 +93,79 @@ module _ (s : State) (c : Contents) (sound : IsSound (standing s) c) (root : (q 
   keyspaces_there = subst (IsThere image) (folder_of-folder 0 (omega arith))
       (⊎_elim (λ there. there) (λ gone. let no : Missing ≡ Folder = sym (is.lost (keyspace_folder 0) gone) ∙ other.folder in let bad : ⊥ = cc in absurd bad) (there_or_not image (folder_of (keyspace_folder 0))))
 
-  tree_name : (q : Name) → folder_of q ≡ keyspace_folder 0 → IsThere image (folder_of q)
-  tree_name q at = subst (IsThere image) (sym at) (inr other.folder)
+  -- a home of tree 0 or of a keyspace that lives
+  module _ (id : ℕ) (has : Contains (ids_with c.keyspaces.living) id) where
+    small : id < 2 ^ 64
+    small = each_in (λ n. n < 2 ^ 64) (ids_with c.keyspaces.living) id has (ids_fit c.keyspaces sound.catalog.are)
 
-  current_alike : image (current_name 0) ≡ (s (current_name 0)).now
-  current_alike = synced_seen (current_name 0) (tree_name (current_name 0) (folder_of-current 0)) (folders.1.0 (current_name 0) (folder_of-current 0)) ended.1.0
+    inside : (q : Name) → folder_of q ≡ keyspace_folder id → (s q).older ≡ []
+    inside = each_in (λ f. (q : Name) → folder_of q ≡ f → (s q).older ≡ []) (map keyspace_folder (ids_with c.keyspaces.living)) (keyspace_folder id) (contains_map keyspace_folder (ids_with c.keyspaces.living) id has) folders.1
+
+    folder_stays : (s (keyspace_folder id)).now ≡ Folder → image (keyspace_folder id) ≡ Folder
+    folder_stays stands =
+        let at = folder_of-folder id small in
+        folder_survives (s (keyspace_folder id)).now (image (keyspace_folder id)) (seen (keyspace_folder id) (subst (IsThere image) (sym at) keyspaces_there) (folders.0 (keyspace_folder id) at)) stands
+
+    file_there : (q : Name) → folder_of q ≡ keyspace_folder id → image (keyspace_folder id) ≡ Folder → IsThere image (folder_of q)
+    file_there q at there = subst (IsThere image) (sym at) (inr there)
+
+    current_alike : image (keyspace_folder id) ≡ Folder → image (current_name id) ≡ (s (current_name id)).now
+    current_alike there =
+        let at = folder_of-current id in
+        synced_seen (current_name id) (file_there (current_name id) at there) (inside (current_name id) at)
+        (each_in (λ f. IsSynced (s f).now) (map current_name (ids_with c.keyspaces.living)) (current_name id) (contains_map current_name (ids_with c.keyspaces.living) id has) ended.1)
+
+    table_alike : (n : ℕ) (bytes left : List ℕ) → n < 2 ^ 64 → image (keyspace_folder id) ≡ Folder → HoldsText (standing s) (table_name id n) bytes → HoldsText image (table_name id n) left → length left ≡ length bytes → HoldsText image (table_name id n) bytes
+    table_alike n bytes left fits there stands holds count =
+        let name = table_name id n in
+        let at = folder_of-table id n fits in
+        let part = survived_text (s name).now (image name) (seen name (file_there name at there) (inside name at)) in
+        (holds.0, same_by_length (text_in (s name).now) (text_in (image name)) part.0 (length bytes) part.1 (ap length stands.1) (ap length holds.1 ∙ count) ∙ stands.1)
+
+    tables_alike : (tables : List TableInfo) (texts others : List (List ℕ)) → AllByRecursion (λ t. t.id < 2 ^ 64) tables → image (keyspace_folder id) ≡ Folder → HoldTables (standing s) id tables texts → HoldTables image id tables others → map length others ≡ map length texts
+        → HoldTables image id tables texts
+    tables_alike [] [] others fits there stands holds counts = tt
+    tables_alike [] (bytes ∷ texts) others fits there stands holds counts = absurd stands
+    tables_alike (t ∷ tables) [] others fits there stands holds counts = absurd stands
+    tables_alike (t ∷ tables) (bytes ∷ texts) [] fits there stands holds counts = absurd holds
+    tables_alike (t ∷ tables) (bytes ∷ texts) (left ∷ others) fits there stands holds counts =
+        (table_alike t.id bytes left fits.0 there stands.0 holds.0 cc, tables_alike tables texts others fits.1 there stands.1 holds.1 cc)
+
+    pub files_alike_here : (records : List Fields) (h : Home) → HasFiles (standing s) id records h → HasCounts image id h → HasFiles image id records h
+    files_alike_here records h stands counts =
+        let same = current_alike counts.folder in
+        let fits = each_more (IsGiven h.last.next_table_id) (λ (t : TableInfo). t.id < 2 ^ 64) (λ t given. given.0) h.last.tables (all_given h.last (last_has IsRecord records h.last stands.whole.each stands.last_is)) in
+        record {
+          current = subst IsFile (sym same) stands.current;
+          end = stands.end;
+          whole = subst (λ (e : Entry). IsRecords (text_in e) records stands.end) (sym same) stands.whole;
+          last_is = stands.last_is;
+          tables = tables_alike h.last.tables h.texts counts.texts fits counts.folder stands.tables counts.tables counts.counts;
+        }
+
+  first_has : Contains (ids_with c.keyspaces.living) 0
+  first_has = (0, omega arith, refl)
 
   one_last : c.last ≡ d.last
-  one_last = last_one (catalog.records_in image) sound.records other.records sound.catalog.end other.catalog.end c.last d.last
-      (subst (λ (e : Entry). IsRecords (text_in e) sound.records sound.catalog.end) (sym current_alike) sound.catalog.whole) other.catalog.whole sound.catalog.last_is other.catalog.last_is
+  one_last = last_one (catalog.records_in image) sound.records other.records sound.catalog.files.end other.catalog.files.end c.last d.last
+      (subst (λ (e : Entry). IsRecords (text_in e) sound.records sound.catalog.files.end) (sym (current_alike 0 first_has other.folder)) sound.catalog.files.whole) other.catalog.files.whole sound.catalog.files.last_is other.catalog.files.last_is
 
-  table_alike : (t : TableInfo) (entries others : List MetaEntry) → t.id < 2 ^ 64 → HoldsEntries (standing s) (Some t) entries → HoldsEntries image (Some t) others → HoldsEntries image (Some t) entries
-  table_alike t entries others small stands holds =
-      let name = table_name 0 t.id in
-      let at = folder_of-table 0 t.id small in
-      let part = survived_text (s name).now (image name) (seen name (tree_name name at) (folders.1.0 name at)) in
-      let same : text_in (image name) ≡ text_in (s name).now =
-      same_by_length (text_in (s name).now) (text_in (image name)) part.0 t.file_len part.1 stands.is.len holds.is.len in
-      record { file = holds.file; is = subst (λ (bytes : List ℕ). IsTableOf t bytes entries) (sym same) stands.is }
+  same_files : HasFiles image 0 sound.records (home_of c.last sound.catalog.texts)
+  same_files = files_alike_here 0 first_has sound.records (home_of c.last sound.catalog.texts) sound.catalog.files
+      (catalog_counts (standing s) image sound.records other.records c.last d.last c.keyspaces d.keyspaces sound.catalog one_last other.catalog other.folder)
 
-  entries_alike : (table : Option TableInfo) (entries others : List MetaEntry) → IfSome table (λ t. t.id < 2 ^ 64) → HoldsEntries (standing s) table entries → HoldsEntries image table others → HoldsEntries image table entries
-  entries_alike None entries others small stands holds = stands
-  entries_alike (Some t) entries others small stands holds = table_alike t entries others small stands holds
-
-  homes_alike : (living : List LivingKeyspace) (homes : List Fields) → AllByRecursion (λ (k : LivingKeyspace). k.id < 2 ^ 64) living
-      → AllByRecursion (λ f. (q : Name) → folder_of q ≡ f → (s q).older ≡ []) (map keyspace_folder (map (λ (k : LivingKeyspace). k.id) living))
-      → AllByRecursion (λ f. IsSynced (s f).now) (map current_name (map (λ (k : LivingKeyspace). k.id) living)) → HaveHomes (standing s) living homes → HaveHomes image living homes
-  homes_alike [] [] small names synced have = tt
-  homes_alike [] (h ∷ homes) small names synced have = absurd have
-  homes_alike (k ∷ living) [] small names synced have = absurd have
-  homes_alike (k ∷ living) (h ∷ homes) small names synced have =
-      let at = folder_of-folder k.id small.0 in
-      let folder : image (keyspace_folder k.id) ≡ Folder = folder_survives (s (keyspace_folder k.id)).now (image (keyspace_folder k.id)) (seen (keyspace_folder k.id) (subst (IsThere image) (sym at) keyspaces_there) (folders.0 (keyspace_folder k.id) at)) have.0.folder in
-      let in_it = folder_of-current k.id in
-      let current = synced_seen (current_name k.id) (subst (IsThere image) (sym in_it) (inr folder)) (names.0 (current_name k.id) in_it) synced.0 in
-      (record { folder = folder; last_is = subst (λ (e : Entry). HasLast (text_in e) h) (sym current) have.0.last_is }, homes_alike living homes small.1 names.1 synced.1 have.1)
+  home_alike : (id : ℕ) (h : Home) → Lives c.keyspaces.living id → HasPlainHome (standing s) id h → HasPlainHome image id h
+  home_alike id h lives stands =
+      let has = with_living c.keyspaces.living id lives in
+      let folder = folder_stays id has stands.home.folder in
+      record {
+        records = stands.records;
+        home = record { folder = folder; files = files_alike_here id has stands.records h stands.home.files (plain_counts (standing s) image id h stands folder) };
+        plain = stands.plain;
+      }
 
   -- the image holds what stands
   pub same_sound : IsSound image c
   same_sound = sound_by (standing s) image c sound (ap file_bytes (synced_seen (codes "version") (inl refl) (root (codes "version") refl) whole.0)) other.journals_named files_alike (texts_all c.journals refl)
-      other.keyspaces_named other.folder other.catalog.file (ap text_in current_alike)
-      (entries_alike c.last.table (entries_of c.keyspaces.living) (entries_of d.keyspaces.living) (table_id c.last (last_has IsRecord sound.records (fields c.last) sound.catalog.whole.each sound.catalog.last_is)) sound.catalog.entries
-      (subst (λ (l : Catalog). HoldsEntries image l.table (entries_of d.keyspaces.living)) (sym one_last) other.catalog.entries))
-      (homes_alike c.keyspaces.living c.homes (small_all c.keyspaces.next c.keyspaces.living sound.catalog.are.fits sound.catalog.are.given) folders.1.1 ended.1.1 sound.homes)
+      other.keyspaces_named other.folder same_files.current (ap text_in (current_alike 0 first_has other.folder)) (sound.catalog.texts, same_files.tables, sound.catalog.pairs)
+      (have_along (standing s) c.keyspaces.living c.homes image home_alike sound.homes)

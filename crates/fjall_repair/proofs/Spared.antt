@@ -1,56 +1,49 @@
 -- The names that keyspaces rest on, and names whose removal leaves them.
-use Rattle.std.proofs.Common.{◌≡◌, ◌≢◌, inl, inr, ℕ, List, [], ◌∷◌, codes, sym, ◌∙◌, subst}
+use Rattle.std.proofs.Common.{◌≡◌, ◌≢◌, inl, inr, ℕ, List, [], ◌∷◌, codes, Option, None, Some, refl, sym, subst}
 use Rattle.std.specs.List.{AllByRecursion}
+use Rattle.std.specs.FinMap.{get}
 use Rattle.fjall_base.specs.Disk.{Name, Missing, State, Image, Meaning, Survives, LeavesBy, LeavesOnly, after, folder_of, put, state_in}
 use Rattle.fjall_base.proofs.States.{differs, put-other}
 use Rattle.fjall_files.proofs.Parts.{in_region}
 use Rattle.fjall_tree.specs.Records.{Fields}
-use Rattle.fjall_files.specs.Names.{IsNameOf, keyspace_folder, current_name}
+use Rattle.fjall_files.specs.Names.{IsNameOf, keyspace_folder}
+use Rattle.fjall_home.specs.Homes.{Home}
+use Rattle.fjall_home.proofs.Resting.{At, at_more, rests_along as home_rests_along}
 use Rattle.fjall_meta.specs.declared.living.LivingKeyspace.{LivingKeyspace}
-use Rattle.fjall_catalog.proofs.Resting.{At, rests_along}
-use Rattle.fjall_catalog.proofs.Runs.{at_more}
+use Rattle.fjall_meta.specs.Keyspaces.{keyspace_at}
+use Rattle.fjall_catalog.specs.Catalog.{listed}
+use Rattle.fjall_catalog.proofs.Resting.{rests_along}
 use Rattle.fjall_recovery.specs.Halves.{HasTree, Tree, is_of_keyspaces}
-use Rattle.fjall_recovery.specs.Places.{HaveSafeHomes, IsNeverFolder, RestsInTree}
+use Rattle.fjall_recovery.specs.Places.{HasSafeHomeAt, IsNeverFolder, RestsInTree}
 use Rattle.fjall_recovery.proofs.Trees.{crashes_leave_the_tree}
 use Rattle.fjall_repair.specs.Sweeps.{Removes, removals}
 
--- what holds at the folder and the records of a keyspace
-abbrev pub AtHome : (Name → Type 0) → LivingKeyspace → Type 0
-AtHome P k = P (keyspace_folder k.id) × P (current_name k.id)
-
 -- what holds at each name that keyspaces rest on
 pub record AtTree (t : Tree) (P : Name → Type 0) : Type 0 where
-  pub catalog : At t.last P
-  pub homes : AllByRecursion (AtHome P) t.keyspaces.living
+  pub catalog : At 0 (listed t.last.table) P
+  pub homes : (id : ℕ) (h : Home) → get t.homes id ≡ Some h → At id h.last.tables P
   pub strays : (name : Name) → folder_of name ≡ codes "keyspaces" → ((id : ℕ) → IsNameOf keyspace_folder name id → ⊥) → P name
 
 pub tree_more : (t : Tree) (P Q : Name → Type 0) → ((q : Name) → P q → Q q) → AtTree t P → AtTree t Q
 tree_more t P Q to at = record {
-  catalog = at_more t.last P Q to at.catalog;
-  homes = each t.keyspaces.living at.homes;
+  catalog = at_more 0 (listed t.last.table) P Q to at.catalog;
+  homes = λ id h is. at_more id h.last.tables P Q to (at.homes id h is);
   strays = λ name inside stray. to name (at.strays name inside stray);
 }
-  where
-    each : (living : List LivingKeyspace) → AllByRecursion (AtHome P) living → AllByRecursion (AtHome Q) living
-    each [] all = tt
-    each (k ∷ living) all = ((to _ all.0.0, to _ all.0.1), each living all.1)
 
 -- what stands at those names is all that matters
-homes_along : (old new : State) (living : List LivingKeyspace) (homes : List Fields) → AllByRecursion (AtHome (λ q. new q ≡ old q)) living → HaveSafeHomes old living homes → HaveSafeHomes new living homes
-homes_along old new [] [] at have = tt
-homes_along old new [] (last ∷ homes) at have = absurd have
-homes_along old new (k ∷ living) [] at have = absurd have
-homes_along old new (k ∷ living) (last ∷ homes) at have = (
-  record { folder = at.0.0 ∙ have.0.folder; text = have.0.text; current = at.0.1 ∙ have.0.current; last_is = have.0.last_is },
-  homes_along old new living homes at.1 have.1,
-)
+home_along : (old new : State) (id : ℕ) (k : Option LivingKeyspace) (h : Option Home) → ((i : Home) → h ≡ Some i → At id i.last.tables (λ q. new q ≡ old q)) → HasSafeHomeAt old id k h → HasSafeHomeAt new id k h
+home_along old new id (Some k) (Some h) at have = record { records = have.records; rests = home_rests_along old new id have.records h (at h refl) have.rests; plain = have.plain }
+home_along old new id None None at have = tt
+home_along old new id (Some k) None at have = absurd have
+home_along old new id None (Some h) at have = absurd have
 
 pub tree_along : (old new : State) (records : List Fields) (t : Tree) → AtTree t (λ q. new q ≡ old q) → RestsInTree old records t → RestsInTree new records t
 tree_along old new records t at rests = record {
   named = λ name inside stray. subst IsNeverFolder (sym (at.strays name inside stray)) (rests.named name inside stray);
   catalog = rests_along old new records t.last t.keyspaces at.catalog rests.catalog;
   made = rests.made;
-  homes = homes_along old new t.keyspaces.living t.homes at.homes rests.homes;
+  homes = λ id. home_along old new id (keyspace_at id t.keyspaces.living) (get t.homes id) (at.homes id) (rests.homes id);
 }
 
 -- keyspaces don't rest on this name

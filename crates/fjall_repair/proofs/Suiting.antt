@@ -115,8 +115,8 @@ module _ (image made : Image) (active : Name) (is : IsOpened image made active) 
 
     tree_right : (c d : Contents) (e : End) → IsSound image d → IsTreeEnd image e → IsRightEnd made c e
     tree_right c d e sound tree =
-        let whole = sound.catalog.whole in
-        records_right c 0 e sound.records tree.named sound.catalog.file (subst (λ n. IsRecords (text_in (image (current_name 0))) sound.records n) (tree.is sound.records sound.catalog.end whole) whole) tree.uncut
+        let files = sound.catalog.files in
+        records_right c 0 e sound.records tree.named files.current (subst (λ n. IsRecords (text_in (image (current_name 0))) sound.records n) (tree.is sound.records files.end files.whole) files.whole) tree.uncut
 
     not_less : (n m : ℕ) → nat_lt n m ≡ false → m ≤ n
     not_less n m is = grind (arith, nat_tests)

@@ -1,5 +1,5 @@
 -- No removal of what no record names is a call that no disk can serve.
-use Rattle.std.proofs.Common.{◌≡◌, ◌≢◌, ◌⊎◌, inl, inr, ⊎_elim, zero, suc, ℕ, ◌<◌, ◌^◌, Bool, true, false, List, [], ◌∷◌, ◌++◌, get_or, map, All, Option, refl, sym, ◌∙◌, ap, subst, arith}
+use Rattle.std.proofs.Common.{◌≡◌, ◌≢◌, ◌⊎◌, inl, inr, ⊎_elim, zero, suc, ℕ, ◌<◌, ◌^◌, List, [], ◌∷◌, ◌++◌, get_or, map, All, Option, refl, sym, ◌∙◌, ap, subst, arith}
 use Rattle.std.specs.Prelude.{string_bytes}
 use Rattle.std.specs.List.{Contains}
 use Rattle.std.specs.Str.{bytes_eq}
@@ -7,6 +7,7 @@ use Rattle.std.proofs.lemmas.List.Elements.{All-push}
 use Rattle.std.proofs.lemmas.Slice.Eq.{bytes_eq-Decides}
 use Rattle.fjall_base.specs.Disk.{Name, Entry, Missing, File, Folder, Place, State, Meaning, CanRemoveFolder, IsNoFile, IsNoFolder, after, folder_of, put, state_in}
 use Rattle.fjall_base.proofs.States.{put-other, put-same}
+use Rattle.fjall_base.proofs.Names.{bool_cases}
 use Rattle.fjall_files.specs.Names.{Current, Keyspace, Table, keyspace_folder, current_name}
 use Rattle.fjall_files.specs.Tidy.{IsTidy}
 use Rattle.fjall_files.proofs.OfKinds.{kind_now}
@@ -16,10 +17,6 @@ use Rattle.fjall_repair.specs.Sweeps.{AreGone, HasAll, HoldsOnlyOwn, IsHomeFound
 use Rattle.fjall_repair.proofs.Removals.{after_missing, stays_missing}
 
 -- ---- what is left of a name
-
-bool_cases : (b : Bool) → (b ≡ true) ⊎ (b ≡ false)
-bool_cases true = inl refl
-bool_cases false = inr refl
 
 after_or : (state : State) (names : List Name) (q : Name) → ((after state (removals names) q).now ≡ (state q).now) ⊎ ((after state (removals names) q).now ≡ Missing)
 after_or state [] q = inl refl

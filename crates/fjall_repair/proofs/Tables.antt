@@ -11,10 +11,12 @@ use Rattle.std.specs.declared.alloc.Global.{Global}
 use Rattle.fjall_base.specs.declared.error.Error.{Error}
 use Rattle.fjall_base.specs.declared.disk.DirEntry.{DirEntry}
 use Rattle.fjall_base.specs.Disk.{Name, Missing, State, Lists}
+use Rattle.fjall_base.proofs.Names.{bool_cases}
 use Rattle.fjall_files.specs.Names.{keyspace_folder, table_name}
 use Rattle.fjall_files.specs.Lists.{AreIds, IsTableIn}
 use Rattle.fjall_repair.specs.Listing.{AreTables, as_file, is_other, other_tables}
 use Rattle.fjall_repair.proofs.Apart as Apart
+use Rattle.fjall_repair.proofs.Items.{contains_map}
 
 -- ---- ids but one
 
@@ -35,10 +37,6 @@ other_cases (Some m) n = elim (bool_cases (eqb n m)) [
   | inl at ↦ let same : m ≡ n = grind (arith, nat_tests) in inr (ap Some same)
   | inr differ ↦ inl (ap not differ)
 ]
-  where
-    bool_cases : (b : Bool) → (b ≡ true) ⊎ (b ≡ false)
-    bool_cases true = inl refl
-    bool_cases false = inr refl
 
 more_tables : (id : ℕ) (named : Option ℕ) (ids : List ℕ) (i d : ℕ) → i < length ids
     → other_tables id named (take (i + 1) ids) ≡ other_tables id named (take i ids) ++ map (table_name id) (cond (is_other named (get_or ids i d)) (get_or ids i d ∷ []) [])
@@ -62,9 +60,6 @@ module _ (id : ℕ) (named : Option ℕ) (ids : List ℕ) (i d : ℕ) (lt : i < 
 
 any_map : {A B : Type 0} (P : B → Type 0) (f : A → B) (xs : List A) → Any (λ x. P (f x)) xs → Any P (map f xs)
 any_map P f xs (k, x, lt, at, is) = (k, f x, subst (λ n. k < n) (sym (length-map xs f)) lt, ListN.get_or-map f xs k x ∙ ap (λ y. f y) at, is)
-
-contains_map : {A B : Type 0} (f : A → B) (xs : List A) (x : A) → Contains xs x → Contains (map f xs) (f x)
-contains_map f xs x (k, lt, at) = (k, subst (λ n. k < n) (sym (length-map xs f)) lt, ListN.get_or-map f xs k x ∙ ap (λ y. f y) at)
 
 -- an element that passes is kept
 contains_filter : {A : Type 0} (p : A → Bool) (xs : List A) (x : A) → Contains xs x → p x ≡ true → Contains (filter p xs) x

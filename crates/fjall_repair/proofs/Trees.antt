@@ -11,8 +11,10 @@ use Rattle.fjall_files.proofs.Changes.{settle-now, within_on, within_start}
 use Rattle.fjall_files.proofs.Made.{making_other, making_within, within_none}
 use Rattle.fjall_tree.specs.Records.{IsRecord}
 use Rattle.fjall_files.specs.Names.{keyspace_folder, current_name}
-use Rattle.fjall_catalog.specs.Catalog.{fields, first_catalog, only, records_in}
-use Rattle.fjall_catalog.proofs.Naming.{current_zero, folder_zero, folder_of-current, folder_of-folder}
+use Rattle.fjall_files.proofs.Fitting.{folder_of-current, folder_of-folder}
+use Rattle.fjall_home.specs.Homes.{only}
+use Rattle.fjall_catalog.specs.Catalog.{fields, first_catalog, records_in}
+use Rattle.fjall_catalog.proofs.Naming.{current_zero, folder_zero}
 use Rattle.fjall_catalog.proofs.Shapes.{first_fits}
 use Rattle.fjall_repair.specs.declared.beginning.plan.FileState.{FileState}
 use Rattle.fjall_repair.specs.Making.{CanHold, GoesOn, MayStand, StaysAt}
@@ -95,7 +97,7 @@ module _ (old mid new : Meaning) (one : Took old mid (SyncFolder (codes "keyspac
   records : state_in new (current_name 0) ≡ only (state_in old (current_name 0)).now
   records =
       let apart : bytes_eq (folder_of (current_name 0)) (codes "keyspaces") ≡ false = ap (λ (n : Name). bytes_eq (folder_of n) (codes "keyspaces")) current_zero in
-      let here : folder_of (current_name 0) ≡ codes "keyspaces/0" = folder_of-current ∙ folder_zero in
+      let here : folder_of (current_name 0) ≡ codes "keyspaces/0" = folder_of-current 0 ∙ folder_zero in
       ap (λ (s : State). s (current_name 0)) two.state ∙ settle-out (state_in mid) (codes "keyspaces") (current_name 0) apart
       ∙ ap (λ (s : State). s (current_name 0)) one.state ∙ settle-in (state_in old) (codes "keyspaces/0") (current_name 0) here
 
@@ -103,7 +105,7 @@ module _ (old mid new : Meaning) (one : Took old mid (SyncFolder (codes "keyspac
   first_tree_settled outer inner current = record {
     keyspaces = still (codes "keyspaces") ∙ outer;
     settled = λ name at. ap (λ (p : Place). p.older) (inside name at);
-    folder = inside (keyspace_folder 0) folder_of-folder ∙ ap (λ (e : Entry). only e) inner;
+    folder = inside (keyspace_folder 0) (folder_of-folder 0 (omega arith)) ∙ ap (λ (e : Entry). only e) inner;
     current = records ∙ ap (λ (e : Entry). only e) current;
   }
 

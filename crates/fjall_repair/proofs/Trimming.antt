@@ -11,16 +11,15 @@ use Rattle.fjall_base.specs.Lists.{last_of}
 use Rattle.fjall_files.specs.Texts.{text_in}
 use Rattle.fjall_meta.proofs.Rising.{Rises, from_pairs}
 use Rattle.fjall_files.specs.Names.{journal_name, current_name, table_name}
-use Rattle.fjall_catalog.proofs.Resting.{last_has}
+use Rattle.fjall_home.proofs.Resting.{last_has}
 use Rattle.fjall_files.specs.Marker.{marker_tells}
 use Rattle.fjall_recovery.specs.Folders.{Contents, IsSound, file_bytes}
-use Rattle.fjall_recovery.specs.Homes.{HasLast}
 use Rattle.fjall_recovery.specs.Journals.{Journal, ReadsAs, AreRead, journal_text}
 use Rattle.fjall_recovery.specs.Halves.{HasRoot}
 use Rattle.fjall_recovery.specs.Places.{texts_of}
 use Rattle.fjall_repair.specs.Steps.{EndsBatches, EndsRecords, Stays}
 use Rattle.fjall_repair.proofs.Naming.{journal_current, journal_table, current_table, marker_journal, marker_current, journals_apart}
-use Rattle.fjall_repair.proofs.Halving.{file_is, no_folder, root_of, tree_in, sound_of, tree_of, root_along, tree_along, tree_with}
+use Rattle.fjall_repair.proofs.Halving.{SaysSame, file_is, no_folder, root_of, tree_in, sound_of, tree_of, root_along, tree_along, tree_with}
 use Rattle.fjall_repair.proofs.Cutting.{Lasts, journal_cut, records_cut}
 
 -- ---- the ids of journals
@@ -103,7 +102,7 @@ module _ (image other : Image) (f : Name) (len : ℕ) (at : Cuts image other f l
     pub active_cut : (c : Contents) → last_of c.journals ≡ Some a → IsSound image c → IsSound other c
     active_cut c last sound = sound_of other c (root_cut c.journals last (root_of image c sound))
         (tree_along image other (tree_of c) folder_back folder_stays (λ id. elsewhere (current_name id) (λ same. journal_current a.id id (sym named ∙ sym same)))
-        (λ n. elsewhere (table_name 0 n) (λ same. journal_table a.id 0 n (sym named ∙ sym same))) (tree_in image c sound))
+        (λ id n. elsewhere (table_name id n) (λ same. journal_table a.id id n (sym named ∙ sym same))) (tree_in image c sound))
 
   -- ---- records
 
@@ -117,17 +116,20 @@ module _ (image other : Image) (f : Name) (len : ℕ) (at : Cuts image other f l
         (records_cut text rs len n cut.1.k whole cut.1.le ps end (subst (λ t. IsRecords t ps end) here reads)))
         (at q)
 
-    last_at : (q : Name) (last : Fields) → HasLast (text_in (image q)) last → HasLast (text_in (other q)) last
-    last_at q last has = let l = lasts_at q has.records has.end has.whole in record { records = l.records; end = l.end; whole = l.whole; is = l.is ∙ has.is; plain = has.plain }
+    says_same : SaysSame image other
+    says_same = record {
+      back = folder_back;
+      stays = folder_stays;
+      files = λ k. file_stays (current_name k);
+      lasts = λ k. lasts_at (current_name k);
+      tables = λ k m. elsewhere (table_name k m) (λ same. current_table id k m (sym named ∙ sym same));
+    }
 
     pub records_are_cut : (c : Contents) → IsSound image c → IsSound other c
     records_are_cut c sound =
-        let l = lasts_at (current_name 0) sound.records sound.catalog.end sound.catalog.whole in
         sound_of other c
         (root_along image other c.journals (elsewhere (codes "version") (λ same. marker_current id (same ∙ named))) (λ j. elsewhere (journal_name j) (λ same. journal_current j id (same ∙ named))) file_back (root_of image c sound))
-        (tree_with image other (tree_of c) (tree_in image c sound) folder_back folder_stays (file_stays (current_name 0) sound.catalog.file) l.records l.end
-        l.whole (l.is ∙ sound.catalog.last_is)
-        (λ m. elsewhere (table_name 0 m) (λ same. current_table id 0 m (sym named ∙ sym same))) (λ k last. last_at (current_name k) last))
+        (tree_with image other (tree_of c) says_same (tree_in image c sound))
 
 -- ---- what stays
 

@@ -1,5 +1,6 @@
 -- What was begun: a database without keyspaces, whose journals hold nothing, and which of them is active.
 use Rattle.std.specs.Prelude.{◌≡◌, ◌⊎◌, ℕ, ◌<◌, ◌≤◌, ◌^◌, [], ◌∷◌}
+use Rattle.std.specs.FinMap.{empty}
 use Rattle.fjall_base.specs.Disk.{Image, State, IsFile}
 use Rattle.fjall_files.specs.Names.{journal_name}
 use Rattle.fjall_meta.specs.Keyspaces.{no_keyspaces}
@@ -14,7 +15,7 @@ pub record IsBegunOn (state : State) (active : ℕ) : Type 0 where
   pub active_is : j.active ≡ active
   pub later : j.later ≡ []
   pub batches : batches_in (journals_with j []) ≡ []
-  pub tree : RestsInTree state (fields first_catalog ∷ []) (record { last = first_catalog; keyspaces = no_keyspaces; homes = [] })
+  pub tree : RestsInTree state (fields first_catalog ∷ []) (record { last = first_catalog; keyspaces = no_keyspaces; homes = empty })
 
 -- The active journal of a folder whose making goes on: the greatest of those that are there, or 0 where none is.
 pub record IsActive (image : Image) (id : ℕ) : Type 0 where

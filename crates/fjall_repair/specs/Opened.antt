@@ -1,5 +1,6 @@
 -- A database that was opened.
 use Rattle.std.specs.Prelude.{◌≡◌, ◌⊎◌, ℕ, ◌<◌, ◌^◌, All, IfSome, List, [], ◌∷◌, length, map, Option, None, Some}
+use Rattle.std.specs.FinMap.{empty}
 use Rattle.fjall_base.specs.Disk.{Image, Meaning, Name, State, Took, standing, state_in}
 use Rattle.fjall_base.specs.declared.error.Error.{Error}
 use Rattle.fjall_base.specs.declared.error.Error.TheVariants.{Io, OutOfMemory}
@@ -78,7 +79,7 @@ pub record IsRepaired (state : State) (contents : Contents) (active : Name) (end
 
 -- a database without keyspaces, that nothing was written into
 abbrev pub nothing : Contents
-nothing = record { journals = []; keyspaces = no_keyspaces; last = first_catalog; homes = [] }
+nothing = record { journals = []; keyspaces = no_keyspaces; last = first_catalog; homes = empty }
 
 -- ---- numbers
 

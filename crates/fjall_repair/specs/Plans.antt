@@ -3,6 +3,7 @@ use Rattle.std.specs.Prelude.{◌≡◌, ◌≢◌, ◌⊎◌, if◌then◌else�
 use Rattle.std.specs.declared.alloc.Global.{Global}
 use Rattle.std.specs.List.Sorted.{IsStrictlyIncreasing}
 use Rattle.std.specs.Str.{bytes_eq}
+use Rattle.std.specs.FinMap.{empty}
 use Rattle.fjall_base.specs.declared.error.FormatVersion.TheVariants.{V3}
 use Rattle.fjall_base.specs.Disk.{Meaning, Name, File, Folder, State, Image, IsFile, folder_of}
 use Rattle.fjall_files.specs.Texts.{text_in}
@@ -12,7 +13,8 @@ use Rattle.fjall_tree.specs.Records.{record_text}
 use Rattle.fjall_files.specs.Marker.{header}
 use Rattle.fjall_files.specs.Names.{journal_name, keyspace_folder, current_name}
 use Rattle.fjall_meta.specs.Keyspaces.{no_keyspaces}
-use Rattle.fjall_catalog.specs.Catalog.{fields, first_catalog, only, records_in}
+use Rattle.fjall_home.specs.Homes.{only}
+use Rattle.fjall_catalog.specs.Catalog.{fields, first_catalog, records_in}
 use Rattle.fjall_recovery.specs.Journals.{Journal}
 use Rattle.fjall_recovery.specs.Halves.{Tree}
 use Rattle.fjall_recovery.specs.Places.{Journaling, LiesInRoot, RestsInTree}
@@ -57,7 +59,7 @@ pub record HasFirstTree (state : State) : Type 0 where
 
 -- the tree of a database without keyspaces
 abbrev pub first_tree : Tree
-first_tree = record { last = first_catalog; keyspaces = no_keyspaces; homes = [] }
+first_tree = record { last = first_catalog; keyspaces = no_keyspaces; homes = empty }
 
 -- the journals of these ids, which hold nothing, the last of them active
 abbrev pub empty_journals : List ℕ → ℕ → Journaling

@@ -1,5 +1,5 @@
 -- What is done to a folder that is mended, and what each part of it keeps.
-use Rattle.std.specs.Prelude.{◌≡◌, ◌⊎◌, All, ◌≢◌, ℕ, ◌-◌, ◌≤◌, Bool, false, nat_lt, List, [], ◌∷◌, length, map, take, codes, slice_index_or, string_bytes, Some}
+use Rattle.std.specs.Prelude.{◌≡◌, ◌⊎◌, All, Contains, ◌≢◌, ℕ, ◌-◌, ◌≤◌, Bool, false, nat_lt, List, [], ◌∷◌, length, map, take, codes, slice_index_or, string_bytes, Some}
 use Rattle.std.specs.List.{AllByRecursion}
 use Rattle.fjall_base.specs.Disk.{Name, Entry, Meaning, Missing, File, Place, State, Image, IsFile, IsImage, all_synced, folder_of}
 use Rattle.fjall_tree.specs.Records.{Fields, IsRecords}
@@ -143,8 +143,13 @@ pub record IsPlanOf (f : RecoveredFolder) (tree : End) (p : MendPlan) : Type 0 w
 
 -- ---- afterwards
 
+-- nothing stands behind the whole records at the front of these bytes
+abbrev pub EndsWithRecords : List ℕ → Type 0
+EndsWithRecords text = (records : List Fields) (end : ℕ) → IsRecords text records end → length text ≤ end
+
 -- When all steps were taken: whatever a crash leaves is the sound folder, no name that counts is unsynced, nor is a file that
--- the plan names, and behind the active journal's batches and tree 0's records nothing stands.
+-- the plan names, and nothing stands behind the active journal's batches, nor behind the records of tree 0 and of each keyspace
+-- that lives.
 pub record IsRested (state : State) (c : Contents) : Type 0 where
   pub images : (image : Image) → IsImage state image → IsSound image c
   pub root : (q : Name) → folder_of q ≡ [] → (state q).older ≡ []
@@ -152,7 +157,7 @@ pub record IsRested (state : State) (c : Contents) : Type 0 where
   pub whole : AllByRecursion (λ f. IsSynced (state f).now) (whole_names (map (λ (j : Journal). j.id) c.journals))
   pub ended : AllByRecursion (λ f. IsSynced (state f).now) (ended_names (active_of (map (λ (j : Journal). j.id) c.journals)) (map (λ k. k.id) c.keyspaces.living))
   pub active : (journal : Journal) → last_of c.journals ≡ Some journal → length (text_in (state (journal_name journal.id)).now) ≤ length (texts_of journal.batches)
-  pub tree : (records : List Fields) (end : ℕ) → IsRecords (text_in (state (current_name 0)).now) records end → length (text_in (state (current_name 0)).now) ≤ end
+  pub records : (id : ℕ) → Contains (0 ∷ map (λ k. k.id) c.keyspaces.living) id → EndsWithRecords (text_in (state (current_name id)).now)
 
 -- ---- what a step is asked for
 

@@ -11,3 +11,4 @@ pub mod Lookups
 pub mod TableBlocks
 pub mod TableScans
 pub mod TableFiles
+pub mod FileScans

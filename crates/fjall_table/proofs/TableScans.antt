@@ -4,9 +4,8 @@ use Rattle.std.specs.List.{AllByRecursion}
 use Rattle.std.proofs.lemmas.List.{length-take, length-drop, length-append, append-nil, take_at, take-append-drop, take_all}
 use Rattle.std.proofs.lemmas.List.Concat.{flat_map-cons}
 use Rattle.std.proofs.lemmas.Grind.{flat_map-append}
-use Rattle.fjall_table.specs.declared.table_entry.TableEntry.{TableEntry}
 use Rattle.fjall_base.specs.Lists.{last_of}
-use Rattle.fjall_table.specs.Blocks.{Entry, seen, payload_of, block_text, IsBefore, IsOrdered, IsBlock}
+use Rattle.fjall_table.specs.Blocks.{Entry, payload_of, block_text, IsBefore, IsOrdered, IsBlock}
 use Rattle.fjall_table.specs.Tables.{Handle, first_key, entries_of, handles_of, data_text, end_text, AreFull, IsTable, Cover, HasIndex}
 use Rattle.fjall_table.specs.TableReading.{part_at, IsBlockFrom, IsNoTable}
 use Rattle.fjall_base.proofs.Codecs.{just, some_is, each_more}
@@ -190,19 +189,19 @@ ordered_join [] more f up next after = next
 ordered_join (e ∷ []) more f up next after = (after, next)
 ordered_join (e ∷ g ∷ es) more f up next after = (up.0, ordered_join (g ∷ es) more f up.1 next after)
 
-last_seen : (vs : List TableEntry) (v : TableEntry) → Some v ≡ slice_get vs (length vs - 1) → last_of (map seen vs) ≡ Some (seen v)
-last_seen [] v e = absurd cc
-last_seen (w ∷ []) v e = ap (λ (x : TableEntry). just (seen x)) (some_is w v (sym e))
-last_seen (w ∷ x ∷ vs) v e = last_seen (x ∷ vs) v (e ∙ ap (slice_get (w ∷ x ∷ vs)) (one_less (length vs)))
+last_seen : {X : Type 0} (f : X → Entry) (vs : List X) (v : X) → Some v ≡ slice_get vs (length vs - 1) → last_of (map f vs) ≡ Some (f v)
+last_seen f [] v e = absurd cc
+last_seen f (w ∷ []) v e = ap (λ (x : _). just (f x)) (some_is w v (sym e))
+last_seen f (w ∷ x ∷ vs) v e = last_seen f (x ∷ vs) v (e ∙ ap (slice_get (w ∷ x ∷ vs)) (one_less (length vs)))
   where
     one_less : (n : ℕ) → suc (suc n) - 1 ≡ suc (suc n - 1)
     one_less n = omega arith
 
-pub goes_on_is : (vs ws : List TableEntry) (l f : TableEntry) → Some l ≡ slice_get vs (length vs - 1) → Some f ≡ slice_get ws 0 → IsOrdered (map seen vs) → IsOrdered (map seen ws) → IsBefore (seen l) (seen f) ↔ IsOrdered (map seen vs ++ map seen ws)
-goes_on_is vs [] l f el ef up next = absurd cc
-goes_on_is vs (w ∷ ws) l f el ef up next =
+pub goes_on_is : {X Y : Type 0} (s : X → Entry) (t : Y → Entry) (vs : List X) (ws : List Y) (l : X) (f : Y) → Some l ≡ slice_get vs (length vs - 1) → Some f ≡ slice_get ws 0 → IsOrdered (map s vs) → IsOrdered (map t ws) → IsBefore (s l) (t f) ↔ IsOrdered (map s vs ++ map t ws)
+goes_on_is s t vs [] l f el ef up next = absurd cc
+goes_on_is s t vs (w ∷ ws) l f el ef up next =
     let same : f ≡ w = some_is f w ef in
-    let last = last_seen vs l el in (
-      λ before. ordered_join (map seen vs) (map seen ws) (seen w) up next (subst (λ (o : Option Entry). IfSome o (λ x. IsBefore x (seen w))) (sym last) (subst (λ (x : TableEntry). IsBefore (seen l) (seen x)) same before)),
-      λ all. subst (λ (x : TableEntry). IsBefore (seen l) (seen x)) (sym same) (subst (λ (o : Option Entry). IfSome o (λ x. IsBefore x (seen w))) last (ordered_at (map seen vs) (map seen ws) (seen w) all)),
+    let last = last_seen s vs l el in (
+      λ before. ordered_join (map s vs) (map t ws) (t w) up next (subst (λ (o : Option Entry). IfSome o (λ x. IsBefore x (t w))) (sym last) (subst (λ (x : _). IsBefore (s l) (t x)) same before)),
+      λ all. subst (λ (x : _). IsBefore (s l) (t x)) (sym same) (subst (λ (o : Option Entry). IfSome o (λ x. IsBefore x (t w))) last (ordered_at (map s vs) (map t ws) (t w) all)),
     )

@@ -163,6 +163,14 @@ impl TableFile {
         self.index.handles.len()
     }
 
+    /// How many bytes a block has in the file, counted from 0 on.
+    pub fn block_len(&self, at: usize) -> u64
+        requires { at < length (handles_in self.now) }
+        ensures { IfSome (slice_get (handles_in self.now) at) (λ h. result ≡ h.len) }
+    {
+        self.index.handles[at].len
+    }
+
     /// The numbers of the blocks that may hold a key: from the last one that begins with a key below it, if there is
     /// one, to the last one that begins with a key at most it.
     pub fn span(&self, key: &[u8]) -> Range<usize>

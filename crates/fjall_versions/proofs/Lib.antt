@@ -8,6 +8,7 @@ pub mod Creating
 pub mod Kept
 pub mod Keeping
 pub mod Found
+pub mod Ids
 pub mod Naming
 mod Taking
 mod Gathering

@@ -1,5 +1,5 @@
 -- The store that keyspaces and the batches of journals stand for, and what no sound journal has.
-use Rattle.std.specs.Prelude.{◌≡◌, ℕ, ◌+◌, ◌^◌, Bool, true, false, nat_lt, nat_le, ◌||◌, if◌then◌else◌, List, [], ◌∷◌, ◌++◌, map, filter, codes, Option, Some, None, unwrap_or, IsSomeAnd}
+use Rattle.std.specs.Prelude.{◌≡◌, ℕ, ◌+◌, ◌^◌, ◌==◌, Bool, true, false, nat_lt, nat_le, ◌||◌, ◌&&◌, not, if◌then◌else◌, List, [], ◌∷◌, ◌++◌, map, filter, find, codes, Option, Some, None, unwrap_or, IsSomeAnd}
 use Rattle.std.specs.Option.{option_map, option_or}
 use Rattle.std.specs.List.{flat_map, list_any}
 use Rattle.std.specs.Ordering.{nat_cmp}
@@ -15,6 +15,7 @@ use Rattle.fjall_journal.specs.Batches.{Shown}
 use Rattle.fjall_options.specs.Options.{stored_options, option_name, value_at}
 use Rattle.fjall_meta.specs.declared.living.LivingKeyspace.{LivingKeyspace}
 use Rattle.fjall_meta.specs.Keyspaces.{Keyspaces, keyspace_at}
+use Rattle.fjall_versions.specs.declared.recovery.Persisted.{Persisted}
 
 -- ---- the store
 
@@ -67,6 +68,21 @@ journal_commands s batches = flat_map (commands_of s) batches
 -- the store that these keyspaces and these batches stand for
 abbrev pub store_in : Keyspaces → List Shown → Store
 store_in s batches = fold (bare s) (journal_commands s batches)
+
+-- ---- what is persisted
+
+-- the number up to which all of an id is persisted, where there is one: what the first says that is of that id
+abbrev pub persisted_at : ℕ → List Persisted → Option ℕ
+persisted_at id persisted = unwrap_or (option_map (λ p. p.number) (find (λ p. p.id == id) persisted)) None
+
+-- whether a number is at most another one, where there is one
+abbrev pub reaches : Option ℕ → ℕ → Bool
+reaches None number = false
+reaches (Some persisted) number = nat_le number persisted
+
+-- whether what a batch of that number says of an id counts, and isn't persisted
+abbrev pub counts_unpersisted : Keyspaces → List Persisted → ℕ → ℕ → Bool
+counts_unpersisted s persisted number id = counts s number id && not (reaches (persisted_at id persisted) number)
 
 -- ---- sound batches
 

@@ -1,5 +1,5 @@
 -- The versions that batches make of keyspaces, and what they say.
-use Rattle.std.specs.Prelude.{ℕ, ◌<◌, ◌==◌, ◌&&◌, not, if◌then◌else◌, List, [], ◌∷◌, ◌++◌, map, filter, All, Option, None}
+use Rattle.std.specs.Prelude.{ℕ, ◌<◌, ◌==◌, ◌&&◌, Bool, not, if◌then◌else◌, List, [], ◌∷◌, ◌++◌, map, filter, All, Option, None}
 use Rattle.std.specs.List.{list_any}
 use Rattle.std.specs.Str.{bytes_eq}
 use Rattle.std.specs.FinMap.{empty}
@@ -69,3 +69,20 @@ versions_after s versions batch = cleared s batch versions ++ versions_in s batc
 abbrev pub versions_behind : Keyspaces → List Version → List Shown → List Version
 versions_behind s versions [] = versions
 versions_behind s versions (batch ∷ batches) = versions_behind s (versions_after s versions batch) batches
+
+-- ---- what batches make where another test tells what counts
+
+-- the versions that the items make, of the ids that pass the test
+abbrev pub versions_made : (ℕ → Bool) → ℕ → List ReadBatchItem → List Version
+versions_made counted number items = filter (λ version. counted version.keyspace_id) (map (version_of number) items)
+
+-- the versions after a batch that counts for the ids that pass the test
+abbrev pub versions_put : (ℕ → Bool) → List Version → Shown → List Version
+versions_put counted versions batch =
+    filter (λ version. not (list_any (λ id. id == version.keyspace_id) (filter counted batch.clears))) versions
+    ++ versions_made counted batch.number batch.items
+
+-- and after all of these, where each counts for the ids that pass the test of its number
+abbrev pub versions_where : (ℕ → ℕ → Bool) → List Version → List Shown → List Version
+versions_where counted versions [] = versions
+versions_where counted versions (batch ∷ batches) = versions_where counted (versions_put (counted batch.number) versions batch) batches

@@ -15,6 +15,6 @@ pub use laws::{
     versions_change_maps_alone, what_is_kept_goes_on,
 };
 pub use pages::{KeyRange, page};
-pub use recovery::replay;
+pub use recovery::{Persisted, replay, replay_unpersisted};
 pub use sound::check_batches;
 pub use version::{Version, newest_value};

@@ -3,14 +3,21 @@
 ghost use Rattle.std.specs.Prelude.{◌≡◌, ◌==◌, ◌∷◌, [], ◌++◌, map, filter, not, OnOk, IsOkUnless};
 ghost use Rattle.std.specs.List.{list_any};
 ghost use Rattle.fjall_journal.specs.Batches.{view};
-ghost use Rattle.fjall_versions.specs.Replays.{counts, value_of};
-ghost use Rattle.fjall_versions.specs.Versions.{versions_after, versions_behind, versions_in};
+ghost use Rattle.fjall_versions.specs.Replays.{counts, counts_unpersisted, persisted_at, reaches, value_of};
+ghost use Rattle.fjall_versions.specs.Versions.{versions_behind, versions_made, versions_put, versions_where};
 
 use crate::version::Version;
 use fjall_base::{Error, Result, UserValue};
 use fjall_journal::{Batch, ReadBatchItem, ValueType};
 use fjall_meta::MetaKeyspace;
 use std::alloc::AllocError;
+
+/// The number up to which all that batches say of a keyspace is persisted, where there is one.
+#[derive(Clone, Copy, Debug, PartialEq, Eq)]
+pub struct Persisted {
+    pub id: u64,
+    pub number: Option<u64>,
+}
 
 /// What an item makes of its key.
 fn value_of(value_type: ValueType, value: UserValue) -> Option<UserValue>
@@ -33,16 +40,47 @@ fn counts(keyspaces: &MetaKeyspace, number: u64, id: u64) -> bool
     }
 }
 
+/// The number up to which what batches say of an id is persisted, where there is one.
+fn persisted_at(persisted: &[Persisted], id: u64) -> Option<u64>
+    ensures { result ≡ persisted_at id persisted.now }
+{
+    let keyspace = persisted.iter().find(|keyspace| keyspace.id == id)?;
+    keyspace.number
+}
+
+/// Whether what a batch of that number says of an id is persisted.
+fn is_persisted(persisted: &[Persisted], number: u64, id: u64) -> bool
+    ensures { result ≡ reaches (persisted_at id persisted.now) number }
+{
+    match persisted_at(persisted, id) {
+        Some(last) => number <= last,
+        None => false,
+    }
+}
+
+/// Whether what a batch of that number says of an id counts, and isn't persisted.
+fn counts_unpersisted(
+    keyspaces: &MetaKeyspace,
+    persisted: &[Persisted],
+    number: u64,
+    id: u64,
+) -> bool
+    ensures { result ≡ counts_unpersisted keyspaces.now persisted.now number id }
+{
+    counts(keyspaces, number, id) && !is_persisted(persisted, number, id)
+}
+
 /// Adds the version that an item makes, where it counts.
 fn put_item(
     keyspaces: &MetaKeyspace,
+    persisted: &[Persisted],
     versions: &mut Vec<Version>,
     seqno: u64,
     item: ReadBatchItem,
 ) -> std::result::Result<(), AllocError>
-    ensures { OnOk result (versions.new.items ≡ versions.old.items ++ versions_in keyspaces.now seqno (item ∷ [])) }
+    ensures { OnOk result (versions.new.items ≡ versions.old.items ++ versions_made (counts_unpersisted keyspaces.now persisted.now seqno) seqno (item ∷ [])) }
 {
-    if !counts(keyspaces, seqno, item.keyspace_id) {
+    if !counts_unpersisted(keyspaces, persisted, seqno, item.keyspace_id) {
         return Ok(());
     }
     versions.push(Version {
@@ -57,14 +95,15 @@ fn put_item(
 /// Adds the versions that the items make.
 fn put_items(
     keyspaces: &MetaKeyspace,
+    persisted: &[Persisted],
     versions: &mut Vec<Version>,
     seqno: u64,
     items: Vec<ReadBatchItem>,
 ) -> std::result::Result<(), AllocError>
-    ensures { OnOk result (versions.new.items ≡ versions.old.items ++ versions_in keyspaces.now seqno items.items) }
+    ensures { OnOk result (versions.new.items ≡ versions.old.items ++ versions_made (counts_unpersisted keyspaces.now persisted.now seqno) seqno items.items) }
 {
     for item in items {
-        put_item(keyspaces, versions, seqno, item)?;
+        put_item(keyspaces, persisted, versions, seqno, item)?;
     }
     Ok(())
 }
@@ -82,16 +121,37 @@ fn clear(versions: &mut Vec<Version>, ids: &[u64])
 /// Applies one batch more: its clears, and then its items.
 fn take(
     keyspaces: &MetaKeyspace,
+    persisted: &[Persisted],
     versions: &mut Vec<Version>,
     batch: Batch,
 ) -> std::result::Result<(), AllocError>
-    ensures { OnOk result (versions.new.items ≡ versions_after keyspaces.now versions.old.items (view batch)) }
+    ensures { OnOk result (versions.new.items ≡ versions_put (counts_unpersisted keyspaces.now persisted.now batch.seqno) versions.old.items (view batch)) }
 {
     let seqno = batch.seqno;
     let mut ids = batch.cleared_keyspaces;
-    ids.retain(|id| counts(keyspaces, seqno, *id));
+    ids.retain(|id| counts_unpersisted(keyspaces, persisted, seqno, *id));
     clear(versions, &ids);
-    put_items(keyspaces, versions, seqno, batch.items)
+    put_items(keyspaces, persisted, versions, seqno, batch.items)
+}
+
+/// Adds to the versions, in order, what these batches make of the keyspaces that live, as `replay` does, but
+/// for what is persisted of a keyspace: where a batch's number is at most that one, nothing that the batch says
+/// of its id counts. Of two numbers of one id the first is taken.
+///
+/// Refuses for want of memory alone, and then doesn't tell what the versions hold.
+pub fn replay_unpersisted(
+    keyspaces: &MetaKeyspace,
+    persisted: &[Persisted],
+    batches: Vec<Batch>,
+    versions: &mut Vec<Version>,
+) -> Result<()>
+    ensures ok { OnOk result (versions.new.items ≡ versions_where (counts_unpersisted keyspaces.now persisted.now) versions.old.items (map view batches.items)) }
+    ensures only { IsOkUnless result Error.OutOfMemory }
+{
+    for batch in batches {
+        take(keyspaces, persisted, versions, batch)?;
+    }
+    Ok(())
 }
 
 /// Adds to the versions, in order, what these batches make of the keyspaces that live. What a batch says of an
@@ -107,8 +167,5 @@ pub fn replay(
     ensures ok { OnOk result (versions.new.items ≡ versions_behind keyspaces.now versions.old.items (map view batches.items)) }
     ensures only { IsOkUnless result Error.OutOfMemory }
 {
-    for batch in batches {
-        take(keyspaces, versions, batch)?;
-    }
-    Ok(())
+    replay_unpersisted(keyspaces, &[], batches, versions)
 }

@@ -62,7 +62,7 @@ returns-in_err-entries-clause-all g c honest records last s says =
     let still = (c.in_ok-bytes.ensures.same honest).state in
     let refused : IsTableRefused image d.table (m c.read.new.self).faults (m c.read_entries.new.disk).faults c.in_err-entries.field-0.0 =
     subst (λ (state : State). IsTableRefused (standing state) d.table (m c.read.new.self).faults (m c.read_entries.new.disk).faults c.in_err-entries.field-0.0) still (c.in_err-entries.ensures.refused honest) in
-    rw is (Readings.table_is_read image d.table (entries_of s.living) _ (m c.read.new.self).faults _ c.in_err-entries.field-0.0 (subst (λ (e : Catalog). HoldsEntries image e.table (entries_of s.living)) (sym same) says.entries)
+    rw is (Readings.table_is_read image d.table (entries_of s.living) _ (m c.read.new.self).faults _ c.in_err-entries.field-0.0 (subst (λ (e : Catalog). HoldsEntries image e.table (entries_of s.living)) (sym same) (Readings.says_entries image records last s says))
     c.in_ok-bytes.ensures.cause.later c.in_err-entries.ensures.later refused)
 
 pub returns-in_err-keyspaces-clause-refused : goal.returns-in_err-keyspaces-clause-refused

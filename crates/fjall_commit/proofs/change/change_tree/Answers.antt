@@ -89,7 +89,7 @@ returns-clause-served g c honest records t next number lies new at update =
     let last = c.args.update.now.catalog in
     let ready = Changed.ready records t next last at (m c.args.disk.now) lies new in
     let written = c.in_ok-write_table.ensures.ok honest records t.last t.keyspaces next.keyspaces number ready update in
-    let kind = kinds_on (state_in (m c.write_table.new.disk)) (state_in (m c.commit.new.disk)) t.last.table (c.in_ok-commit.ensures.no_folder honest) (safe_kind (state_in (m c.write_table.new.disk)) t.last.table _ written.rests.entries) in
+    let kind = kinds_on (state_in (m c.write_table.new.disk)) (state_in (m c.commit.new.disk)) t.last.table (c.in_ok-commit.ensures.no_folder honest) (safe_kind (state_in (m c.write_table.new.disk)) t.last.table _ written.rests.home.tables) in
     c.remove_old.ensures.served honest t.last next.keyspaces number update kind
     ∙ c.in_ok-commit.ensures.served honest records t.last last t.keyspaces next.keyspaces written ∙ c.in_ok-write_table.ensures.served honest records t.last t.keyspaces next.keyspaces number ready update
 

@@ -1,11 +1,11 @@
 use Rattle.std.proofs.Common.{[], ◌∷◌, ◌∙◌, subst, inr, ap, sym}
 use Rattle.fjall_base.specs.Disk.{File, Folder, Meaning, Name, SyncFolder, Took, state_in, IsNoFolder, folder_of}
-use Rattle.fjall_recovery.proofs.Trees.{folder_of-home}
+use Rattle.fjall_files.proofs.Fitting.{folder_of-current}
 use Rattle.fjall_files.proofs.Made.{within_both}
 use Rattle.fjall_files.specs.Names.{keyspace_folder}
 use Rattle.fjall_recovery.proofs.Listed.{in_keyspaces}
 use Rattle.fjall_commit.proofs.ServableCreations.{can_make_home, keyspaces_there}
-use Rattle.fjall_commit.proofs.FolderNames.{within_keyspaces}
+use Rattle.fjall_home.proofs.Outside.{within_keyspaces}
 use Rattle.fjall_commit.proofs.UnnamedHomes as Building
 use Rattle.fjall_files.specs.Tidy.{FitsAt}
 use Rattle.fjall_files.proofs.Tidying.{stays_both, stays_by, stays_none, stays_settling}
@@ -85,7 +85,7 @@ returns-in_err-write_home-clause-served g c honest records t old s id number sma
     let m : _ → Meaning = g.D.Disk.meaning in
     let at = c.as_str-folder.ensures.value ∙ is.folder in
     let at_current = c.as_str.ensures.value ∙ is.current in
-    let inside = ap (λ (n : Name). folder_of n) at_current ∙ folder_of-home id ∙ sym at in
+    let inside = ap (λ (n : Name). folder_of n) at_current ∙ folder_of-current id ∙ sym at in
     let can = can_make_home id c.as_str-folder.result.now at (in_keyspaces id small) (state_in (m c.args.disk.now)) records t lies room in
     let kind = subst (λ (n : Name). IsNoFolder (state_in (m c.args.disk.now) n).now) (sym at_current) room.current in
     c.in_err-write_home.ensures.served honest inside can kind
@@ -95,7 +95,7 @@ returns-in_err-sync_folder-clause-served g c honest records t old s id number sm
     let m : _ → Meaning = g.D.Disk.meaning in
     let at = c.as_str-folder.ensures.value ∙ is.folder in
     let at_current = c.as_str.ensures.value ∙ is.current in
-    let inside = ap (λ (n : Name). folder_of n) at_current ∙ folder_of-home id ∙ sym at in
+    let inside = ap (λ (n : Name). folder_of n) at_current ∙ folder_of-current id ∙ sym at in
     let can = can_make_home id c.as_str-folder.result.now at (in_keyspaces id small) (state_in (m c.args.disk.now)) records t lies room in
     let kind = subst (λ (n : Name). IsNoFolder (state_in (m c.args.disk.now) n).now) (sym at_current) room.current in
     (c.in_err-sync_folder.ensures.judged honest).served (inr (c.in_ok-write_home.ensures.made honest inside).folder_now) ∙ c.in_ok-write_home.ensures.served honest inside can kind
@@ -105,7 +105,7 @@ returns-clause-served g c honest records t old s id number small lies is room =
     let m : _ → Meaning = g.D.Disk.meaning in
     let at = c.as_str-folder.ensures.value ∙ is.folder in
     let at_current = c.as_str.ensures.value ∙ is.current in
-    let inside = ap (λ (n : Name). folder_of n) at_current ∙ folder_of-home id ∙ sym at in
+    let inside = ap (λ (n : Name). folder_of n) at_current ∙ folder_of-current id ∙ sym at in
     let can = can_make_home id c.as_str-folder.result.now at (in_keyspaces id small) (state_in (m c.args.disk.now)) records t lies room in
     let kind = subst (λ (n : Name). IsNoFolder (state_in (m c.args.disk.now) n).now) (sym at_current) room.current in
     let run = Building.within_as id c.as_str-folder.result.now c.as_str.result.now at at_current _ _ (c.in_ok-write_home.ensures.within honest) in

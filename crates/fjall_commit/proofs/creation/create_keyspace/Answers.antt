@@ -4,7 +4,7 @@ use Rattle.fjall_base.proofs.Moments.{runs_on, weaken}
 use Rattle.fjall_files.proofs.Made.{within_both}
 use Rattle.fjall_recovery.specs.Halves.{HasTree}
 use Rattle.fjall_commit.specs.Changes.{HasEither, with_home}
-use Rattle.fjall_commit.proofs.FolderNames.{within_keyspaces}
+use Rattle.fjall_home.proofs.Outside.{within_keyspaces}
 use Rattle.fjall_commit.proofs.NextKeyspaces.{next_unused, with_housed}
 use Rattle.fjall_files.proofs.Tidying.{stays_both}
 use Rattle.fjall_commit.proofs.creation.create_keyspace.Goals as goal
@@ -30,7 +30,7 @@ returns-clause-any_moment g c honest records t name options number lies is are l
     let built = c.in_ok-build_home.ensures.any_moment honest records t t.last next.keyspaces t.keyspaces.next number lies unused is in
     let still = c.in_ok-build_home.ensures.lies honest records t t.last next.keyspaces t.keyspaces.next number lies unused is in
     let home = c.in_ok-build_home.ensures.home honest t.last next.keyspaces t.keyspaces.next number fits is in
-    let housed = with_housed (state_in (m c.build_home.new.disk)) records t still number later name options c.args.creation.now.update is.update are home in
+    let housed = with_housed (state_in (m c.build_home.new.disk)) records t still number later name options c.args.creation.now.update is.update are (home still.rests.catalog.home.keyspaces_folder) in
     runs_on (m c.args.disk.now) (m c.build_home.new.disk) (m c.change_tree.new.disk) (HasEither t next)
     (weaken (m c.args.disk.now) (m c.build_home.new.disk) (λ image. HasTree image t) (HasEither t next) built (λ image has. inl has))
     (c.change_tree.ensures.any_moment honest records t next number still housed refl is.update)
@@ -42,7 +42,7 @@ returns-clause-ok g c honest records t name options number lies is are later fit
     let unused = next_unused (state_in (m c.args.disk.now)) records t lies fits in
     let still = c.in_ok-build_home.ensures.lies honest records t t.last next.keyspaces t.keyspaces.next number lies unused is in
     let home = c.in_ok-build_home.ensures.home honest t.last next.keyspaces t.keyspaces.next number fits is in
-    let housed = with_housed (state_in (m c.build_home.new.disk)) records t still number later name options c.args.creation.now.update is.update are home in
+    let housed = with_housed (state_in (m c.build_home.new.disk)) records t still number later name options c.args.creation.now.update is.update are (home still.rests.catalog.home.keyspaces_folder) in
     c.change_tree.ensures.ok honest records t next number still housed refl is.update
 
 pub returns-in_err-build_home-clause-served : goal.returns-in_err-build_home-clause-served
@@ -57,7 +57,7 @@ returns-clause-served g c honest records t name options number lies is are later
     let unused = next_unused (state_in (m c.args.disk.now)) records t lies fits in
     let still = c.in_ok-build_home.ensures.lies honest records t t.last next.keyspaces t.keyspaces.next number lies unused is in
     let home = c.in_ok-build_home.ensures.home honest t.last next.keyspaces t.keyspaces.next number fits is in
-    let housed = with_housed (state_in (m c.build_home.new.disk)) records t still number later name options c.args.creation.now.update is.update are home in
+    let housed = with_housed (state_in (m c.build_home.new.disk)) records t still number later name options c.args.creation.now.update is.update are (home still.rests.catalog.home.keyspaces_folder) in
     c.change_tree.ensures.served honest records t next number still housed refl is.update ∙ c.in_ok-build_home.ensures.served honest records t t.last next.keyspaces t.keyspaces.next number fits lies is room
 
 pub returns-clause-gone : goal.returns-clause-gone

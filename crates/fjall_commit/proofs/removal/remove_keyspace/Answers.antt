@@ -5,7 +5,7 @@ use Rattle.fjall_files.proofs.Made.{within_both}
 use Rattle.fjall_files.proofs.Removed.{emptied}
 use Rattle.fjall_commit.proofs.ServableCreations.{keyspaces_there}
 use Rattle.fjall_files.specs.Names.{keyspace_folder}
-use Rattle.fjall_commit.proofs.FolderNames.{within_keyspaces}
+use Rattle.fjall_home.proofs.Outside.{within_keyspaces}
 use Rattle.fjall_commit.proofs.UnnamedHomes as Building
 use Rattle.fjall_files.proofs.Tidying.{removing_tidy, stays_both, stays_by, stays_none, stays_settling}
 use Rattle.fjall_commit.proofs.removal.remove_keyspace.Goals as goal

@@ -1,0 +1,47 @@
+-- Homes whose tables have the same counts of bytes.
+use Rattle.std.proofs.Common.{◌≡◌, List, [], ◌∷◌, length, map, Option, None, Some, refl, sym, ◌∙◌, ap, subst, ℕ}
+use Rattle.fjall_base.specs.Disk.{Folder, Image}
+use Rattle.fjall_files.specs.Names.{keyspace_folder}
+use Rattle.fjall_table.specs.declared.table_info.TableInfo.{TableInfo}
+use Rattle.fjall_home.specs.Homes.{HoldTables, Home}
+use Rattle.fjall_meta.specs.declared.entry.MetaEntry.{MetaEntry}
+use Rattle.fjall_meta.specs.Keyspaces.{Keyspaces}
+use Rattle.fjall_catalog.specs.declared.catalog.Catalog.{Catalog}
+use Rattle.fjall_catalog.specs.Catalog.{ArePairs, Says, home_of}
+use Rattle.fjall_tree.specs.Records.{Fields}
+use Rattle.fjall_recovery.specs.Homes.{HasPlainHome}
+
+-- the folder is there, with as many bytes in each of the home's tables
+pub record HasCounts (image : Image) (id : ℕ) (h : Home) : Type 0 where
+  pub folder : image (keyspace_folder id) ≡ Folder
+  pub texts : List (List ℕ)
+  pub tables : HoldTables image id h.last.tables texts
+  pub counts : map length texts ≡ map length h.texts
+
+-- ---- the home of a keyspace that lives, which has no table
+
+no_tables : (image other : Image) (id : ℕ) (tables : List TableInfo) (texts : List (List ℕ)) → tables ≡ [] → HoldTables image id tables texts → HoldTables other id tables texts
+no_tables image other id [] [] none holds = tt
+no_tables image other id [] (bytes ∷ texts) none holds = absurd holds
+no_tables image other id (t ∷ tables) texts none holds = let bad : ⊥ = cc in absurd bad
+
+pub plain_counts : (image other : Image) (id : ℕ) (h : Home) → HasPlainHome image id h → other (keyspace_folder id) ≡ Folder → HasCounts other id h
+plain_counts image other id h has folder = record { folder = folder; texts = h.texts; tables = no_tables image other id h.last.tables h.texts has.plain.tables has.home.files.tables; counts = refl }
+
+-- ---- tree 0
+
+pairs_count : (table : Option TableInfo) (texts others : List (List ℕ)) (entries more : List MetaEntry) → ArePairs table texts entries → ArePairs table others more → map length others ≡ map length texts
+pairs_count None [] [] entries more one two = refl
+pairs_count None [] (bytes ∷ others) entries more one two = absurd two
+pairs_count None (bytes ∷ texts) others entries more one two = absurd one
+pairs_count (Some t) [] others entries more one two = absurd one
+pairs_count (Some t) (bytes ∷ []) [] entries more one two = absurd two
+pairs_count (Some t) (bytes ∷ []) (other ∷ []) entries more one two = ap (λ n. n ∷ []) (two.is.len ∙ sym one.is.len)
+pairs_count (Some t) (bytes ∷ []) (other ∷ third ∷ others) entries more one two = absurd two
+pairs_count (Some t) (bytes ∷ second ∷ texts) others entries more one two = absurd one
+
+-- where the last records are the same
+pub catalog_counts : (image other : Image) (records others : List Fields) (last next : Catalog) (s t : Keyspaces) (says : Says image records last s) → last ≡ next → Says other others next t → other (keyspace_folder 0) ≡ Folder → HasCounts other 0 (home_of last says.texts)
+catalog_counts image other records others last next s t says same also folder =
+    let told = subst (λ (c : Catalog). Says other others c t) (sym same) also in
+    record { folder = folder; texts = told.texts; tables = told.files.tables; counts = pairs_count last.table says.texts told.texts _ _ says.pairs told.pairs }
