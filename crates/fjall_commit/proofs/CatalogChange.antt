@@ -90,9 +90,9 @@ module _ (records : List Fields) (t next : Tree) (last : Catalog) (at : next.las
 
   either : (mid : Meaning) (image : Image) → Both mid → SaysEither records t.last t.keyspaces last next.keyspaces image → IsImageIn Survives (outside 0) (state_in mid) image → IsHoused image → HasEither t next image
   either mid image homes (inl says) is lost =
-      inl (tree_left 0 (omega arith) (state_in mid) image is records t others homes.old_homes lies.rests.made (folder_there image lost says.files.current) says)
+      inl (tree_left 0 (omega arith) (state_in mid) image is records t others homes.old_homes lies.rests.made lies.rests.versions (folder_there image lost says.files.current) says)
   either mid image homes (inr says) is lost =
-      inr (tree_left 0 (omega arith) (state_in mid) image is (records ++ fields last ∷ []) next new_others homes.new_homes new.made (folder_there image lost says.files.current)
+      inr (tree_left 0 (omega arith) (state_in mid) image is (records ++ fields last ∷ []) next new_others homes.new_homes new.made new.versions (folder_there image lost says.files.current)
       (subst (λ (c : Catalog). Says image (records ++ fields last ∷ []) c next.keyspaces) (sym at) says))
 
   both_on : (mid then : Meaning) → Within (keyspace_folder 0) mid then → Both mid → Both then
@@ -129,7 +129,7 @@ module _ (records : List Fields) (t next : Tree) (last : Catalog) (at : next.las
   ended mid so_far done =
       let is = subst (λ (c : Catalog). IsReady (state_in mid) (records ++ fields last ∷ []) c next.keyspaces) (sym at) done in
       record {
-        rests = record { named = so_far.both.new_homes.named; catalog = is.rests; made = new.made; homes = so_far.both.new_homes.safe };
+        rests = record { named = so_far.both.new_homes.named; catalog = is.rests; made = new.made; homes = so_far.both.new_homes.safe; versions = new.versions };
         free = is.free;
       }
 

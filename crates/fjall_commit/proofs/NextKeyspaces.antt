@@ -3,7 +3,7 @@ use Rattle.std.proofs.Common.{◌≡◌, ℕ, ◌+◌, ◌<◌, ◌≤◌, ◌^�
 use Rattle.std.specs.Cmp.{nat_cmp_total}
 use Rattle.std.specs.FinMap.{get, insert, remove, get-remove}
 use Rattle.std.proofs.lemmas.Bool.Decides.{nat_tests}
-use Rattle.std.proofs.lemmas.List.Elements.{All-filter, All-push, All-weaker}
+use Rattle.std.proofs.lemmas.List.Elements.{All-filter, All-nil, All-push, All-weaker}
 use Rattle.fjall_base.specs.Disk.{State}
 use Rattle.fjall_tree.specs.Records.{Fields}
 use Rattle.fjall_meta.specs.declared.living.LivingKeyspace.{LivingKeyspace}
@@ -11,15 +11,17 @@ use Rattle.fjall_meta.specs.Keyspaces.{AreKeyspaces, Keyspaces, keyspace_at, wit
 use Rattle.fjall_meta.proofs.Changes.{some_are}
 use Rattle.fjall_catalog.specs.declared.catalog.Catalog.{Catalog}
 use Rattle.fjall_catalog.specs.declared.update.Update.{Update}
-use Rattle.fjall_catalog.specs.Catalog.{fields}
+use Rattle.fjall_catalog.specs.Catalog.{fields, first_of}
 use Rattle.fjall_catalog.specs.Updates.{IsUpdate}
 use Rattle.fjall_recovery.specs.Folders.{AreMade, past, past_record}
 use Rattle.fjall_home.specs.Homes.{Home}
+use Rattle.fjall_contents.specs.Contents.{is_beyond}
 use Rattle.fjall_versions.proofs.Living.{found_new, found_other, found_without, none_found}
 use Rattle.fjall_versions.proofs.Slots.{get_put, same_id, ties}
 use Rattle.fjall_recovery.specs.Halves.{Tree}
-use Rattle.fjall_recovery.specs.Homes.{Homes}
+use Rattle.fjall_recovery.specs.Homes.{Homes, IsPlain}
 use Rattle.fjall_recovery.specs.Places.{HasSafeHome, HasSafeHomeAt, HaveSafeHomes, LiesInTree}
+use Rattle.fjall_recovery.proofs.Storing.{plain_versions, versions_inserted, versions_removed}
 use Rattle.fjall_commit.specs.Changes.{AreHoused, first_home, with_home, without_home}
 use Rattle.fjall_commit.specs.Removals.{IsUnused}
 
@@ -59,6 +61,10 @@ module _ (state : State) (living : List LivingKeyspace) (homes : Homes) (safe : 
 
 -- ---- the keyspaces after a change
 
+-- the first record of a keyspace names no table and tells of no clear
+pub first_plain : (number : ℕ) → IsPlain (fields (first_of number))
+first_plain number = record { tables = refl; clears = All-nil (λ n. is_beyond None n ≡ false) }
+
 -- the new record knows the number of its change
 past_next : (old : Catalog) (s : Keyspaces) (number : ℕ) (u : Update) → IsUpdate old s number u → number < past_record (fields u.catalog)
 past_next old s number u is =
@@ -76,6 +82,7 @@ module _ (state : State) (records : List Fields) (t : Tree) (lies : LiesInTree s
     are = some_are t.keyspaces.living t.keyspaces.next (λ k. not (k.id == id)) lies.rests.catalog.are;
     made = All-filter (λ k. not (k.id == id)) (λ k. k.number < past_record (fields u.catalog)) t.keyspaces.living (made_still t.last u.catalog t.keyspaces number lies.rests.made later (past_next t.last (without_keyspace id t.keyspaces) number u is));
     homes = homes_but state t.keyspaces.living t.homes lies.rests.homes id;
+    versions = versions_removed t.homes t.versions id lies.rests.versions;
   }
 
   pub with_housed : (name : List ℕ) (options : List (List ℕ)) (u : Update) → IsUpdate t.last (with_keyspace name options number t.keyspaces) number u → AreKeyspaces (with_keyspace name options number t.keyspaces)
@@ -87,6 +94,7 @@ module _ (state : State) (records : List Fields) (t : Tree) (lies : LiesInTree s
         are = are;
         made = All-push (λ k. k.number < past_record (fields u.catalog)) t.keyspaces.living _ (made_still t.last u.catalog t.keyspaces number lies.rests.made later above) above;
         homes = homes_more state t.keyspaces.living t.homes lies.rests.homes _ (first_home number) fresh home;
+        versions = versions_inserted t.homes t.versions t.keyspaces.next (first_home number) [] (plain_versions (fields (first_of number)) (first_plain number)) lies.rests.versions;
       }
 
 -- the next id is no living keyspace's

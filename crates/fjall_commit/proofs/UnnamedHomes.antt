@@ -1,11 +1,9 @@
 -- The home of a keyspace that the catalog doesn't name, while it is made or removed.
-use Rattle.std.proofs.Common.{◌≡◌, ◌≢◌, inl, inr, ℕ, ◌<◌, ◌^◌, true, false, List, [], ◌∷◌, length, map, codes, All, IfSome, Option, Some, None, Result, Ok, Err, OnOk, OnErr, String, Global, string_bytes, refl, sym, ◌∙◌, ap, subst, arith}
-use Rattle.std.specs.Str.{bytes_eq}
+use Rattle.std.proofs.Common.{◌≡◌, ◌≢◌, ℕ, ◌<◌, ◌^◌, true, false, List, [], ◌∷◌, map, codes, All, IfSome, Option, Some, Result, Ok, Err, OnOk, OnErr, String, Global, string_bytes, refl, sym, ◌∙◌, ap, subst, arith}
 use Rattle.std.specs.List.{flat_map}
 use Rattle.std.proofs.lemmas.List.{append-nil}
 use Rattle.std.proofs.lemmas.List.Concat.{flat_map-cons}
 use Rattle.std.proofs.lemmas.List.Elements.{All-cons, All-nil}
-use Rattle.std.proofs.lemmas.Slice.Eq.{bytes_eq-Decides}
 use Rattle.fjall_base.specs.declared.error.Error.{Error}
 use Rattle.fjall_base.specs.Crash.{IsHoused}
 use Rattle.fjall_base.specs.Disk.{Name, Entry, Missing, File, Folder, Place, State, Image, IsEmpty, Meaning, LeavesOnly, Survives, SyncFolder, Took, folder_of, removing, settle, state_in}
@@ -16,9 +14,7 @@ use Rattle.fjall_files.proofs.Under.{folder_is_shorter, shorter_out, under_self}
 use Rattle.fjall_files.proofs.Changes.{SameOutside, settle-now, within_state}
 use Rattle.fjall_files.proofs.Parts.{in_region, leaves_outside}
 use Rattle.fjall_files.proofs.Made.{removing_within, safe_file, settled_within, within_both, within_none}
-use Rattle.fjall_table.specs.declared.table_info.TableInfo.{TableInfo}
-use Rattle.fjall_tree.specs.Records.{Fields, IsRecords, record_text}
-use Rattle.fjall_tree.proofs.Currents.{texts_are_records}
+use Rattle.fjall_tree.specs.Records.{Fields, record_text}
 use Rattle.fjall_files.specs.Names.{keyspace_folder, current_name, table_name}
 use Rattle.fjall_meta.specs.Keyspaces.{Keyspaces}
 use Rattle.fjall_catalog.specs.declared.catalog.Catalog.{Catalog}
@@ -41,6 +37,7 @@ use Rattle.fjall_catalog.proofs.Resting.{files_say, rests_with}
 use Rattle.fjall_recovery.specs.Halves.{HasTree, Tree, outside}
 use Rattle.fjall_recovery.proofs.Composing.{AreOthers, Beside, beside_along, beside_settled, not_under, outside_test, settled_at, settled_home, tree_left}
 use Rattle.fjall_commit.specs.Changes.{first_home}
+use Rattle.fjall_commit.proofs.NextKeyspaces.{first_plain}
 
 -- ---- calls within the folder, and syncs
 
@@ -67,7 +64,7 @@ module _ (id : ℕ) (records : List Fields) (t : Tree) (unused : IsUnused id t.k
         let rests = lies.rests.catalog in
         let region : (q : Name) → is_counted 0 q ≡ true → outside id q ≡ true = λ q counts. outside_test id q (counted_out q counts) in
         let home = region_home (outside id) state image 0 records (home_of t.last rests.texts) (omega arith) region rests.home (usual_region (outside id) state image is) in
-        tree_left id unused.fits state image is records t others besides lies.rests.made home.folder (files_say state image records t.last t.keyspaces rests home.files)
+        tree_left id unused.fits state image is records t others besides lies.rests.made lies.rests.versions home.folder (files_say state image records t.last t.keyspaces rests home.files)
 
   lies_along : (old new : State) → SameOutside (is_under (keyspace_folder id)) old new → LiesInTree old records t → LiesInTree new records t
   lies_along old new agree lies =
@@ -80,6 +77,7 @@ module _ (id : ℕ) (records : List Fields) (t : Tree) (unused : IsUnused id t.k
           catalog = rests_with old new records t.last t.keyspaces rests (rests_where old new 0 records (home_of t.last rests.texts) same rests.home);
           made = lies.rests.made;
           homes = besides.safe;
+          versions = lies.rests.versions;
         };
         free = λ i above below. ap (λ (p : Place). p.now) (same (table_name 0 i) (table_counts 0 i)) ∙ lies.free i above below;
       }
@@ -109,6 +107,7 @@ module _ (id : ℕ) (records : List Fields) (t : Tree) (unused : IsUnused id t.k
           catalog = rests_with (state_in mid) (state_in new) records t.last t.keyspaces rests (subst (λ (s : State). homes.Rests s 0 records h) (sym took.state) (settled_home (state_in mid) folder 0 records h rests.home));
           made = lies.rests.made;
           homes = besides.safe;
+          versions = lies.rests.versions;
         };
         free = λ i above below. ap (λ (s : State). (s (table_name 0 i)).now) took.state ∙ settle-now (state_in mid) folder (table_name 0 i) ∙ lies.free i above below;
       }
@@ -191,7 +190,7 @@ home_safe id number m1 m2 new text (Ok done) small below is made first then = λ
         last_is = refl;
         tables = tt;
       };
-      plain = record { persisted = refl; tables = refl; clears = refl };
+      plain = first_plain number;
     }
 
 -- ---- names as the call has them

@@ -1,5 +1,5 @@
 -- A keyspace that is made or deleted on the disk: the tree before it and after it.
-use Rattle.std.specs.Prelude.{◌≡◌, ◌⊎◌, ℕ, List, [], ◌∷◌, ◌++◌, string_bytes, ◌<◌, ◌≤◌, ◌^◌}
+use Rattle.std.specs.Prelude.{◌≡◌, ◌⊎◌, ℕ, List, [], string_bytes, ◌<◌, ◌≤◌, ◌^◌}
 use Rattle.fjall_base.specs.Disk.{Image, IsNoFile, IsNoFolder, State, CanMakeFolder, Meaning, Name, folder_of, state_in}
 use Rattle.fjall_tree.specs.Records.{record_text, Fields}
 use Rattle.fjall_files.specs.Names.{keyspace_folder, current_name}
@@ -10,7 +10,7 @@ use Rattle.fjall_catalog.specs.Updates.{IsUpdate}
 use Rattle.fjall_recovery.specs.Folders.{AreMade, past_record}
 use Rattle.fjall_recovery.specs.Halves.{HasTree, Tree}
 use Rattle.fjall_recovery.specs.Places.{HaveSafeHomes, LiesInTree}
-use Rattle.fjall_recovery.specs.Homes.{plain_home}
+use Rattle.fjall_recovery.specs.Homes.{HaveVersions, plain_home}
 use Rattle.fjall_home.specs.Homes.{Home}
 use Rattle.std.specs.FinMap.{insert, remove}
 use Rattle.fjall_commit.specs.declared.creation.Creation.{Creation}
@@ -27,6 +27,7 @@ with_home name options number next t = record {
   last = next;
   keyspaces = with_keyspace name options number t.keyspaces;
   homes = insert t.homes t.keyspaces.next (first_home number);
+  versions = insert t.versions t.keyspaces.next [];
 }
 
 -- the tree after the keyspace of this id was deleted
@@ -35,6 +36,7 @@ without_home id next t = record {
   last = next;
   keyspaces = without_keyspace id t.keyspaces;
   homes = remove t.homes id;
+  versions = remove t.versions id;
 }
 
 -- What is prepared of a creation: the names of the new keyspace's folder and of its file, its first record, and the
@@ -54,6 +56,7 @@ pub record AreHoused (state : State) (next : Tree) : Type 0 where
   pub are : AreKeyspaces next.keyspaces
   pub made : AreMade next.last next.keyspaces
   pub homes : HaveSafeHomes state next.keyspaces.living next.homes
+  pub versions : HaveVersions next.homes next.versions
 
 -- Where the keyspace of this id is to stand there is room: no file in the place of its folder, no folder in that of its file.
 pub record HasRoom (state : State) (id : ℕ) : Type 0 where

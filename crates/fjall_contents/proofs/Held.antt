@@ -60,6 +60,14 @@ same_stores s stored other batches others same =
     by id (Some k) e =
         ap Some (living_has (λ j. map_held s (stored j) j batches ≡ map_held s (other j) j others) s.living id k e same)
 
+-- where the same is stored of each living keyspace
+pub same_stored : (s : Keyspaces) (stored other : ℕ → Stored) (batches : List Shown) → All (λ k. stored k.id ≡ other k.id) s.living
+    → store_held s stored batches ≡ store_held s other batches
+same_stored s stored other batches same =
+    same_stores s stored other batches batches
+    (All-weaker (λ k. stored k.id ≡ other k.id) (λ k. map_held s (stored k.id) k.id batches ≡ map_held s (other k.id) k.id batches)
+    (λ k e. ap (λ h. map_held s h k.id batches) e) s.living same)
+
 pub views_alone_matter : (s : Keyspaces) (stored other : ℕ → Stored) (batches others : List Shown)
     → All (λ k. (key : Bytes) → value_at key (2 ^ 63) (clears_held s (stored k.id) k.id batches) (versions_held s (stored k.id) k.id batches)
     ≡ value_at key (2 ^ 63) (clears_held s (other k.id) k.id others) (versions_held s (other k.id) k.id others)) s.living

@@ -1,5 +1,5 @@
 -- Where a change of the keyspaces leads a core and its disk.
-use Rattle.std.proofs.Common.{◌≡◌, ◌⊎◌, inl, inr, ℕ, ◌+◌, ◌<◌, ◌≤◌, nat_lt, Bool, true, false, List, [], ◌∷◌, ◌++◌, map, Option, Some, None, All, refl, sym, ◌∙◌, ap, subst, arith, codes}
+use Rattle.std.proofs.Common.{◌≡◌, ◌⊎◌, inl, inr, ℕ, ◌+◌, ◌<◌, ◌≤◌, nat_lt, Bool, true, false, List, [], ◌∷◌, ◌++◌, Option, Some, None, All, refl, sym, ◌∙◌, ap, subst, arith, codes}
 use Rattle.std.proofs.lemmas.Bool.Decides.{nat_tests}
 use Rattle.std.proofs.lemmas.List.{append-nil}
 use Rattle.std.proofs.lemmas.List.Elements.{All-cons, All-nil}
@@ -9,15 +9,13 @@ use Rattle.fjall_base.specs.Store.{Store, Command, apply, kept}
 use Rattle.fjall_base.specs.Disk.{Image, LeavesOnly, Meaning, state_in}
 use Rattle.fjall_base.proofs.Moments.{at_end, weaken}
 use Rattle.fjall_files.specs.Regions.{Within}
-use Rattle.fjall_journal.specs.Batches.{Shown, shown}
+use Rattle.fjall_journal.specs.Batches.{Shown}
 use Rattle.fjall_tree.specs.Records.{Fields}
-use Rattle.fjall_versions.specs.Replays.{Unordered, journal_commands, fault_of, first_fault, least_after}
+use Rattle.fjall_versions.specs.Replays.{Unordered, fault_of, first_fault, least_after}
 use Rattle.fjall_versions.specs.Versions.{store_of}
-use Rattle.fjall_versions.proofs.Keeping.{nothing_to_keep}
 use Rattle.fjall_versions.proofs.Kept.{kept_along}
 use Rattle.fjall_recovery.specs.Folders.{past_record, past_records}
 use Rattle.fjall_recovery.specs.Folders as folders
-use Rattle.fjall_recovery.specs.Journals.{batches_in}
 use Rattle.fjall_recovery.specs.Halves.{HasRoot, HasTree, Tree}
 use Rattle.fjall_recovery.specs.Places.{Journaling, LiesInRoot, LiesInTree, contents_with, journals_with}
 use Rattle.fjall_recovery.proofs.Roots.{crashes_leave_the_root}
@@ -30,7 +28,7 @@ use Rattle.fjall_core.specs.Durables.{Durable, Lies, Rests, StandsAmid, StaysFin
 use Rattle.fjall_core.specs.Standing.{Poisons, StandsOn}
 use Rattle.fjall_base.proofs.Names.{bool_cases}
 use Rattle.fjall_core.proofs.CrashesInRuns.{amid_more}
-use Rattle.fjall_core.proofs.CrashImages.{folder_amid}
+use Rattle.fjall_core.proofs.CrashImages.{commanded, folder_amid, store_is_kept}
 use Rattle.fjall_core.proofs.RootUnchanged.{leaves_beside, within_root, writing_along}
 use Rattle.fjall_core.proofs.JournalWrites.{Leads, Settles, held_on, leads_on, present_of, stands_ill, stands_well}
 
@@ -77,12 +75,12 @@ no_more (x ∷ front) rest e = cc
 change_amid : (base : Store) (j : Journaling) (t next : Tree) (command : Command) (image : Image) → kept base ≡ store_of_tree j t → store_of_tree j next ≡ kept (apply (store_of_tree j t) command)
     → HasRoot image (journals_with j []) → HasTree image t ⊎ HasTree image next → j.later ≡ [] → StandsAmid base [] (command ∷ []) image
 change_amid base j t next command image is after root (inl tree) none =
-    amid_more base [] [] (command ∷ []) image (folder_amid base [] j t image [] [] [] is (sym (ap (λ l. journal_commands t.keyspaces (map shown l)) none)) (sym (append-nil j.later ∙ none)) root tree)
+    amid_more base [] [] (command ∷ []) image (folder_amid base [] j t image [] [] [] is (sym (ap (commanded t) none)) (sym (append-nil j.later ∙ none)) root tree)
 change_amid base j t next command image is after root (inr tree) none = record {
   front = command ∷ [];
   holds = (command ∷ [], refl);
   within = ([], refl);
-  stands = inl (contents_with j next [], made image (contents_with j next []) root tree, kept_along base (store_of_tree j t) (command ∷ []) (is ∙ sym (nothing_to_keep t.keyspaces (map shown (batches_in (journals_with j []))))) ∙ sym after);
+  stands = inl (contents_with j next [], made image (contents_with j next []) root tree, kept_along base (store_of_tree j t) (command ∷ []) (is ∙ sym (store_is_kept (contents_with j t []))) ∙ sym after);
 }
 
 pub change_leaves : (base : Store) (mid new : Meaning) (j : Journaling) (t next : Tree) (command : Command) → kept base ≡ store_of_tree j t → store_of_tree j next ≡ kept (apply (store_of_tree j t) command)
@@ -131,8 +129,8 @@ changed_lies mid new base command lies none c =
       in_tree = c.in_tree refl;
       last = c.last refl;
       keyspaces = c.keyspaces refl;
-      made = kept_along base (store_of_tree j lies.tree) (command ∷ []) (lies.made ∙ sym (nothing_to_keep lies.tree.keyspaces (map shown (batches_in (journals_with j []))))) ∙ sym c.after;
-      waits = sym (ap (λ l. journal_commands c.next.keyspaces (map shown l)) none);
+      made = kept_along base (store_of_tree j lies.tree) (command ∷ []) (lies.made ∙ sym (store_is_kept (contents_with j lies.tree []))) ∙ sym c.after;
+      waits = sym (ap (commanded c.next) none);
       next = c.number refl ∙ ap (λ l. folders.number_of (contents_with j c.next l)) (sym none);
     }
 

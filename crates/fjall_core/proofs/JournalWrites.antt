@@ -18,9 +18,11 @@ use Rattle.fjall_versions.proofs.Naming.{living_names}
 use Rattle.fjall_versions.proofs.Replaying.{one_item, one_more_version}
 use Rattle.fjall_versions.proofs.Slots.{fold-append}
 use Rattle.fjall_catalog.specs.Catalog.{fields}
-use Rattle.fjall_recovery.specs.Homes.{lasts}
+use Rattle.fjall_contents.proofs.Following.{beyond_all}
+use Rattle.fjall_recovery.specs.Homes.{lasts, stored_in}
 use Rattle.fjall_recovery.specs.Folders.{past_records}
 use Rattle.fjall_recovery.specs.Places.{Journaling}
+use Rattle.fjall_recovery.proofs.Storing.{beyond_lasts}
 use Rattle.fjall_commit.specs.Journaling.{CanFollow, IsWriting, LeavesRoot, next_number, with_batch}
 use Rattle.fjall_commit.proofs.Batches.{next-batch}
 use Rattle.fjall_state.specs.Ops.{Op, Put, Remove, RemoveWeak, bytes_in, kind_of, op_text, value_in}
@@ -30,7 +32,7 @@ use Rattle.fjall_core.specs.Holding.{Held}
 use Rattle.fjall_core.specs.Durables.{Durable, Lies, MakesPresent, Passes, Rests, StandsAmid, StaysFinished}
 use Rattle.fjall_core.specs.Standing.{Grows, Poisons, StandsOn, store_in}
 use Rattle.fjall_core.proofs.KeyspacesUnchanged.{SameKeyspaces, tree_along}
-use Rattle.fjall_core.proofs.CrashImages.{commands_more, leaves_finished, lies_rest, root_amid, root_finished}
+use Rattle.fjall_core.proofs.CrashImages.{commanded, commands_more, leaves_finished, lies_rest, root_amid, root_finished}
 
 -- the core stands on some disk now, to which these commands lead
 abbrev pub Leads : Held → Durable → List Command → Type 0
@@ -114,6 +116,17 @@ batch_commands : (core : Held) (id : ℕ) (key : Bytes) (o : Op) → IsAdmitted 
 batch_commands core id key o admitted =
     append-nil _ ∙ one_item core.memory.keyspaces id key (bytes_in o) (kind_of o) core.memory.next (it_counts core id admitted) ∙ ap (λ v. write_of id key v ∷ []) (op_value o)
 
+-- which is all beyond what the homes' files hold
+batch_beyond : (core : Held) (base : Store) (pending : List Command) (id : ℕ) (key : Bytes) (o : Op) → IsAdmitted core id → (lies : Lies core (held_on core base pending))
+    → commanded lies.tree (of_item id key (bytes_in o) (kind_of o) core.memory.next ∷ []) ≡ write_of id key (value_in o) ∷ []
+batch_beyond core base pending id key o admitted lies =
+    let t = lies.tree in
+    let batch = of_item id key (bytes_in o) (kind_of o) core.memory.next in
+    let past : past_records (lasts t.keyspaces.living t.homes) ≤ core.memory.next = omega (arith, lies.next) in
+    let beyond = beyond_lasts t.homes t.versions t.keyspaces.living core.memory.next past in
+    ap (λ (l : List Command). l ++ []) (beyond_all t.keyspaces (stored_in t.homes t.versions) (shown batch) beyond)
+    ∙ ap (λ (s : Keyspaces). journal_commands s (map shown (batch ∷ []))) lies.keyspaces ∙ batch_commands core id key o admitted
+
 -- it follows the batches that stand
 pub it_follows : (core : Held) (base : Store) (pending : List Command) (o : Op) (room : core.memory.next < 2 ^ 63) (lies : Lies core (held_on core base pending)) → CanFollow lies.journals core.memory.next (kind_of o)
 it_follows core base pending o room lies = record { above = omega (arith, lies.next); room = room; direct = op_direct o }
@@ -142,8 +155,7 @@ write_leaves : (old new : Held) (base : Store) (pending : List Command) (id : �
     → WentOut old new (of_item id key (bytes_in o) (kind_of o) old.memory.next) o goes done → LeavesOnly old.disk new.disk (StandsAmid base [] (pending ++ write_of id key (value_in o) ∷ []))
 write_leaves old new base pending id key o goes done admitted lies out =
     let batch = of_item id key (bytes_in o) (kind_of o) old.memory.next in
-    let commands : journal_commands lies.tree.keyspaces (map shown (batch ∷ [])) ≡ write_of id key (value_in o) ∷ [] =
-    ap (λ (s : Keyspaces). journal_commands s (map shown (batch ∷ []))) lies.keyspaces ∙ batch_commands old id key o admitted in
+    let commands = batch_beyond old base pending id key o admitted lies in
     subst (λ (l : List Command). LeavesOnly old.disk new.disk (StandsAmid base [] (pending ++ l))) commands
     (root_amid base pending old.disk new.disk lies.journals lies.records lies.tree (batch ∷ []) lies.made lies.waits lies.in_tree
     (out.leaves lies.journals lies.writing (it_follows old base pending o admitted.room lies)))
@@ -156,8 +168,7 @@ write_lies old new base pending id key o goes admitted grows lies out =
     let j = lies.journals in
     let t = lies.tree in
     let follows = it_follows old base pending o admitted.room lies in
-    let commands : journal_commands t.keyspaces (map shown (batch ∷ [])) ≡ write_of id key (value_in o) ∷ [] =
-    ap (λ (s : Keyspaces). journal_commands s (map shown (batch ∷ []))) lies.keyspaces ∙ batch_commands old id key o admitted in
+    let commands = batch_beyond old base pending id key o admitted lies in
     let number = next-batch goes j batch in
     let past = past_records (fields t.last ∷ lasts t.keyspaces.living t.homes) in
     record {
@@ -170,7 +181,7 @@ write_lies old new base pending id key o goes admitted grows lies out =
       keyspaces = lies.keyspaces ∙ ap (λ (m : Remembered). m.keyspaces) (sym grows.memory_is);
       made = lies.made;
       waits = ap (λ (l : List Command). l ++ write_of id key (value_in o) ∷ []) lies.waits
-          ∙ ap (λ (l : List Command). journal_commands t.keyspaces (map shown j.later) ++ l) (sym commands) ∙ sym (commands_more t j.later (batch ∷ []));
+          ∙ ap (λ (l : List Command). commanded t j.later ++ l) (sym commands) ∙ sym (commands_more t j.later (batch ∷ []));
       next = ap (λ (m : Remembered). m.next) grows.memory_is ∙ more_max (next_number j) past old.memory.next lies.next follows.above ∙ ap (λ n. max n past) (sym number);
     }
 

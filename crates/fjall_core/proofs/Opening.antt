@@ -1,17 +1,14 @@
 -- A core over a folder that was opened.
-use Rattle.std.proofs.Common.{◌≡◌, ℕ, List, [], map, take, Option, refl, sym, ◌∙◌, ap, subst}
+use Rattle.std.proofs.Common.{◌≡◌, ℕ, List, [], take, Option, refl, sym, ◌∙◌, ap, subst}
 use Rattle.std.proofs.Math.Seq.{take-nil}
 use Rattle.fjall_base.specs.Store.{Store, kept}
 use Rattle.fjall_base.specs.Disk.{File, Image, LeavesOnly, Meaning, state_in}
 use Rattle.fjall_base.specs.declared.error.Error.{Error}
 use Rattle.fjall_base.specs.declared.error.Error.TheVariants.{Io}
-use Rattle.fjall_journal.specs.Batches.{Written, shown}
+use Rattle.fjall_journal.specs.Batches.{Written}
 use Rattle.fjall_journal.specs.Writer.{Journal}
-use Rattle.fjall_versions.specs.Replays.{journal_commands}
 use Rattle.fjall_versions.specs.Versions.{store_of as store_behind}
-use Rattle.fjall_versions.proofs.Keeping.{nothing_to_keep}
 use Rattle.fjall_recovery.specs.Folders.{Contents, StandsFor, number_of, store_of}
-use Rattle.fjall_recovery.specs.Journals.{batches_in}
 use Rattle.fjall_recovery.specs.Held.{Holds, number_held, store_held}
 use Rattle.fjall_files.specs.Names.{journal_name}
 use Rattle.fjall_recovery.specs.Places.{contents_with, texts_of}
@@ -26,7 +23,7 @@ use Rattle.fjall_state.proofs.Standing.{an_opening_stands}
 use Rattle.fjall_core.specs.Holding.{Held}
 use Rattle.fjall_core.specs.Durables.{Durable, Lies}
 use Rattle.fjall_core.specs.Openings.{IsAtEnd, IsDueTo, KeepsStore, Opens, OpensAs, OpensOn, parts_of}
-use Rattle.fjall_core.proofs.CrashImages.{lies_rest, root_finished}
+use Rattle.fjall_core.proofs.CrashImages.{commanded, lies_rest, root_finished, store_is_kept}
 
 -- what a core holds over a folder that was opened
 abbrev pub held_of : Meaning → Opened → Remembered → Held
@@ -64,7 +61,7 @@ module _ (disk : Meaning) (folder : Option Contents) (o : Opened) (is : repair.O
   held = is.store
 
   kept_held : kept (store_held folder) ≡ store_of (contents_with is.j is.t [])
-  kept_held = ap kept (sym held) ∙ nothing_to_keep is.t.keyspaces (map shown (batches_in (contents_with is.j is.t []).journals))
+  kept_held = ap kept (sym held) ∙ store_is_kept (contents_with is.j is.t [])
 
   lies : Lies (core_of disk o) here
   lies = record {
@@ -76,7 +73,7 @@ module _ (disk : Meaning) (folder : Option Contents) (o : Opened) (is : repair.O
     last = is.last;
     keyspaces = is.keyspaces;
     made = kept_held;
-    waits = sym (ap (λ (b : List Written). journal_commands is.t.keyspaces (map shown b)) is.later);
+    waits = sym (ap (commanded is.t) is.later);
     next = is.number ∙ ap (λ (b : List Written). number_of (contents_with is.j is.t b)) (sym is.later);
   }
 

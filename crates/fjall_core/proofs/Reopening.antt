@@ -5,14 +5,13 @@ use Rattle.fjall_base.specs.Store.{Command, Store, fold, kept}
 use Rattle.fjall_base.specs.Crash.{IsHoused}
 use Rattle.fjall_base.proofs.Wholes.{all_kept, all_kept_is_left}
 use Rattle.fjall_base.specs.Disk.{Image, IsFile, IsImage, LeavesOnly, Meaning, State, standing, state_in}
-use Rattle.fjall_journal.specs.Batches.{shown}
 use Rattle.fjall_meta.specs.Keyspaces.{no_keyspaces}
 use Rattle.fjall_files.specs.Names.{journal_name}
 use Rattle.fjall_files.specs.Marker.{marker_tells}
 use Rattle.fjall_files.specs.Tidy.{StaysTidy}
 use Rattle.fjall_versions.proofs.Keeping.{nothing_to_keep}
 use Rattle.fjall_recovery.specs.Folders.{Contents, IsSound, IsUnfinished, StandsFor}
-use Rattle.fjall_recovery.specs.Journals.{Journal, batches_in}
+use Rattle.fjall_recovery.specs.Journals.{Journal}
 use Rattle.fjall_recovery.proofs.Alone.{one_contents}
 use Rattle.fjall_recovery.specs.Amid.{ComesBackUnfinished, HoldsAmid, StandsAmid}
 use Rattle.fjall_recovery.specs.Held.{Holds, IsFolder, store_held}
@@ -26,13 +25,14 @@ use Rattle.fjall_core.specs.Holding.{Held}
 use Rattle.fjall_core.specs.Durables.{Durable, IsFinished, StaysFinished}
 use Rattle.fjall_core.specs.Openings.{OpensAmid}
 use Rattle.fjall_core.specs.Standing.{HoldsStore, StandsOn}
+use Rattle.fjall_core.proofs.CrashImages.{store_is_kept}
 use Rattle.fjall_core.proofs.Opening.{core_of, opens_as}
 
 -- ---- one store
 
 kept_again : (folder : Option Contents) → kept (store_held folder) ≡ store_held folder
 kept_again None = nothing_to_keep no_keyspaces []
-kept_again (Some c) = nothing_to_keep c.keyspaces (map shown (batches_in c.journals))
+kept_again (Some c) = store_is_kept c
 
 like : (image : Image) (folder : Option Contents) (store : Store) → IsFolder image folder → store ≡ store_held folder → StandsAmid store [] [] image
 like image folder store is same = record {

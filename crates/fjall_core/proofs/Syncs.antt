@@ -8,9 +8,10 @@ use Rattle.fjall_journal.specs.Batches.{Written, shown}
 use Rattle.fjall_journal.specs.declared.persist_mode.PersistMode.{PersistMode}
 use Rattle.fjall_journal.specs.declared.persist_mode.PersistMode.TheVariants.{Buffer, SyncAll, SyncData}
 use Rattle.fjall_catalog.specs.Catalog.{fields}
-use Rattle.fjall_versions.specs.Replays.{least_after, store_in}
+use Rattle.fjall_versions.specs.Replays.{least_after}
 use Rattle.fjall_versions.specs.Versions.{store_of}
-use Rattle.fjall_recovery.specs.Homes.{lasts}
+use Rattle.fjall_contents.specs.Contents.{store_held}
+use Rattle.fjall_recovery.specs.Homes.{lasts, stored_in}
 use Rattle.fjall_recovery.specs.Folders.{past_records}
 use Rattle.fjall_recovery.specs.Journals.{Journal, batches_in}
 use Rattle.fjall_recovery.specs.Places.{Journaling, journals_with}
@@ -77,8 +78,8 @@ sync_lies old new base pending same lies out =
       in_tree = tree_along (state_in old.disk) (state_in new.disk) lies.records t (out.elsewhere j lies.writing) lies.in_tree;
       last = lies.last ∙ sym same.catalog;
       keyspaces = lies.keyspaces ∙ sym same.keyspaces;
-      made = ap (λ (l : List Command). kept (fold base l)) lies.waits ∙ kept_with base j t j.later lies.made
-          ∙ ap (λ (l : List Journal). store_in t.keyspaces (map shown (batches_in l))) (sym (synced_journals j));
+      made = ap (λ (l : List Command). kept (fold base l)) lies.waits ∙ kept_with j t j.later lies.in_tree.rests.versions lies.writing.root.sound base lies.made
+          ∙ ap (λ (l : List Journal). store_held t.keyspaces (stored_in t.homes t.versions) (map shown (batches_in l))) (sym (synced_journals j));
       waits = refl;
       next = same.next ∙ lies.next ∙ ap (λ (l : List Journal). max (least_after 0 (map shown (batches_in l))) (past_records (fields t.last ∷ lasts t.keyspaces.living t.homes))) (sym (synced_journals j));
     }

@@ -7,7 +7,8 @@ use Rattle.fjall_tree.specs.Records.{Fields}
 use Rattle.fjall_files.specs.declared.marker.Marker.TheVariants.{Whole}
 use Rattle.fjall_files.specs.Marker.{marker_tells}
 use Rattle.fjall_files.specs.Names.{journal_name}
-use Rattle.fjall_versions.specs.Replays.{journal_commands}
+use Rattle.fjall_contents.specs.Contents.{journal_beyond}
+use Rattle.fjall_recovery.specs.Homes.{stored_in}
 use Rattle.fjall_recovery.specs.Folders.{marker_bytes, number_of, store_of}
 pub use Rattle.fjall_recovery.specs.Amid.{IsBeginning, StandsAmid}
 use Rattle.fjall_recovery.specs.Halves.{Tree}
@@ -56,7 +57,7 @@ pub record Lies (core : Held) (d : Durable) : Type 0 where
   pub last : tree.last ≡ core.catalog
   pub keyspaces : tree.keyspaces ≡ core.memory.keyspaces
   pub made : kept d.base ≡ store_of (contents_with journals tree [])
-  pub waits : d.pending ≡ journal_commands tree.keyspaces (map shown journals.later)
+  pub waits : d.pending ≡ journal_beyond tree.keyspaces (stored_in tree.homes tree.versions) (map shown journals.later)
   pub next : core.memory.next ≡ number_of (contents_with journals tree journals.later)
 
 -- base and pending make the present, but that after a fault the last one may be pending that isn't there

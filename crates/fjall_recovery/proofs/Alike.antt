@@ -72,6 +72,7 @@ sound_by image other c sound marker named files texts keyspaces folder file reco
   };
   made = sound.made;
   homes = homes;
+  versions = sound.versions;
 }
 
 -- ---- everywhere

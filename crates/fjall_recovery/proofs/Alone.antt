@@ -21,8 +21,9 @@ use Rattle.fjall_files.specs.Marker.{marker_tells}
 use Rattle.fjall_versions.proofs.Slots.{same_maps}
 use Rattle.fjall_catalog.proofs.Meanings.{one_catalog}
 use Rattle.fjall_recovery.specs.Folders.{Contents, IsSound, StandsFor, marker_bytes, store_of}
-use Rattle.fjall_recovery.specs.Homes.{HasHomeAt, HasLast, HaveHomes, Homes}
+use Rattle.fjall_recovery.specs.Homes.{HasHomeAt, HasLast, HaveHomes, HaveVersions, Homes}
 use Rattle.fjall_recovery.specs.Journals.{Journal, AreRead, AreJournalIds, HoldsJournals, journal_text}
+use Rattle.fjall_recovery.proofs.Storing.{one_map_of_versions}
 
 -- ---- rising lists
 
@@ -110,18 +111,15 @@ one_map_of_homes image living homes others a b = same_maps homes others (λ id. 
 
 -- ---- the whole folder
 
-same_contents : (c d : Contents) → c.journals ≡ d.journals → c.keyspaces ≡ d.keyspaces → c.last ≡ d.last → c.homes ≡ d.homes → c ≡ d
-same_contents c d journals keyspaces last homes =
-    ap (λ x. let r : Contents = record { journals = x; keyspaces = c.keyspaces; last = c.last; homes = c.homes } in r) journals
-    ∙ ap (λ x. let r : Contents = record { journals = d.journals; keyspaces = x; last = c.last; homes = c.homes } in r) keyspaces
-    ∙ ap (λ x. let r : Contents = record { journals = d.journals; keyspaces = d.keyspaces; last = x; homes = c.homes } in r) last
-    ∙ ap (λ x. let r : Contents = record { journals = d.journals; keyspaces = d.keyspaces; last = d.last; homes = x } in r) homes
+same_contents : (c d : Contents) → c.journals ≡ d.journals → c.keyspaces ≡ d.keyspaces → c.last ≡ d.last → c.homes ≡ d.homes → c.versions ≡ d.versions → c ≡ d
+same_contents c d journals keyspaces last homes versions = λ i. record { journals = journals i; keyspaces = keyspaces i; last = last i; homes = homes i; versions = versions i }
 
 pub one_contents : (image : Image) (c d : Contents) → IsSound image c → IsSound image d → c ≡ d
 one_contents image c d a b =
     let catalog = one_catalog image a.records b.records c.last d.last c.keyspaces d.keyspaces a.catalog b.catalog in
     let homes = one_map_of_homes image d.keyspaces.living c.homes d.homes (subst (λ (s : Keyspaces). HaveHomes image s.living c.homes) catalog.2 a.homes) b.homes in
-    same_contents c d (one_list_of_journals image c.journals d.journals a.journals b.journals) catalog.2 catalog.1 homes
+    let versions = one_map_of_versions d.homes c.versions d.versions (subst (λ (h : Homes). HaveVersions h c.versions) homes a.versions) b.versions in
+    same_contents c d (one_list_of_journals image c.journals d.journals a.journals b.journals) catalog.2 catalog.1 homes versions
 
 not_both : (told : Result Marker Error) → told ≡ Ok Whole → told ≡ Ok Unfinished → ⊥
 not_both told whole unfinished = let no = sym whole ∙ unfinished in cc

@@ -6,6 +6,7 @@ use Rattle.fjall_files.specs.Regions.{IsImageIn, is_under}
 use Rattle.fjall_files.specs.Names.{keyspace_folder}
 use Rattle.fjall_files.proofs.Changes.{SameOutside}
 use Rattle.fjall_files.proofs.Under.{under_self}
+use Rattle.fjall_table.specs.Blocks.{Entry}
 use Rattle.fjall_tree.specs.Records.{Fields}
 use Rattle.fjall_home.specs.Homes.{Home, is_counted}
 use Rattle.fjall_home.proofs.Naming.{other_folder}
@@ -20,11 +21,12 @@ use Rattle.fjall_catalog.proofs.Meanings as Meanings
 use Rattle.fjall_catalog.proofs.Resting.{rests_with}
 use Rattle.fjall_recovery.specs.Folders.{AreMade}
 use Rattle.fjall_recovery.specs.Halves.{HasTree, Tree, outside, with_home_at}
-use Rattle.fjall_recovery.specs.Homes.{HasPlainHome, HaveHomes}
+use Rattle.fjall_recovery.specs.Homes.{HasPlainHome, HasVersions, HaveHomes, HaveVersions}
 use Rattle.fjall_recovery.specs.Naming.{KeyspacesAreNamed}
 use Rattle.fjall_recovery.specs.Places.{HasSafeHome, HaveSafeHomes, IsNeverFolder, RestsInTree}
 use Rattle.fjall_recovery.proofs.Composing.{AreNamed, IsOther, keyspaces_left, named_left, other_along, other_left, outside_test, tree_left}
 use Rattle.fjall_recovery.proofs.Housing.{along_at, alike_at, homes_along, homes_alike, homes_with, left_at, plain_alike, safe_homes_with}
+use Rattle.fjall_recovery.proofs.Storing.{versions_inserted}
 
 -- ---- ids
 
@@ -73,13 +75,14 @@ module _ (id : ℕ) (small : id < 2 ^ 64) where
 
 -- ---- one home changes
 
-module _ (id : ℕ) (h : Home) (t : Tree) (lives : is_some (keyspace_at id t.keyspaces.living) ≡ true) where
+module _ (id : ℕ) (h : Home) (versions : List Entry) (t : Tree) (lives : is_some (keyspace_at id t.keyspaces.living) ≡ true) where
   -- tree 0 is another keyspace
   zero_other : AreKeyspaces t.keyspaces → IsOther id 0
   zero_other are = (omega arith, λ e. (place_of t.keyspaces id are lives).1 (sym e))
 
-  pub home_in_image : (image other : Image) → HasTree image t → ((q : Name) → outside id q ≡ true → other q ≡ image q) → HasPlainHome other id h → HasTree other (with_home_at id h t)
-  home_in_image image other has agree one =
+  pub home_in_image : (image other : Image) → HasTree image t → ((q : Name) → outside id q ≡ true → other q ≡ image q) → HasPlainHome other id h → HasVersions h versions
+      → HasTree other (with_home_at id h versions t)
+  home_in_image image other has agree one stored =
       let are = has.catalog.are in
       let small = (place_of t.keyspaces id are lives).0 in
       record {
@@ -91,10 +94,12 @@ module _ (id : ℕ) (h : Home) (t : Tree) (lives : is_some (keyspace_at id t.key
         homes = homes_with t.keyspaces.living t.homes id h lives other one
             (λ q apart. alike_at IsPlace t.keyspaces.living t.homes (places t.keyspaces are) image other q
             (λ x place home. other_alike id small image other agree q x (place.0, differ q id apart) home) (has.homes q));
+        versions = versions_inserted t.homes t.versions id h versions stored has.versions;
       }
 
-  pub home_rests : (old new : State) (records : List Fields) → RestsInTree old records t → ((q : Name) → outside id q ≡ true → new q ≡ old q) → HasSafeHome new id h → RestsInTree new records (with_home_at id h t)
-  home_rests old new records lies agree one =
+  pub home_rests : (old new : State) (records : List Fields) → RestsInTree old records t → ((q : Name) → outside id q ≡ true → new q ≡ old q) → HasSafeHome new id h → HasVersions h versions
+      → RestsInTree new records (with_home_at id h versions t)
+  home_rests old new records lies agree one stored =
       let are = lies.catalog.are in
       let small = (place_of t.keyspaces id are lives).0 in
       record {
@@ -105,10 +110,12 @@ module _ (id : ℕ) (h : Home) (t : Tree) (lives : is_some (keyspace_at id t.key
         homes = safe_homes_with t.keyspaces.living t.homes id h lives new one
             (λ q apart. along_at IsPlace t.keyspaces.living t.homes (places t.keyspaces are) old new q
             (λ x place home. other_along id small old new (same_outside id small old new agree) q x (place.0, differ q id apart) home) (lies.homes q));
+        versions = versions_inserted t.homes t.versions id h versions stored lies.versions;
       }
 
-  pub home_in_crash : (state : State) (image : Image) (records : List Fields) → RestsInTree state records t → IsImageIn Survives (outside id) state image → HasPlainHome image id h → HasTree image (with_home_at id h t)
-  home_in_crash state image records lies is one =
+  pub home_in_crash : (state : State) (image : Image) (records : List Fields) → RestsInTree state records t → IsImageIn Survives (outside id) state image → HasPlainHome image id h → HasVersions h versions
+      → HasTree image (with_home_at id h versions t)
+  home_in_crash state image records lies is one stored =
       let are = lies.catalog.are in
       let small = (place_of t.keyspaces id are lives).0 in
       let zero = region_home (outside id) state image 0 records (home_of t.last lies.catalog.texts) (omega arith) (counted_out id small 0 (zero_other are)) lies.catalog.home (usual_region (outside id) state image is) in
@@ -121,6 +128,7 @@ module _ (id : ℕ) (h : Home) (t : Tree) (lives : is_some (keyspace_at id t.key
         homes = homes_with t.keyspaces.living t.homes id h lives image one
             (λ q apart. left_at IsPlace t.keyspaces.living t.homes (places t.keyspaces are) state image q
             (λ x place home. other_left id small state image is q x (place.0, differ q id apart) home) (lies.homes q));
+        versions = versions_inserted t.homes t.versions id h versions stored lies.versions;
       }
 
 -- ---- the catalog changes
@@ -129,28 +137,30 @@ module _ (t next : Tree) where
   zero : 0 < 2 ^ 64
   zero = omega arith
 
-  pub catalog_image : (image other : Image) (records : List Fields) → HasTree image t → HaveHomes image next.keyspaces.living next.homes → AreMade next.last next.keyspaces
+  pub catalog_image : (image other : Image) (records : List Fields) → HasTree image t → HaveHomes image next.keyspaces.living next.homes → HaveVersions next.homes next.versions → AreMade next.last next.keyspaces
       → ((q : Name) → outside 0 q ≡ true → other q ≡ image q) → other (keyspace_folder 0) ≡ Folder → Says other records next.last next.keyspaces → HasTree other next
-  catalog_image image other records has homes made agree folder says = record {
+  catalog_image image other records has homes versions made agree folder says = record {
     named = named_alike 0 zero image other agree has.named;
     folder = folder;
     records = records;
     catalog = says;
     made = made;
     homes = homes_alike (IsOther 0) next.keyspaces.living next.homes (places next.keyspaces says.are) image other (other_alike 0 zero image other agree) homes;
+    versions = versions;
   }
 
-  pub catalog_rests : (old new : State) (records others : List Fields) → RestsInTree old records t → HaveSafeHomes old next.keyspaces.living next.homes → AreMade next.last next.keyspaces
+  pub catalog_rests : (old new : State) (records others : List Fields) → RestsInTree old records t → HaveSafeHomes old next.keyspaces.living next.homes → HaveVersions next.homes next.versions → AreMade next.last next.keyspaces
       → ((q : Name) → outside 0 q ≡ true → new q ≡ old q) → Rests new others next.last next.keyspaces → RestsInTree new others next
-  catalog_rests old new records others lies homes made agree catalog = record {
+  catalog_rests old new records others lies homes versions made agree catalog = record {
     named = never_along 0 zero old new agree lies.named;
     catalog = catalog;
     made = made;
     homes = homes_along (IsOther 0) next.keyspaces.living next.homes (places next.keyspaces catalog.are) old new (other_along 0 zero old new (same_outside 0 zero old new agree)) homes;
+    versions = versions;
   }
 
-  pub catalog_crash : (state : State) (image : Image) (records others : List Fields) → RestsInTree state records t → HaveSafeHomes state next.keyspaces.living next.homes → AreMade next.last next.keyspaces
+  pub catalog_crash : (state : State) (image : Image) (records others : List Fields) → RestsInTree state records t → HaveSafeHomes state next.keyspaces.living next.homes → HaveVersions next.homes next.versions → AreMade next.last next.keyspaces
       → IsImageIn Survives (outside 0) state image → image (keyspace_folder 0) ≡ Folder → Says image others next.last next.keyspaces → HasTree image next
-  catalog_crash state image records others lies homes made is folder says =
+  catalog_crash state image records others lies homes versions made is folder says =
       tree_left 0 zero state image is others next (places next.keyspaces says.are)
-      (record { folder = lies.catalog.home.keyspaces_folder; named = lies.named; safe = homes }) made folder says
+      (record { folder = lies.catalog.home.keyspaces_folder; named = lies.named; safe = homes }) made versions folder says

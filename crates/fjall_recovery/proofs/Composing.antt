@@ -20,7 +20,7 @@ use Rattle.fjall_meta.specs.declared.living.LivingKeyspace.{LivingKeyspace}
 use Rattle.fjall_catalog.specs.Catalog.{Says}
 use Rattle.fjall_recovery.specs.Folders.{AreMade}
 use Rattle.fjall_recovery.specs.Halves.{HasTree, Tree, outside}
-use Rattle.fjall_recovery.specs.Homes.{HasPlainHome, Homes}
+use Rattle.fjall_recovery.specs.Homes.{HasPlainHome, HaveVersions, Homes}
 use Rattle.fjall_recovery.specs.Naming.{KeyspacesAreNamed}
 use Rattle.fjall_recovery.specs.Places.{HasSafeHome, HaveSafeHomes, IsNeverFolder}
 use Rattle.fjall_recovery.proofs.Housing.{homes_along, homes_left}
@@ -126,13 +126,14 @@ module _ (id : ℕ) (small : id < 2 ^ 64) where
       plain = home.plain;
     }
 
-    pub tree_left : (records : List Fields) (t : Tree) → AreOthers id t.keyspaces.living → Beside state t.keyspaces.living t.homes → AreMade t.last t.keyspaces → image (keyspace_folder 0) ≡ Folder
-        → Says image records t.last t.keyspaces → HasTree image t
-    tree_left records t others beside made folder says = record {
+    pub tree_left : (records : List Fields) (t : Tree) → AreOthers id t.keyspaces.living → Beside state t.keyspaces.living t.homes → AreMade t.last t.keyspaces → HaveVersions t.homes t.versions
+        → image (keyspace_folder 0) ≡ Folder → Says image records t.last t.keyspaces → HasTree image t
+    tree_left records t others beside made versions folder says = record {
       named = named_left (keyspaces_left beside.folder) beside.named;
       folder = folder;
       records = records;
       catalog = says;
       made = made;
       homes = homes_left (IsOther id) t.keyspaces.living t.homes others state image other_left beside.safe;
+      versions = versions;
     }

@@ -29,13 +29,14 @@ use Rattle.fjall_base.specs.Errors.{IsFaultOrMemory}
 use Rattle.fjall_recovery.specs.declared.folder.RecoveredFolder.{RecoveredFolder}
 use Rattle.fjall_recovery.specs.declared.homes.KeyspaceRecords.{KeyspaceRecords}
 use Rattle.fjall_recovery.specs.Folders.{AreEmpty, AreMade, Contents, IsBegun, IsFinished, IsSound, ReadsFolder, Shows, file_bytes, marker_bytes}
-use Rattle.fjall_recovery.specs.Homes.{AreHomesRead, HasHomeAt, HasPlainHome, HaveHomes, Homes, last_in, lasts, plain_home}
+use Rattle.fjall_recovery.specs.Homes.{AreHomesRead, HasHomeAt, HasPlainHome, HaveHomes, HaveVersions, Homes, Versions, last_in, lasts, plain_home}
 use Rattle.fjall_recovery.specs.Journals.{Journal, AreFound, AreJournalIds, HoldsJournals}
 use Rattle.fjall_recovery.specs.Naming.{AreFolderIds, JournalsAreNamed, KeyspacesAreNamed}
 use Rattle.fjall_recovery.specs.Refusals.{BegunRefuses, CatalogRefuses, FinishedRefuses, FolderRefuses, HomesRefuse, IsDue, JournalsRefuse, TreeRefuses, UnfinishedRefuses}
 use Rattle.fjall_recovery.proofs.Alone.{one_last}
 use Rattle.fjall_recovery.proofs.Gathering.{due}
 use Rattle.fjall_recovery.proofs.Housing.{IsHoused, all_housed, has_last, plain_read}
+use Rattle.fjall_recovery.proofs.Storing.{no_versions, plain_versions, versions_inserted}
 
 -- ---- causes
 
@@ -84,6 +85,11 @@ homes_from : List LivingKeyspace → List KeyspaceRecords → Homes
 homes_from (k ∷ living) (home ∷ homes) = insert (homes_from living homes) k.id (plain_home (records.view home.record))
 homes_from living homes = empty
 
+-- and their versions: none of them has a table
+versions_from : List LivingKeyspace → List KeyspaceRecords → Versions
+versions_from (k ∷ living) (home ∷ homes) = insert (versions_from living homes) k.id []
+versions_from living homes = empty
+
 home_held : (image : Image) (k : LivingKeyspace) (living : List LivingKeyspace) (h : Home) (homes : Homes) → HasPlainHome image k.id h → (id : ℕ) → HasHomeAt image id (keyspace_at id living) (get homes id)
     → HasHomeAt image id (keyspace_at id (k ∷ living)) (get (insert homes k.id h) id)
 home_held image k living h homes one id rest =
@@ -106,6 +112,15 @@ homes_held image [] (h ∷ homes) all = absurd all
 homes_held image (k ∷ living) [] all = absurd all
 homes_held image (k ∷ living) (h ∷ homes) all = λ id.
     home_held image k living (plain_home (records.view h.record)) (homes_from living homes) (plain_read image k.id (records.view h.record) all.0.folder all.0.read.has) id (homes_held image living homes all.1 id)
+
+versions_held : (image : Image) (living : List LivingKeyspace) (homes : List KeyspaceRecords) → AreHomesRead image living homes → HaveVersions (homes_from living homes) (versions_from living homes)
+unfolding homes_from versions_from
+versions_held image [] [] all = no_versions
+versions_held image [] (h ∷ homes) all = absurd all
+versions_held image (k ∷ living) [] all = absurd all
+versions_held image (k ∷ living) (h ∷ homes) all =
+    versions_inserted (homes_from living homes) (versions_from living homes) k.id (plain_home (records.view h.record)) [] (plain_versions (records.view h.record) all.0.read.has.plain)
+    (versions_held image living homes all.1)
 
 -- the records that were read are those of the homes that are there
 pub lasts_read : (image : Image) (living : List LivingKeyspace) (found : List KeyspaceRecords) (homes : Homes) → AreHomesRead image living found → HaveHomes image living homes
@@ -133,7 +148,7 @@ held image f marker named finished =
     let homes = homes_from f.catalog.keyspaces.living f.homes.items in
     let have = homes_held image f.catalog.keyspaces.living f.homes.items finished.homes in
     record {
-      contents = record { journals = found.journals; keyspaces = f.catalog.keyspaces; last = f.catalog.catalog; homes = homes };
+      contents = record { journals = found.journals; keyspaces = f.catalog.keyspaces; last = f.catalog.catalog; homes = homes; versions = versions_from f.catalog.keyspaces.living f.homes.items };
       sound = record {
         marker = marker;
         journals_named = named;
@@ -144,6 +159,7 @@ held image f marker named finished =
         catalog = finished.catalog;
         made = finished.made;
         homes = have;
+        versions = versions_held image f.catalog.keyspaces.living f.homes.items finished.homes;
       };
       shows = record {
         ids = sym found.named;

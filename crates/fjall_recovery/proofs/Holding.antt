@@ -16,7 +16,7 @@ use Rattle.fjall_recovery.proofs.Trees.{crashes_leave_the_tree, standing_tree}
 -- ---- both halves
 
 abbrev pub tree_of : Contents → Tree
-tree_of c = record { last = c.last; keyspaces = c.keyspaces; homes = c.homes }
+tree_of c = record { last = c.last; keyspaces = c.keyspaces; homes = c.homes; versions = c.versions }
 
 pub made : (image : Image) (c : Contents) → HasRoot image c.journals → HasTree image (tree_of c) → IsSound image c
 made image c root tree = record {
@@ -29,6 +29,7 @@ made image c root tree = record {
   catalog = tree.catalog;
   made = tree.made;
   homes = tree.homes;
+  versions = tree.versions;
 }
 
 pub root_of : (image : Image) (c : Contents) → IsSound image c → HasRoot image c.journals
@@ -42,6 +43,7 @@ tree_in image c sound = record {
   catalog = sound.catalog;
   made = sound.made;
   homes = sound.homes;
+  versions = sound.versions;
 }
 
 pub folder_stands : (image : Image) (folder : Option Contents) → IsFolder image folder → StandsFor image (store_held folder)

@@ -9,6 +9,7 @@ pub mod Kept
 pub mod Numbers
 pub mod Causes
 pub mod Housing
+pub mod Storing
 pub mod Composing
 pub mod Named
 pub mod Seen

@@ -34,6 +34,7 @@ trees_alike image other t agree has = record {
   catalog = Meanings.alike image other has.records t.last t.keyspaces (λ q under. agree q (under_within 0 q under)) has.catalog;
   made = has.made;
   homes = homes_alike (λ id. Unit {0}) t.keyspaces.living t.homes (λ k d lt. tt) image other (λ id h any home. plain_alike image other id h (λ q under. agree q (under_within id q under)) home) has.homes;
+  versions = has.versions;
 }
 
 -- ---- an image that shows keyspaces that rest
@@ -53,6 +54,7 @@ module _ (state : State) (image : Image) (seen : IsSeen is_of_keyspaces state im
         catalog = says;
         made = rests.made;
         homes = homes;
+        versions = rests.versions;
       }
 
 -- ---- what a crash leaves

@@ -11,9 +11,10 @@ use Rattle.fjall_files.specs.Marker.{marker_tells}
 use Rattle.fjall_files.specs.Names.{keyspace_folder}
 use Rattle.fjall_catalog.specs.declared.catalog.Catalog.{Catalog}
 use Rattle.fjall_catalog.specs.Catalog.{HasEnd, Says, fields, first_catalog, records_in}
-use Rattle.fjall_versions.specs.Replays.{bare, store_in, least_after}
+use Rattle.fjall_versions.specs.Replays.{bare, least_after}
+use Rattle.fjall_contents.specs.Contents.{store_held}
 use Rattle.fjall_recovery.specs.declared.folder.RecoveredFolder.{RecoveredFolder}
-use Rattle.fjall_recovery.specs.Homes.{AreHomesRead, HaveHomes, Homes, lasts}
+use Rattle.fjall_recovery.specs.Homes.{AreHomesRead, HaveHomes, HaveVersions, Homes, Versions, lasts, stored_in}
 use Rattle.fjall_recovery.specs.Journals.{Journal, HoldsJournals, AreFound, AreJournalIds, batches_in, journal_text}
 use Rattle.fjall_recovery.specs.Naming.{AreFolderIds, JournalsAreNamed, KeyspacesAreNamed}
 
@@ -43,12 +44,14 @@ past_records (r ∷ rs) = max (past_record r) (past_records rs)
 abbrev pub AreMade : Catalog → Keyspaces → Type 0
 AreMade last s = All (λ k. k.number < past_record (fields last)) s.living
 
--- What a folder holds: its journals, the keyspaces that live with the last record of tree 0, and the home of each of them.
+-- What a folder holds: its journals, the keyspaces that live with the last record of tree 0, the home of each of them, and the
+-- versions in its tables.
 pub record Contents : Type 0 where
   pub journals : List Journal
   pub keyspaces : Keyspaces
   pub last : Catalog
   pub homes : Homes
+  pub versions : Versions
 
 -- The image is a sound folder that was made to its end, and this is what it holds.
 pub record IsSound (image : Image) (c : Contents) : Type 0 where
@@ -61,6 +64,7 @@ pub record IsSound (image : Image) (c : Contents) : Type 0 where
   pub catalog : Says image records c.last c.keyspaces
   pub made : AreMade c.last c.keyspaces
   pub homes : HaveHomes image c.keyspaces.living c.homes
+  pub versions : HaveVersions c.homes c.versions
 
 -- no whole record stands at the front of the bytes, or tree 0's first one alone
 pub record IsBegun (text : List ℕ) : Type 0 where
@@ -82,9 +86,9 @@ pub record IsUnfinished (image : Image) : Type 0 where
   pub keyspaces_named : KeyspacesAreNamed image
   pub catalog : IsBegun (records_in image)
 
--- the store of a folder's contents
+-- the store of a folder's contents: what its files hold, and what its batches make beyond that
 abbrev pub store_of : Contents → Store
-store_of c = store_in c.keyspaces (map shown (batches_in c.journals))
+store_of c = store_held c.keyspaces (stored_in c.homes c.versions) (map shown (batches_in c.journals))
 
 -- one past the greatest number that is found in a folder, and 0 where there is none
 abbrev pub number_of : Contents → ℕ

@@ -12,7 +12,8 @@ use Rattle.fjall_catalog.specs.declared.catalog.Catalog.{Catalog}
 use Rattle.fjall_catalog.specs.Catalog.{Says}
 use Rattle.fjall_recovery.specs.Folders.{AreMade, marker_bytes}
 use Rattle.fjall_home.specs.Homes.{Home}
-use Rattle.fjall_recovery.specs.Homes.{HaveHomes, Homes}
+use Rattle.fjall_table.specs.Blocks.{Entry}
+use Rattle.fjall_recovery.specs.Homes.{HaveHomes, HaveVersions, Homes, Versions}
 use Rattle.fjall_recovery.specs.Journals.{Journal, HoldsJournals}
 use Rattle.fjall_recovery.specs.Naming.{JournalsAreNamed, KeyspacesAreNamed}
 
@@ -34,15 +35,21 @@ pub record HasRoot (image : Image) (journals : List Journal) : Type 0 where
   pub named : JournalsAreNamed image
   pub holds : HoldsJournals image journals
 
--- what tree 0's last record says, the keyspaces that live, and the home of each of them
+-- what tree 0's last record says, the keyspaces that live, the home of each of them, and the versions in its tables
 pub record Tree : Type 0 where
   pub last : Catalog
   pub keyspaces : Keyspaces
   pub homes : Homes
+  pub versions : Versions
 
--- the tree where the keyspace of this id has that home
-abbrev pub with_home_at : ℕ → Home → Tree → Tree
-with_home_at id h t = record { last = t.last; keyspaces = t.keyspaces; homes = insert t.homes id h }
+-- the tree where the keyspace of this id has that home, with these versions in its tables
+abbrev pub with_home_at : ℕ → Home → List Entry → Tree → Tree
+with_home_at id h versions t = record {
+  last = t.last;
+  keyspaces = t.keyspaces;
+  homes = insert t.homes id h;
+  versions = insert t.versions id versions;
+}
 
 -- the keyspaces of an image that is a sound folder
 pub record HasTree (image : Image) (t : Tree) : Type 0 where
@@ -52,3 +59,4 @@ pub record HasTree (image : Image) (t : Tree) : Type 0 where
   pub catalog : Says image records t.last t.keyspaces
   pub made : AreMade t.last t.keyspaces
   pub homes : HaveHomes image t.keyspaces.living t.homes
+  pub versions : HaveVersions t.homes t.versions

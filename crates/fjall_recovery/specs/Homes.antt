@@ -1,12 +1,16 @@
 -- The homes of keyspaces: the folder of each, with its records.
-use Rattle.std.specs.Prelude.{◌≡◌, ℕ, List, [], ◌∷◌, length, map, Option, Some, None}
+use Rattle.std.specs.Prelude.{◌≡◌, ℕ, false, List, [], ◌∷◌, length, map, All, Option, Some, None}
+use Rattle.std.specs.List.{flat_map}
 use Rattle.std.specs.Ordering.{nat_cmp}
 use Rattle.std.specs.FinMap.{FinMap, get}
 use Rattle.fjall_base.specs.Disk.{Folder, Image}
 use Rattle.fjall_base.specs.Lists.{last_of}
 use Rattle.fjall_files.specs.Names.{keyspace_folder}
 use Rattle.fjall_tree.specs.Records.{Fields, IsRecords, view}
+use Rattle.fjall_table.specs.Blocks.{Entry}
 use Rattle.fjall_home.specs.Homes.{HasHome, Home, records_text}
+use Rattle.fjall_home.specs.Reading.{AreRight}
+use Rattle.fjall_contents.specs.Contents.{IsWithin, Stored, is_beyond, nothing_stored}
 use Rattle.fjall_meta.specs.declared.living.LivingKeyspace.{LivingKeyspace}
 use Rattle.fjall_meta.specs.Keyspaces.{keyspace_at}
 use Rattle.fjall_recovery.specs.declared.homes.KeyspaceRecords.{KeyspaceRecords}
@@ -17,12 +21,10 @@ Homes = FinMap nat_cmp Home
 
 -- ---- one home
 
--- The data of keyspaces come from the journals alone, so a record tells of no table and of no clear, and nothing is
--- persisted.
+-- No table is read yet, so a record tells of none. No clear of it is beyond the persisted number.
 pub record IsPlain (last : Fields) : Type 0 where
-  pub persisted : last.persisted ≡ None
   pub tables : last.tables ≡ []
-  pub clears : last.clears ≡ []
+  pub clears : All (λ n. is_beyond last.persisted n ≡ false) last.clears
 
 -- The keyspace of this id has this home in the image, and its last record is plain.
 pub record HasPlainHome (image : Image) (id : ℕ) (h : Home) : Type 0 where
@@ -58,6 +60,43 @@ last_in (Some h) = h.last
 -- the last records of these keyspaces' homes, in the keyspaces' order
 abbrev pub lasts : List LivingKeyspace → Homes → List Fields
 lasts living homes = map (λ k. last_in (get homes k.id)) living
+
+-- ---- what they hold
+
+-- the versions in keyspaces' tables by the keyspaces' ids
+abbrev pub Versions : Type 0
+Versions = FinMap nat_cmp (List Entry)
+
+-- what a home whose tables have these versions holds of its keyspace
+abbrev pub stored_of : Home → List Entry → Stored
+stored_of h versions = record { persisted = h.last.persisted; versions = versions; clears = h.last.clears }
+
+-- Every block of a home's tables is right, these are the versions in them, one table after another, and nothing that it holds
+-- is beyond the persisted number.
+pub record HasVersions (h : Home) (versions : List Entry) : Type 0 where
+  pub lists : List (List Entry)
+  pub right : AreRight h.last.tables h.texts lists
+  pub all : versions ≡ flat_map (λ entries. entries) lists
+  pub within : IsWithin (stored_of h versions)
+
+-- a home has its versions, and where none is there are none
+abbrev pub HasVersionsAt : Option Home → Option (List Entry) → Type 0
+HasVersionsAt (Some h) (Some versions) = HasVersions h versions
+HasVersionsAt None None = Unit {0}
+HasVersionsAt h versions = ⊥
+
+-- these homes have these versions
+abbrev pub HaveVersions : Homes → Versions → Type 0
+HaveVersions homes versions = (id : ℕ) → HasVersionsAt (get homes id) (get versions id)
+
+-- what a home with its versions holds, and nothing where none is
+abbrev pub stored_at : Option Home → Option (List Entry) → Stored
+stored_at (Some h) (Some versions) = stored_of h versions
+stored_at h versions = nothing_stored
+
+-- what each id's home holds
+abbrev pub stored_in : Homes → Versions → ℕ → Stored
+stored_in homes versions id = stored_at (get homes id) (get versions id)
 
 -- ---- as they are read
 

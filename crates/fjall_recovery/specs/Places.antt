@@ -17,7 +17,7 @@ use Rattle.fjall_meta.specs.Keyspaces.{keyspace_at}
 use Rattle.fjall_catalog.specs.Catalog.{Rests}
 use Rattle.fjall_versions.specs.Replays.{first_fault}
 use Rattle.fjall_recovery.specs.Folders.{AreMade, Contents}
-use Rattle.fjall_recovery.specs.Homes.{Homes, IsPlain}
+use Rattle.fjall_recovery.specs.Homes.{HaveVersions, Homes, IsPlain}
 use Rattle.fjall_recovery.specs.Journals.{Journal, batches_in}
 use Rattle.fjall_recovery.specs.Halves.{Tree}
 
@@ -92,6 +92,7 @@ pub record RestsInTree (state : State) (records : List Fields) (t : Tree) : Type
   pub catalog : Rests state records t.last t.keyspaces
   pub made : AreMade t.last t.keyspaces
   pub homes : HaveSafeHomes state t.keyspaces.living t.homes
+  pub versions : HaveVersions t.homes t.versions
 
 -- The same, and tree 0 is ready for a change: no table stands under an id that is still to be given out.
 pub record LiesInTree (state : State) (records : List Fields) (t : Tree) : Type 0 where
@@ -102,4 +103,4 @@ pub record LiesInTree (state : State) (records : List Fields) (t : Tree) : Type 
 
 -- what the folder holds where the active journal has these batches behind its synced ones
 abbrev pub contents_with : Journaling → Tree → List Written → Contents
-contents_with j t behind = record { journals = journals_with j behind; keyspaces = t.keyspaces; last = t.last; homes = t.homes }
+contents_with j t behind = record { journals = journals_with j behind; keyspaces = t.keyspaces; last = t.last; homes = t.homes; versions = t.versions }

@@ -1,9 +1,10 @@
 //! The records of each keyspace.
 
-ghost use Rattle.std.specs.Prelude.{◌≡◌, ◌≤◌, ◌↔◌, [], IsTrue, IfErr, IfOk};
+ghost use Rattle.std.specs.Prelude.{◌≡◌, ◌≤◌, ◌↔◌, false, [], All, IsTrue, IfErr, IfOk};
 ghost use Rattle.fjall_base.specs.Disk.{Took};
 ghost use Rattle.fjall_tree.specs.Records.{view};
 ghost use Rattle.fjall_home.specs.Homes.{records_text};
+ghost use Rattle.fjall_contents.specs.Contents.{is_beyond};
 ghost use Rattle.fjall_recovery.specs.Homes.{AreHomesRead, HasNoRecord, IsPlain, IsRead, IsReadFrom};
 ghost use Rattle.fjall_recovery.specs.Naming.{AreFolderIds};
 ghost use Rattle.fjall_recovery.specs.Refusals.{HasRisen, HomeRefuses, HomesRefuse, IsDue, IsOpeningRefusal};
@@ -31,11 +32,28 @@ pub struct KeyspaceRecords {
 
 const DAMAGED: Error = Error::Storage(StorageError::RecordDamaged);
 
-/// Whether a record tells of no table and no clear, and nothing that is persisted.
+/// Whether a number is beyond the persisted one; where there is none, each is.
+fn is_beyond(persisted: Option<u64>, number: u64) -> bool
+    ensures { result ≡ is_beyond persisted number }
+{
+    match persisted {
+        Some(last) => last < number,
+        None => true,
+    }
+}
+
+/// Whether none of these numbers is beyond the persisted one.
+fn are_within(persisted: Option<u64>, numbers: &[u64]) -> bool
+    ensures { IsTrue result ↔ All (λ n. is_beyond persisted n ≡ false) numbers.now }
+{
+    numbers.iter().all(|number| !is_beyond(persisted, *number))
+}
+
+/// Whether a record tells of no table, and of no clear beyond the persisted number.
 fn is_plain(last: &Record) -> bool
     ensures { IsTrue result ↔ IsPlain (view last.now) }
 {
-    last.persisted.is_none() && last.tables.is_empty() && last.clears.is_empty()
+    last.tables.is_empty() && are_within(last.persisted, &last.clears)
 }
 
 /// Reads the records of the keyspace of this id.
@@ -90,7 +108,8 @@ fn read_home<D: Disk>(
 
 /// Reads the records of these keyspaces, one after another. The folders that there are have these ids.
 ///
-/// A keyspace without a folder is `Unrecoverable`; one whose records aren't such is `Storage(RecordDamaged)`.
+/// A keyspace without a folder is `Unrecoverable`. One without a whole record is `Storage(RecordDamaged)`, and so is one whose
+/// last record tells of a table, or of a clear beyond its persisted number.
 pub(crate) fn read_homes<D: Disk>(
     alloc: Global,
     disk: &mut D,

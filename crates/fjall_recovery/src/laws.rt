@@ -4,10 +4,11 @@ ghost use Rattle.std.specs.Prelude.{◌≡◌, List, ◌++◌, ◌<◌, ◌^◌,
 ghost use Rattle.fjall_base.specs.Disk.{Folder, Image, Leaves, Name, State, Step, Survives, disk_of};
 ghost use Rattle.fjall_base.specs.declared.error.Error.{Error};
 ghost use Rattle.fjall_base.specs.Store.{Store};
+ghost use Rattle.fjall_table.specs.Blocks.{Entry};
 ghost use Rattle.fjall_home.specs.Homes.{Home};
 ghost use Rattle.fjall_meta.specs.Keyspaces.{keyspace_at};
 ghost use Rattle.fjall_catalog.specs.Catalog.{Rests, Says};
-ghost use Rattle.fjall_recovery.specs.Homes.{HasPlainHome, HaveHomes};
+ghost use Rattle.fjall_recovery.specs.Homes.{HasPlainHome, HasVersions, HaveHomes, HaveVersions};
 ghost use Rattle.fjall_recovery.specs.Folders.{AreMade, Contents, IsSound, StandsFor};
 ghost use Rattle.fjall_recovery.specs.Journals.{Journal, HoldsJournals};
 ghost use Rattle.fjall_recovery.specs.Refusals.{AreOne, FolderRefuses};
@@ -47,9 +48,9 @@ pub fn sound_folders_are_read()
 /// A folder is sound where its root and its keyspaces are.
 pub fn a_sound_folder_has_both_halves()
     ensures made { (image : Image) (c : Contents) → HasRoot image c.journals
-        → HasTree image (record { last = c.last; keyspaces = c.keyspaces; homes = c.homes }) → IsSound image c }
+        → HasTree image (record { last = c.last; keyspaces = c.keyspaces; homes = c.homes; versions = c.versions }) → IsSound image c }
     ensures parted { (image : Image) (c : Contents) → IsSound image c
-        → HasRoot image c.journals × HasTree image (record { last = c.last; keyspaces = c.keyspaces; homes = c.homes }) }
+        → HasRoot image c.journals × HasTree image (record { last = c.last; keyspaces = c.keyspaces; homes = c.homes; versions = c.versions }) }
 {}
 
 /// The root of an image is sound by what stands outside `keyspaces`.
@@ -63,30 +64,34 @@ pub fn trees_alike()
     ensures { (image other : Image) (t : Tree) → ((q : Name) → is_of_keyspaces q ≡ true → other q ≡ image q) → HasTree image t → HasTree other t }
 {}
 
-/// A change within the folder of a keyspace that lives, which has that home then, leaves all else of the tree as it is: in
-/// what stands, on a disk where all rests, and in whatever a crash leaves of that elsewhere.
+/// A change within the folder of a keyspace that lives, which has that home then, with those versions in its tables, leaves all
+/// else of the tree as it is: in what stands, on a disk where all rests, and in whatever a crash leaves of that elsewhere.
 pub fn one_home_changes()
-    ensures image { (image other : Image) (t : Tree) (id : ℕ) (h : Home) → HasTree image t → is_some (keyspace_at id t.keyspaces.living) ≡ true
-        → ((q : Name) → outside id q ≡ true → other q ≡ image q) → HasPlainHome other id h → HasTree other (with_home_at id h t) }
-    ensures rests { (old new : State) (records : List Fields) (t : Tree) (id : ℕ) (h : Home) → RestsInTree old records t
+    ensures image { (image other : Image) (t : Tree) (id : ℕ) (h : Home) (versions : List Entry) → HasTree image t
+        → is_some (keyspace_at id t.keyspaces.living) ≡ true → ((q : Name) → outside id q ≡ true → other q ≡ image q) → HasPlainHome other id h → HasVersions h versions
+        → HasTree other (with_home_at id h versions t) }
+    ensures rests { (old new : State) (records : List Fields) (t : Tree) (id : ℕ) (h : Home) (versions : List Entry) → RestsInTree old records t
         → is_some (keyspace_at id t.keyspaces.living) ≡ true → ((q : Name) → outside id q ≡ true → new q ≡ old q) → HasSafeHome new id h
-        → RestsInTree new records (with_home_at id h t) }
-    ensures crash { (state : State) (image : Image) (records : List Fields) (t : Tree) (id : ℕ) (h : Home) → RestsInTree state records t
-        → is_some (keyspace_at id t.keyspaces.living) ≡ true → IsImageIn Survives (outside id) state image → HasPlainHome image id h
-        → HasTree image (with_home_at id h t) }
+        → HasVersions h versions → RestsInTree new records (with_home_at id h versions t) }
+    ensures crash { (state : State) (image : Image) (records : List Fields) (t : Tree) (id : ℕ) (h : Home) (versions : List Entry)
+        → RestsInTree state records t → is_some (keyspace_at id t.keyspaces.living) ≡ true → IsImageIn Survives (outside id) state image → HasPlainHome image id h
+        → HasVersions h versions → HasTree image (with_home_at id h versions t) }
 {}
 
 /// A change within tree 0's folder, after which it says that other keyspaces live, leaves the homes as they are: the tree is
 /// that of the keyspaces that live then, where each of them has its home already.
 pub fn the_catalog_changes()
     ensures image { (image other : Image) (records : List Fields) (t next : Tree) → HasTree image t → HaveHomes image next.keyspaces.living next.homes
-        → AreMade next.last next.keyspaces → ((q : Name) → outside 0 q ≡ true → other q ≡ image q) → other (keyspace_folder 0) ≡ Folder
+        → HaveVersions next.homes next.versions → AreMade next.last next.keyspaces → ((q : Name) → outside 0 q ≡ true → other q ≡ image q)
+        → other (keyspace_folder 0) ≡ Folder
         → Says other records next.last next.keyspaces → HasTree other next }
     ensures rests { (old new : State) (records others : List Fields) (t next : Tree) → RestsInTree old records t
-        → HaveSafeHomes old next.keyspaces.living next.homes → AreMade next.last next.keyspaces → ((q : Name) → outside 0 q ≡ true → new q ≡ old q)
+        → HaveSafeHomes old next.keyspaces.living next.homes → HaveVersions next.homes next.versions → AreMade next.last next.keyspaces
+        → ((q : Name) → outside 0 q ≡ true → new q ≡ old q)
         → Rests new others next.last next.keyspaces → RestsInTree new others next }
     ensures crash { (state : State) (image : Image) (records others : List Fields) (t next : Tree) → RestsInTree state records t
-        → HaveSafeHomes state next.keyspaces.living next.homes → AreMade next.last next.keyspaces → IsImageIn Survives (outside 0) state image
+        → HaveSafeHomes state next.keyspaces.living next.homes → HaveVersions next.homes next.versions → AreMade next.last next.keyspaces
+        → IsImageIn Survives (outside 0) state image
         → image (keyspace_folder 0) ≡ Folder → Says image others next.last next.keyspaces → HasTree image next }
 {}
 

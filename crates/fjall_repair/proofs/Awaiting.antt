@@ -24,6 +24,7 @@ use Rattle.fjall_versions.specs.Replays.{first_fault}
 use Rattle.fjall_recovery.specs.Journals.{Journal, batches_in}
 use Rattle.fjall_recovery.specs.Places.{HasSafeHomeAt, IsNeverFile, IsNeverFolder, LiesInRoot, RestsInTree, journal_ids, journals_with, texts_of}
 use Rattle.fjall_recovery.proofs.Named.{journal_within}
+use Rattle.fjall_recovery.proofs.Storing.{no_versions}
 use Rattle.fjall_repair.specs.Making.{IsMaking}
 use Rattle.fjall_repair.specs.Plans.{AreToBe, AwaitsMarker, HasFirstTree, empty_journals, first_text, first_tree, marked}
 use Rattle.fjall_repair.proofs.Emptying.{AreEmptied}
@@ -209,6 +210,7 @@ module _ {X : Type 0} (text : X → Name) (old one two new : Meaning) (xs : List
     };
     made = All-nil _;
     homes = λ id. no_home (marked (state_in new)) id;
+    versions = no_versions;
   }
 
   pub awaits : AwaitsMarker (state_in new) sealed active

@@ -100,6 +100,7 @@ module _ (image other : Image) where
         catalog = record { texts = tree.catalog.texts; files = files.1; pairs = tree.catalog.pairs; next = tree.catalog.next; are = tree.catalog.are };
         made = tree.made;
         homes = have_along image t.keyspaces.living t.homes other (λ id h lives has. home_along same id h has) tree.homes;
+        versions = tree.versions;
       }
 
   pub tree_along : (t : Tree) → ((q : Name) → other q ≡ Folder → image q ≡ Folder) → ((q : Name) → image q ≡ Folder → other q ≡ Folder)

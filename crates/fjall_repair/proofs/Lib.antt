@@ -46,6 +46,7 @@ pub mod Listings
 pub mod Rooted
 pub mod Repairing
 pub mod Numbering
+pub mod Replayed
 pub mod Openings
 pub mod Amid
 pub mod SweepServed

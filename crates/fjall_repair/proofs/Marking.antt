@@ -2,7 +2,7 @@
 use Rattle.std.proofs.Common.{◌≡◌, inl, inr, ⊎_elim, ℕ, Bool, true, false, not, List, [], ◌∷◌, ◌++◌, codes, Some, Result, Ok, Err, refl, sym, ◌∙◌, ap, subst, arith, length}
 use Rattle.std.proofs.lemmas.List.{append_cancel_left, take_all}
 use Rattle.std.proofs.lemmas.Bool.{true≢false}
-use Rattle.std.specs.Prelude.{OnOk, OnErr, map}
+use Rattle.std.specs.Prelude.{OnOk, OnErr}
 use Rattle.std.specs.List.{AllByRecursion}
 use Rattle.std.specs.Str.{bytes_eq}
 use Rattle.fjall_base.specs.declared.error.Error.{Error}
@@ -14,13 +14,12 @@ use Rattle.fjall_base.proofs.States.{settle-in, settle-out}
 use Rattle.fjall_base.proofs.Names.{bool_cases, same}
 use Rattle.fjall_files.specs.Regions.{IsImageIn}
 use Rattle.fjall_files.proofs.Parts.{in_region, region_along, region_settle}
-use Rattle.fjall_journal.specs.Batches.{Written, shown}
 use Rattle.fjall_files.specs.declared.marker.Marker.TheVariants.{Unfinished}
 use Rattle.fjall_files.specs.Marker.{header, marker_tells}
 use Rattle.fjall_meta.specs.Keyspaces.{no_keyspaces}
 use Rattle.fjall_home.specs.Homes.{only}
 use Rattle.fjall_catalog.specs.Catalog.{fields, first_catalog}
-use Rattle.fjall_versions.specs.Replays.{bare, store_in}
+use Rattle.fjall_versions.specs.Replays.{bare}
 use Rattle.fjall_recovery.specs.Folders.{StandsFor, file_bytes, store_of}
 use Rattle.fjall_recovery.specs.Places.{contents_with, LiesInRoot, RestsInTree}
 use Rattle.fjall_recovery.proofs.Holding.{IsLeft, a_rest_holds, crash_left}
@@ -129,7 +128,7 @@ unmarked_making image making cut name = record {
 }
 
 store_none : (sealed : List ℕ) (active : ℕ) → bare no_keyspaces ≡ store_of (contents_with (empty_journals sealed active) first_tree [])
-store_none sealed active = ap (λ (l : List Written). store_in no_keyspaces (map shown l)) (sym (batches_none sealed active))
+store_none sealed active = refl
 
 pub stands_for : (state : State) (sealed : List ℕ) (active : ℕ) (image : Image) → AwaitsMarker state sealed active → IsMarking state image → StandsFor image (bare no_keyspaces)
 stands_for state sealed active image awaits marking = ⊎_elim

@@ -16,7 +16,8 @@ use Rattle.fjall_journal.specs.Batches.{Written, shown}
 use Rattle.fjall_journal.proofs.Cuts.{none_at_nil}
 use Rattle.fjall_files.specs.Marker.{marker_tells}
 use Rattle.fjall_files.specs.Names.{journal_name, current_name, table_name}
-use Rattle.fjall_versions.specs.Replays.{store_in}
+use Rattle.fjall_contents.specs.Contents.{store_held}
+use Rattle.fjall_recovery.specs.Homes.{stored_in}
 use Rattle.fjall_recovery.specs.Folders.{Contents, IsSound, StandsFor, store_of, file_bytes}
 use Rattle.fjall_recovery.specs.Journals.{Journal, ReadsAs, AreJournalIds, batches_in}
 use Rattle.fjall_recovery.specs.Halves.{HasRoot}
@@ -113,7 +114,7 @@ same_batches [] = refl
 same_batches (j ∷ js) = refl
 
 pub same_store : (c : Contents) → store_of c ≡ store_of (with_active c)
-same_store c = ap (λ (bs : List Written). store_in c.keyspaces (map shown bs)) (sym (same_batches c.journals))
+same_store c = ap (λ (bs : List Written). store_held c.keyspaces (stored_in c.homes c.versions) (map shown bs)) (sym (same_batches c.journals))
 
 pub either_stands : (c : Contents) (image : Image) → SoundEither c image → StandsFor image (store_of c)
 either_stands c image (inl sound) = inl (c, sound, refl)
@@ -127,7 +128,7 @@ no_other image (j ∷ js) root file = refl
 pub sound_open : (c : Contents) (image : Image) → IsFile (image (journal_name (active_of (ids_of c.journals)))) → SoundEither c image → IsSound image (with_active c)
 sound_open c image file (inr sound) = sound
 sound_open c image file (inl sound) =
-    subst (λ (js : List Journal). IsSound image (let r : Contents = record { journals = js; keyspaces = c.keyspaces; last = c.last; homes = c.homes } in r)) (sym (no_other image c.journals (root_of image c sound) file)) sound
+    subst (λ (js : List Journal). IsSound image (let r : Contents = record { journals = js; keyspaces = c.keyspaces; last = c.last; homes = c.homes; versions = c.versions } in r)) (sym (no_other image c.journals (root_of image c sound) file)) sound
 
 pub some_swap : (older : List Entry) (entry left : Entry) → SomeSurvives (older ++ entry ∷ []) left → SomeSurvives (entry ∷ older) left
 some_swap [] entry left some = some

@@ -1,7 +1,8 @@
 -- What was opened, and the disk until then.
 use Rattle.std.proofs.Common.{◌≡◌, inl, inr, ℕ, ◌<◌, max, List, [], ◌∷◌, length, map, All, Option, None, Some, Result, Ok, Err, refl, sym, ◌∙◌, ap, subst, arith}
 use Rattle.std.specs.List.{AllByRecursion}
-use Rattle.std.proofs.lemmas.List.Elements.{All-from_recursion}
+use Rattle.std.specs.FinMap.{get}
+use Rattle.std.proofs.lemmas.List.Elements.{All-from_recursion, All-nil}
 use Rattle.std.specs.Prelude.{IfOk, IfErr}
 use Rattle.fjall_base.specs.Disk.{Name, State, Image, Survives, LeavesBy, LeavesOnly, Meaning, Took, standing, state_in}
 use Rattle.fjall_base.specs.declared.error.Error.{Error}
@@ -9,24 +10,26 @@ use Rattle.fjall_base.specs.declared.error.Error.TheVariants.{Io, OutOfMemory}
 use Rattle.fjall_base.proofs.Moments.{started}
 use Rattle.fjall_files.proofs.Made.{took_both}
 use Rattle.fjall_journal.specs.Batches.{Shown, Written, shown, view}
-use Rattle.fjall_meta.specs.Keyspaces.{Keyspaces}
+use Rattle.fjall_meta.specs.Keyspaces.{Keyspaces, no_keyspaces}
 use Rattle.fjall_versions.specs.declared.version.Version.{Version}
-use Rattle.fjall_versions.proofs.Replaying.{replay_makes_the_store}
 use Rattle.fjall_journal.specs.Writer.{Journal}
 use Rattle.fjall_files.specs.Names.{journal_name}
-use Rattle.fjall_versions.specs.Versions.{store_of as store_behind, versions_behind}
-use Rattle.fjall_recovery.specs.Places.{texts_of, contents_with}
-use Rattle.fjall_versions.specs.Replays.{store_in, least_after}
+use Rattle.fjall_versions.specs.declared.recovery.Persisted.{Persisted}
+use Rattle.fjall_versions.specs.Versions.{store_of as store_behind}
+use Rattle.fjall_versions.specs.Replays.{bare, first_fault, least_after, persisted_at}
+use Rattle.fjall_contents.specs.Contents.{store_held as store_with}
+use Rattle.fjall_contents.specs.Memory.{AreTold, versions_beyond}
+use Rattle.fjall_recovery.specs.Places.{texts_of, contents_with, journals_with}
 use Rattle.fjall_tree.specs.Records.{Fields, IsRecord}
 use Rattle.fjall_base.specs.Lists.{last_of}
 use Rattle.fjall_tree.specs.Records as records
 use Rattle.fjall_meta.specs.declared.living.LivingKeyspace.{LivingKeyspace}
-use Rattle.fjall_catalog.specs.Catalog.{fields}
+use Rattle.fjall_catalog.specs.Catalog.{fields, first_catalog}
 use Rattle.fjall_home.proofs.Resting.{last_has}
 use Rattle.fjall_recovery.specs.Folders.{Contents, IsFinished, IsSound, IsUnfinished, Shows, StandsFor, number_of, past_record, past_records, store_of}
 use Rattle.fjall_recovery.specs.declared.folder.RecoveredFolder.{RecoveredFolder}
 use Rattle.fjall_recovery.specs.declared.homes.KeyspaceRecords.{KeyspaceRecords}
-use Rattle.fjall_recovery.specs.Homes.{AreHomesRead, lasts}
+use Rattle.fjall_recovery.specs.Homes.{AreHomesRead, HaveVersions, last_in, lasts, stored_in}
 use Rattle.fjall_recovery.specs.Refusals.{FolderRefuses, HasRisen, IsDue}
 use Rattle.fjall_recovery.proofs.Alone.{one_contents}
 use Rattle.fjall_journal.proofs.Writing.{took_none}
@@ -34,10 +37,13 @@ use Rattle.fjall_files.specs.declared.marker.Marker.TheVariants.{Whole, Unfinish
 use Rattle.fjall_recovery.specs.Journals.{batches_in}
 use Rattle.fjall_recovery.specs.Held.{Holds, IsFolder, number_held, store_held}
 use Rattle.fjall_recovery.proofs.Holding.{folder_stands, tree_of}
+use Rattle.fjall_recovery.proofs.Storing.{homes_name_none, safe_homes_name_none}
 use Rattle.fjall_repair.proofs.Begun as Beginning
+use Rattle.fjall_repair.proofs.Replayed.{replayed_stands, told}
+use Rattle.fjall_repair.specs.Readings.{TakesRead, persisted_of}
 use Rattle.fjall_repair.specs.declared.opened.Opened.{Opened}
 use Rattle.fjall_repair.specs.Sweeps.{IsSwept}
-use Rattle.fjall_repair.specs.Opened.{ComesBack, HasNumbers, IsHeldUp, IsOpenedFrom, IsRepaired, IsUnopened, StandsForSome, Opens, Takes, records_of}
+use Rattle.fjall_repair.specs.Opened.{ComesBack, HasNumbers, IsHeldUp, IsOpenedFrom, IsRepaired, IsUnopened, StandsForSome, Opens, Takes, nothing, records_of}
 
 -- ---- before the first change
 
@@ -60,24 +66,62 @@ stands_now old folder holds = started old (λ image. StandsFor image (store_held
 -- ---- what was opened
 
 -- what was read is what the folder holds
-pub takes_contents : (found : RecoveredFolder) (contents : Contents) (o : Opened) (active : Name) (end : ℕ) → Shows found contents → Takes o active end found.catalog.catalog found.catalog.keyspaces (map view found.journals.batches.items)
-    → Takes o active end contents.last contents.keyspaces (map shown (batches_in contents.journals))
-takes_contents found contents o active end shows takes = record {
+pub takes_contents : (found : RecoveredFolder) (contents : Contents) (o : Opened) (active : Name) → Shows found contents → TakesRead o active found
+    → Takes o active found.journals.end contents.last contents.keyspaces (persisted_of found) (map shown (batches_in contents.journals))
+takes_contents found contents o active shows takes = record {
   journal = takes.journal;
   last_is = takes.last_is ∙ shows.last;
   keyspaces = takes.keyspaces ∙ shows.keyspaces;
-  versions = takes.versions ∙ ap (λ (s : Keyspaces). versions_behind s [] (map view found.journals.batches.items)) shows.keyspaces ∙ ap (λ (b : List Shown). versions_behind contents.keyspaces [] b) shows.batches;
+  versions = λ stored are.
+      takes.versions stored (subst (λ (s : Keyspaces). AreTold s stored (persisted_of found)) (sym shows.keyspaces) are)
+      ∙ ap (λ (s : Keyspaces). versions_beyond s stored [] (map view found.journals.batches.items)) shows.keyspaces
+      ∙ ap (λ (b : List Shown). versions_beyond contents.keyspaces stored [] b) shows.batches;
 }
 
--- and it stands for the store of the folder
-pub makes_store : (contents : Contents) (active : Name) (end : ℕ) (o : Opened) → Takes o active end contents.last contents.keyspaces (map shown (batches_in contents.journals)) → store_behind o.keyspaces o.versions.items ≡ store_of contents
-makes_store contents active end o takes =
-    ap (λ (s : Keyspaces). store_behind s o.versions.items) takes.keyspaces ∙ ap (λ (v : List Version). store_behind contents.keyspaces v) takes.versions
-    ∙ sym (replay_makes_the_store contents.keyspaces (map shown (batches_in contents.journals)))
+-- of what a folder holds these persisted numbers are told
+abbrev pub AreToldOf : Contents → List Persisted → Type 0
+AreToldOf contents persisted = AreTold contents.keyspaces (stored_in contents.homes contents.versions) persisted
+
+-- and it stands for the store of the folder, in which no record names a table
+pub makes_store : (contents : Contents) (active : Name) (end : ℕ) (persisted : List Persisted) (o : Opened)
+    → Takes o active end contents.last contents.keyspaces persisted (map shown (batches_in contents.journals)) → AreToldOf contents persisted
+    → HaveVersions contents.homes contents.versions → ((id : ℕ) → (last_in (get contents.homes id)).tables ≡ []) → first_fault 0 (map shown (batches_in contents.journals)) ≡ None
+    → store_behind o.keyspaces o.versions.items ≡ store_of contents
+makes_store contents active end persisted o takes are have none sound =
+    ap (λ (s : Keyspaces). store_behind s o.versions.items) takes.keyspaces
+    ∙ ap (λ (v : List Version). store_behind contents.keyspaces v) (takes.versions (stored_in contents.homes contents.versions) are)
+    ∙ replayed_stands contents.keyspaces contents.homes contents.versions have none (map shown (batches_in contents.journals)) sound
+
+-- so does what was opened of a sound folder
+pub makes_sound : (image : Image) (found : RecoveredFolder) (contents : Contents) (active : Name) (o : Opened) → IsFinished image found → Shows found contents → IsSound image contents
+    → TakesRead o active found → store_behind o.keyspaces o.versions.items ≡ store_of contents
+makes_sound image found contents active o read shows sound takes =
+    makes_store contents active found.journals.end (persisted_of found) o (takes_contents found contents o active shows takes) (told image found contents read shows sound.versions)
+    sound.versions (homes_name_none image contents.keyspaces.living contents.homes sound.homes) sound.journals.sound
+
+-- of a database without keyspaces nothing is told, and it stands for the store that holds nothing
+pub nothing_told : AreToldOf nothing []
+nothing_told = All-nil (λ (k : LivingKeyspace). persisted_at k.id [] ≡ (stored_in nothing.homes nothing.versions k.id).persisted)
+
+pub makes_nothing : (active : Name) (o : Opened) → Takes o active 0 first_catalog no_keyspaces [] [] → store_behind o.keyspaces o.versions.items ≡ bare no_keyspaces
+makes_nothing active o takes =
+    ap (λ (s : Keyspaces). store_behind s o.versions.items) takes.keyspaces
+    ∙ ap (λ (v : List Version). store_behind no_keyspaces v) (takes.versions (stored_in nothing.homes nothing.versions) nothing_told)
 
 module _ (state : State) (contents : Contents) (active : Name) (end : ℕ) (is : IsRepaired state contents active end) where
   same_store : store_of (contents_with is.j (tree_of contents) []) ≡ store_of contents
-  same_store = ap (λ (b : List Written). store_in contents.keyspaces (map shown b)) is.batches
+  same_store = ap (λ (b : List Written). store_with contents.keyspaces (stored_in contents.homes contents.versions) (map shown b)) is.batches
+
+  -- its batches have no fault
+  batches_sound : first_fault 0 (map shown (batches_in contents.journals)) ≡ None
+  batches_sound =
+      subst (λ (b : List Written). first_fault 0 (map shown b) ≡ None) is.batches
+      (subst (λ (l : List Written). first_fault 0 (map shown (batches_in (journals_with is.j l))) ≡ None) is.later is.root.sound)
+
+  made_store : (persisted : List Persisted) (o : Opened) → Takes o active end contents.last contents.keyspaces persisted (map shown (batches_in contents.journals)) → AreToldOf contents persisted
+      → store_behind o.keyspaces o.versions.items ≡ store_of contents
+  made_store persisted o takes are =
+      makes_store contents active end persisted o takes are is.tree.rests.versions (safe_homes_name_none state contents.keyspaces.living contents.homes is.tree.rests.homes) batches_sound
 
   same_number : number_of (contents_with is.j (tree_of contents) []) ≡ number_of contents
   same_number = ap (λ (b : List Written). max (least_after 0 (map shown b)) (past_records (fields contents.last ∷ lasts contents.keyspaces.living contents.homes))) is.batches
@@ -87,9 +131,10 @@ module _ (state : State) (contents : Contents) (active : Name) (end : ℕ) (is :
       writing ∙ ap (λ (n : Name). let w : Journal = record { name = n; buffer = []; len = end } in w) (sym is.active_is)
       ∙ ap (λ (n : ℕ). let w : Journal = record { name = journal_name is.j.active; buffer = []; len = n } in w) (sym is.end_is)
 
-  pub opens_of : (folder : Option Contents) (o : Opened) → Takes o active end contents.last contents.keyspaces (map shown (batches_in contents.journals))
+  pub opens_of : (folder : Option Contents) (persisted : List Persisted) (o : Opened)
+      → Takes o active end contents.last contents.keyspaces persisted (map shown (batches_in contents.journals)) → AreToldOf contents persisted
       → store_of contents ≡ store_held folder → o.number ≡ number_of contents → number_of contents ≡ number_held folder → Opens state folder o
-  opens_of folder o takes store number held = record {
+  opens_of folder persisted o takes are store number held = record {
     j = is.j;
     records = is.records;
     t = tree_of contents;
@@ -99,7 +144,7 @@ module _ (state : State) (contents : Contents) (active : Name) (end : ℕ) (is :
     journal = at_end o.journal takes.journal;
     last = sym takes.last_is;
     keyspaces = sym takes.keyspaces;
-    made = makes_store contents active end o takes ∙ sym same_store;
+    made = made_store persisted o takes are ∙ sym same_store;
     store = same_store ∙ store;
     number = number ∙ sym same_number;
     same = number ∙ held;

@@ -13,8 +13,9 @@ use Rattle.fjall_files.specs.Names.{journal_name, table_name}
 use Rattle.fjall_base.specs.Store.{Store}
 use Rattle.fjall_meta.specs.Keyspaces.{Keyspaces}
 use Rattle.fjall_catalog.specs.declared.catalog.Catalog.{Catalog}
-use Rattle.fjall_versions.specs.Replays.{store_in}
+use Rattle.fjall_contents.specs.Contents.{store_held}
 use Rattle.fjall_recovery.specs.declared.folder.RecoveredFolder.{RecoveredFolder}
+use Rattle.fjall_recovery.specs.Homes.{stored_in}
 use Rattle.fjall_recovery.specs.Folders.{Contents, Shows, StandsFor, store_of}
 use Rattle.fjall_recovery.specs.Journals.{batches_in}
 use Rattle.fjall_recovery.specs.Places.{Journaling, LiesInRoot, LiesInTree, RestsInTree, journals_with, texts_of}
@@ -47,7 +48,7 @@ module _ (contents : Contents) (mid new : Meaning) (plan : SweepPlan) (records :
 
   -- at each moment of the sweep the folder stands for its store
   pub stands : LeavesOnly mid new (λ image. StandsFor image (store_of contents))
-  stands = subst (λ (store : Store). LeavesOnly mid new (λ image. StandsFor image store)) (ap (λ (b : List Written). store_in contents.keyspaces (map shown b)) same)
+  stands = subst (λ (store : Store). LeavesOnly mid new (λ image. StandsFor image store)) (ap (λ (b : List Written). store_held contents.keyspaces (stored_in contents.homes contents.versions) (map shown b)) same)
       (store_stays mid new j records (tree_of contents) root rests later spare)
 
   -- its root lies as before

@@ -359,4 +359,5 @@ module _ (s : State) (c : Contents) (rest : IsRested s c) where
     catalog = catalog_rests;
     made = sound.made;
     homes = homes_safe image c.keyspaces.living c.homes s safe_home sound.homes;
+    versions = sound.versions;
   }

@@ -44,6 +44,7 @@ tree_along old new records t at rests = record {
   catalog = rests_along old new records t.last t.keyspaces at.catalog rests.catalog;
   made = rests.made;
   homes = λ id. home_along old new id (keyspace_at id t.keyspaces.living) (get t.homes id) (at.homes id) (rests.homes id);
+  versions = rests.versions;
 }
 
 -- keyspaces don't rest on this name

@@ -15,7 +15,7 @@ pub record IsBegunOn (state : State) (active : ℕ) : Type 0 where
   pub active_is : j.active ≡ active
   pub later : j.later ≡ []
   pub batches : batches_in (journals_with j []) ≡ []
-  pub tree : RestsInTree state (fields first_catalog ∷ []) (record { last = first_catalog; keyspaces = no_keyspaces; homes = empty })
+  pub tree : RestsInTree state (fields first_catalog ∷ []) (record { last = first_catalog; keyspaces = no_keyspaces; homes = empty; versions = empty })
 
 -- The active journal of a folder whose making goes on: the greatest of those that are there, or 0 where none is.
 pub record IsActive (image : Image) (id : ℕ) : Type 0 where

@@ -25,4 +25,4 @@ pub record IsMended (state : State) (found : RecoveredFolder) (c : Contents) (ac
   pub batches : batches_in (journals_with j []) ≡ batches_in c.journals
   pub journals : journals_with j [] ≡ opened c.journals
   pub records : List Fields
-  pub tree : RestsInTree state records (record { last = c.last; keyspaces = c.keyspaces; homes = c.homes })
+  pub tree : RestsInTree state records (record { last = c.last; keyspaces = c.keyspaces; homes = c.homes; versions = c.versions })

@@ -11,7 +11,10 @@ use Rattle.fjall_tree.specs.Records as records
 use Rattle.fjall_meta.specs.Keyspaces.{AreKeyspaces, Keyspaces, no_keyspaces}
 use Rattle.fjall_catalog.specs.declared.catalog.Catalog.{Catalog}
 use Rattle.fjall_catalog.specs.Catalog.{fields, first_catalog}
-use Rattle.fjall_versions.specs.Versions.{store_of as store_behind, versions_behind}
+use Rattle.fjall_contents.specs.Contents.{Stored}
+use Rattle.fjall_contents.specs.Memory.{AreTold, versions_beyond}
+use Rattle.fjall_versions.specs.declared.recovery.Persisted.{Persisted}
+use Rattle.fjall_versions.specs.Versions.{store_of as store_behind}
 use Rattle.fjall_recovery.specs.declared.folder.RecoveredFolder.{RecoveredFolder}
 use Rattle.fjall_base.specs.Store.{Store}
 use Rattle.fjall_recovery.specs.Folders.{Contents, StandsFor, number_of, store_of}
@@ -48,12 +51,12 @@ pub record IsLawful (o : Opened) : Type 0 where
   pub given : All (λ v. v.keyspace_id < o.keyspaces.next) o.versions.items
 
 -- This is opened: a writer at the end of the active journal, what the last record of tree 0 says, the keyspaces that live, and
--- the versions that the batches make of them.
-pub record Takes (o : Opened) (active : Name) (end : ℕ) (last : Catalog) (s : Keyspaces) (batches : List Shown) : Type 0 where
+-- the versions that the batches make of them, each beyond its persisted number.
+pub record Takes (o : Opened) (active : Name) (end : ℕ) (last : Catalog) (s : Keyspaces) (persisted : List Persisted) (batches : List Shown) : Type 0 where
   pub journal : o.journal ≡ record { name = active; buffer = []; len = end }
   pub last_is : o.catalog ≡ last
   pub keyspaces : o.keyspaces ≡ s
-  pub versions : o.versions.items ≡ versions_behind s [] batches
+  pub versions : (stored : ℕ → Stored) → AreTold s stored persisted → o.versions.items ≡ versions_beyond s stored [] batches
 
 -- what was opened is what the image holds: its store, and one past the greatest number in it
 abbrev pub IsOpenedFrom : Image → Opened → Type 0
@@ -71,7 +74,7 @@ pub record IsRepaired (state : State) (contents : Contents) (active : Name) (end
   pub j : Journaling
   pub records : List Fields
   pub root : LiesInRoot state j
-  pub tree : LiesInTree state records (record { last = contents.last; keyspaces = contents.keyspaces; homes = contents.homes })
+  pub tree : LiesInTree state records (record { last = contents.last; keyspaces = contents.keyspaces; homes = contents.homes; versions = contents.versions })
   pub later : j.later ≡ []
   pub active_is : journal_name j.active ≡ active
   pub end_is : length (texts_of j.whole) ≡ end
@@ -79,7 +82,7 @@ pub record IsRepaired (state : State) (contents : Contents) (active : Name) (end
 
 -- a database without keyspaces, that nothing was written into
 abbrev pub nothing : Contents
-nothing = record { journals = []; keyspaces = no_keyspaces; last = first_catalog; homes = empty }
+nothing = record { journals = []; keyspaces = no_keyspaces; last = first_catalog; homes = empty; versions = empty }
 
 -- ---- numbers
 

@@ -59,7 +59,7 @@ pub record HasFirstTree (state : State) : Type 0 where
 
 -- the tree of a database without keyspaces
 abbrev pub first_tree : Tree
-first_tree = record { last = first_catalog; keyspaces = no_keyspaces; homes = empty }
+first_tree = record { last = first_catalog; keyspaces = no_keyspaces; homes = empty; versions = empty }
 
 -- the journals of these ids, which hold nothing, the last of them active
 abbrev pub empty_journals : List ℕ → ℕ → Journaling

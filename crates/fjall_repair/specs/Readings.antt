@@ -1,10 +1,12 @@
 -- What is so of a folder as it was read, and of the plans that were made of it.
-use Rattle.std.specs.Prelude.{ℕ, Option, map, string_bytes}
+use Rattle.std.specs.Prelude.{ℕ, List, Option, map, string_bytes}
 use Rattle.std.specs.Option.{option_map}
 use Rattle.fjall_base.specs.Disk.{Meaning, Name, State}
 use Rattle.fjall_files.specs.Calls.{seen}
 use Rattle.fjall_journal.specs.Batches.{view}
+use Rattle.fjall_versions.specs.declared.recovery.Persisted.{Persisted}
 use Rattle.fjall_recovery.specs.declared.folder.RecoveredFolder.{RecoveredFolder}
+use Rattle.fjall_recovery.specs.declared.homes.KeyspaceRecords.{KeyspaceRecords}
 use Rattle.fjall_recovery.specs.Folders.{Contents, IsFinished, IsSound, Shows}
 use Rattle.fjall_repair.specs.declared.opened.Opened.{Opened}
 use Rattle.fjall_repair.specs.declared.plan.SweepPlan.{SweepPlan}
@@ -35,6 +37,14 @@ FindsNamed state found plan = FindsTables state (table_of found) (map string_byt
 abbrev pub FindsUnnamed : State → RecoveredFolder → SweepPlan → Type 0
 FindsUnnamed state found plan = FindsAll state (table_of found) found.catalog.keyspaces.living found.folder_ids.items plan
 
+-- the persisted number that a keyspace's last record tells
+abbrev pub persisted_in : KeyspaceRecords → Persisted
+persisted_in home = record { id = home.id; number = home.record.persisted }
+
+-- those of all the keyspaces that live
+abbrev pub persisted_of : RecoveredFolder → List Persisted
+persisted_of found = map persisted_in found.homes.items
+
 -- this is opened of the folder that was read, with that active journal
 abbrev pub TakesRead : Opened → Name → RecoveredFolder → Type 0
-TakesRead o active found = Takes o active found.journals.end found.catalog.catalog found.catalog.keyspaces (map view found.journals.batches.items)
+TakesRead o active found = Takes o active found.journals.end found.catalog.catalog found.catalog.keyspaces (persisted_of found) (map view found.journals.batches.items)

@@ -88,7 +88,7 @@ opened (j ∷ journals) = j ∷ journals
 
 -- the same folder with an active journal
 abbrev pub with_active : Contents → Contents
-with_active c = record { journals = opened c.journals; keyspaces = c.keyspaces; last = c.last; homes = c.homes }
+with_active c = record { journals = opened c.journals; keyspaces = c.keyspaces; last = c.last; homes = c.homes; versions = c.versions }
 
 -- what stands but for this file, which is there and was made where it was missing
 pub record IsOpened (image made : Image) (active : Name) : Type 0 where

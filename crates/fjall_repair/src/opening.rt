@@ -60,7 +60,8 @@ fn open_finished<D: Disk>(alloc: Global, disk: &mut D, found: RecoveredFolder) -
         → IfOk result (Opens (state_in (D.meaning disk.new)) (Some contents))) }
     ensures swept { IsTrue D.honest → IsFinished (seen (D.meaning disk.old)) found
         → IfOk result (λ o. IsSwept (state_in (D.meaning disk.old)) (state_in (D.meaning disk.new)) o.catalog o.keyspaces.living) }
-    ensures store { (contents : Contents) → Shows found contents → IfOk result (λ o. store_behind o.keyspaces o.versions.items ≡ store_of contents) }
+    ensures store { IsTrue D.honest
+        → WhereSound (D.meaning disk.old) found (λ contents. IfOk result (λ o. store_behind o.keyspaces o.versions.items ≡ store_of contents)) }
     ensures number { IsTrue D.honest → WhereRead (D.meaning disk.old) found (λ contents. IfOk result (λ o. o.number ≡ number_in contents)) }
     ensures lawful { IfOk result IsLawful }
     ensures any_moment { IsTrue D.honest → WhereRead (D.meaning disk.old) found (λ contents. Holds (state_in (D.meaning disk.old)) (Some contents)

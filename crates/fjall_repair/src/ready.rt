@@ -8,11 +8,12 @@ ghost use Rattle.fjall_meta.specs.Keyspaces.{AreKeyspaces, no_keyspaces};
 ghost use Rattle.fjall_catalog.specs.Catalog.{first_catalog};
 ghost use Rattle.fjall_files.specs.Calls.{seen, AllServed};
 ghost use Rattle.fjall_files.specs.Names.{journal_name};
-ghost use Rattle.fjall_versions.specs.Versions.{versions_behind};
+ghost use Rattle.fjall_contents.specs.Contents.{Stored};
+ghost use Rattle.fjall_contents.specs.Memory.{AreTold, versions_beyond};
 ghost use Rattle.fjall_recovery.specs.Folders.{IsFinished, IsUnfinished, past_records};
 ghost use Rattle.fjall_recovery.specs.Naming.{AreFolderIds};
 ghost use Rattle.fjall_recovery.specs.Refusals.{HasRisen, IsDue, IsOpeningRefusal};
-ghost use Rattle.fjall_repair.specs.Readings.{IsSweepOf, FindsUnnamed, TakesRead};
+ghost use Rattle.fjall_repair.specs.Readings.{IsSweepOf, FindsUnnamed, TakesRead, persisted_in};
 ghost use Rattle.fjall_repair.specs.Plans.{IsPlan as IsMakingOf};
 ghost use Rattle.fjall_repair.specs.Mended.{IsMendingOf};
 ghost use Rattle.fjall_repair.specs.Opened.{HasNumbers, IsLawful, Takes, records_of};
@@ -24,11 +25,12 @@ use crate::plan::{SweepPlan, plan_sweep};
 use crate::{BeginPlan, MendPlan, plan_beginning, plan_mending};
 use fjall_base::{Disk, Error, Result};
 use fjall_catalog::Catalog;
+use fjall_contents::replay_beyond;
 use fjall_files::journal_name;
 use fjall_journal::{Batch, Writer};
 use fjall_meta::MetaKeyspace;
-use fjall_recovery::{RecoveredFolder, list_keyspaces};
-use fjall_versions::{Version, replay};
+use fjall_recovery::{KeyspaceRecords, RecoveredFolder, list_keyspaces};
+use fjall_versions::{Persisted, Version};
 use std::alloc::Global;
 
 /// What is opened once a database is begun.
@@ -55,7 +57,7 @@ pub(crate) struct ToMend {
 
 /// What a database without keyspaces opens as.
 fn new_database(alloc: Global, active: u64) -> Result<Opened>
-    ensures opened { IfOk result (λ o. Takes o (journal_name active) 0 first_catalog no_keyspaces []) }
+    ensures opened { IfOk result (λ o. Takes o (journal_name active) 0 first_catalog no_keyspaces [] []) }
     ensures number { IfOk result (λ o. o.number ≡ 0) }
     ensures lawful { IfOk result IsLawful }
     ensures only { IsOkUnless result Error.OutOfMemory }
@@ -76,7 +78,7 @@ pub(crate) fn ready_to_begin<D: Disk>(alloc: Global, disk: &mut D) -> Result<ToB
     ensures sweep { IsTrue D.honest → IfOk result (λ r. IsPlan None [] r.sweep) }
     ensures finds { IsTrue D.honest
         → IfOk result (λ r. (ids : List ℕ) × AreFolderIds (seen (D.meaning disk.old)) ids × FindsAll (state_in (D.meaning disk.old)) None [] ids r.sweep) }
-    ensures opened { IfOk result (λ r. Takes r.opened (journal_name r.making.active) 0 first_catalog no_keyspaces []) }
+    ensures opened { IfOk result (λ r. Takes r.opened (journal_name r.making.active) 0 first_catalog no_keyspaces [] []) }
     ensures number { IfOk result (λ r. r.opened.number ≡ 0) }
     ensures lawful { IfOk result (λ r. IsLawful r.opened) }
     ensures same { IsTrue D.honest → Took (D.meaning disk.old) (D.meaning disk.new) [] }
@@ -103,16 +105,37 @@ fn named_table(catalog: &Catalog) -> Option<u64>
     catalog.table.map(|table| table.id)
 }
 
-/// What the batches of the journals make of the keyspaces that live.
-fn replayed(alloc: Global, keyspaces: &MetaKeyspace, batches: Vec<Batch>) -> Result<Vec<Version>>
-    ensures ok { IfOk result (λ versions. versions.items ≡ versions_behind keyspaces.now [] (map view batches.items)) }
+/// The persisted numbers that these records tell.
+fn persisted_of(alloc: Global, homes: &[KeyspaceRecords]) -> Result<Vec<Persisted>>
+    ensures ok { IfOk result (λ persisted. persisted.items ≡ map persisted_in homes.now) }
+    ensures only { IsOkUnless result Error.OutOfMemory }
+{
+    let mut persisted = Vec::with_capacity(alloc, homes.len())?;
+    for home in homes {
+        persisted.push(Persisted {
+            id: home.id,
+            number: home.record.persisted,
+        })?;
+    }
+    Ok(persisted)
+}
+
+/// What the batches of the journals make of the keyspaces that live, each beyond its persisted number.
+fn replayed(
+    alloc: Global,
+    keyspaces: &MetaKeyspace,
+    persisted: &[Persisted],
+    batches: Vec<Batch>,
+) -> Result<Vec<Version>>
+    ensures ok { (stored : ℕ → Stored) → AreTold keyspaces.now stored persisted.now
+        → IfOk result (λ versions. versions.items ≡ versions_beyond keyspaces.now stored [] (map view batches.items)) }
     ensures given { IfOk result (λ versions. All (λ v. v.keyspace_id < keyspaces.now.next) versions.items) }
     ensures lawful { AreKeyspaces keyspaces.now }
     ensures only { IsOkUnless result Error.OutOfMemory }
 {
     prove!(0 < keyspaces.next_id());
     let mut versions = Vec::new(alloc);
-    replay(keyspaces, batches, &mut versions)?;
+    replay_beyond(keyspaces, persisted, batches, &mut versions)?;
     Ok(versions)
 }
 
@@ -131,9 +154,11 @@ fn database_of(alloc: Global, found: RecoveredFolder, active: &str) -> Result<Op
     let RecoveredFolder {
         journals,
         catalog,
+        homes,
         ..
     } = found;
-    let versions = replayed(alloc, &catalog.keyspaces, journals.batches)?;
+    let persisted = persisted_of(alloc, &homes)?;
+    let versions = replayed(alloc, &catalog.keyspaces, &persisted, journals.batches)?;
     Ok(Opened {
         versions,
         journal,

@@ -10,10 +10,12 @@ use Rattle.fjall_recovery.specs.Folders.{IsFinished, IsSound}
 use Rattle.fjall_repair.specs.Mended.{IsMendingOf}
 use Rattle.fjall_repair.specs.Sweeps.{BringsNoTable, FindsTables, IsSwept, HasAll}
 use Rattle.fjall_repair.proofs.Planned.{is_swept, lives_small}
-use Rattle.fjall_repair.proofs.Openings.{held_early, holds_on, makes_store, number_is, numbers, opens_of, run_on, stands_now, takes_contents}
+use Rattle.fjall_repair.proofs.Openings.{held_early, holds_on, makes_sound, number_is, numbers, opens_of, run_on, stands_now, takes_contents}
 use Rattle.fjall_files.specs.Tidy.{IsTidy}
 use Rattle.fjall_files.proofs.Tidying.{stays_both, stays_none as tidy_none}
 use Rattle.fjall_repair.proofs.Amid.{amid_now, amid_on}
+use Rattle.fjall_repair.proofs.Replayed.{told}
+use Rattle.fjall_repair.specs.Readings.{persisted_of}
 use Rattle.fjall_repair.proofs.opening.open_finished.Goals as goal
 
 pub returns-in_err-opened-clause-any_moment : goal.returns-in_err-opened-clause-any_moment
@@ -49,8 +51,8 @@ returns-clause-opened g c honest contents read shows holds =
     (holds_on (m c.args.disk.now) (m c.ready_to_mend.new.disk) same (Some contents) holds)
     (subst (λ (s : State). IsMendingOf (standing s) found ready.mending) (sym same.state) (c.in_ok-opened.ensures.mending _ read)) (c.in_ok-opened.ensures.sweep honest)
     (subst (λ (s : State). FindsTables s (option_map (λ table. table.id) found.catalog.catalog.table) (map string_bytes ready.sweep.tables.items)) (sym same.state) (c.in_ok-opened.ensures.finds honest).tables) in
-    opens_of (state_in (m c.mend_and_sweep.new.disk)) contents (string_bytes ready.mending.active) found.journals.end repaired (Some contents) ready.opened
-    (takes_contents found contents ready.opened (string_bytes ready.mending.active) found.journals.end shows c.in_ok-opened.ensures.opened) refl
+    opens_of (state_in (m c.mend_and_sweep.new.disk)) contents (string_bytes ready.mending.active) found.journals.end repaired (Some contents) (persisted_of found) ready.opened
+    (takes_contents found contents ready.opened (string_bytes ready.mending.active) shows c.in_ok-opened.ensures.opened) (told image found contents read shows repaired.tree.rests.versions) refl
     (number_is image found read contents ready.opened.number shows (c.in_ok-opened.ensures.number (numbers image found read))) refl
 
 pub returns-clause-swept : goal.returns-clause-swept
@@ -71,11 +73,10 @@ returns-clause-swept g c honest read =
     (is_swept old new found.catalog.catalog found.catalog.keyspaces.living found.folder_ids.items ready.sweep (c.in_ok-opened.ensures.finds honest) read.folder_ids (c.in_ok-mend_and_sweep.ensures.gone honest) (lives_small found.catalog.keyspaces are) brings))
 
 pub returns-clause-store : goal.returns-clause-store
-returns-clause-store g c contents shows =
-    let found = c.args.found in
+returns-clause-store g c honest contents read shows sound =
     let ready = c.in_ok-opened.field-0 in
-    let active = string_bytes ready.mending.active in
-    makes_store contents active found.journals.end ready.opened (takes_contents found contents ready.opened active found.journals.end shows c.in_ok-opened.ensures.opened)
+    let image : Image = standing (state_in (g.D.Disk.meaning c.args.disk.now)) in
+    makes_sound image c.args.found contents (string_bytes ready.mending.active) ready.opened read shows sound c.in_ok-opened.ensures.opened
 
 pub returns-clause-number : goal.returns-clause-number
 returns-clause-number g c honest contents read shows =
@@ -201,6 +202,6 @@ returns-clause-opens g c honest contents read shows sound base pending holds =
     (subst (λ (s : State). IsMendingOf (standing s) found ready.mending) (sym same.state) (c.in_ok-opened.ensures.mending _ read)) (c.in_ok-opened.ensures.sweep honest)
     base pending (amid_on (m c.args.disk.now) (m c.ready_to_mend.new.disk) same base pending holds)
     (subst (λ (s : State). FindsTables s (option_map (λ table. table.id) found.catalog.catalog.table) (map string_bytes ready.sweep.tables.items)) (sym same.state) (c.in_ok-opened.ensures.finds honest).tables) in
-    opens_of (state_in (m c.mend_and_sweep.new.disk)) contents (string_bytes ready.mending.active) found.journals.end repaired (Some contents) ready.opened
-    (takes_contents found contents ready.opened (string_bytes ready.mending.active) found.journals.end shows c.in_ok-opened.ensures.opened) refl
+    opens_of (state_in (m c.mend_and_sweep.new.disk)) contents (string_bytes ready.mending.active) found.journals.end repaired (Some contents) (persisted_of found) ready.opened
+    (takes_contents found contents ready.opened (string_bytes ready.mending.active) shows c.in_ok-opened.ensures.opened) (told image found contents read shows repaired.tree.rests.versions) refl
     (number_is image found read contents ready.opened.number shows (c.in_ok-opened.ensures.number (numbers image found read))) refl

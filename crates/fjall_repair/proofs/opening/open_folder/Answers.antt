@@ -44,8 +44,10 @@ returns-in-Some-clause-found g c honest =
     let image : Image = standing (state_in (m c.args.disk.now)) in
     let read : ReadsFolder image (Some c.in-Some.found) = subst (ReadsFolder image) c.in-Some.is (c.in_ok-found.ensures.found honest) in
     let same = c.in_ok-found.ensures.same honest in
-    opened_from image (Some read.1.0) c.open_finished.result read.1.1 (c.open_finished.ensures.store read.1.0 read.1.2)
-    (c.open_finished.ensures.number honest read.1.0 (subst (λ (s : State). IsFinished (standing s) c.in-Some.found) (sym same.state) read.0) read.1.2)
+    let finished = subst (λ (s : State). IsFinished (standing s) c.in-Some.found) (sym same.state) read.0 in
+    opened_from image (Some read.1.0) c.open_finished.result read.1.1
+    (c.open_finished.ensures.store honest read.1.0 finished read.1.2 (subst (λ (s : State). IsSound (standing s) read.1.0) (sym same.state) read.1.1))
+    (c.open_finished.ensures.number honest read.1.0 finished read.1.2)
 
 pub returns-in-Some-clause-any_moment : goal.returns-in-Some-clause-any_moment
 returns-in-Some-clause-any_moment g c honest folder holds back =

@@ -12,7 +12,7 @@ use Rattle.fjall_repair.specs.Plans.{IsPlan as IsMakingOf}
 use Rattle.fjall_repair.specs.Opened.{nothing}
 use Rattle.fjall_repair.specs.Sweeps.{BringsNoTable, FindsTables, IsSwept, HasAll}
 use Rattle.fjall_repair.proofs.Planned.{is_swept, lives_small}
-use Rattle.fjall_repair.proofs.Openings.{held_early, holds_on, makes_store, opens_of, run_on, stands_now}
+use Rattle.fjall_repair.proofs.Openings.{held_early, holds_on, makes_nothing, nothing_told, opens_of, run_on, stands_now}
 use Rattle.fjall_files.specs.Tidy.{IsTidy}
 use Rattle.fjall_files.proofs.Tidying.{stays_both, stays_none as tidy_none}
 use Rattle.fjall_repair.proofs.Amid.{amid_now, amid_on}
@@ -47,7 +47,7 @@ returns-clause-opened g c honest holds =
     let repaired = c.in_ok-begin_and_sweep.ensures.ok honest (holds_on (m c.args.disk.now) (m c.ready_to_begin.new.disk) same None holds)
     (subst (λ (s : State). IsMakingOf (standing s) ready.making) (sym same.state) (c.in_ok-opened.ensures.making honest)) (c.in_ok-opened.ensures.sweep honest)
     (subst (λ (s : State). FindsTables s None (map string_bytes ready.sweep.tables.items)) (sym same.state) (c.in_ok-opened.ensures.finds honest).2.tables) in
-    opens_of (state_in (m c.begin_and_sweep.new.disk)) nothing (journal_name ready.making.active) 0 repaired None ready.opened c.in_ok-opened.ensures.opened refl c.in_ok-opened.ensures.number refl
+    opens_of (state_in (m c.begin_and_sweep.new.disk)) nothing (journal_name ready.making.active) 0 repaired None [] ready.opened c.in_ok-opened.ensures.opened nothing_told refl c.in_ok-opened.ensures.number refl
 
 pub returns-clause-swept : goal.returns-clause-swept
 returns-clause-swept g c honest =
@@ -67,7 +67,7 @@ returns-clause-swept g c honest =
     (is_swept old new first_catalog [] finds.0 ready.sweep finds.2 finds.1 (c.in_ok-begin_and_sweep.ensures.gone honest) (lives_small no_keyspaces are) brings))
 
 pub returns-clause-store : goal.returns-clause-store
-returns-clause-store g c = makes_store nothing (journal_name c.in_ok-opened.field-0.making.active) 0 c.in_ok-opened.field-0.opened c.in_ok-opened.ensures.opened
+returns-clause-store g c = makes_nothing (journal_name c.in_ok-opened.field-0.making.active) c.in_ok-opened.field-0.opened c.in_ok-opened.ensures.opened
 
 pub returns-clause-any_moment : goal.returns-clause-any_moment
 returns-clause-any_moment g c honest holds back =
@@ -142,7 +142,7 @@ returns-clause-opens g c honest unfinished =
     let repaired = c.in_ok-begin_and_sweep.ensures.repaired honest (subst (λ (s : State). IsUnfinished (standing s)) (sym same.state) unfinished)
     (subst (λ (s : State). IsMakingOf (standing s) ready.making) (sym same.state) (c.in_ok-opened.ensures.making honest)) (c.in_ok-opened.ensures.sweep honest)
     (subst (λ (s : State). FindsTables s None (map string_bytes ready.sweep.tables.items)) (sym same.state) (c.in_ok-opened.ensures.finds honest).2.tables) in
-    opens_of (state_in (m c.begin_and_sweep.new.disk)) nothing (journal_name ready.making.active) 0 repaired None ready.opened c.in_ok-opened.ensures.opened refl c.in_ok-opened.ensures.number refl
+    opens_of (state_in (m c.begin_and_sweep.new.disk)) nothing (journal_name ready.making.active) 0 repaired None [] ready.opened c.in_ok-opened.ensures.opened nothing_told refl c.in_ok-opened.ensures.number refl
 
 pub returns-in_err-opened-clause-held : goal.returns-in_err-opened-clause-held
 returns-in_err-opened-clause-held g c honest unfinished base pending holds = amid_on _ _ (c.in_err-opened.ensures.same honest) base pending holds

@@ -1,0 +1,121 @@
+-- What the batches of journals make beyond what is stored of keyspaces, as they are replayed at an opening.
+use Rattle.std.proofs.Common.{◌≡◌, ℕ, zero, suc, ◌<◌, ◌^◌, ◌==◌, not, Bool, true, false, cond, List, [], ◌∷◌, length, get_or, map, find, filter, All, Option, None, Some, unwrap_or, is_some, refl, sym, ◌∙◌, ap, subst, arith}
+use Rattle.std.proofs.lemmas.Bool.{and_parts, true≢false}
+use Rattle.std.proofs.lemmas.Bool.Decides.{nat_tests}
+use Rattle.std.proofs.lemmas.List.Elements.{All-append, All-filter, All-nil, All-weaker, filter_passes}
+use Rattle.std.specs.List.{list_any}
+use Rattle.std.specs.Option.{option_map}
+use Rattle.std.specs.FinMap.{get}
+use Rattle.fjall_base.specs.Disk.{Image}
+use Rattle.fjall_journal.specs.Batches.{Shown}
+use Rattle.fjall_table.specs.Blocks.{Entry}
+use Rattle.fjall_tree.specs.Records.{Fields}
+use Rattle.fjall_tree.specs.Records as records
+use Rattle.fjall_meta.specs.declared.living.LivingKeyspace.{LivingKeyspace}
+use Rattle.fjall_meta.specs.Keyspaces.{AreKeyspaces, Keyspaces, keyspace_at}
+use Rattle.fjall_views.specs.Views.{value_at}
+use Rattle.fjall_versions.specs.declared.recovery.Persisted.{Persisted}
+use Rattle.fjall_versions.specs.declared.version.Version.{Version}
+use Rattle.fjall_versions.specs.Replays.{counts, first_fault, persisted_at}
+use Rattle.fjall_versions.specs.Versions.{store_of as store_behind, version_of, versions_made, versions_put, versions_where}
+use Rattle.fjall_versions.proofs.Ids.{living_has}
+use Rattle.fjall_versions.proofs.Living.{counts_of}
+use Rattle.fjall_versions.proofs.Slots.{same_id}
+use Rattle.fjall_contents.specs.Contents.{Stored, counts_beyond, is_beyond, store_held}
+use Rattle.fjall_contents.specs.Memory.{AreLoaded, AreTold, versions_beyond}
+use Rattle.fjall_contents.proofs.Loaded.{memory_stands_for_the_store}
+use Rattle.fjall_recovery.specs.declared.folder.RecoveredFolder.{RecoveredFolder}
+use Rattle.fjall_recovery.specs.declared.homes.KeyspaceRecords.{KeyspaceRecords}
+use Rattle.fjall_recovery.specs.Folders.{Contents, IsFinished, Shows}
+use Rattle.fjall_recovery.specs.Homes.{AreHomesRead, HaveVersions, Homes, Versions, last_in, lasts, stored_in}
+use Rattle.fjall_recovery.proofs.Storing.{are_within, nothing_in_tables, stored_persisted}
+use Rattle.fjall_repair.specs.Readings.{persisted_in, persisted_of}
+
+-- ---- ids that were given out
+
+module _ (s : Keyspaces) (all : AreKeyspaces s) where
+  abbrev Given : Version → Type 0
+  Given v = v.keyspace_id < s.next
+
+  counts_given : (number id : ℕ) → counts s number id ≡ true → id < s.next
+  counts_given number id counted = by (keyspace_at id s.living) refl
+    where
+      by : (found : Option LivingKeyspace) → keyspace_at id s.living ≡ found → id < s.next
+      by None is = absurd (true≢false (sym counted ∙ ap (counts_of number) is))
+      by (Some k) is = living_has (λ j. j < s.next) s.living id k is all.given
+
+  made_given : (counted : ℕ → ℕ → Bool) → ((number id : ℕ) → counted number id ≡ true → id < s.next) → (batches : List Shown) (versions : List Version)
+      → All Given versions → All Given (versions_where counted versions batches)
+  made_given counted to [] versions given = given
+  made_given counted to (b ∷ batches) versions given =
+      let test = λ (v : Version). counted b.number v.keyspace_id in
+      let made = map (version_of b.number) b.items in
+      made_given counted to batches (versions_put (counted b.number) versions b)
+      (All-append Given (filter (λ (v : Version). not (list_any (λ id. id == v.keyspace_id) (filter (counted b.number) b.clears))) versions) (versions_made (counted b.number) b.number b.items)
+      (All-filter _ Given versions given)
+      (All-weaker (λ v. test v ≡ true) Given (λ v e. to b.number v.keyspace_id e) (filter test made) (filter_passes test made)))
+
+  -- what batches make beyond what is stored is of ids that were given out
+  pub beyond_given : (stored : ℕ → Stored) (batches : List Shown) (versions : List Version) → All Given versions → All Given (versions_beyond s stored versions batches)
+  beyond_given stored batches versions given =
+      made_given (counts_beyond s stored) (λ number id e. counts_given number id (and_parts (counts s number id) (is_beyond (stored id).persisted number) e).0) batches versions given
+
+-- something of which these numbers are told
+abbrev pub told_stored : List Persisted → ℕ → Stored
+told_stored persisted id = record { persisted = persisted_at id persisted; versions = []; clears = [] }
+
+pub told_by : (s : Keyspaces) (persisted : List Persisted) → AreTold s (told_stored persisted) persisted
+told_by s persisted i d lt = refl
+
+-- ---- the persisted numbers that were read
+
+module _ (homes : Homes) where
+  -- the first number of an id is that of the first home
+  first_told : (b : Bool) (h : KeyspaceRecords) (others : Option Persisted) → b ≡ true → unwrap_or (option_map (λ (p : Persisted). p.number) (cond b (Some (persisted_in h)) others)) None ≡ h.record.persisted
+  first_told true h others is = refl
+  first_told false h others is = absurd (true≢false (sym is))
+
+  later_told : (b : Bool) (h : KeyspaceRecords) (others : Option Persisted) (n : Option ℕ) → (b ≡ true → h.record.persisted ≡ n) → unwrap_or (option_map (λ (p : Persisted). p.number) others) None ≡ n
+      → unwrap_or (option_map (λ (p : Persisted). p.number) (cond b (Some (persisted_in h)) others)) None ≡ n
+  later_told true h others n here there = here refl
+  later_told false h others n here there = there
+
+  told_at : (image : Image) (living : List LivingKeyspace) (read : List KeyspaceRecords) → AreHomesRead image living read → map (λ h. records.view h.record) read ≡ lasts living homes
+      → (i : ℕ) (d : LivingKeyspace) → i < length living → persisted_at (get_or living i d).id (map persisted_in read) ≡ (last_in (get homes (get_or living i d).id)).persisted
+  told_at image [] read are same i d lt = absurd (omega (arith, lt))
+  told_at image (k ∷ living) [] are same i d lt = absurd are
+  told_at image (k ∷ living) (h ∷ read) are same zero d lt =
+      let named : h.id ≡ k.id = are.0.named in
+      let here : records.view h.record ≡ last_in (get homes k.id) = cc in
+      first_told (h.id == k.id) h (find (λ (p : Persisted). p.id == k.id) (map persisted_in read)) (grind (arith, nat_tests)) ∙ ap (λ (f : Fields). f.persisted) here
+  told_at image (k ∷ living) (h ∷ read) are same (suc i) d lt =
+      let id = (get_or living i d).id in
+      let named : h.id ≡ k.id = are.0.named in
+      let here : records.view h.record ≡ last_in (get homes k.id) = cc in
+      let rest : map (λ h. records.view h.record) read ≡ lasts living homes = cc in
+      later_told (h.id == id) h (find (λ (p : Persisted). p.id == id) (map persisted_in read)) (last_in (get homes id)).persisted
+      (λ is. ap (λ (f : Fields). f.persisted) here ∙ ap (λ n. (last_in (get homes n)).persisted) (sym named ∙ same_id h.id id is))
+      (told_at image living read are.1 rest i d (omega (arith, lt)))
+
+-- of each keyspace that lives its record tells the number
+pub told : (image : Image) (found : RecoveredFolder) (c : Contents) → IsFinished image found → Shows found c → HaveVersions c.homes c.versions
+    → AreTold c.keyspaces (stored_in c.homes c.versions) (persisted_of found)
+told image found c read shows have i d lt =
+    told_at c.homes image c.keyspaces.living found.homes.items (subst (λ (s : Keyspaces). AreHomesRead image s.living found.homes.items) shows.keyspaces read.homes) shows.homes i d lt
+    ∙ sym (stored_persisted c.homes c.versions have (get_or c.keyspaces.living i d).id)
+
+-- ---- the store
+
+-- where nothing lies in tables nothing is loaded
+none_loaded : (s : Keyspaces) (stored : ℕ → Stored) → ((id : ℕ) → (stored id).versions ≡ []) → AreLoaded s stored []
+none_loaded s stored none = record {
+  each = All-nil (λ v. is_some (keyspace_at v.keyspace_id s.living) ≡ true);
+  values = λ i d lt key. (let k = get_or s.living i d in ap (λ (vs : List Entry). value_at key (2 ^ 63) (stored k.id).clears vs) (sym (none k.id)));
+}
+
+-- where no record names a table, what the batches make in memory stands for the store of files and journals
+pub replayed_stands : (s : Keyspaces) (homes : Homes) (versions : Versions) → HaveVersions homes versions → ((id : ℕ) → (last_in (get homes id)).tables ≡ []) → (batches : List Shown)
+    → first_fault 0 batches ≡ None → store_behind s (versions_beyond s (stored_in homes versions) [] batches) ≡ store_held s (stored_in homes versions) batches
+replayed_stands s homes versions have none batches sound =
+    let stored = stored_in homes versions in
+    memory_stands_for_the_store s stored [] 0 batches (are_within homes versions have s) (none_loaded s stored (λ id. nothing_in_tables homes versions have id (none id))) sound
