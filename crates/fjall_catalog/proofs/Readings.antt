@@ -23,28 +23,11 @@ use Rattle.fjall_base.specs.Results.{◌>>=◌}
 use Rattle.fjall_meta.specs.Reading.{IsReadingRefusal, first_fault, or_else, pairs_of, stored_keyspace, stored_name, valid_name}
 use Rattle.fjall_tree.proofs.Currents.{one_reading, texts_are_records}
 use Rattle.fjall_base.proofs.Names.{bool_cases}
-use Rattle.fjall_home.specs.Homes.{HoldTables}
+use Rattle.fjall_files.proofs.FilesRead.{ReadFile, read_none, read_some}
 use Rattle.fjall_catalog.proofs.Meanings.{held_one, last_one}
 use Rattle.fjall_catalog.specs.declared.catalog.Catalog.{Catalog}
 use Rattle.fjall_catalog.specs.Catalog.{ArePairs, fields, records_in, IsAtLevel1, IsTableOf, HoldsEntries, Says}
 use Rattle.fjall_catalog.specs.Refusals.{HasLast, HasNoLast, IsDamage, IsTableRefused, IsRefusal, IsFaultIfIo}
-
--- ---- a file
-
-pub read_none : (entry : Entry) → Reads entry None → IsFile entry → ⊥
-read_none Missing is file = file
-read_none (File synced unsynced) is file = is
-read_none Folder is file = file
-
--- what was read is the file's bytes
-pub record ReadFile (entry : Entry) (bytes : List ℕ) : Type 0 where
-  pub file : IsFile entry
-  pub is : bytes ≡ text_in entry
-
-pub read_some : (entry : Entry) (bytes : Vec ℕ Global) → Reads entry (Some bytes) → ReadFile entry bytes.items
-read_some Missing bytes is = cc
-read_some (File synced unsynced) bytes is = record { file = tt; is = is }
-read_some Folder bytes is = cc
 
 -- ---- refusals passed on
 
@@ -52,32 +35,9 @@ pub fault_if_io : (before after : ℕ) (e : Error) → IsFaultOrMemory before af
 fault_if_io before after (Io kind) is = is
 fault_if_io before after _ is = tt
 
-pub table_not_read : (image : Image) (table : Option TableInfo) (before after : ℕ) (e : Error) → IsFaultOrMemory before after e → IsTableRefused image table before after e
-table_not_read image table before after (Io kind) is = is
-table_not_read image table before after OutOfMemory is = tt
-table_not_read image table before after _ is = absurd is
-
--- the table that is held is the one that stands there
-held_table : (image : Image) (t : TableInfo) (entries : List MetaEntry) → HoldsEntries image (Some t) entries → IsTableOf t (text_in (image (table_name 0 t.id))) entries
-held_table image t entries holds = of holds.0 holds.1 holds.2
-  where
-    of : (texts : List (List ℕ)) → HoldTables image 0 (t ∷ []) texts → ArePairs (Some t) texts entries → IsTableOf t (text_in (image (table_name 0 t.id))) entries
-    of [] held pairs = absurd held
-    of (bytes ∷ []) held pairs = subst (λ (l : List ℕ). IsTableOf t l entries) (sym held.0.1) pairs
-    of (bytes ∷ more ∷ texts) held pairs = absurd pairs
-
--- and the other way round
+-- a table that was read and is right is held
 pub holds_table : (image : Image) (t : TableInfo) (entries : List MetaEntry) (bytes : List ℕ) → ReadFile (image (table_name 0 t.id)) bytes → IsTableOf t bytes entries → HoldsEntries image (Some t) entries
 holds_table image t entries bytes read is = (bytes ∷ [], ((read.file, sym read.is), tt), is)
-
-pub holds_none : (image : Image) (entries : List MetaEntry) → entries ≡ [] → HoldsEntries image None entries
-holds_none image entries none = ([], tt, none)
-
-pub table_refused : (image : Image) (t : TableInfo) (before after : ℕ) (bytes : List ℕ) (e : Error) → bytes ≡ text_in (image (table_name 0 t.id)) → DamagedWhere TableDamaged ((entries : List MetaEntry) → IsTableOf t bytes entries → ⊥) e
-    → IsTableRefused image (Some t) before after e
-table_refused image t before after bytes OutOfMemory at is = tt
-table_refused image t before after bytes (Storage cause) at is = (is.0, λ entries holds. is.1 entries (subst (λ (l : List ℕ). IsTableOf t l entries) (sym at) (held_table image t entries holds)))
-table_refused image t before after bytes _ at is = absurd is
 
 pub not_read : (image : Image) (before after : ℕ) (e : Error) → IsFaultOrMemory before after e → IsRefusal image before after e
 not_read image before after (Io kind) is = is

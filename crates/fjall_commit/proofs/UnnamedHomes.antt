@@ -1,15 +1,19 @@
 -- The home of a keyspace that the catalog doesn't name, while it is made or removed.
-use Rattle.std.proofs.Common.{◌≡◌, ◌≢◌, ℕ, ◌<◌, ◌^◌, true, false, List, [], ◌∷◌, map, codes, All, IfSome, Option, Some, Result, Ok, Err, OnOk, OnErr, String, Global, string_bytes, refl, sym, ◌∙◌, ap, subst, arith}
+use Rattle.std.proofs.Common.{◌≡◌, ◌≢◌, inl, ℕ, ◌<◌, ◌^◌, true, false, List, [], ◌∷◌, map, codes, All, IfSome, Option, Some, Result, Ok, Err, OnOk, OnErr, String, Global, string_bytes, refl, sym, ◌∙◌, ap, subst, arith}
 use Rattle.std.specs.List.{flat_map}
 use Rattle.std.proofs.lemmas.List.{append-nil}
 use Rattle.std.proofs.lemmas.List.Concat.{flat_map-cons}
-use Rattle.std.proofs.lemmas.List.Elements.{All-cons, All-nil}
 use Rattle.fjall_base.specs.declared.error.Error.{Error}
+use Rattle.fjall_base.specs.declared.error.Error.TheVariants.{OutOfMemory}
+use Rattle.fjall_base.specs.Errors.{IsFault}
 use Rattle.fjall_base.specs.Crash.{IsHoused}
-use Rattle.fjall_base.specs.Disk.{Name, Entry, Missing, File, Folder, Place, State, Image, IsEmpty, Meaning, LeavesOnly, Survives, SyncFolder, Took, folder_of, removing, settle, state_in}
+use Rattle.fjall_base.specs.Disk.{Name, Entry, Missing, File, Folder, Place, State, Image, IsEmpty, IsNoFile, Meaning, LeavesOnly, Survives, SyncFolder, Took, folder_of, removing, settle, state_in}
 use Rattle.fjall_base.proofs.Moments.{started, stays, steps_on, runs_on}
 use Rattle.fjall_base.proofs.States.{settle-in}
-use Rattle.fjall_files.specs.Regions.{IsImageIn, IsMade, IsSafe, Within, is_under}
+use Rattle.fjall_files.specs.declared.own.OwnFiles.{OwnFiles}
+use Rattle.fjall_files.specs.Own.{AreOwnFiles, HoldsOnlyOwn}
+use Rattle.fjall_files.proofs.OwnEntries.{holds_own}
+use Rattle.fjall_files.specs.Regions.{HoldsOnly, IsImageIn, IsMade, IsSafe, Within, is_under}
 use Rattle.fjall_files.proofs.Under.{folder_is_shorter, shorter_out, under_self}
 use Rattle.fjall_files.proofs.Changes.{SameOutside, settle-now, within_state}
 use Rattle.fjall_files.proofs.Parts.{in_region, leaves_outside}
@@ -23,7 +27,7 @@ use Rattle.fjall_catalog.specs.Updates.{IsUpdate}
 use Rattle.fjall_catalog.proofs.Shapes.{first_fits}
 use Rattle.fjall_recovery.proofs.Listed.{in_keyspaces}
 use Rattle.fjall_recovery.specs.Places.{HasSafeHome, LiesInTree}
-use Rattle.fjall_commit.specs.Removals.{IsRemoved, IsUnused}
+use Rattle.fjall_commit.specs.Removals.{IsUnused, RemovesOwn}
 use Rattle.fjall_files.proofs.Fitting.{folder_of-current}
 use Rattle.fjall_home.specs.Homes as homes
 use Rattle.fjall_home.specs.Homes.{is_counted, only}
@@ -136,10 +140,17 @@ module _ (id : ℕ) (records : List Fields) (t : Tree) (unused : IsUnused id t.k
   pub stopped : (old mid new : Meaning) → LiesInTree (state_in old) records t → Within (keyspace_folder id) old mid → Took mid new [] → Still old new
   stopped old mid new lies run took = stays_on old mid new (first_on old mid lies run) took
 
+  -- or a sync of `keyspaces`
+  pub emptied : (old mid new : Meaning) (r : Result Unit Error) → LiesInTree (state_in old) records t → Within (keyspace_folder id) old mid → OnOk r (Took mid new (SyncFolder (codes "keyspaces") ∷ [])) → OnErr r (Took mid new []) → Still old new
+  emptied old mid new r lies run ok err = settled_or_not old mid new (codes "keyspaces") r (first_on old mid lies run) ok err
+
   -- or two, and a sync of `keyspaces`
   pub ended : (old m1 m2 new : Meaning) (r : Result Unit Error) → LiesInTree (state_in old) records t → Within (keyspace_folder id) old m1 → Within (keyspace_folder id) m1 m2
       → OnOk r (Took m2 new (SyncFolder (codes "keyspaces") ∷ [])) → OnErr r (Took m2 new []) → Still old new
   ended old m1 m2 new r lies first second ok err = settled_or_not old m2 new (codes "keyspaces") r (within_on old m1 m2 (first_on old m1 lies first) second) ok err
+
+pub settled_in_keyspaces : (id : ℕ) (old mid new : Meaning) (r : Result Unit Error) → Within (keyspace_folder id) old mid → OnOk r (Took mid new (SyncFolder (codes "keyspaces") ∷ [])) → OnErr r (Took mid new []) → Within (codes "keyspaces") old new
+settled_in_keyspaces id old mid new r run ok err = within_both (codes "keyspaces") old mid new (within_keyspaces id old mid run) (settled_within (codes "keyspaces") mid new r ok err)
 
 pub stopped_within : (id : ℕ) (old mid new : Meaning) → Within (keyspace_folder id) old mid → Took mid new [] → Within (codes "keyspaces") old new
 stopped_within id old mid new run took = within_both (codes "keyspaces") old mid new (within_keyspaces id old mid run) (within_none (codes "keyspaces") mid new took)
@@ -147,7 +158,7 @@ stopped_within id old mid new run took = within_both (codes "keyspaces") old mid
 pub ended_within : (id : ℕ) (old m1 m2 new : Meaning) (r : Result Unit Error) → Within (keyspace_folder id) old m1 → Within (keyspace_folder id) m1 m2
     → OnOk r (Took m2 new (SyncFolder (codes "keyspaces") ∷ [])) → OnErr r (Took m2 new []) → Within (codes "keyspaces") old new
 ended_within id old m1 m2 new r first second ok err =
-    within_both (codes "keyspaces") old m2 new (within_keyspaces id old m2 (within_both (keyspace_folder id) old m1 m2 first second)) (settled_within (codes "keyspaces") m2 new r ok err)
+    settled_in_keyspaces id old m2 new r (within_both (keyspace_folder id) old m1 m2 first second) ok err
 
 -- ---- the new home
 
@@ -221,30 +232,48 @@ synced_as id folder at old new took = subst (λ (n : Name). Within n old new) at
 
 -- ---- what is removed
 
-pub files_under : (id : ℕ) (files : List (String Global)) → map string_bytes files ≡ current_name id ∷ [] → All (λ file. is_under (keyspace_folder id) (string_bytes file) ≡ true) files
-files_under id [] is = let no : [] ≡ current_name id ∷ [] = is in cc
-files_under id (file ∷ []) is =
-    let at : string_bytes file ≡ current_name id = cc in
-    let under : is_under (keyspace_folder id) (string_bytes file) ≡ true = ap (λ (n : Name). is_under (keyspace_folder id) n) at ∙ current_under id in
-    All-cons (λ (f : String Global). is_under (keyspace_folder id) (string_bytes f) ≡ true) file [] under (All-nil (λ (f : String Global). is_under (keyspace_folder id) (string_bytes f) ≡ true))
-files_under id (file ∷ other ∷ files) is = let no : string_bytes file ∷ string_bytes other ∷ map string_bytes files ≡ current_name id ∷ [] = is in cc
+-- The files of a folder that were found, as a call has them that a list came before.
+module _ (id : ℕ) (old mid : Meaning) (took : Took old mid []) (option : Option OwnFiles) (own : OwnFiles) (is : option ≡ Some own) (listed : IfSome option (AreOwnFiles (state_in old) id))
+    (folder : Name) (files : List (String Global)) (folder_is : folder ≡ string_bytes own.folder) (files_are : files ≡ own.files.items) where
+  found : AreOwnFiles (state_in old) id own
+  found = subst (λ (o : Option OwnFiles). IfSome o (AreOwnFiles (state_in old) id)) is listed
 
-pub removed_as : (id : ℕ) (folder : Name) → folder ≡ keyspace_folder id → (old new : Meaning) → Took old new (removing folder (state_in old folder).now) → Within (keyspace_folder id) old new
-removed_as id folder at old new took = subst (λ (n : Name). Within n old new) at (removing_within folder folder old new (under_self folder) took)
+  folder_at : folder ≡ keyspace_folder id
+  folder_at = folder_is ∙ found.folder_is
 
-pub gone_as : (id : ℕ) (folder : Name) → folder ≡ keyspace_folder id → (old mid new : Meaning) (r : Result Unit Error) → Took old mid (removing folder (state_in old folder).now) → OnOk r (Took mid new (SyncFolder (codes "keyspaces") ∷ []))
-    → OnOk r ((state_in new (keyspace_folder id)).now ≡ Missing)
-gone_as id folder at old mid new (Err e) took sync = tt
-gone_as id folder at old mid new (Ok done) took sync =
-    ap (λ (s : State). (s (keyspace_folder id)).now) sync.state ∙ settle-now (state_in mid) (codes "keyspaces") (keyspace_folder id)
-    ∙ ap (λ (n : Name). (state_in mid n).now) (sym at) ∙ missing_now folder old mid (state_in old folder).now refl took
+  files_inside : All (λ file. folder_of (string_bytes file) ≡ folder) files
+  files_inside = subst (λ (n : Name). All (λ file. folder_of (string_bytes file) ≡ n) files) (sym folder_at)
+      (subst (All (λ file. folder_of (string_bytes file) ≡ keyspace_folder id)) (sym files_are) found.inside)
 
-pub stays_gone_as : (id : ℕ) → id < 2 ^ 64 → (mid new : Meaning) (r : Result Unit Error) → OnOk r (Took mid new (SyncFolder (codes "keyspaces") ∷ [])) → OnOk r ((state_in new (keyspace_folder id)).now ≡ Missing)
-    → OnOk r (state_in new (keyspace_folder id) ≡ only Missing)
-stays_gone_as id small mid new (Err e) sync gone = tt
-stays_gone_as id small mid new (Ok done) sync gone =
-    let settled : state_in new (keyspace_folder id) ≡ only (state_in mid (keyspace_folder id)).now = ap (λ (s : State). s (keyspace_folder id)) sync.state ∙ settle-in (state_in mid) (codes "keyspaces") (keyspace_folder id) (in_keyspaces id small) in
-    settled ∙ ap (λ (e : Entry). only e) (sym (ap (λ (p : Place). p.now) settled) ∙ gone)
+  pub own_within : (new : Meaning) → (All (λ file. folder_of (string_bytes file) ≡ folder) files → folder ≢ [] → Within folder mid new) → Within (keyspace_folder id) old new
+  own_within new run = within_both (keyspace_folder id) old mid new (within_none (keyspace_folder id) old mid took)
+      (subst (λ (n : Name). Within n mid new) folder_at (run files_inside (λ none. some_folder id (sym folder_at ∙ none))))
+
+  pub own_held : HoldsOnlyOwn (state_in old) id → IsNoFile (state_in old (keyspace_folder id)).now → HoldsOnly (state_in mid) folder (map string_bytes files)
+  own_held holds kind = subst (λ (s : State). HoldsOnly s folder (map string_bytes files)) (sym took.state)
+      (subst (λ (n : Name). HoldsOnly (state_in old) n (map string_bytes files)) (sym folder_at)
+      (subst (λ (l : List (String Global)). HoldsOnly (state_in old) (keyspace_folder id) (map string_bytes l)) (sym files_are) (holds_own (state_in old) id own found holds kind)))
+
+  pub own_gone : (new : Meaning) → (state_in new folder).now ≡ Missing → (state_in new (keyspace_folder id)).now ≡ Missing
+  own_gone new gone = subst (λ (n : Name). (state_in new n).now ≡ Missing) folder_at gone
+
+-- a sync of names changes nothing that stands
+settled_now : (folder : Name) (old new : Meaning) (r : Result Unit Error) → OnOk r (Took old new (SyncFolder folder ∷ [])) → OnErr r (Took old new []) → (q : Name) → (state_in new q).now ≡ (state_in old q).now
+settled_now folder old new (Ok done) ok err q = ap (λ (s : State). (s q).now) ok.state ∙ settle-now (state_in old) folder q
+settled_now folder old new (Err e) ok err q = ap (λ (s : State). (s q).now) err.state
+
+-- nor do calls in a keyspace's folder change what stands elsewhere
+pub others_stay : (id : ℕ) (old new : Meaning) → Within (keyspace_folder id) old new → (q : Name) → is_under (keyspace_folder id) q ≡ false → (state_in new q).now ≡ (state_in old q).now
+others_stay id old new run q out = ap (λ (p : Place). p.now) (within_state (keyspace_folder id) (some_folder id) old new run q out)
+
+pub others_stay_settled : (id : ℕ) (old mid new : Meaning) (r : Result Unit Error) → Within (keyspace_folder id) old mid → OnOk r (Took mid new (SyncFolder (codes "keyspaces") ∷ [])) → OnErr r (Took mid new [])
+    → (q : Name) → is_under (keyspace_folder id) q ≡ false → (state_in new q).now ≡ (state_in old q).now
+others_stay_settled id old mid new r run ok err q out = settled_now (codes "keyspaces") mid new r ok err q ∙ others_stay id old mid run q out
+
+-- a folder that is gone comes back no more once the names in `keyspaces` are synced
+gone_for_good : (id : ℕ) → id < 2 ^ 64 → (old new : Meaning) → (state_in old (keyspace_folder id)).now ≡ Missing → Took old new (SyncFolder (codes "keyspaces") ∷ []) → state_in new (keyspace_folder id) ≡ only Missing
+gone_for_good id small old new gone sync =
+    ap (λ (s : State). s (keyspace_folder id)) sync.state ∙ settle-in (state_in old) (codes "keyspaces") (keyspace_folder id) (in_keyspaces id small) ∙ ap (λ (e : Entry). only e) gone
 
 -- In a folder that isn't there nothing stands.
 pub nothing_inside : (state : State) (folder : Name) → (folder ≡ [] → ⊥) → IsHoused state → (state folder).now ≡ Missing → IsEmpty state folder
@@ -260,7 +289,14 @@ nothing_inside state folder some housed gone name inside = of (state name).now r
     of (File synced unsynced) is = absurd (there (λ e. let no : File synced unsynced ≡ Missing = sym is ∙ e in cc))
     of Folder is = absurd (there (λ e. let no : Folder ≡ Missing = sym is ∙ e in cc))
 
--- Where the folder is missing for good, nothing of the keyspace is left.
-pub all_removed : (id : ℕ) (state : State) (r : Result Unit Error) → IsHoused state → OnOk r (state (keyspace_folder id) ≡ only Missing) → OnOk r (IsRemoved id state)
-all_removed id state (Err e) housed gone = tt
-all_removed id state (Ok done) housed gone = record { folder = gone; inside = nothing_inside state (keyspace_folder id) (some_folder id) housed (ap (λ (p : Place). p.now) gone) }
+-- Where the folder is gone for good, nothing of the keyspace is left.
+pub removes_own : (id : ℕ) → id < 2 ^ 64 → (old mid new : Meaning) (r : Result Unit Error) → IsHoused (state_in new) → HoldsOnlyOwn (state_in old) id → (state_in mid (keyspace_folder id)).now ≡ Missing
+    → OnOk r (Took mid new (SyncFolder (codes "keyspaces") ∷ [])) → OnOk r (RemovesOwn id old new)
+removes_own id small old mid new (Err e) housed holds gone sync = tt
+removes_own id small old mid new (Ok done) housed holds gone sync =
+    let folder = gone_for_good id small mid new gone sync in
+    inl (holds, record { folder = folder; inside = nothing_inside (state_in new) (keyspace_folder id) (some_folder id) housed (ap (λ (p : Place). p.now) folder) })
+
+-- a change of a disk is never refused for want of memory
+pub fault_alone : (before after : ℕ) (e : Error) → IsFault before after e → e ≡ OutOfMemory → ⊥
+fault_alone before after e fault is = subst (IsFault before after) is fault

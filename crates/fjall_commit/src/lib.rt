@@ -16,5 +16,5 @@ pub use journaling::{append_batch, sync_journal};
 pub use laws::{
     a_persist_keeps_all, a_writer_begins, crashes_leave_some, numbers_go_on, synced_batches_stay,
 };
-pub use removal::{Removal, prepare_removal, remove_keyspace};
+pub use removal::remove_keyspace;
 pub use synced_changes::{sync_and_create_keyspace, sync_and_delete_keyspace};

@@ -32,7 +32,7 @@ use Rattle.fjall_contents.proofs.Held.{held_at, others_have_none}
 -- ---- numbers
 
 -- batches without a fault are numbered below what may follow them
-before_least : (least : ℕ) (batches : List Shown) → first_fault least batches ≡ None
+pub before_least : (least : ℕ) (batches : List Shown) → first_fault least batches ≡ None
     → (least ≤ least_after least batches) × All (λ b. b.number < least_after least batches) batches
 before_least least [] sound = (omega arith, All-nil (λ b. b.number < least))
 before_least least (b ∷ batches) sound =

@@ -1,19 +1,17 @@
 -- Where a change of the keyspaces leads a core and its disk.
-use Rattle.std.proofs.Common.{◌≡◌, ◌⊎◌, inl, inr, ℕ, ◌+◌, ◌<◌, ◌≤◌, nat_lt, Bool, true, false, List, [], ◌∷◌, ◌++◌, Option, Some, None, All, refl, sym, ◌∙◌, ap, subst, arith, codes}
-use Rattle.std.proofs.lemmas.Bool.Decides.{nat_tests}
+use Rattle.std.proofs.Common.{◌≡◌, ◌⊎◌, inl, inr, ℕ, ◌<◌, ◌≤◌, Bool, true, false, List, [], ◌∷◌, ◌++◌, None, All, refl, sym, ◌∙◌, ap, subst, arith, codes}
 use Rattle.std.proofs.lemmas.List.{append-nil}
-use Rattle.std.proofs.lemmas.List.Elements.{All-cons, All-nil}
-use Rattle.std.proofs.lemmas.Option.{none-some}
-use Rattle.std.specs.Option.{option_or}
+use Rattle.std.proofs.lemmas.List.Elements.{All-weaker}
 use Rattle.fjall_base.specs.Store.{Store, Command, apply, kept}
 use Rattle.fjall_base.specs.Disk.{Image, LeavesOnly, Meaning, state_in}
 use Rattle.fjall_base.proofs.Moments.{at_end, weaken}
 use Rattle.fjall_files.specs.Regions.{Within}
 use Rattle.fjall_journal.specs.Batches.{Shown}
 use Rattle.fjall_tree.specs.Records.{Fields}
-use Rattle.fjall_versions.specs.Replays.{Unordered, fault_of, first_fault, least_after}
+use Rattle.fjall_versions.specs.Replays.{first_fault, least_after}
 use Rattle.fjall_versions.specs.Versions.{store_of}
 use Rattle.fjall_versions.proofs.Kept.{kept_along}
+use Rattle.fjall_contents.proofs.Following.{before_least}
 use Rattle.fjall_recovery.specs.Folders.{past_record, past_records}
 use Rattle.fjall_recovery.specs.Folders as folders
 use Rattle.fjall_recovery.specs.Halves.{HasRoot, HasTree, Tree}
@@ -26,7 +24,6 @@ use Rattle.fjall_state.specs.Remembered.{Remembered}
 use Rattle.fjall_core.specs.Holding.{Held}
 use Rattle.fjall_core.specs.Durables.{Durable, Lies, Rests, StandsAmid, StaysFinished}
 use Rattle.fjall_core.specs.Standing.{Poisons, StandsOn}
-use Rattle.fjall_base.proofs.Names.{bool_cases}
 use Rattle.fjall_core.proofs.CrashesInRuns.{amid_more}
 use Rattle.fjall_core.proofs.CrashImages.{commanded, folder_amid, store_is_kept}
 use Rattle.fjall_core.proofs.RootUnchanged.{leaves_beside, within_root, writing_along}
@@ -34,31 +31,10 @@ use Rattle.fjall_core.proofs.JournalWrites.{Leads, Settles, held_on, leads_on, p
 
 -- ---- numbers
 
--- sound batches lie below the least number that may follow
-fault_less : (least : ℕ) (b : Shown) → fault_of least b ≡ None → least ≤ b.number
-fault_less least b none = elim (bool_cases (nat_lt b.number least)) [
-  | inl low ↦ absurd (none-some Unordered (sym none ∙ rw low refl))
-  | inr high ↦ grind (arith, nat_tests)
-]
-
-both_none : {X : Type 0} (a b : Option X) → option_or a b ≡ None → (a ≡ None) × (b ≡ None)
-both_none (Some x) b none = absurd (none-some _ (sym none))
-both_none None b none = (refl, none)
-
-least_grows : (least : ℕ) (batches : List Shown) → first_fault least batches ≡ None → least ≤ least_after least batches
-least_grows least [] none = omega arith
-least_grows least (b ∷ batches) none =
-    let parts = both_none (fault_of least b) (first_fault (b.number + 1) batches) none in
-    let first = fault_less least b parts.0 in
-    let rest = least_grows (b.number + 1) batches parts.1 in
-    omega (arith, first, rest)
-
+-- sound batches lie below each number from the least one on that may follow
 pub numbers_below : (limit least : ℕ) (batches : List Shown) → first_fault least batches ≡ None → least_after least batches ≤ limit → All (λ b. b.number < limit) batches
-numbers_below limit least [] none le = All-nil (λ (b : Shown). b.number < limit)
-numbers_below limit least (b ∷ batches) none le =
-    let parts = both_none (fault_of least b) (first_fault (b.number + 1) batches) none in
-    let rest = least_grows (b.number + 1) batches parts.1 in
-    All-cons (λ (b : Shown). b.number < limit) b batches (omega (arith, rest, le)) (numbers_below limit (b.number + 1) batches parts.1 le)
+numbers_below limit least batches none le =
+    All-weaker (λ (b : Shown). b.number < least_after least batches) (λ (b : Shown). b.number < limit) (λ b is. omega (arith, is, le)) batches (before_least least batches none).1
 
 -- ---- what a crash leaves
 

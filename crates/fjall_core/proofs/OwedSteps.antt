@@ -36,7 +36,7 @@ use Rattle.fjall_state.proofs.ByHand.{options_agree}
 use Rattle.fjall_state.proofs.Dues.{may_create, may_write}
 use Rattle.fjall_state.proofs.Standing as law
 use Rattle.fjall_core.specs.Holding.{Held, by_hand}
-use Rattle.fjall_core.specs.Standing.{StandsFor, Owes, OwesAll, OwesRefusal, OwesFailure, OwesWrite, Poisons, Grows, HandsOver, Alters, Counts, Creates, Deletes, held_due, store_in}
+use Rattle.fjall_core.specs.Standing.{StandsFor, Owes, OwesAll, OwesRefusal, OwesFailure, OwesWrite, Poisons, RanOut, Grows, HandsOver, Alters, Counts, Creates, Deletes, held_due, store_in}
 
 -- the machine may step so, to a state that the core stands for now
 abbrev pub Steps : Held → State → Call → Reply → Type 0
@@ -86,9 +86,14 @@ same_changes old s (Remove id key) stands out = same_leaves old s stands id key 
 same_changes old s (RemoveWeak id key) stands out = same_leaves old s stands id key op.RemoveWeak ∙ out
 same_changes old s call stands changes = changes
 
+-- where memory ran out the core stands for the same state
+ran_out_still : (old new : Held) (s : State) (call : Call) → RanOut old call new → StandsFor old s → StandsFor new s
+ran_out_still old new s (Release id) (same, later) stands = subst (λ (c : Held). StandsFor c s) (sym same) (record { remembered = stands.remembered; journal = stands.journal; buffer = stands.buffer })
+ran_out_still old new s call same stands = still old new s same stands
+
 failure_steps : (old new : Held) (s : State) (call : Call) (error : Error) → StandsFor old s → OwesFailure old call error new → (t : State) × StandsFor new t × MayFail call error s t
 failure_steps old new s call (Io kind) stands (changes, fault) = (poisoned_state new s, poisoned_stands old new s fault stands, (same_changes old s call stands changes, law.a_fault_poisons s (parts_held new)))
-failure_steps old new s call OutOfMemory stands (takes, same) = (s, still old new s same stands, (takes, refl))
+failure_steps old new s call OutOfMemory stands (takes, out) = (s, ran_out_still old new s call out stands, (takes, refl))
 failure_steps old new s call ValueTooLong stands (long, same) = (s, still old new s same stands, (same_long old s call stands long, refl))
 failure_steps old new s call error stands none = absurd none
 

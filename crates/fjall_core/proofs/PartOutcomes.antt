@@ -1,5 +1,5 @@
 -- What came of the parts of a call.
-use Rattle.std.proofs.Common.{◌≡◌, ℕ, ◌≤◌, Bool, true, false, if◌then◌else◌, List, ◌++◌, length, Ok, Err, refl, sym, ◌∙◌, ap, subst}
+use Rattle.std.proofs.Common.{◌≡◌, ℕ, ◌≤◌, Bool, true, false, if◌then◌else◌, List, [], ◌++◌, length, Ok, Err, refl, sym, ◌∙◌, ap, subst}
 use Rattle.std.proofs.lemmas.Bool.{true≢false}
 use Rattle.fjall_base.specs.Disk.{Took, TookPart}
 use Rattle.fjall_base.specs.Errors.{IsFault, IsFaultOrMemory, Rose}
@@ -98,7 +98,10 @@ module _ (honest : Type 0) (old new : Held) (id number : ℕ) (s : Keyspaces) (h
 
 -- ---- a removal
 
-pub remove_failed : (honest : Type 0) (old new : Held) (id : ℕ) (error : Error) → new ≡ record old { disk = new.disk; memory = poisoned old.memory } → IsFault old.disk.faults new.disk.faults error → (honest → FilesGone id old.disk new.disk)
-    → Removes honest old id (Err error) new
-remove_failed honest old new id (Io kind) is cause gone = (is, cause, gone)
-remove_failed honest old new id error is cause gone = absurd cause
+pub remove_failed : (honest : Type 0) (old mid new : Held) (id : ℕ) (error : Error) → mid ≡ record old { disk = mid.disk } → new ≡ (if is_io error then record mid { memory = poisoned mid.memory } else mid)
+    → old.disk.faults ≤ mid.disk.faults → IsFaultOrMemory old.disk.faults mid.disk.faults error → (honest → FilesGone id old.disk mid.disk) → (honest → error ≡ OutOfMemory → Took old.disk mid.disk []) → Removes honest old id (Err error) new
+remove_failed honest old mid new id (Io kind) same is later cause gone took =
+    subst (λ (h : Held). Removes honest old id (Err (Io kind)) h) (sym is) (subst (λ (h : Held). Removes honest old id (Err (Io kind)) (record h { memory = poisoned h.memory })) (sym same) (refl, cause, gone))
+remove_failed honest old mid new id OutOfMemory same is later cause gone took =
+    subst (λ (h : Held). Removes honest old id (Err OutOfMemory) h) (sym is) (same, refl, later, gone, λ h. took h refl)
+remove_failed honest old mid new id error same is later cause gone took = absurd cause

@@ -6,18 +6,18 @@ use Rattle.std.proofs.lemmas.List.Elements.{All-cons, All-nil}
 use Rattle.std.proofs.lemmas.Option.{none-some}
 use Rattle.std.specs.Option.{is_some}
 use Rattle.fjall_base.specs.Store.{kept}
-use Rattle.fjall_base.specs.Disk.{Meaning, state_in}
+use Rattle.fjall_base.specs.Disk.{Meaning, Took, state_in}
 use Rattle.fjall_base.specs.declared.error.Error.{Error}
-use Rattle.fjall_base.specs.declared.error.Error.TheVariants.{Io, UnknownKeyspace}
+use Rattle.fjall_base.specs.declared.error.Error.TheVariants.{Io, OutOfMemory, UnknownKeyspace}
 use Rattle.fjall_files.specs.Regions.{Within}
-use Rattle.fjall_files.proofs.Fitting.{holds_records}
+use Rattle.fjall_files.proofs.Fitting.{folder_kind}
 use Rattle.fjall_files.specs.Tidy.{IsTidy, StaysTidy}
 use Rattle.fjall_files.proofs.Tidying.{stays_start}
 use Rattle.fjall_meta.specs.declared.living.LivingKeyspace.{LivingKeyspace}
 use Rattle.fjall_meta.specs.Keyspaces.{AreKeyspaces, Keyspaces, keyspace_at}
 use Rattle.fjall_versions.specs.Versions.{store_of}
 use Rattle.fjall_versions.proofs.Naming.{living_names, rest_is_bare}
-use Rattle.fjall_commit.specs.Removals.{IsRemoved, IsUnused}
+use Rattle.fjall_commit.specs.Removals.{IsUnused, RemovesOwn}
 use Rattle.fjall_state.specs.declared.call.Call.TheVariants.{Release}
 use Rattle.fjall_state.specs.declared.call.Reply.TheVariants.{Done, Refused}
 use Rattle.fjall_state.specs.Machine.{State, handles_of, is_living, is_unknown}
@@ -29,7 +29,7 @@ use Rattle.fjall_core.specs.Durables.{Durable}
 use Rattle.fjall_core.specs.Standing.{Counts, Owes, OwesRefusal, Serves, StandsFor, StandsOn, held_due, store_in}
 use Rattle.fjall_core.proofs.JournalWrites.{held_on}
 use Rattle.fjall_core.specs.CallParts.{FilesGone, Removes}
-use Rattle.fjall_core.proofs.ServedCalls.{led_by, memory_owes, memory_serves, serves_by}
+use Rattle.fjall_core.proofs.ServedCalls.{led_by, serves_by}
 use Rattle.fjall_core.proofs.KeyspaceCalls.{Recounts, Removed, recount_leads, removed_leads, unremoved_leads}
 
 -- ---- the id
@@ -108,7 +108,7 @@ kept_on_disk A B true false (inr ill) b = absurd (true≢false (sym ill))
 -- handles counted, on a disk that stays as it is
 pub counted_serves : (old new : Held) (id : ℕ) → held_due old (Release id) ≡ None → (is_last old.memory id ≡ false) ⊎ (old.memory.poisoned ≡ true) → Counts old (released id old.memory) new → new.disk ≡ old.disk → Serves old (Release id) Done new
 counted_serves old new id none why counts same =
-    serves_by old new (Release id) Done (none, counts) (kept_on_disk (IsRemoved id (state_in new.disk) × Within (codes "keyspaces") old.disk new.disk) (new.disk ≡ old.disk) (is_last old.memory id) old.memory.poisoned why same)
+    serves_by old new (Release id) Done (none, counts) (kept_on_disk (RemovesOwn id old.disk new.disk × Within (codes "keyspaces") old.disk new.disk) (new.disk ≡ old.disk) (is_last old.memory id) old.memory.poisoned why same)
     (subst (λ disk. StaysTidy old.disk disk) (sym same) (stays_start old.disk)) (λ s d stands on tidy. ap (λ (m : Meaning). m.misuses) same) (λ s d stands on.
     led_by new s d (Release id) Done [] refl (λ sync. sync) (recount_leads old new d same (recounts_of old new s id stands counts) on))
 
@@ -120,7 +120,7 @@ release_served : (old new : Held) (id : ℕ) → FilesGone id old.disk new.disk 
 release_served old new id gone unused well d on tidy =
     let here : d ≡ held_on old d.base d.pending = λ i. record { meaning = on.same i; base = d.base; pending = d.pending } in
     let lies = (subst (λ (x : Durable). StandsOn old x) here on).lies well in
-    gone.served lies.records lies.tree lies.in_tree (holds_records (state_in old.disk) id unused.positive unused.fits tidy)
+    gone.served lies.records lies.tree lies.in_tree (folder_kind (state_in old.disk) id unused.fits tidy)
 
 removed_of : (old new : Held) (s : State) (id : ℕ) → StandsFor old s → held_due old (Release id) ≡ None → is_last old.memory id ≡ true → FilesGone id old.disk new.disk → Removed old new
 removed_of old new s id stands none last gone =
@@ -132,19 +132,41 @@ removed_of old new s id stands none last gone =
     }
 
 -- files removed, and then handles counted
-pub removed_serves : (old new : Held) (id : ℕ) → held_due old (Release id) ≡ None → is_last old.memory id ≡ true → old.memory.poisoned ≡ false → Counts old (released id old.memory) new → FilesGone id old.disk new.disk → IsRemoved id (state_in new.disk)
+pub removed_serves : (old new : Held) (id : ℕ) → held_due old (Release id) ≡ None → is_last old.memory id ≡ true → old.memory.poisoned ≡ false → Counts old (released id old.memory) new → FilesGone id old.disk new.disk → RemovesOwn id old.disk new.disk
     → Serves old (Release id) Done new
 removed_serves old new id none last well counts gone removed =
     serves_by old new (Release id) Done (none, counts)
-    (gone_on_disk (IsRemoved id (state_in new.disk) × Within (codes "keyspaces") old.disk new.disk) (new.disk ≡ old.disk) (is_last old.memory id) old.memory.poisoned last well (removed, gone.within)) gone.kinds
+    (gone_on_disk (RemovesOwn id old.disk new.disk × Within (codes "keyspaces") old.disk new.disk) (new.disk ≡ old.disk) (is_last old.memory id) old.memory.poisoned last well (removed, gone.within)) gone.kinds
     (λ s d stands on tidy. release_served old new id gone (unused_by old s id stands none last) well d on tidy) (λ s d stands on.
     led_by new s d (Release id) Done [] refl (λ sync. sync) (removed_leads old new d well (recounts_of old new s id stands counts) (removed_of old new s id stands none last gone) on))
+
+-- memory ran out before anything was removed
+out_owes : (old new : Held) (id : ℕ) → held_due old (Release id) ≡ None → new ≡ record old { disk = new.disk } → old.disk.faults ≤ new.disk.faults → Owes old (Release id) (Refused OutOfMemory) new
+out_owes old new id none same later = subst (λ first. OwesRefusal first old (Release id) OutOfMemory new) (sym none) (tt, (same, later))
+
+same_counts : (old new : Held) → new ≡ record old { disk = new.disk } → Recounts old new
+same_counts old new same = record {
+  keyspaces = ap (λ (h : Held). h.memory.keyspaces) same;
+  next = ap (λ (h : Held). h.memory.next) same;
+  poisoned = ap (λ (h : Held). h.memory.poisoned) same;
+  store = sym (ap (λ (h : Held). kept (store_in h)) same);
+  catalog = ap (λ (h : Held). h.catalog) same;
+  journal = ap (λ (h : Held). h.journal) same;
+}
+
+out_serves : (old new : Held) (id : ℕ) → held_due old (Release id) ≡ None → is_last old.memory id ≡ true → old.memory.poisoned ≡ false → new ≡ record old { disk = new.disk } → old.disk.faults ≤ new.disk.faults
+    → FilesGone id old.disk new.disk → Took old.disk new.disk [] → Serves old (Release id) (Refused OutOfMemory) new
+out_serves old new id none last well same later gone took =
+    serves_by old new (Release id) (Refused OutOfMemory) (out_owes old new id none same later) took gone.kinds
+    (λ s d stands on tidy. release_served old new id gone (unused_by old s id stands none last) well d on tidy) (λ s d stands on.
+    led_by new s d (Release id) (Refused OutOfMemory) [] refl (λ sync. sync)
+    (removed_leads old new d well (same_counts old new same) (removed_of old new s id stands none last gone) on))
 
 -- a removal that was refused
 pub unremoved_owes : (honest : Type 0) (old new : Held) (id : ℕ) (error : Error) → held_due old (Release id) ≡ None → Removes honest old id (Err error) new → Owes old (Release id) (Refused error) new
 unremoved_owes honest old new id (Io kind) none all = subst (λ first. OwesRefusal first old (Release id) (Io kind) new) (sym none) (tt, record { memory_is = ap (λ (h : Held). h.memory) all.0; faults = all.1 })
 unremoved_owes honest old new id error none all =
-    subst (λ (h : Held). Owes old (Release id) (Refused error) h) (sym all.0) (subst (λ e. Owes old (Release id) (Refused e) old) (sym all.1) (memory_owes old (Release id) tt none))
+    subst (λ e. Owes old (Release id) (Refused e) new) (sym all.1) (out_owes old new id none all.0 all.2)
 
 pub unremoved_serves : (honest : Type 0) (old new : Held) (id : ℕ) (error : Error) → held_due old (Release id) ≡ None → is_last old.memory id ≡ true → old.memory.poisoned ≡ false → Removes honest old id (Err error) new → honest
     → Serves old (Release id) (Refused error) new
@@ -154,7 +176,7 @@ unremoved_serves honest old new id (Io kind) none last well all true_ =
     led_by new s d (Release id) (Refused (Io kind)) [] refl (λ sync. sync)
     (unremoved_leads old new d well (record { memory_is = ap (λ (h : Held). h.memory) all.0; faults = all.1 }) (removed_of old new s id stands none last (all.2 true_)) on))
 unremoved_serves honest old new id error none last well all true_ =
-    subst (λ (h : Held). Serves old (Release id) (Refused error) h) (sym all.0) (subst (λ e. Serves old (Release id) (Refused e) old) (sym all.1) (memory_serves old (Release id) tt none))
+    subst (λ e. Serves old (Release id) (Refused e) new) (sym all.1) (out_serves old new id none last well all.0 all.2 (all.3 true_) (all.4 true_))
 
 -- a removal that was done, and then the handles counted
 counts_then : (honest : Type 0) (old mid new : Held) (id : ℕ) → Removes honest old id (Ok tt) mid → new ≡ record mid { memory = released id mid.memory } → Counts old (released id old.memory) new
@@ -171,4 +193,4 @@ then_owes honest old mid new id none all is = (none, counts_then honest old mid 
 pub then_serves : (honest : Type 0) (old mid new : Held) (id : ℕ) → held_due old (Release id) ≡ None → is_last old.memory id ≡ true → old.memory.poisoned ≡ false → Removes honest old id (Ok tt) mid → new ≡ record mid { memory = released id mid.memory } → honest
     → Serves old (Release id) Done new
 then_serves honest old mid new id none last well all is true_ =
-    removed_serves old new id none last well (counts_then honest old mid new id all is) (subst (λ (h : Held). FilesGone id old.disk h.disk) (sym is) (all.2 true_)) (subst (λ (h : Held). IsRemoved id (state_in h.disk)) (sym is) (all.3 true_))
+    removed_serves old new id none last well (counts_then honest old mid new id all is) (subst (λ (h : Held). FilesGone id old.disk h.disk) (sym is) (all.2 true_)) (subst (λ (h : Held). RemovesOwn id old.disk h.disk) (sym is) (all.3 true_))

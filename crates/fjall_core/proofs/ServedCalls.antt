@@ -1,6 +1,7 @@
 -- What came of the work of a call is what the call owes, and a crash leaves what it may.
-use Rattle.std.proofs.Common.{◌≡◌, ℕ, false, List, [], ◌∷◌, IfSome, Option, None, Some, refl, sym, ◌∙◌, ap, subst}
+use Rattle.std.proofs.Common.{◌≡◌, ℕ, false, List, [], ◌∷◌, IfSome, Option, None, Some, refl, sym, ◌∙◌, ap, arith, subst}
 use Rattle.std.proofs.lemmas.Bool.{true≢false}
+use Rattle.std.proofs.lemmas.List.{append-nil}
 use Rattle.fjall_base.specs.Store.{Command}
 use Rattle.fjall_base.specs.Disk.{Meaning, state_in}
 use Rattle.fjall_base.specs.Disk as disk
@@ -16,6 +17,7 @@ use Rattle.fjall_catalog.specs.Updates.{IsTableGone}
 use Rattle.fjall_files.specs.Tidy.{IsTidy, StaysTidy}
 use Rattle.fjall_files.proofs.Tidying.{stays_start}
 use Rattle.fjall_state.specs.declared.call.Call.{Call}
+use Rattle.fjall_state.specs.declared.call.Call.TheVariants.{Release}
 use Rattle.fjall_state.specs.declared.call.Reply.{Reply}
 use Rattle.fjall_state.specs.declared.call.Reply.TheVariants.{Refused}
 use Rattle.fjall_state.specs.Machine.{State, TakesMemory, TooLong}
@@ -23,7 +25,7 @@ use Rattle.fjall_state.specs.Remembered.{IsDueOrMemory, facts_of}
 use Rattle.fjall_core.specs.Holding.{Held}
 use Rattle.fjall_core.specs.Durables.{Durable, Passes}
 use Rattle.fjall_core.specs.Crashes.{BlamesDevice, CallLeaves, IsSync, attempt}
-use Rattle.fjall_core.specs.Standing.{HasTable, OnDisk, Owes, OwesRefusal, ReplacesTable, Serves, StandsFor, StandsOn, held_due, is_io, store_in}
+use Rattle.fjall_core.specs.Standing.{HasTable, OnDisk, Owes, OwesRefusal, RanOut, ReplacesTable, Serves, StandsFor, StandsOn, held_due, is_io, store_in}
 use Rattle.fjall_core.proofs.CrashesInRuns.{passes_still}
 use Rattle.fjall_core.proofs.Refusals.{is_fault, never_due, no_attempt, no_sync}
 use Rattle.fjall_core.proofs.OwedSteps.{owes_step}
@@ -57,8 +59,13 @@ still_led old new s d call reply none unsynced same on =
 
 -- ---- refusals
 
+out_untouched : (core : Held) (call : Call) → OnDisk core call (Refused OutOfMemory) core
+out_untouched core (Release id) = record { state = refl; steps = sym (append-nil core.disk.steps) }
+out_untouched core call = refl
+
 untouched : (core : Held) (call : Call) (error : Error) → is_io error ≡ false → OnDisk core call (Refused error) core
 untouched core call (Io kind) other = absurd (true≢false other)
+untouched core call OutOfMemory other = out_untouched core call
 untouched core call error other = refl
 
 -- a refusal that is no fault and changes nothing
@@ -75,8 +82,12 @@ pub due_serves : (core : Held) (call : Call) (error : Error) → held_due core c
 due_serves core call error due = refusal_serves core call error (ap is_fault (sym due) ∙ never_due (facts_of core.memory core.catalog.next_table_id) call) (due_owes core call error due)
 
 -- want of memory
+ran_out : (core : Held) (call : Call) → RanOut core call core
+ran_out core (Release id) = (refl, omega arith)
+ran_out core call = refl
+
 pub memory_owes : (core : Held) (call : Call) → TakesMemory call → held_due core call ≡ None → Owes core call (Refused OutOfMemory) core
-memory_owes core call takes due = subst (λ first. OwesRefusal first core call OutOfMemory core) (sym due) (takes, refl)
+memory_owes core call takes due = subst (λ first. OwesRefusal first core call OutOfMemory core) (sym due) (takes, ran_out core call)
 
 pub memory_serves : (core : Held) (call : Call) → TakesMemory call → held_due core call ≡ None → Serves core call (Refused OutOfMemory) core
 memory_serves core call takes due = refusal_serves core call OutOfMemory refl (memory_owes core call takes due)

@@ -1,13 +1,13 @@
 -- What the parts of calls make of a core and of its disk.
 use Rattle.std.specs.Prelude.{◌≡◌, ℕ, ◌≤◌, Bool, true, false, List, [], ◌∷◌, ◌++◌, length, codes, Result, Ok, Err}
-use Rattle.fjall_base.specs.Disk.{LeavesOnly, Meaning, Name, Took, TookPart, state_in}
+use Rattle.fjall_base.specs.Disk.{IsNoFile, LeavesOnly, Meaning, Name, Took, TookPart, state_in}
 use Rattle.fjall_base.specs.Errors.{Rose}
 use Rattle.fjall_base.specs.declared.error.Error.{Error}
 use Rattle.fjall_base.specs.declared.error.Error.TheVariants.{Io, OutOfMemory}
 use Rattle.fjall_journal.specs.declared.entry.ValueType.{ValueType}
 use Rattle.fjall_journal.specs.Batches.{Written, batch_text}
-use Rattle.fjall_files.specs.Regions.{HoldsOnly, Within}
-use Rattle.fjall_files.specs.Names.{current_name, keyspace_folder}
+use Rattle.fjall_files.specs.Regions.{Within}
+use Rattle.fjall_files.specs.Names.{keyspace_folder}
 use Rattle.fjall_files.specs.Tidy.{StaysTidy}
 use Rattle.fjall_journal.specs.Writer.{Journal, after_command, command_steps, goes_out, written_out}
 use Rattle.fjall_tree.specs.Records.{Fields}
@@ -20,7 +20,7 @@ use Rattle.fjall_recovery.specs.Places.{Journaling, LiesInTree}
 use Rattle.fjall_commit.specs.Journaling.{CanFollow, IsWriting, LeavesRoot, with_batch}
 use Rattle.fjall_commit.specs.declared.creation.Creation.{Creation}
 use Rattle.fjall_commit.specs.Changes.{IsCreation}
-use Rattle.fjall_commit.specs.Removals.{IsRemoved, IsUnused}
+use Rattle.fjall_commit.specs.Removals.{IsUnused, RemovesOwn}
 use Rattle.fjall_state.specs.Remembered.{poisoned, with_version}
 use Rattle.fjall_core.specs.Holding.{Held, by_hand}
 use Rattle.fjall_commit.specs.SyncedChanges.{CreatedKeyspace, DeletedKeyspace, SyncedThenChanged, SyncsThenChanges}
@@ -56,16 +56,18 @@ pub record FilesGone (id : ℕ) (old new : Meaning) : Type 0 where
   pub within : Within (codes "keyspaces") old new
   pub leaves : (records : List Fields) (t : Tree) → IsUnused id t.keyspaces → LiesInTree (state_in old) records t → LeavesOnly old new (λ image. HasTree image t)
   pub lies : (records : List Fields) (t : Tree) → IsUnused id t.keyspaces → LiesInTree (state_in old) records t → LiesInTree (state_in new) records t
-  pub served : (records : List Fields) (t : Tree) → LiesInTree (state_in old) records t → HoldsOnly (state_in old) (keyspace_folder id) (current_name id ∷ []) → new.misuses ≡ old.misuses
+  pub served : (records : List Fields) (t : Tree) → LiesInTree (state_in old) records t → IsNoFile (state_in old (keyspace_folder id)).now → new.misuses ≡ old.misuses
   pub kinds : StaysTidy old new
 
--- the files of a deleted keyspace are removed for good, or a fault has poisoned the core, or nothing was changed
+-- The files of a deleted keyspace are removed for good, or left where anything else stands beside them; or a fault has poisoned
+-- the core; or memory ran out, and nothing was changed.
 abbrev pub Removes : Type 0 → Held → ℕ → Result Unit Error → Held → Type 0
 Removes honest old id (Ok _) new =
-    (new ≡ record old { disk = new.disk }) × (old.disk.faults ≤ new.disk.faults) × (honest → FilesGone id old.disk new.disk) × (honest → IsRemoved id (state_in new.disk))
+    (new ≡ record old { disk = new.disk }) × (old.disk.faults ≤ new.disk.faults) × (honest → FilesGone id old.disk new.disk) × (honest → RemovesOwn id old.disk new.disk)
 Removes honest old id (Err (Io kind)) new =
     (new ≡ record old { disk = new.disk; memory = poisoned old.memory }) × Rose old.disk.faults new.disk.faults × (honest → FilesGone id old.disk new.disk)
-Removes honest old id (Err error) new = (new ≡ old) × (error ≡ OutOfMemory)
+Removes honest old id (Err error) new =
+    (new ≡ record old { disk = new.disk }) × (error ≡ OutOfMemory) × (old.disk.faults ≤ new.disk.faults) × (honest → FilesGone id old.disk new.disk) × (honest → Took old.disk new.disk [])
 
 -- What a write did to the disk and to the journal's writer: a crash leaves a beginning of the batches with this one, and
 -- where it was done the writer goes on behind it, which went out or waits; what stands in `keyspaces` stayed.

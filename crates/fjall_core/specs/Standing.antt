@@ -23,7 +23,7 @@ use Rattle.fjall_versions.specs.Versions.{newest, pairs_in, store_of}
 use Rattle.fjall_recovery.specs.Folders.{Contents}
 use Rattle.fjall_recovery.specs.Held.{Holds, store_held}
 use Rattle.fjall_repair.specs.Opened.{ComesBack}
-use Rattle.fjall_commit.specs.Removals.{IsRemoved}
+use Rattle.fjall_commit.specs.Removals.{RemovesOwn}
 use Rattle.fjall_state.specs.declared.call.Call.{Call}
 use Rattle.fjall_state.specs.declared.call.Call.TheVariants.{Keyspace, DeleteKeyspace, Retain, Release, Insert, Remove, RemoveWeak, GetAt, PageAt, Persist, KeyspaceCount, ListKeyspaceNames, KeyspaceExists, Seqno, VisibleSeqno, JournalDiskSpace}
 use Rattle.fjall_state.specs.declared.call.Reply.{Reply}
@@ -113,10 +113,15 @@ abbrev pub is_io : Error → Bool
 is_io (Io kind) = true
 is_io error = false
 
+-- Where memory ran out nothing has changed; a release has looked at the disk by then.
+abbrev pub RanOut : Held → Call → Held → Type 0
+RanOut old (Release id) new = (new ≡ record old { disk = new.disk }) × (old.disk.faults ≤ new.disk.faults)
+RanOut old call new = new ≡ old
+
 -- where no refusal is due, a fault may be told, or want of memory, or that an option's value is too long to be stored
 abbrev pub OwesFailure : Held → Call → Error → Held → Type 0
 OwesFailure old call (Io kind) new = ChangesDisk (facts_of old.memory old.catalog.next_table_id) (length old.journal.buffer) call × Poisons old new
-OwesFailure old call OutOfMemory new = TakesMemory call × (new ≡ old)
+OwesFailure old call OutOfMemory new = TakesMemory call × RanOut old call new
 OwesFailure old call ValueTooLong new = TooLong (store_in old) call × (new ≡ old)
 OwesFailure old call error new = ⊥
 
@@ -192,20 +197,22 @@ pub record ReplacesTable (old new : Held) : Type 0 where
   pub gone : IsTableGone (state_in new.disk) old.catalog
   pub there : (s : State) (d : Durable) → StandsFor old s → StandsOn old d → HasTable (state_in new.disk) new.catalog
 
--- With the last handle of a deleted keyspace its folder is removed for good, unless the core is poisoned. With each other
--- one nothing is done.
+-- With the last handle of a deleted keyspace its folder is removed for good, unless it holds anything but the engine's own
+-- files, or the core is poisoned. With each other one nothing is done.
 abbrev pub RemovesLast : Held → ℕ → Held → Type 0
-RemovesLast old id new = MatchBool (is_last old.memory id && not old.memory.poisoned) (IsRemoved id (state_in new.disk) × Within (codes "keyspaces") old.disk new.disk) (new.disk ≡ old.disk)
+RemovesLast old id new = MatchBool (is_last old.memory id && not old.memory.poisoned) (RemovesOwn id old.disk new.disk × Within (codes "keyspaces") old.disk new.disk) (new.disk ≡ old.disk)
 
 -- what a disk took of a write that was done: what waited in the buffer and the batch's text, or nothing where that waits too
 abbrev pub WroteOut : Held → ℕ → Bytes → Op → Held → Type 0
 WroteOut old id key o new = Took old.disk new.disk (command_steps (by_hand old id) old.journal (op_text id key o old.memory.next))
 
 -- What the disk took of a call: of a creation of a name that none had, and of a deletion of a keyspace that lived, another
--- table of tree 0, where the clause on crashes tells the rest; of a release the removal of files; the batch's text behind
--- what waited in the buffer, where it doesn't wait too; the buffer and a sync where the mode asks for one; and else nothing.
+-- table of tree 0, where the clause on crashes tells the rest; of a release the removal of files, before which memory may run
+-- out; the batch's text behind what waited in the buffer, where it doesn't wait too; the buffer and a sync where the mode asks
+-- for one; and else nothing.
 abbrev pub OnDisk : Held → Call → Reply → Held → Type 0
 OnDisk old call (Refused (Io kind)) new = DiskFailed old call new
+OnDisk old (Release id) (Refused OutOfMemory) new = Took old.disk new.disk []
 OnDisk old call (Refused error) new = new.disk ≡ old.disk
 OnDisk old (Keyspace name options) (Number id) new = MatchOption (id_of name old.memory.keyspaces.living) (ReplacesTable old new) (λ found. new.disk ≡ old.disk)
 OnDisk old (DeleteKeyspace id) Done new = MatchBool (is_living (store_in old) id) (ReplacesTable old new) (new.disk ≡ old.disk)

@@ -12,8 +12,7 @@ use crate::engine::Core;
 use fjall_base::{Disk, Result, Slice};
 use fjall_catalog::prepare_deletion;
 use fjall_commit::{
-    prepare_creation, prepare_removal, remove_keyspace, sync_and_create_keyspace,
-    sync_and_delete_keyspace,
+    prepare_creation, remove_keyspace, sync_and_create_keyspace, sync_and_delete_keyspace,
 };
 use fjall_options::KeyspaceCreateOptions;
 
@@ -138,10 +137,10 @@ impl<D: Disk> Core<D> {
     }
 
     /// Counts one handle less. With the last one of a deleted keyspace its map goes, and its folder is removed, which a
-    /// poisoned core leaves to the next opening.
+    /// poisoned core leaves to the next opening. A folder that holds anything but the engine's own files is left as it stands.
     ///
-    /// Refusals: `UnknownKeyspace` where no handle is counted; `OutOfMemory`; and `Io`, after which the core is poisoned.
-    /// After each of them the handle is still counted.
+    /// Refusals: `UnknownKeyspace` where no handle is counted; `OutOfMemory`, before which the disk was no more than looked
+    /// at; and `Io`, after which the core is poisoned. After each of them the handle is still counted.
     pub fn release(&mut self, id: u64) -> Result<()>
         ensures serves { IsTrue D.honest → Serves self.old (Release id) (reply_of result) self.new }
         ensures owes { Owes self.old (Release id) (reply_of result) self.new }
@@ -162,11 +161,10 @@ impl<D: Disk> Core<D> {
     fn remove_files(&mut self, id: u64) -> Result<()>
         ensures removed { Removes (IsTrue D.honest) self.old id result self.new }
     {
-        let removal = prepare_removal(self.alloc, id)?;
-        match remove_keyspace(&mut self.disk, &removal) {
+        match remove_keyspace(self.alloc, &mut self.disk, id) {
             Ok(()) => Ok(()),
             Err(error) => {
-                self.memory.poison();
+                self.poison_by(&error);
                 Err(error)
             }
         }

@@ -302,10 +302,10 @@ fn each_call_up_to_the_last_fails(rt: HostRuntime) -> Result<(), Fail> {
 }
 
 #[test]
-fn the_script_makes_24_commands_by_213_calls(rt: HostRuntime) -> Result<(), Fail> {
+fn the_script_makes_24_commands_by_214_calls(rt: HostRuntime) -> Result<(), Fail> {
     let (tried, log) = recorded(rt.alloc(), script())?;
     let counts = (tried.commands.len(), log.steps.len());
-    assert_eq!(rt; counts, (24, 213));
+    assert_eq!(rt; counts, (24, 214));
     Ok(())
 }
 

@@ -9,9 +9,7 @@ use crate::steps::Step::*;
 use crate::steps::{Row, Start};
 use fjall_base::{Error, Result};
 use fjall_catalog::{Catalog, Update, first_record_of, prepare};
-use fjall_commit::{
-    Creation, create_keyspace, delete_keyspace, prepare_creation, prepare_removal, remove_keyspace,
-};
+use fjall_commit::{Creation, create_keyspace, delete_keyspace, prepare_creation, remove_keyspace};
 use fjall_memory::MemoryDisk;
 use fjall_meta::MetaKeyspace;
 use std::alloc::Global;
@@ -48,8 +46,7 @@ pub fn delete(alloc: Global, disk: &mut MemoryDisk, id: u64, number: u64) -> Res
 
 /// Removes the folder of the keyspace of this id.
 pub fn remove(alloc: Global, disk: &mut MemoryDisk, id: u64) -> Result<()> {
-    let removal = prepare_removal(alloc, id)?;
-    remove_keyspace(disk, &removal)
+    remove_keyspace(alloc, disk, id)
 }
 
 pub const SCRIPT: &[Row] = &[
@@ -77,11 +74,19 @@ pub const SCRIPT: &[Row] = &[
     (CreateHome(b"a", 4), YES),
     (Crash(0), DONE),
     (Ask(IsFirst(FIRST, 4)), YES),
-    // A folder with more stays.
+    // A folder with a table goes too.
     (New(Start::Tree), DONE),
     (On(MakeFolder("keyspaces/1")), DONE),
     (MakeFile("keyspaces/1/1.table", b"table"), DONE),
-    (RemoveKeyspace(1), FAULT),
+    (RemoveKeyspace(1), DONE),
+    (On(Count("keyspaces")), Ok(&[1])),
+    (Ask(Keyspaces), Ok(&[0])),
+    // One with anything else stays as it stands.
+    (On(MakeFolder("keyspaces/1")), DONE),
+    (MakeFile("keyspaces/1/1.table", b"table"), DONE),
+    (MakeFile("keyspaces/1/notes", b"notes"), DONE),
+    (RemoveKeyspace(1), DONE),
+    (On(Count("keyspaces/1")), Ok(&[2])),
     (Ask(Keyspaces), Ok(&[0])),
 ];
 

@@ -106,11 +106,3 @@ folder_kind state id small tidy = (tidy (keyspace_folder id)).0.kind (Keyspace i
 
 pub current_kind : (state : State) (id : ℕ) → id < 2 ^ 64 → IsTidy state → IsNoFolder (state (current_name id)).now
 current_kind state id small tidy = (tidy (current_name id)).0.kind (Current id) small refl
-
--- a keyspace's folder holds no more than the file of its records
-pub holds_records : (state : State) (id : ℕ) → 0 < id → id < 2 ^ 64 → IsTidy state → HoldsOnly state (keyspace_folder id) (current_name id ∷ [])
-holds_records state id some small tidy = record {
-  kind = folder_kind state id small tidy;
-  each = All-cons (λ (n : Name). IsNoFolder (state n).now) (current_name id) [] (current_kind state id small tidy) (All-nil (λ (n : Name). IsNoFolder (state n).now));
-  whole = λ q inside there. (0, current_name id, omega arith, refl, sym ((tidy q).0.home id some small inside there));
-}

@@ -18,3 +18,4 @@ pub mod Removed
 pub mod Fitting
 pub mod Serving
 pub mod FilesRead
+pub mod OwnEntries

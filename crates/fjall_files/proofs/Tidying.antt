@@ -6,17 +6,11 @@ use Rattle.std.proofs.lemmas.Slice.Eq.{bytes_eq-Decides}
 use Rattle.fjall_base.specs.declared.error.Error.{Error}
 use Rattle.fjall_base.proofs.States.{alter-other, alter-same, put-other, put-same, settle-in, settle-out}
 use Rattle.fjall_base.specs.Disk.{Name, Entry, Missing, File, Folder, Place, State, Image, IsImage, IsThere, Leaves, Meaning, SomeSurvives, Step, Put, Append, Sync, Loosen, Cut, SyncFolder, Survives, Took, TookCut, TookOrNot, TookPart, IsNoFile, IsNoFolder, after, all_synced, alter, appended, change, cut_to, disk_of, folder_of, loosened, making, put, removing, settle, state_in}
+use Rattle.fjall_base.proofs.Names.{bool_cases, same}
 use Rattle.fjall_base.proofs.Moments.{after-append}
 use Rattle.std.proofs.lemmas.List.{append_cancel_left, append-nil}
 use Rattle.fjall_files.specs.Names.{Kept, Lock, Version, Journal, AllKeyspaces, Keyspace, Current, Table}
 use Rattle.fjall_files.specs.Tidy.{FitsAt, IsOfKind, IsTidy, IsTidyStep, StaysTidy}
-
-bool_cases : (b : Bool) → (b ≡ true) ⊎ (b ≡ false)
-bool_cases true = inl refl
-bool_cases false = inr refl
-
-same : {q r : Name} → bytes_eq q r ≡ true → q ≡ r
-same {q} {r} is = (bytes_eq-Decides q r).0 is
 
 -- ---- what fits
 

@@ -7,3 +7,4 @@ pub mod Regions
 pub mod Trims
 pub mod Calls
 pub mod Texts
+pub mod Own

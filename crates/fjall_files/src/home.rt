@@ -71,11 +71,12 @@ pub fn put_file<D: Disk>(disk: &mut D, folder: &str, file: &str, bytes: &[u8]) -
 /// Removes files of a folder, and then the folder, where they are there. A crash may bring each of them back until the
 /// folder that it was in is synced.
 ///
-/// It is a fault where the folder holds anything else. What a call that fails has done lies in that folder.
+/// It is a fault where the folder holds anything else. Where the files are right in that folder, what a call that fails has
+/// done lies in it too.
 pub fn remove_home<D: Disk>(disk: &mut D, folder: &str, files: &[String]) -> Result<()>
-    requires inside { All (λ file. folder_of (string_bytes file) ≡ folder.now) files.now }
     ensures gone { IsTrue D.honest → OnOk result ((state_in (D.meaning disk.new) folder.now).now ≡ Missing) }
-    ensures within { IsTrue D.honest → folder.now ≢ [] → Within folder.now (D.meaning disk.old) (D.meaning disk.new) }
+    ensures within { IsTrue D.honest → All (λ file. folder_of (string_bytes file) ≡ folder.now) files.now → folder.now ≢ []
+        → Within folder.now (D.meaning disk.old) (D.meaning disk.new) }
     ensures served { IsTrue D.honest → HoldsOnly (state_in (D.meaning disk.old)) folder.now (map string_bytes files.now)
         → AllServed (D.meaning disk.old) (D.meaning disk.new) }
     ensures cause { OnlyFaults (D.meaning disk.old) (D.meaning disk.new) result }

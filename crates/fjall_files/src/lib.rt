@@ -8,6 +8,7 @@ mod lists;
 mod marker;
 mod names;
 mod number;
+mod own;
 mod trim;
 
 pub use home::{append_synced, make_file, make_home, put_file, remove_home};
@@ -22,4 +23,5 @@ pub use names::{
     keyspace_folder, parse_journal_name, table_name,
 };
 pub use number::parse_number;
+pub use own::{ListedFolder, OwnFiles, list_folder, list_own_files};
 pub use trim::end_file;

@@ -50,4 +50,3 @@ pub mod Replayed
 pub mod Openings
 pub mod Amid
 pub mod SweepServed
-pub mod Own

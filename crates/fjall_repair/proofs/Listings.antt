@@ -4,19 +4,19 @@ use Rattle.std.specs.Prelude.{IsTrue, String, string_bytes, ◌↔◌}
 use Rattle.std.specs.List.{Contains, list_any}
 use Rattle.std.proofs.lemmas.Bool.Decides.{nat_tests}
 use Rattle.std.proofs.lemmas.List.{append-nil, map-append, map_more, length-map, get_or-map, get_or_default, take_all}
-use Rattle.std.proofs.lemmas.List.Elements.{All-append, All-map, All-push, Contains-append_left, Contains-append_right, Contains-get_or, Contains-push_cases}
+use Rattle.std.proofs.lemmas.List.Elements.{All-append, All-push, Contains-append_left, Contains-append_right, Contains-get_or, Contains-push_cases}
 use Rattle.std.proofs.lemmas.List.Folds.{Any-from_list_any, list_any-from_Any}
 use Rattle.std.proofs.Math.Seq.{get_or-append_right, take-suc}
 use Rattle.std.specs.declared.alloc.Global.{Global}
-use Rattle.fjall_base.specs.declared.disk.DirEntry.{DirEntry}
-use Rattle.fjall_base.specs.Disk.{Name, Meaning, Missing, State, Lists, Took, folder_of}
+use Rattle.fjall_base.specs.Disk.{Name, Meaning, Missing, State, Took}
 use Rattle.fjall_base.proofs.Lists.{Any-more}
-use Rattle.fjall_files.specs.Names.{keyspace_folder, table_name}
+use Rattle.fjall_files.specs.Names.{table_name}
 use Rattle.fjall_meta.specs.declared.living.LivingKeyspace.{LivingKeyspace}
-use Rattle.fjall_repair.specs.declared.plan.UnnamedHome.{UnnamedHome}
+use Rattle.fjall_files.specs.declared.own.OwnFiles.{OwnFiles}
 use Rattle.fjall_repair.specs.Listing.{AreTables}
-use Rattle.fjall_repair.specs.Sweeps.{FindsHomes, FindsTables, FindsTablesOf, HoldsOnlyOwn, IsHomeFound, IsOwn, IsUnnamedHome, IsUnnamedTable, Lives}
-use Rattle.fjall_repair.proofs.Removals as Removals
+use Rattle.fjall_files.specs.Own.{AreOwnFiles, HoldsOnlyOwn}
+use Rattle.fjall_repair.specs.Sweeps.{FindsHomes, FindsTables, FindsTablesOf, IsUnnamedHome, IsUnnamedTable, Lives}
+use Rattle.fjall_files.proofs.OwnEntries.{contains_map}
 
 abbrev Text : Type 0
 Text = String Global
@@ -46,7 +46,7 @@ finds_none state names id n lives fits some = absurd (omega (arith, lives.1))
 
 module _ (living : List LivingKeyspace) (i : ℕ) (d k : LivingKeyspace) (at : k ≡ get_or living i d) (lt : i < length living) where
   lives_at : Lives living k.id
-  lives_at = subst (λ (x : LivingKeyspace). Lives living x.id) (sym at) (Removals.contains_map (λ (x : LivingKeyspace). x.id) living i d lt)
+  lives_at = subst (λ (x : LivingKeyspace). Lives living x.id) (sym at) (contains_map (λ (x : LivingKeyspace). x.id) living i d lt)
 
   -- an id among one more of the keyspaces
   id_cases : (id : ℕ) → Lives (take (i + 1) living) id → Lives (take i living) id ⊎ (k.id ≡ id)
@@ -106,22 +106,6 @@ is_named living id result some is = (
   (λ either. ⊎_elim (λ none. absurd (some none)) (λ lives. is ∙ if_lives living id lives) either),
 )
 
--- ---- a home
-
-module _ (state : State) (id : ℕ) (listed : List DirEntry) (lists : Lists state (keyspace_folder id) listed) (files : List Text) (files_are : files ≡ map (λ entry. entry.name) listed) where
-  pub home_whole : (name : Name) → folder_of name ≡ keyspace_folder id → (state name).now ≢ Missing → Contains (map string_bytes files) name
-  home_whole name inside some =
-      let (i, entry, lt, at, is) = lists.whole name inside some in
-      let less : i < length (map (λ (e : DirEntry). e.name) listed) = subst (λ n. i < n) (sym (length-map listed (λ (e : DirEntry). e.name))) lt in
-      let file = get_or-map (λ (e : DirEntry). e.name) listed i entry entry.name lt ∙ ap (λ (e : DirEntry). e.name) at in
-      subst (λ l. Contains (map string_bytes l) name) (sym files_are)
-      (subst (λ (n : Name). Contains (map string_bytes (map (λ (e : DirEntry). e.name) listed)) n) (ap (λ f. string_bytes f) file ∙ is)
-      (Removals.contains_map string_bytes (map (λ (e : DirEntry). e.name) listed) i entry.name less))
-
-  pub home_inside : All (λ file. folder_of (string_bytes file) ≡ keyspace_folder id) files
-  home_inside = subst (All (λ file. folder_of (string_bytes file) ≡ keyspace_folder id)) (sym files_are)
-      (All-map (λ file. folder_of (string_bytes file) ≡ keyspace_folder id) (λ (e : DirEntry). e.name) listed (λ k d lt. (lists.each k d lt).0))
-
 -- ---- homes
 
 any_last : {X : Type 0} (P : X → Type 0) (xs : List X) (x : X) → P x → Any P (xs ++ x ∷ [])
@@ -136,31 +120,30 @@ module _ (state now : State) (same : now ≡ state) (living : List LivingKeyspac
       Contains-push_cases (take i ids) id x (subst (λ (l : List ℕ). Contains l x) split has)
 
   -- a folder that is named
-  pub named_passed : (homes : List UnnamedHome) → (id ≡ 0) ⊎ Lives living id → FindsHomes state living (take i ids) homes → FindsHomes state living (take (i + 1) ids) homes
+  pub named_passed : (homes : List OwnFiles) → (id ≡ 0) ⊎ Lives living id → FindsHomes state living (take i ids) homes → FindsHomes state living (take (i + 1) ids) homes
   named_passed homes named so_far x has some dead holds = ⊎_elim (λ before. so_far x before some dead holds)
       (λ is. ⊎_elim (λ none. absurd (some (sym is ∙ none))) (λ lives. absurd (dead (subst (Lives living) is lives))) named) (some_cases x has)
 
   -- a folder that holds something else
-  pub foreign_passed : (homes : List UnnamedHome) → (HoldsOnlyOwn now id → ⊥) → FindsHomes state living (take i ids) homes → FindsHomes state living (take (i + 1) ids) homes
+  pub foreign_passed : (homes : List OwnFiles) → (HoldsOnlyOwn now id → ⊥) → FindsHomes state living (take i ids) homes → FindsHomes state living (take (i + 1) ids) homes
   foreign_passed homes foreign so_far x has some dead holds = ⊎_elim (λ before. so_far x before some dead holds)
       (λ is. absurd (foreign (subst (λ (s : State). HoldsOnlyOwn s id) (sym same) (subst (λ (n : ℕ). HoldsOnlyOwn state n) (sym is) holds)))) (some_cases x has)
 
-  module _ (homes new : List UnnamedHome) (home : UnnamedHome) (new_is : new ≡ homes ++ home ∷ []) (unnamed : (id ≡ 0) ⊎ Lives living id → ⊥) where
-    pub home_found : IsHomeFound now id home → FindsHomes state living (take i ids) homes → FindsHomes state living (take (i + 1) ids) new
-    home_found found so_far x has some dead holds = subst (Any (IsHomeFound state x)) (sym new_is) (⊎_elim (λ before. Any-more (IsHomeFound state x) homes (home ∷ []) (so_far x before some dead holds))
-        (λ is. any_last (IsHomeFound state x) homes home (subst (λ (s : State). IsHomeFound s x home) same (subst (λ (n : ℕ). IsHomeFound now n home) is found))) (some_cases x has))
+  module _ (homes new : List OwnFiles) (home : OwnFiles) (new_is : new ≡ homes ++ home ∷ []) (unnamed : (id ≡ 0) ⊎ Lives living id → ⊥) where
+    pub home_found : AreOwnFiles now id home → FindsHomes state living (take i ids) homes → FindsHomes state living (take (i + 1) ids) new
+    home_found found so_far x has some dead holds = subst (Any (AreOwnFiles state x)) (sym new_is) (⊎_elim (λ before. Any-more (AreOwnFiles state x) homes (home ∷ []) (so_far x before some dead holds))
+        (λ is. any_last (AreOwnFiles state x) homes home (subst (λ (s : State). AreOwnFiles s x home) same (subst (λ (n : ℕ). AreOwnFiles now n home) is found))) (some_cases x has))
 
-    pub home_unnamed : id < 2 ^ 64 → IsHomeFound now id home → All (λ file. folder_of (string_bytes file) ≡ keyspace_folder id) home.files.items → All (λ file. IsOwn id (string_bytes file)) home.files.items
-        → All (IsUnnamedHome living) homes → All (IsUnnamedHome living) new
-    home_unnamed fits found inside own so_far = subst (All (IsUnnamedHome living)) (sym new_is) (All-push (IsUnnamedHome living) homes home so_far (record {
+    pub home_unnamed : id < 2 ^ 64 → AreOwnFiles now id home → All (IsUnnamedHome living) homes → All (IsUnnamedHome living) new
+    home_unnamed fits found so_far = subst (All (IsUnnamedHome living)) (sym new_is) (All-push (IsUnnamedHome living) homes home so_far (record {
       id = id;
       fits = fits;
       some = λ none. unnamed (inl none);
       dead = λ lives. unnamed (inr lives);
       folder_is = found.folder_is;
-      inside = inside;
-      own = own;
+      inside = found.inside;
+      own = found.named;
     }))
 
-pub homes_all : (state : State) (living : List LivingKeyspace) (ids : List ℕ) (i : ℕ) (homes : List UnnamedHome) → length ids ≤ i → FindsHomes state living (take i ids) homes → FindsHomes state living ids homes
+pub homes_all : (state : State) (living : List LivingKeyspace) (ids : List ℕ) (i : ℕ) (homes : List OwnFiles) → length ids ≤ i → FindsHomes state living (take i ids) homes → FindsHomes state living ids homes
 homes_all state living ids i homes le found = subst (λ (l : List ℕ). FindsHomes state living l homes) (take_all i ids le) found

@@ -26,10 +26,12 @@ use Rattle.fjall_recovery.specs.Homes.{IsPlain}
 use Rattle.fjall_recovery.specs.Places.{HasSafeHomeAt, LiesInTree, RestsInTree}
 use Rattle.fjall_recovery.proofs.Named.{under_within}
 use Rattle.fjall_repair.specs.declared.plan.SweepPlan.{SweepPlan}
-use Rattle.fjall_repair.specs.declared.plan.UnnamedHome.{UnnamedHome}
+use Rattle.fjall_files.specs.declared.own.OwnFiles.{OwnFiles}
 use Rattle.fjall_recovery.specs.Naming.{AreFolderIds}
-use Rattle.fjall_repair.specs.Sweeps.{AreGone, BringsNoTable, FindsAll, FindsTables, HoldsOnlyOwn, IsHomeFound, IsSwept, IsPlan, IsUnnamedHome, IsUnnamedTable, Lives, Removes, home_names, named_in, planned}
+use Rattle.fjall_files.specs.Own.{AreOwnFiles, HoldsOnlyOwn}
+use Rattle.fjall_repair.specs.Sweeps.{AreGone, BringsNoTable, FindsAll, FindsTables, IsSwept, IsPlan, IsUnnamedHome, IsUnnamedTable, Lives, Removes, home_names, named_in, planned}
 use Rattle.fjall_repair.proofs.Apart as Apart
+use Rattle.fjall_files.proofs.OwnEntries.{contains_map}
 use Rattle.fjall_repair.proofs.Removals as Removals
 use Rattle.fjall_repair.proofs.Spared.{IsSpare, spared}
 
@@ -51,7 +53,7 @@ lives_some s are id lives none =
 
 -- a keyspace that is found by its id lives
 found_lives : (living : List LivingKeyspace) (id : ℕ) (k : LivingKeyspace) → keyspace_at id living ≡ Some k → Lives living id
-found_lives living id k e = living_has (Lives living) living id k e (λ i d lt. Removals.contains_map (λ (j : LivingKeyspace). j.id) living i d lt)
+found_lives living id k e = living_has (Lives living) living id k e (λ i d lt. contains_map (λ (j : LivingKeyspace). j.id) living i d lt)
 
 -- a plain home rests on no table
 at_plain : (P : Name → Type 0) (id : ℕ) (last : Fields) → IsPlain last → P (codes "keyspaces") → P (keyspace_folder id) → P (current_name id) → At id last.tables P
@@ -112,7 +114,7 @@ module _ (state : State) (records : List Fields) (t : Tree) (rests : RestsInTree
         tt,
       )
 
-  module _ (home : UnnamedHome) (un : IsUnnamedHome t.keyspaces.living home) where
+  module _ (home : OwnFiles) (un : IsUnnamedHome t.keyspaces.living home) where
     other_id : (id : ℕ) → Lives t.keyspaces.living id → id ≢ un.id
     other_id id lives e = un.dead (subst (Lives t.keyspaces.living) e lives)
 
@@ -159,14 +161,14 @@ module _ (state : State) (records : List Fields) (t : Tree) (rests : RestsInTree
 
 -- ---- all that a plan has
 
-flat_all : (P : Name → Type 0) (homes : List UnnamedHome) → AllByRecursion (λ home. AllByRecursion P (home_names home)) homes → AllByRecursion P (flat_map home_names homes)
+flat_all : (P : Name → Type 0) (homes : List OwnFiles) → AllByRecursion (λ home. AllByRecursion P (home_names home)) homes → AllByRecursion P (flat_map home_names homes)
 flat_all P [] all = tt
 flat_all P (home ∷ homes) all = subst (AllByRecursion P) (sym (flat_map-cons home_names home homes)) (Removals.all_both P (home_names home) (flat_map home_names homes) all.0 (flat_all P homes all.1))
 
 pub planned_all : (P : Name → Type 0) (plan : SweepPlan) → All (λ table. P (string_bytes table)) plan.tables.items → All (λ home. P (string_bytes home.folder) × All (λ file. P (string_bytes file)) home.files.items) plan.homes.items → All P (planned plan)
 planned_all P plan tables homes =
     All-append P (map string_bytes plan.tables.items) (flat_map home_names plan.homes.items) (All-map P string_bytes plan.tables.items tables)
-    (All-from_recursion P (flat_map home_names plan.homes.items) (flat_all P plan.homes.items (recursion_from_All (λ (home : UnnamedHome). AllByRecursion P (home_names home)) plan.homes.items (λ i d lt.
+    (All-from_recursion P (flat_map home_names plan.homes.items) (flat_all P plan.homes.items (recursion_from_All (λ (home : OwnFiles). AllByRecursion P (home_names home)) plan.homes.items (λ i d lt.
     let both = homes i d lt in
     Removals.all_both P _ _ (recursion_from_All P _ (All-map P string_bytes _ both.1)) (both.0, tt)))))
 
@@ -240,11 +242,11 @@ module _ (old new : State) (last : Catalog) (living : List LivingKeyspace) (ids 
   at_planned : (name : Name) → Contains (planned plan) name → (new name).now ≡ Missing
   at_planned name has = All-contains (λ (n : Name). (new n).now ≡ Missing) (planned plan) name (All-from_recursion (λ (n : Name). (new n).now ≡ Missing) (planned plan) gone) has
 
-  found : (id : ℕ) → id < 2 ^ 64 → id ≢ 0 → (Lives living id → ⊥) → (old (keyspace_folder id)).now ≡ Folder → HoldsOnlyOwn old id → Any (IsHomeFound old id) plan.homes.items
+  found : (id : ℕ) → id < 2 ^ 64 → id ≢ 0 → (Lives living id → ⊥) → (old (keyspace_folder id)).now ≡ Folder → HoldsOnlyOwn old id → Any (AreOwnFiles old id) plan.homes.items
   found id fits some dead stands holds = finds.homes id ((are.each id).1 (fits, stands)) some dead holds
 
   -- a name of a home that is planned
-  home_name : (id : ℕ) (some : Any (IsHomeFound old id) plan.homes.items) (name : Name) → Contains (home_names some.1) name → (new name).now ≡ Missing
+  home_name : (id : ℕ) (some : Any (AreOwnFiles old id) plan.homes.items) (name : Name) → Contains (home_names some.1) name → (new name).now ≡ Missing
   home_name id (k, home, lt, at, is) name has =
       at_planned name (Contains-append_right (map string_bytes plan.tables.items) (flat_map home_names plan.homes.items) name (Removals.within_all home_names plan.homes.items k home home (sym at) lt name has))
 

@@ -2,7 +2,7 @@
 use Rattle.std.proofs.Common.{◌≡◌, inl, inr, ℕ, ◌+◌, ◌<◌, true, List, [], ◌∷◌, ◌++◌, map, length, take, drop, get_or, Result, Ok, Err, OnOk, OnErr, refl, sym, ◌∙◌, ap, subst, add-one, lit<, take-append-drop}
 use Rattle.std.specs.List.{AllByRecursion, Contains, flat_map}
 use Rattle.std.specs.Str.{bytes_eq}
-use Rattle.std.proofs.lemmas.List.{append-nil, map-append, map_more, length-map, get_or-map}
+use Rattle.std.proofs.lemmas.List.{append-nil, map-append, map_more}
 use Rattle.std.proofs.lemmas.List.Concat.{flat_map-cons}
 use Rattle.std.proofs.lemmas.List.Elements.{Contains-append_left, Contains-append_right}
 use Rattle.std.proofs.lemmas.Grind.{flat_map-append}
@@ -12,6 +12,7 @@ use Rattle.fjall_base.specs.declared.error.Error.{Error}
 use Rattle.fjall_base.specs.Disk.{Name, Entry, Missing, File, Folder, Place, State, Step, Put, Meaning, Took, IsNoFile, IsNoFolder, after, put, removing, state_in}
 use Rattle.fjall_base.proofs.States.{put-now, put-other, put-same}
 use Rattle.fjall_base.proofs.Names.{bool_cases}
+use Rattle.fjall_files.proofs.OwnEntries.{contains_map}
 use Rattle.fjall_files.specs.Regions.{is_under, AreUnder, Within}
 use Rattle.fjall_files.proofs.Made.{gone, took_both}
 use Rattle.fjall_repair.specs.Sweeps.{AreGone, Removes, removals}
@@ -25,9 +26,6 @@ all_both P (x ∷ xs) ys one two = (one.0, all_both P xs ys one.1 two)
 pub all_weaker : {A : Type 0} (P Q : A → Type 0) (xs : List A) → ((x : A) → P x → Q x) → AllByRecursion P xs → AllByRecursion Q xs
 all_weaker P Q [] to all = tt
 all_weaker P Q (x ∷ xs) to all = (to x all.0, all_weaker P Q xs to all.1)
-
-pub contains_map : {A B : Type 0} (f : A → B) (xs : List A) (i : ℕ) (d : A) → i < length xs → Contains (map f xs) (f (get_or xs i d))
-contains_map f xs i d lt = (i, subst (λ n. i < n) (sym (length-map xs f)) lt, get_or-map f xs i d (f (get_or xs i d)) lt)
 
 -- the element at an index, by the name that it has
 module _ {A : Type 0} (f : A → Name) (xs : List A) (i : ℕ) (d x : A) (file : Name) (at : x ≡ get_or xs i d) (lt : i < length xs) (value : file ≡ f x) where

@@ -1,9 +1,8 @@
 -- What the batches of journals make beyond what is stored of keyspaces, as they are replayed at an opening.
-use Rattle.std.proofs.Common.{◌≡◌, ℕ, zero, suc, ◌<◌, ◌^◌, ◌==◌, not, Bool, true, false, cond, List, [], ◌∷◌, length, get_or, map, find, filter, All, Option, None, Some, unwrap_or, is_some, refl, sym, ◌∙◌, ap, subst, arith}
+use Rattle.std.proofs.Common.{◌≡◌, ℕ, zero, suc, ◌<◌, ◌^◌, ◌==◌, Bool, true, false, cond, List, [], ◌∷◌, length, get_or, map, find, All, Option, None, Some, unwrap_or, is_some, refl, sym, ◌∙◌, ap, subst, arith}
 use Rattle.std.proofs.lemmas.Bool.{and_parts, true≢false}
 use Rattle.std.proofs.lemmas.Bool.Decides.{nat_tests}
-use Rattle.std.proofs.lemmas.List.Elements.{All-append, All-filter, All-nil, All-weaker, filter_passes}
-use Rattle.std.specs.List.{list_any}
+use Rattle.std.proofs.lemmas.List.Elements.{All-nil}
 use Rattle.std.specs.Option.{option_map}
 use Rattle.std.specs.FinMap.{get}
 use Rattle.fjall_base.specs.Disk.{Image}
@@ -17,9 +16,8 @@ use Rattle.fjall_views.specs.Views.{value_at}
 use Rattle.fjall_versions.specs.declared.recovery.Persisted.{Persisted}
 use Rattle.fjall_versions.specs.declared.version.Version.{Version}
 use Rattle.fjall_versions.specs.Replays.{counts, first_fault, persisted_at}
-use Rattle.fjall_versions.specs.Versions.{store_of as store_behind, version_of, versions_made, versions_put, versions_where}
-use Rattle.fjall_versions.proofs.Ids.{living_has}
-use Rattle.fjall_versions.proofs.Living.{counts_of}
+use Rattle.fjall_versions.specs.Versions.{store_of as store_behind}
+use Rattle.fjall_versions.proofs.Naming.{made_were_given}
 use Rattle.fjall_versions.proofs.Slots.{same_id}
 use Rattle.fjall_contents.specs.Contents.{Stored, counts_beyond, is_beyond, store_held}
 use Rattle.fjall_contents.specs.Memory.{AreLoaded, AreTold, versions_beyond}
@@ -33,32 +31,11 @@ use Rattle.fjall_repair.specs.Readings.{persisted_in, persisted_of}
 
 -- ---- ids that were given out
 
-module _ (s : Keyspaces) (all : AreKeyspaces s) where
-  abbrev Given : Version → Type 0
-  Given v = v.keyspace_id < s.next
-
-  counts_given : (number id : ℕ) → counts s number id ≡ true → id < s.next
-  counts_given number id counted = by (keyspace_at id s.living) refl
-    where
-      by : (found : Option LivingKeyspace) → keyspace_at id s.living ≡ found → id < s.next
-      by None is = absurd (true≢false (sym counted ∙ ap (counts_of number) is))
-      by (Some k) is = living_has (λ j. j < s.next) s.living id k is all.given
-
-  made_given : (counted : ℕ → ℕ → Bool) → ((number id : ℕ) → counted number id ≡ true → id < s.next) → (batches : List Shown) (versions : List Version)
-      → All Given versions → All Given (versions_where counted versions batches)
-  made_given counted to [] versions given = given
-  made_given counted to (b ∷ batches) versions given =
-      let test = λ (v : Version). counted b.number v.keyspace_id in
-      let made = map (version_of b.number) b.items in
-      made_given counted to batches (versions_put (counted b.number) versions b)
-      (All-append Given (filter (λ (v : Version). not (list_any (λ id. id == v.keyspace_id) (filter (counted b.number) b.clears))) versions) (versions_made (counted b.number) b.number b.items)
-      (All-filter _ Given versions given)
-      (All-weaker (λ v. test v ≡ true) Given (λ v e. to b.number v.keyspace_id e) (filter test made) (filter_passes test made)))
-
-  -- what batches make beyond what is stored is of ids that were given out
-  pub beyond_given : (stored : ℕ → Stored) (batches : List Shown) (versions : List Version) → All Given versions → All Given (versions_beyond s stored versions batches)
-  beyond_given stored batches versions given =
-      made_given (counts_beyond s stored) (λ number id e. counts_given number id (and_parts (counts s number id) (is_beyond (stored id).persisted number) e).0) batches versions given
+-- what batches make beyond what is stored is of ids that were given out
+pub beyond_given : (s : Keyspaces) → AreKeyspaces s → (stored : ℕ → Stored) (batches : List Shown) (versions : List Version)
+    → All (λ v. v.keyspace_id < s.next) versions → All (λ v. v.keyspace_id < s.next) (versions_beyond s stored versions batches)
+beyond_given s all stored =
+    made_were_given s all (counts_beyond s stored) (λ number id e. (and_parts (counts s number id) (is_beyond (stored id).persisted number) e).0)
 
 -- something of which these numbers are told
 abbrev pub told_stored : List Persisted → ℕ → Stored
@@ -69,33 +46,32 @@ told_by s persisted i d lt = refl
 
 -- ---- the persisted numbers that were read
 
-module _ (homes : Homes) where
-  -- the first number of an id is that of the first home
-  first_told : (b : Bool) (h : KeyspaceRecords) (others : Option Persisted) → b ≡ true → unwrap_or (option_map (λ (p : Persisted). p.number) (cond b (Some (persisted_in h)) others)) None ≡ h.record.persisted
-  first_told true h others is = refl
-  first_told false h others is = absurd (true≢false (sym is))
+-- the number of an id is that of the first home of it
+first_told : (b : Bool) (h : KeyspaceRecords) (others : Option Persisted) → b ≡ true → unwrap_or (option_map (λ (p : Persisted). p.number) (cond b (Some (persisted_in h)) others)) None ≡ h.record.persisted
+first_told true h others is = refl
+first_told false h others is = absurd (true≢false (sym is))
 
-  later_told : (b : Bool) (h : KeyspaceRecords) (others : Option Persisted) (n : Option ℕ) → (b ≡ true → h.record.persisted ≡ n) → unwrap_or (option_map (λ (p : Persisted). p.number) others) None ≡ n
-      → unwrap_or (option_map (λ (p : Persisted). p.number) (cond b (Some (persisted_in h)) others)) None ≡ n
-  later_told true h others n here there = here refl
-  later_told false h others n here there = there
+later_told : (b : Bool) (h : KeyspaceRecords) (others : Option Persisted) (n : Option ℕ) → (b ≡ true → h.record.persisted ≡ n) → unwrap_or (option_map (λ (p : Persisted). p.number) others) None ≡ n
+    → unwrap_or (option_map (λ (p : Persisted). p.number) (cond b (Some (persisted_in h)) others)) None ≡ n
+later_told true h others n here there = here refl
+later_told false h others n here there = there
 
-  told_at : (image : Image) (living : List LivingKeyspace) (read : List KeyspaceRecords) → AreHomesRead image living read → map (λ h. records.view h.record) read ≡ lasts living homes
-      → (i : ℕ) (d : LivingKeyspace) → i < length living → persisted_at (get_or living i d).id (map persisted_in read) ≡ (last_in (get homes (get_or living i d).id)).persisted
-  told_at image [] read are same i d lt = absurd (omega (arith, lt))
-  told_at image (k ∷ living) [] are same i d lt = absurd are
-  told_at image (k ∷ living) (h ∷ read) are same zero d lt =
-      let named : h.id ≡ k.id = are.0.named in
-      let here : records.view h.record ≡ last_in (get homes k.id) = cc in
-      first_told (h.id == k.id) h (find (λ (p : Persisted). p.id == k.id) (map persisted_in read)) (grind (arith, nat_tests)) ∙ ap (λ (f : Fields). f.persisted) here
-  told_at image (k ∷ living) (h ∷ read) are same (suc i) d lt =
-      let id = (get_or living i d).id in
-      let named : h.id ≡ k.id = are.0.named in
-      let here : records.view h.record ≡ last_in (get homes k.id) = cc in
-      let rest : map (λ h. records.view h.record) read ≡ lasts living homes = cc in
-      later_told (h.id == id) h (find (λ (p : Persisted). p.id == id) (map persisted_in read)) (last_in (get homes id)).persisted
-      (λ is. ap (λ (f : Fields). f.persisted) here ∙ ap (λ n. (last_in (get homes n)).persisted) (sym named ∙ same_id h.id id is))
-      (told_at image living read are.1 rest i d (omega (arith, lt)))
+told_at : (homes : Homes) (image : Image) (living : List LivingKeyspace) (read : List KeyspaceRecords) → AreHomesRead image living read → map (λ h. records.view h.record) read ≡ lasts living homes
+    → (i : ℕ) (d : LivingKeyspace) → i < length living → persisted_at (get_or living i d).id (map persisted_in read) ≡ (last_in (get homes (get_or living i d).id)).persisted
+told_at homes image [] read are same i d lt = absurd (omega (arith, lt))
+told_at homes image (k ∷ living) [] are same i d lt = absurd are
+told_at homes image (k ∷ living) (h ∷ read) are same zero d lt =
+    let named : h.id ≡ k.id = are.0.named in
+    let here : records.view h.record ≡ last_in (get homes k.id) = cc in
+    first_told (h.id == k.id) h (find (λ (p : Persisted). p.id == k.id) (map persisted_in read)) (grind (arith, nat_tests)) ∙ ap (λ (f : Fields). f.persisted) here
+told_at homes image (k ∷ living) (h ∷ read) are same (suc i) d lt =
+    let id = (get_or living i d).id in
+    let named : h.id ≡ k.id = are.0.named in
+    let here : records.view h.record ≡ last_in (get homes k.id) = cc in
+    let rest : map (λ h. records.view h.record) read ≡ lasts living homes = cc in
+    later_told (h.id == id) h (find (λ (p : Persisted). p.id == id) (map persisted_in read)) (last_in (get homes id)).persisted
+    (λ is. ap (λ (f : Fields). f.persisted) here ∙ ap (λ n. (last_in (get homes n)).persisted) (sym named ∙ same_id h.id id is))
+    (told_at homes image living read are.1 rest i d (omega (arith, lt)))
 
 -- of each keyspace that lives its record tells the number
 pub told : (image : Image) (found : RecoveredFolder) (c : Contents) → IsFinished image found → Shows found c → HaveVersions c.homes c.versions

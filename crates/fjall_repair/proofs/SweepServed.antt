@@ -12,8 +12,9 @@ use Rattle.fjall_files.specs.Names.{Current, Keyspace, Table, keyspace_folder, c
 use Rattle.fjall_files.specs.Tidy.{IsTidy}
 use Rattle.fjall_files.proofs.OfKinds.{kind_now}
 use Rattle.fjall_meta.specs.declared.living.LivingKeyspace.{LivingKeyspace}
-use Rattle.fjall_repair.specs.declared.plan.UnnamedHome.{UnnamedHome}
-use Rattle.fjall_repair.specs.Sweeps.{AreGone, HasAll, HoldsOnlyOwn, IsHomeFound, IsOwnHome, IsUnnamedHome, IsUnnamedTable, Lives, Removes, removals}
+use Rattle.fjall_files.specs.declared.own.OwnFiles.{OwnFiles}
+use Rattle.fjall_files.specs.Own.{AreOwnFiles, HoldsOnlyOwn}
+use Rattle.fjall_repair.specs.Sweeps.{AreGone, HasAll, IsOwnHome, IsUnnamedHome, IsUnnamedTable, Lives, Removes, removals}
 use Rattle.fjall_repair.proofs.Removals.{after_missing, stays_missing}
 
 -- ---- what is left of a name
@@ -38,7 +39,7 @@ module _ (P : Name → Type 0) (old new : Meaning) (run : Removes P old new) whe
   no_folder_still q kind = ⊎_elim (λ is. subst IsNoFolder (sym is) kind) (λ gone. subst IsNoFolder (sym gone) tt) (removed_or q)
 
   -- a home has all that is left in it
-  pub has_all_still : (home : UnnamedHome) → HasAll (state_in old) home → HasAll (state_in new) home
+  pub has_all_still : (home : OwnFiles) → HasAll (state_in old) home → HasAll (state_in new) home
   has_all_still home all name inside there = all name inside (λ none. there (stays_missing P old new name run none))
 
 gone_at : (state : State) (names : List Name) (q : Name) → AreGone state names → Contains names q → (state q).now ≡ Missing
@@ -65,7 +66,7 @@ module _ (state : State) (tidy : IsTidy state) (id : ℕ) (some : 0 < id) (small
 more_than_none : (id : ℕ) → id ≢ 0 → 0 < id
 more_than_none id some = omega (arith, some)
 
-module _ (living : List LivingKeyspace) (home : UnnamedHome) (unnamed : IsUnnamedHome living home) where
+module _ (living : List LivingKeyspace) (home : OwnFiles) (unnamed : IsUnnamedHome living home) where
   -- none of its files is a folder
   pub files_no_folders : (state : State) → IsTidy state → All (λ file. IsNoFolder (state (string_bytes file)).now) home.files.items
   files_no_folders state tidy k d lt = home_no_folder state tidy unnamed.id (more_than_none unnamed.id unnamed.some) unnamed.fits (string_bytes (get_or home.files.items k d)) (unnamed.inside k d lt)
@@ -94,12 +95,12 @@ module _ (living : List LivingKeyspace) (home : UnnamedHome) (unnamed : IsUnname
       all name inside (λ none. there (ap (λ (n : Name). (mid n).now) at ∙ keeps unnamed.id some unnamed.fits unnamed.dead ∙ ap (λ (n : Name). (old n).now) (sym at) ∙ none))
 
 -- the same of all homes
-pub have_all_on : (living : List LivingKeyspace) (homes : List UnnamedHome) (old mid : State) → IsTidy mid → ((id : ℕ) → 0 < id → id < 2 ^ 64 → (Lives living id → ⊥) → (mid (current_name id)).now ≡ (old (current_name id)).now)
+pub have_all_on : (living : List LivingKeyspace) (homes : List OwnFiles) (old mid : State) → IsTidy mid → ((id : ℕ) → 0 < id → id < 2 ^ 64 → (Lives living id → ⊥) → (mid (current_name id)).now ≡ (old (current_name id)).now)
     → All (IsUnnamedHome living) homes → All (HasAll old) homes → All (HasAll mid) homes
 have_all_on living homes old mid tidy keeps unnamed all k d lt = has_all_on living (get_or homes k d) (unnamed k d lt) old mid tidy keeps (all k d lt)
 
 -- homes after removals elsewhere
-pub have_all_still : (P : Name → Type 0) (old new : Meaning) (run : Removes P old new) (homes : List UnnamedHome) → All (HasAll (state_in old)) homes → All (HasAll (state_in new)) homes
+pub have_all_still : (P : Name → Type 0) (old new : Meaning) (run : Removes P old new) (homes : List OwnFiles) → All (HasAll (state_in old)) homes → All (HasAll (state_in new)) homes
 have_all_still P old new run homes all k d lt = has_all_still P old new run (get_or homes k d) (all k d lt)
 
 -- no table that no record names is a folder
@@ -108,12 +109,12 @@ table_no_folder state tidy named living name is = subst (λ (n : Name). IsNoFold
 
 -- ---- homes as they are found
 
-pub has_all_of : (state now : State) → now ≡ state → (id : ℕ) (home : UnnamedHome) → IsHomeFound now id home → HasAll state home
+pub has_all_of : (state now : State) → now ≡ state → (id : ℕ) (home : OwnFiles) → AreOwnFiles now id home → HasAll state home
 has_all_of state now same id home found = subst (λ (s : State). HasAll s home) same (λ name inside there. found.whole name (inside ∙ found.folder_is) there)
 
-pub have_all_more : (P : UnnamedHome → Type 0) (homes new : List UnnamedHome) (home : UnnamedHome) → new ≡ homes ++ home ∷ [] → P home → All P homes → All P new
+pub have_all_more : (P : OwnFiles → Type 0) (homes new : List OwnFiles) (home : OwnFiles) → new ≡ homes ++ home ∷ [] → P home → All P homes → All P new
 have_all_more P homes new home is one all = subst (All P) (sym is) (All-push P homes home all one)
 
 -- a home that holds only the engine's own files
-pub own_home : (state now : State) → now ≡ state → (id : ℕ) (home : UnnamedHome) → IsHomeFound now id home → HoldsOnlyOwn now id → IsOwnHome state home
+pub own_home : (state now : State) → now ≡ state → (id : ℕ) (home : OwnFiles) → AreOwnFiles now id home → HoldsOnlyOwn now id → IsOwnHome state home
 own_home state now same id home found holds = (id, found.folder_is, subst (λ (s : State). HoldsOnlyOwn s id) same holds)

@@ -1,8 +1,8 @@
--- What a folder's list tells of tables, and of the engine's own files.
-use Rattle.std.specs.Prelude.{◌≡◌, ◌≢◌, ◌⊎◌, ◌==◌, ℕ, ◌<◌, ◌^◌, ◌++◌, Bool, true, false, not, IsFalse, List, filter, map, codes, decimal, string_bytes, Contains, Option, None, Some}
+-- What a folder's list tells of tables.
+use Rattle.std.specs.Prelude.{◌≡◌, ◌≢◌, ◌⊎◌, ◌==◌, ℕ, ◌<◌, ◌^◌, Bool, true, false, not, List, filter, map, Contains, Option, None, Some}
 use Rattle.fjall_base.specs.Disk.{Name, Missing, State}
 use Rattle.fjall_base.specs.declared.disk.DirEntry.{DirEntry}
-use Rattle.fjall_files.specs.Names.{IsNameOf, name_in, table_name}
+use Rattle.fjall_files.specs.Names.{table_name}
 
 -- the id isn't the one that is named
 abbrev pub is_other : Option ℕ → ℕ → Bool
@@ -21,15 +21,3 @@ as_file entry = record { name = entry.name; is_folder = false }
 pub record AreTables (state : State) (id : ℕ) (named : Option ℕ) (names : List Name) : Type 0 where
   pub each : (name : Name) → Contains names name → (n : ℕ) × (n < 2 ^ 64) × (name ≡ table_name id n) × (named ≢ Some n)
   pub whole : (n : ℕ) → n < 2 ^ 64 → (state (table_name id n)).now ≢ Missing → (named ≡ Some n) ⊎ Contains names (table_name id n)
-
--- what the engine calls a file in a keyspace's folder: that of its records, or a table
-abbrev pub IsOwnFileName : List ℕ → Type 0
-IsOwnFileName file = (file ≡ codes "current") ⊎ ((n : ℕ) × IsNameOf (λ table. decimal table ++ codes ".table") file n)
-
--- such a name in this folder, from the root on
-abbrev pub IsOwnIn : Name → Name → Type 0
-IsOwnIn folder name = (name ≡ folder ++ codes "/current") ⊎ ((n : ℕ) × IsNameOf (name_in folder) name n)
-
--- a file that stands in this folder under such a name
-abbrev pub IsOwnFile : Name → DirEntry → Type 0
-IsOwnFile folder entry = IsFalse entry.is_folder × IsOwnIn folder (string_bytes entry.name)

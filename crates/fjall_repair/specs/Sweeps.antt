@@ -2,13 +2,14 @@
 use Rattle.std.specs.Prelude.{◌≡◌, ◌≢◌, ◌⊎◌, ℕ, ◌<◌, ◌^◌, List, [], ◌∷◌, ◌++◌, map, All, Any, Contains, Option, Some, string_bytes}
 use Rattle.std.specs.List.{flat_map, AllByRecursion}
 use Rattle.std.specs.Option.{option_map}
-use Rattle.fjall_base.specs.Disk.{Name, Missing, Folder, IsNoFolder, State, Step, Put, Meaning, Took, folder_of}
-use Rattle.fjall_files.specs.Names.{IsNameOf, current_name, keyspace_folder, table_name}
+use Rattle.fjall_base.specs.Disk.{Name, Missing, Folder, State, Step, Put, Meaning, Took, folder_of}
+use Rattle.fjall_files.specs.Names.{keyspace_folder, table_name}
+use Rattle.fjall_files.specs.Own.{AreOwnFiles, HoldsOnlyOwn, IsOwn}
 use Rattle.fjall_meta.specs.declared.living.LivingKeyspace.{LivingKeyspace}
 use Rattle.fjall_catalog.specs.declared.catalog.Catalog.{Catalog}
 use Rattle.fjall_recovery.specs.Halves.{Tree}
 use Rattle.fjall_repair.specs.declared.plan.SweepPlan.{SweepPlan}
-use Rattle.fjall_repair.specs.declared.plan.UnnamedHome.{UnnamedHome}
+use Rattle.fjall_files.specs.declared.own.OwnFiles.{OwnFiles}
 
 -- ---- what is named
 
@@ -32,12 +33,8 @@ pub record IsUnnamedTable (named : Option ℕ) (living : List LivingKeyspace) (n
   pub name_is : name ≡ table_name id table
   pub unnamed : ((id ≡ 0) × (named ≢ Some table)) ⊎ Lives living id
 
--- a name that the engine gives in the folder of this id: that of its records, or of a table
-abbrev pub IsOwn : ℕ → Name → Type 0
-IsOwn id name = (name ≡ current_name id) ⊎ ((n : ℕ) × IsNameOf (table_name id) name n)
-
 -- The folder of a keyspace that doesn't live, and names that are right in it and that the engine gives.
-pub record IsUnnamedHome (living : List LivingKeyspace) (home : UnnamedHome) : Type 0 where
+pub record IsUnnamedHome (living : List LivingKeyspace) (home : OwnFiles) : Type 0 where
   pub id : ℕ
   pub fits : id < 2 ^ 64
   pub some : id ≢ 0
@@ -61,27 +58,18 @@ FindsTables state named names = (n : ℕ) → n < 2 ^ 64 → (state (table_name 
 abbrev pub FindsTablesOf : State → List LivingKeyspace → List Name → Type 0
 FindsTablesOf state living names = (id n : ℕ) → Lives living id → n < 2 ^ 64 → (state (table_name id n)).now ≢ Missing → Contains names (table_name id n)
 
--- the folder of this id, and the names of all that stands in it
-pub record IsHomeFound (state : State) (id : ℕ) (home : UnnamedHome) : Type 0 where
-  pub folder_is : string_bytes home.folder ≡ keyspace_folder id
-  pub whole : (name : Name) → folder_of name ≡ keyspace_folder id → (state name).now ≢ Missing → Contains (map string_bytes home.files.items) name
-
 -- the home has the names of all that stands in its folder
-abbrev pub HasAll : State → UnnamedHome → Type 0
+abbrev pub HasAll : State → OwnFiles → Type 0
 HasAll state home = (name : Name) → folder_of name ≡ string_bytes home.folder → (state name).now ≢ Missing → Contains (map string_bytes home.files.items) name
 
--- all that stands in the folder of this id are files with the engine's own names
-abbrev pub HoldsOnlyOwn : State → ℕ → Type 0
-HoldsOnlyOwn state id = (name : Name) → folder_of name ≡ keyspace_folder id → (state name).now ≢ Missing → IsOwn id name × IsNoFolder (state name).now
-
 -- the home is the folder of a keyspace that holds nothing but the engine's own files
-abbrev pub IsOwnHome : State → UnnamedHome → Type 0
+abbrev pub IsOwnHome : State → OwnFiles → Type 0
 IsOwnHome state home = (id : ℕ) × (string_bytes home.folder ≡ keyspace_folder id) × HoldsOnlyOwn state id
 
 -- each folder of these ids that holds only the engine's own files is one of these homes, unless it is tree 0's or its keyspace
 -- lives
-abbrev pub FindsHomes : State → List LivingKeyspace → List ℕ → List UnnamedHome → Type 0
-FindsHomes state living ids homes = (id : ℕ) → Contains ids id → id ≢ 0 → (Lives living id → ⊥) → HoldsOnlyOwn state id → Any (IsHomeFound state id) homes
+abbrev pub FindsHomes : State → List LivingKeyspace → List ℕ → List OwnFiles → Type 0
+FindsHomes state living ids homes = (id : ℕ) → Contains ids id → id ≢ 0 → (Lives living id → ⊥) → HoldsOnlyOwn state id → Any (AreOwnFiles state id) homes
 
 -- The plan has all that no record names, of what stands in the folders of the keyspaces that live and in those of these ids,
 -- and of each of its homes all that stands in it. A folder is one of its homes only where it holds nothing but the engine's own
@@ -96,7 +84,7 @@ pub record FindsAll (state : State) (named : Option ℕ) (living : List LivingKe
 -- ---- its removal
 
 -- the names of a home: what is in it, and its own
-abbrev pub home_names : UnnamedHome → List Name
+abbrev pub home_names : OwnFiles → List Name
 home_names home = map string_bytes home.files.items ++ string_bytes home.folder ∷ []
 
 -- all names that are to be removed, in order

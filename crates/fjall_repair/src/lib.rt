@@ -18,5 +18,5 @@ pub use laws::{settled_folders_come_back, settled_folders_come_back_unfinished};
 pub use mending::{FileEnd, MendPlan, mend, plan_mending};
 pub use opened::Opened;
 pub use opening::open_folder;
-pub use plan::{SweepPlan, UnnamedHome, plan_sweep};
+pub use plan::{SweepPlan, plan_sweep};
 pub use sweeping::sweep;

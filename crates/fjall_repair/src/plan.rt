@@ -1,27 +1,17 @@
 //! What no record names: found before anything is removed.
 
 ghost use Rattle.std.specs.List.{list_any};
-ghost use Rattle.std.specs.Prelude.{◌≡◌, ◌==◌, ◌↔◌, ◌⊎◌, ◌≤◌, ◌<◌, ◌^◌, [], All, IfErr, IfOk, IfSome, IsOkUnless, IsSome, IsTrue, None, map, string_bytes};
-ghost use Rattle.fjall_base.specs.Disk.{Lists, Took, folder_of, state_in};
+ghost use Rattle.std.specs.Prelude.{◌≡◌, ◌==◌, ◌↔◌, ◌⊎◌, ◌≤◌, ◌<◌, ◌^◌, [], All, IfErr, IfOk, IsOkUnless, IsTrue, None, map, string_bytes};
+ghost use Rattle.fjall_base.specs.Disk.{Took, state_in};
 ghost use Rattle.fjall_recovery.specs.Refusals.{HasRisen, IsDue};
 ghost use Rattle.fjall_files.specs.Calls.{AllServed};
-ghost use Rattle.fjall_files.specs.Names.{keyspace_folder as folder_at};
-ghost use Rattle.fjall_repair.specs.Listing.{AreTables, IsOwnFile, IsOwnFileName, as_file, other_tables};
-ghost use Rattle.fjall_repair.specs.Sweeps.{FindsAll, FindsHomes, FindsTables, FindsTablesOf, HasAll, HoldsOnlyOwn, IsHomeFound, IsOwn, IsOwnHome, IsPlan, IsUnnamedHome, IsUnnamedTable, Lives};
+ghost use Rattle.fjall_repair.specs.Listing.{AreTables, as_file, other_tables};
+ghost use Rattle.fjall_repair.specs.Sweeps.{FindsAll, FindsHomes, FindsTables, FindsTablesOf, HasAll, IsOwnHome, IsPlan, IsUnnamedHome, IsUnnamedTable, Lives};
 
 use fjall_base::{DirEntry, Disk, Error, Result};
-use fjall_files::{keyspace_folder, parse_number, table_name, tables};
+use fjall_files::{OwnFiles, list_folder, list_own_files, table_name, tables};
 use fjall_meta::LivingKeyspace;
 use std::alloc::Global;
-
-/// The folder of a keyspace that doesn't live, where nothing but the engine's own files stands in it.
-#[derive(Drop)]
-pub struct UnnamedHome {
-    /// Its name, as `keyspaces/7`.
-    pub folder: String,
-    /// The names of all that stands in it, as `keyspaces/7/current`.
-    pub files: Vec<String>,
-}
 
 /// What no record names, and is to be removed.
 #[derive(Drop)]
@@ -29,7 +19,7 @@ pub struct SweepPlan {
     /// The names of tables, as `keyspaces/0/3.table`.
     pub tables: Vec<String>,
     /// The folders of keyspaces that don't live.
-    pub homes: Vec<UnnamedHome>,
+    pub homes: Vec<OwnFiles>,
 }
 
 /// The names of the tables of these ids in the folder of a keyspace, but that of the one that is named.
@@ -56,39 +46,6 @@ fn as_files(alloc: Global, listed: Vec<DirEntry>) -> Result<Vec<DirEntry>>
         is_folder: false,
     });
     Ok(files.collect(alloc)?)
-}
-
-/// The names of these entries.
-fn names_of(alloc: Global, listed: Vec<DirEntry>) -> Result<Vec<String>>
-    ensures names { IfOk result (λ names. names.items ≡ map (λ entry. entry.name) listed.items) }
-    ensures only { IsOkUnless result Error.OutOfMemory }
-{
-    let names = listed.into_iter().map(|entry| entry.name);
-    Ok(names.collect(alloc)?)
-}
-
-/// A keyspace's folder.
-#[derive(Drop)]
-struct ListedFolder {
-    name: String,
-    /// What stands in it.
-    entries: Vec<DirEntry>,
-}
-
-/// Lists the folder of the keyspace of this id.
-fn list_folder<D: Disk>(alloc: Global, disk: &mut D, id: u64) -> Result<ListedFolder>
-    ensures name { IfOk result (λ l. string_bytes l.name ≡ folder_at id) }
-    ensures found { IsTrue D.honest → IfOk result (λ l. Lists (state_in (D.meaning disk.old)) (folder_at id) l.entries.items) }
-    ensures fits { id < 2 ^ 64 }
-    ensures same { IsTrue D.honest → Took (D.meaning disk.old) (D.meaning disk.new) [] }
-    ensures served { IsTrue D.honest → AllServed (D.meaning disk.old) (D.meaning disk.new) }
-    ensures later { (D.meaning disk.old).faults ≤ (D.meaning disk.new).faults }
-    ensures risen { IfErr result (HasRisen (D.meaning disk.old).faults (D.meaning disk.new).faults) }
-    ensures only { IfErr result (IsDue (λ error. ⊥)) }
-{
-    let name = keyspace_folder(alloc, id)?;
-    let entries = disk.list(alloc, name.as_str())?;
-    Ok(ListedFolder { name, entries })
 }
 
 /// The names of the tables that stand in the folder of this id, but that of the one that is named.
@@ -150,63 +107,6 @@ fn is_named(living: &[LivingKeyspace], id: u64) -> bool
     id == 0 || lives(living, id)
 }
 
-/// Whether the engine calls a file so in a keyspace's folder: the one of its records, or a table.
-fn is_own_name(file: &str) -> bool
-    ensures { IsTrue result ↔ IsOwnFileName file.now }
-{
-    let table = file.strip_suffix(".table");
-    file == "current" || table.is_some_and(|id| parse_number(id).is_some())
-}
-
-/// Whether this entry of a keyspace's folder is one of the engine's own files.
-fn is_own(folder: &str, entry: &DirEntry) -> bool
-    ensures { IsTrue result ↔ IsOwnFile folder.now entry.now }
-{
-    let Some(inside) = entry.name.strip_prefix(folder) else {
-        return false;
-    };
-    match inside.strip_prefix('/') {
-        Some(file) => !entry.is_folder && is_own_name(file),
-        None => false,
-    }
-}
-
-/// Whether all that stands in a keyspace's folder are the engine's own files.
-fn holds_only_own(folder: &ListedFolder) -> bool
-    ensures { IsTrue result ↔ All (IsOwnFile (string_bytes folder.now.name)) folder.now.entries.items }
-{
-    folder
-        .entries
-        .iter()
-        .all(|entry| is_own(&folder.name, entry))
-}
-
-/// The folder of this id, with the names of all that stands in it, where these are the engine's own files alone: `None`
-/// where anything else stands there.
-fn list_home<D: Disk>(alloc: Global, disk: &mut D, id: u64) -> Result<Option<UnnamedHome>>
-    ensures found { IsTrue D.honest → IfOk result (λ found. IfSome found (IsHomeFound (state_in (D.meaning disk.old)) id)) }
-    ensures fits { id < 2 ^ 64 }
-    ensures inside { IsTrue D.honest
-        → IfOk result (λ found. IfSome found (λ home. All (λ file. folder_of (string_bytes file) ≡ folder_at id) home.files.items)) }
-    ensures own { IsTrue D.honest → IfOk result (λ found. IfSome found (λ home. All (λ file. IsOwn id (string_bytes file)) home.files.items)) }
-    ensures exact { IsTrue D.honest → IfOk result (λ found. IsSome found ↔ HoldsOnlyOwn (state_in (D.meaning disk.old)) id) }
-    ensures same { IsTrue D.honest → Took (D.meaning disk.old) (D.meaning disk.new) [] }
-    ensures served { IsTrue D.honest → AllServed (D.meaning disk.old) (D.meaning disk.new) }
-    ensures later { (D.meaning disk.old).faults ≤ (D.meaning disk.new).faults }
-    ensures risen { IfErr result (HasRisen (D.meaning disk.old).faults (D.meaning disk.new).faults) }
-    ensures only { IfErr result (IsDue (λ error. ⊥)) }
-{
-    let folder = list_folder(alloc, disk, id)?;
-    if !holds_only_own(&folder) {
-        return Ok(None);
-    }
-    let files = names_of(alloc, folder.entries)?;
-    Ok(Some(UnnamedHome {
-        folder: folder.name,
-        files,
-    }))
-}
-
 /// The folders of these ids but tree 0's and those of the keyspaces that live. One in which anything but the engine's own
 /// files stands is passed over.
 fn list_homes<D: Disk>(
@@ -214,7 +114,7 @@ fn list_homes<D: Disk>(
     disk: &mut D,
     living: &[LivingKeyspace],
     ids: &[u64],
-) -> Result<Vec<UnnamedHome>>
+) -> Result<Vec<OwnFiles>>
     ensures unnamed { IsTrue D.honest → IfOk result (λ homes. All (IsUnnamedHome living.now) homes.items) }
     ensures found { IsTrue D.honest → IfOk result (λ homes. FindsHomes (state_in (D.meaning disk.old)) living.now ids.now homes.items) }
     ensures same { IsTrue D.honest → Took (D.meaning disk.old) (D.meaning disk.new) [] }
@@ -228,7 +128,7 @@ fn list_homes<D: Disk>(
     let mut homes = Vec::new(alloc);
     for id in ids {
         if !is_named(living, *id) {
-            if let Some(home) = list_home(alloc, disk, *id)? {
+            if let Some(home) = list_own_files(alloc, disk, *id)? {
                 homes.push(home)?;
             }
         }

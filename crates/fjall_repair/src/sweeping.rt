@@ -12,8 +12,9 @@ ghost use Rattle.fjall_files.specs.Regions.{Within};
 ghost use Rattle.fjall_repair.specs.Sweeps.{AreGone, FindsTables, HasAll, IsPlan, IsUnnamedHome, Removes, home_names, named_in, planned};
 ghost use Rattle.fjall_tree.specs.Records.{Fields};
 
-use crate::plan::{SweepPlan, UnnamedHome};
+use crate::plan::SweepPlan;
 use fjall_base::{Disk, Result};
+use fjall_files::OwnFiles;
 
 /// Removes files, one after another, where they are there.
 fn remove_all<D: Disk>(disk: &mut D, names: &[String]) -> Result<()>
@@ -31,7 +32,7 @@ fn remove_all<D: Disk>(disk: &mut D, names: &[String]) -> Result<()>
 }
 
 /// Removes what is in a folder, and then the folder.
-fn remove_unnamed<D: Disk>(disk: &mut D, home: &UnnamedHome) -> Result<()>
+fn remove_unnamed<D: Disk>(disk: &mut D, home: &OwnFiles) -> Result<()>
     ensures removes { IsTrue D.honest → Removes (Contains (home_names home.now)) (D.meaning disk.old) (D.meaning disk.new) }
     ensures gone { IsTrue D.honest → OnOk result (AreGone (state_in (D.meaning disk.new)) (home_names home.now)) }
     ensures cause { OnlyFaults (D.meaning disk.old) (D.meaning disk.new) result }
@@ -44,7 +45,7 @@ fn remove_unnamed<D: Disk>(disk: &mut D, home: &UnnamedHome) -> Result<()>
 }
 
 /// Removes folders with what is in them, one after another.
-fn remove_homes<D: Disk>(disk: &mut D, homes: &[UnnamedHome]) -> Result<()>
+fn remove_homes<D: Disk>(disk: &mut D, homes: &[OwnFiles]) -> Result<()>
     ensures removes { IsTrue D.honest → Removes (Contains (flat_map home_names homes.now)) (D.meaning disk.old) (D.meaning disk.new) }
     ensures gone { IsTrue D.honest → OnOk result (AreGone (state_in (D.meaning disk.new)) (flat_map home_names homes.now)) }
     ensures cause { OnlyFaults (D.meaning disk.old) (D.meaning disk.new) result }

@@ -1,5 +1,5 @@
 -- The names and settings in a store are those of the living keyspaces.
-use Rattle.std.proofs.Common.{◌≡◌, ◌≢◌, ℕ, ◌<◌, ◌==◌, ◌↔◌, true, false, List, [], ◌∷◌, map, filter, find, length, All, Option, None, Some, refl, sym, ◌∙◌, ap, subst, arith}
+use Rattle.std.proofs.Common.{◌≡◌, ◌≢◌, ℕ, ◌<◌, ◌==◌, ◌↔◌, not, Bool, true, false, List, [], ◌∷◌, map, filter, find, length, All, Option, None, Some, refl, sym, ◌∙◌, ap, subst, arith}
 use Rattle.std.proofs.lemmas.Bool.Decides.{nat_tests}
 use Rattle.std.proofs.lemmas.Bool.{true≢false, false_from_ne_true}
 use Rattle.std.proofs.lemmas.List.{length-map}
@@ -8,6 +8,7 @@ use Rattle.std.proofs.lemmas.Slice.Eq.{bytes_eq-Decides}
 use Rattle.std.specs.Prelude.{T}
 use Rattle.std.specs.declared.cmp.Ordering.TheVariants.{Less}
 use Rattle.std.specs.Option.{option_map, is_some}
+use Rattle.std.specs.List.{list_any}
 use Rattle.std.specs.Ordering.{nat_cmp, is_lt}
 use Rattle.std.specs.Str.{bytes_eq}
 use Rattle.std.specs.Cmp.{nat_cmp_total}
@@ -20,11 +21,12 @@ use Rattle.fjall_meta.specs.Keyspaces.{Keyspaces, AreKeyspaces, keyspace_at, id_
 use Rattle.fjall_meta.proofs.Rising.{Rises, from_pairs}
 use Rattle.fjall_versions.specs.declared.version.Version.{Version}
 use Rattle.fjall_versions.specs.Replays.{option_pairs, by_id, bare, counts}
-use Rattle.fjall_versions.specs.Versions.{store_of, version_of, versions_in, cleared, versions_after, versions_behind}
+use Rattle.fjall_versions.specs.Versions.{store_of, version_of, versions_behind, versions_put, versions_where}
 use Rattle.fjall_versions.proofs.Gathering.{both}
 use Rattle.fjall_versions.proofs.Slots.{SameButMaps, same_id, same_maps, writes_maps}
 use Rattle.fjall_versions.proofs.Living.{get_by_id, counts_of}
 use Rattle.fjall_versions.proofs.Keeping.{lives}
+use Rattle.fjall_versions.proofs.Taking.{behind_is}
 use Rattle.fjall_versions.proofs.Found.{same_some, found_passes, found_has, found_alone}
 
 -- ---- versions leave names and settings
@@ -127,14 +129,19 @@ counts_given s all number id e = lives_below (keyspace_at id s.living) refl e
         let here : k.id ≡ id = same_id k.id id (found_passes (λ j. j.id == id) s.living k is) in
         subst (λ i. i < s.next) here lt
 
--- what batches make is of ids that were given out
-pub replayed_were_given : (s : Keyspaces) → AreKeyspaces s → (batches : List Shown) (versions : List Version) → All (λ v. v.keyspace_id < s.next) versions → All (λ v. v.keyspace_id < s.next) (versions_behind s versions batches)
-replayed_were_given s all [] versions given = given
-replayed_were_given s all (batch ∷ batches) versions given =
+-- what batches make is of ids that were given out, whichever test tells what counts of them
+pub made_were_given : (s : Keyspaces) → AreKeyspaces s → (counted : ℕ → ℕ → Bool) → ((number id : ℕ) → counted number id ≡ true → counts s number id ≡ true)
+    → (batches : List Shown) (versions : List Version) → All (λ v. v.keyspace_id < s.next) versions → All (λ v. v.keyspace_id < s.next) (versions_where counted versions batches)
+made_were_given s all counted to [] versions given = given
+made_were_given s all counted to (batch ∷ batches) versions given =
     let Given : Version → Type 0 = λ v. v.keyspace_id < s.next in
-    let counted = λ (v : Version). counts s batch.number v.keyspace_id in
+    let test = λ (v : Version). counted batch.number v.keyspace_id in
     let made = map (version_of batch.number) batch.items in
-    replayed_were_given s all batches (versions_after s versions batch)
-    (All-append Given (cleared s batch versions) (versions_in s batch.number batch.items)
+    made_were_given s all counted to batches (versions_put (counted batch.number) versions batch)
+    (All-append Given (filter (λ (v : Version). not (list_any (λ id. id == v.keyspace_id) (filter (counted batch.number) batch.clears))) versions) (filter test made)
     (All-filter _ Given versions given)
-    (All-weaker (λ v. counted v ≡ true) Given (λ v e. counts_given s all batch.number v.keyspace_id e) (filter counted made) (filter_passes counted made)))
+    (All-weaker (λ v. test v ≡ true) Given (λ v e. counts_given s all batch.number v.keyspace_id (to batch.number v.keyspace_id e)) (filter test made) (filter_passes test made)))
+
+pub replayed_were_given : (s : Keyspaces) → AreKeyspaces s → (batches : List Shown) (versions : List Version) → All (λ v. v.keyspace_id < s.next) versions → All (λ v. v.keyspace_id < s.next) (versions_behind s versions batches)
+replayed_were_given s all batches versions given =
+    subst (All (λ v. v.keyspace_id < s.next)) (behind_is s versions batches) (made_were_given s all (counts s) (λ number id e. e) batches versions given)

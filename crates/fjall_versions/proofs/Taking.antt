@@ -45,7 +45,7 @@ itself true = refl
 itself false = refl
 
 -- where what counts is what ever counts
-behind_is : (s : Keyspaces) (versions : List Version) (batches : List Shown) → versions_where (counts s) versions batches ≡ versions_behind s versions batches
+pub behind_is : (s : Keyspaces) (versions : List Version) (batches : List Shown) → versions_where (counts s) versions batches ≡ versions_behind s versions batches
 behind_is s versions [] = refl
 behind_is s versions (batch ∷ batches) = behind_is s (versions_after s versions batch) batches
 

@@ -11,10 +11,11 @@ use Rattle.fjall_files.proofs.home.remove_home.Goals as goal
 pub loop-file-preserved : goal.loop-file-preserved
 loop-file-preserved g c =
     let m : _ → Meaning = g.D.Disk.meaning in
-    let at : folder_of (string_bytes c.file-item.result) ≡ c.args.folder.now = ap (λ f. folder_of (string_bytes f)) c.file-item.is ∙ c.requires.inside c.loop-file.file-index _ c.loop-file-test.true in
-    let inside : folder_of c.as_str.result.now ≡ c.args.folder.now = ap (λ (n : Name). folder_of n) c.as_str.ensures.value ∙ at in
     let faults = c.loop-file.invariant.later in let more = c.in_ok-remove.ensures.cause.later in record {
-      within = λ honest some. one_removed c.args.folder.now c.as_str.result.now (m c.args.disk.now) (m c.loop-file.disk) (m c.remove.new.self) some inside (c.loop-file.invariant.within honest some) (c.in_ok-remove.ensures.ok honest);
+      within = λ honest all some.
+          let at : folder_of (string_bytes c.file-item.result) ≡ c.args.folder.now = ap (λ f. folder_of (string_bytes f)) c.file-item.is ∙ all c.loop-file.file-index _ c.loop-file-test.true in
+          let inside : folder_of c.as_str.result.now ≡ c.args.folder.now = ap (λ (n : Name). folder_of n) c.as_str.ensures.value ∙ at in
+          one_removed c.args.folder.now c.as_str.result.now (m c.args.disk.now) (m c.loop-file.disk) (m c.remove.new.self) some inside (c.loop-file.invariant.within honest all some) (c.in_ok-remove.ensures.ok honest);
       served = λ honest holds.
           let so_far = c.loop-file.invariant.served honest holds in
           let can = next_kind string_bytes c.args.folder.now c.as_str.result.now c.args.files.now c.loop-file.file-index c.file-item.result (state_in (m c.loop-file.disk)) c.loop-file-test.true c.file-item.is c.as_str.ensures.value so_far.1 in (
@@ -44,9 +45,9 @@ pub returns-clause-gone : goal.returns-clause-gone
 returns-clause-gone g c honest = gone c.args.folder.now _ _ c.remove_folder.result (c.remove_folder.ensures.kind honest) (c.remove_folder.ensures.ok honest)
 
 pub returns-clause-within : goal.returns-clause-within
-returns-clause-within g c honest some =
+returns-clause-within g c honest all some =
     let m : _ → Meaning = g.D.Disk.meaning in
-    within_both c.args.folder.now (m c.args.disk.now) (m c.loop-file.disk) (m c.remove_folder.new.self) (c.loop-file.invariant.within honest some)
+    within_both c.args.folder.now (m c.args.disk.now) (m c.loop-file.disk) (m c.remove_folder.new.self) (c.loop-file.invariant.within honest all some)
     (removed_within c.args.folder.now _ _ c.remove_folder.result (c.remove_folder.ensures.ok honest) (c.remove_folder.ensures.err honest))
 
 pub returns-in_err-remove-clause-kinds : goal.returns-in_err-remove-clause-kinds

@@ -1,11 +1,11 @@
 use Rattle.std.proofs.Common.{◌≡◌, ◌⊎◌, ℕ, All, Option, [], refl, sym, ◌∙◌, ap, subst, get_or, arith}
-use Rattle.std.specs.Prelude.{IfSome, IsSome, IsTrue, string_bytes}
+use Rattle.std.specs.Prelude.{IfSome, IsSome, IsTrue}
 use Rattle.std.proofs.lemmas.Bool.{true≢false}
-use Rattle.fjall_base.specs.Disk.{Meaning, State, Took, folder_of, state_in}
-use Rattle.fjall_files.specs.Names.{keyspace_folder}
+use Rattle.fjall_base.specs.Disk.{Meaning, State, Took, state_in}
 use Rattle.fjall_journal.proofs.Writing.{took_none}
-use Rattle.fjall_repair.specs.declared.plan.UnnamedHome.{UnnamedHome}
-use Rattle.fjall_repair.specs.Sweeps.{FindsHomes, HasAll, HoldsOnlyOwn, IsHomeFound, IsOwn, IsOwnHome, IsUnnamedHome, Lives}
+use Rattle.fjall_files.specs.declared.own.OwnFiles.{OwnFiles}
+use Rattle.fjall_files.specs.Own.{AreOwnFiles, HoldsOnlyOwn}
+use Rattle.fjall_repair.specs.Sweeps.{FindsHomes, HasAll, IsOwnHome, IsUnnamedHome, Lives}
 use Rattle.fjall_repair.proofs.Listings.{foreign_passed, home_found, home_unnamed, homes_all, named_passed}
 use Rattle.fjall_repair.proofs.SweepServed.{has_all_of, have_all_more, own_home}
 use Rattle.fjall_repair.proofs.plan.list_homes.Goals as goal
@@ -20,21 +20,15 @@ loop-id-preserved g c = elim c.if-not-is_named.branch [
       let so_far = c.loop-id.invariant in
       let one = w.in_ok-home.ensures in
       let id : ℕ = get_or c.args.ids.now c.loop-id.id-index 0 in
-      let home : UnnamedHome = w.in-Some.home in
+      let home : OwnFiles = w.in-Some.home in
       let unnamed : (id ≡ 0) ⊎ Lives c.args.living.now id → ⊥ = λ named. true≢false (sym (c.is_named.ensures.1 named) ∙ w.if-not-is_named.true) in
-      let found : IsTrue g.D.Disk.honest → IsHomeFound now id home = λ honest. subst (λ (o : Option UnnamedHome). IfSome o (IsHomeFound now id)) w.in-Some.is (one.found honest) in
-      let inside : IsTrue g.D.Disk.honest → All (λ file. folder_of (string_bytes file) ≡ keyspace_folder id) home.files.items =
-      λ honest. subst (λ (o : Option UnnamedHome). IfSome o (λ home. All (λ file. folder_of (string_bytes file) ≡ keyspace_folder id) home.files.items)) w.in-Some.is (one.inside honest)
-      in
-      let own : IsTrue g.D.Disk.honest → All (λ file. IsOwn id (string_bytes file)) home.files.items =
-      λ honest. subst (λ (o : Option UnnamedHome). IfSome o (λ home. All (λ file. IsOwn id (string_bytes file)) home.files.items)) w.in-Some.is (one.own honest)
-      in
-      let holds : IsTrue g.D.Disk.honest → HoldsOnlyOwn now id = λ honest. (one.exact honest).0 (subst (λ (o : Option UnnamedHome). IsSome o) (sym w.in-Some.is) refl) in
+      let found : IsTrue g.D.Disk.honest → AreOwnFiles now id home = λ honest. subst (λ (o : Option OwnFiles). IfSome o (AreOwnFiles now id)) w.in-Some.is (one.own honest) in
+      let holds : IsTrue g.D.Disk.honest → HoldsOnlyOwn now id = λ honest. (one.exact honest).0 (subst (λ (o : Option OwnFiles). IsSome o) (sym w.in-Some.is) refl) in
       let new_is = ap (λ v. v.items) w.homes-is ∙ w.in_ok-push.ensures.items in
-      let faults = so_far.later in let more = one.later in let disk_is = ap (λ d. (m d).faults) w.disk-is in
+      let faults = so_far.later in let more = one.cause.later in let disk_is = ap (λ d. (m d).faults) w.disk-is in
       record {
         unnamed = λ honest. home_unnamed state now (so_far.same honest).state c.args.living.now c.args.ids.now c.loop-id.id-index 0 id refl c.loop-id-test.true
-            c.loop-id.homes.items c.if-not-is_named.homes.items home new_is unnamed one.fits (found honest) (inside honest) (own honest) (so_far.unnamed honest);
+            c.loop-id.homes.items c.if-not-is_named.homes.items home new_is unnamed one.fits (found honest) (so_far.unnamed honest);
         found = λ honest. home_found state now (so_far.same honest).state c.args.living.now c.args.ids.now c.loop-id.id-index 0 id refl c.loop-id-test.true
             c.loop-id.homes.items c.if-not-is_named.homes.items home new_is unnamed (found honest) (so_far.found honest);
         each = λ honest. have_all_more (HasAll state) c.loop-id.homes.items c.if-not-is_named.homes.items home new_is (has_all_of state now (so_far.same honest).state id home (found honest)) (so_far.each honest);
@@ -50,9 +44,9 @@ loop-id-preserved g c = elim c.if-not-is_named.branch [
       let so_far = c.loop-id.invariant in
       let one = w.in_ok-home.ensures in
       let id : ℕ = get_or c.args.ids.now c.loop-id.id-index 0 in
-      let foreign : IsTrue g.D.Disk.honest → HoldsOnlyOwn now id → ⊥ = λ honest holds. true≢false (sym (subst (λ (o : Option UnnamedHome). IsSome o) w.in_default.is ((one.exact honest).1 holds))) in
+      let foreign : IsTrue g.D.Disk.honest → HoldsOnlyOwn now id → ⊥ = λ honest holds. true≢false (sym (subst (λ (o : Option OwnFiles). IsSome o) w.in_default.is ((one.exact honest).1 holds))) in
       let homes_is = ap (λ v. v.items) w.homes-is in
-      let faults = so_far.later in let more = one.later in let disk_is = ap (λ d. (m d).faults) w.disk-is in
+      let faults = so_far.later in let more = one.cause.later in let disk_is = ap (λ d. (m d).faults) w.disk-is in
       record {
         unnamed = λ honest. subst (All (IsUnnamedHome c.args.living.now)) (sym homes_is) (so_far.unnamed honest);
         found = λ honest. subst (FindsHomes state c.args.living.now _) (sym homes_is) (foreign_passed state now (so_far.same honest).state c.args.living.now c.args.ids.now c.loop-id.id-index 0 id refl c.loop-id-test.true

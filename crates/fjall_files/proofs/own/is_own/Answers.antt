@@ -1,8 +1,8 @@
 use Rattle.std.proofs.Common.{subst, sym, rules}
 use Rattle.fjall_base.specs.Disk.{Name}
-use Rattle.fjall_repair.specs.Listing.{IsOwnIn}
-use Rattle.fjall_repair.proofs.Own.{if_own, no_slash, own_if}
-use Rattle.fjall_repair.proofs.plan.is_own.Goals as goal
+use Rattle.fjall_files.specs.Own.{IsOwnIn}
+use Rattle.fjall_files.proofs.OwnEntries.{if_own, no_slash, own_if}
+use Rattle.fjall_files.proofs.own.is_own.Goals as goal
 
 pub returns-then-not-entry : goal.returns-then-not-entry
 returns-then-not-entry c = (

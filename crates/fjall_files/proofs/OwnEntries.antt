@@ -1,16 +1,22 @@
 -- Which of the entries of a folder are the engine's own files.
-use Rattle.std.proofs.Common.{◌≡◌, ◌≢◌, inl, inr, ℕ, Bool, List, ◌∷◌, ◌++◌, map, get_or, codes, decimal, All, None, lit<, refl, sym, ◌∙◌, ap, subst, append_assoc}
+use Rattle.std.proofs.Common.{◌≡◌, ◌≢◌, inl, inr, ℕ, ◌<◌, Bool, List, ◌∷◌, ◌++◌, map, length, get_or, codes, decimal, All, None, lit<, refl, sym, ◌∙◌, ap, subst, append_assoc}
 use Rattle.std.specs.Prelude.{IsFalse, String, string_bytes}
 use Rattle.std.specs.Str.Pattern.{FindsTextPrefix, FindsCharPrefix, StripsPrefix}
 use Rattle.std.specs.declared.alloc.Global.{Global}
-use Rattle.std.proofs.lemmas.List.{append_cancel_left}
+use Rattle.std.specs.List.{Contains}
+use Rattle.std.proofs.lemmas.List.{append_cancel_left, get_or-map, length-map}
 use Rattle.std.proofs.lemmas.List.Elements.{All-map}
 use Rattle.std.proofs.lemmas.Str.Pattern.{drop_at_char, strip_prefix_char}
 use Rattle.fjall_base.specs.declared.disk.DirEntry.{DirEntry}
-use Rattle.fjall_base.specs.Disk.{Name, Entry, Missing, File, Folder, State, IsNoFolder, Lists, Tells}
+use Rattle.fjall_base.specs.Disk.{Name, Entry, Missing, File, Folder, State, IsNoFile, IsNoFolder, Lists, Tells, folder_of}
 use Rattle.fjall_files.specs.Names.{keyspace_folder, name_in}
-use Rattle.fjall_repair.specs.Listing.{IsOwnFile, IsOwnFileName, IsOwnIn}
-use Rattle.fjall_repair.specs.Sweeps.{HoldsOnlyOwn, IsOwn}
+use Rattle.fjall_files.specs.Own.{AreOwnFiles, HoldsOnlyOwn, IsOwn, IsOwnFile, IsOwnFileName, IsOwnIn}
+use Rattle.fjall_files.specs.Regions.{HoldsOnly}
+use Rattle.fjall_files.specs.declared.own.OwnFiles.{OwnFiles}
+
+-- what stands at an index, by another name
+pub contains_map : {A B : Type 0} (f : A → B) (xs : List A) (i : ℕ) (d : A) → i < length xs → Contains (map f xs) (f (get_or xs i d))
+contains_map f xs i d lt = (i, subst (λ n. i < n) (sym (length-map xs f)) lt, get_or-map f xs i d (f (get_or xs i d)) lt)
 
 -- ---- by its name
 
@@ -72,7 +78,38 @@ module _ (state : State) (id : ℕ) (listed : List DirEntry) (lists : Lists stat
       let own = holds (string_bytes entry.name) (lists.each i d lt).0 (told_there (state (string_bytes entry.name)).now entry.is_folder told) in
       (told_file (state (string_bytes entry.name)).now entry.is_folder told own.1, own.0)
 
--- the names of its files are its own
-pub own_names : (id : ℕ) (listed : List DirEntry) (files : List Text) → files ≡ map (λ entry. entry.name) listed → All (IsOwnFile (keyspace_folder id)) listed → All (λ file. IsOwn id (string_bytes file)) files
-own_names id listed files files_are all = subst (All (λ file. IsOwn id (string_bytes file))) (sym files_are)
-    (All-map (λ file. IsOwn id (string_bytes file)) (λ (e : DirEntry). e.name) listed (λ i d lt. (all i d lt).1))
+  module _ (files : List Text) (files_are : files ≡ map (λ entry. entry.name) listed) where
+    pub files_inside : All (λ file. folder_of (string_bytes file) ≡ keyspace_folder id) files
+    files_inside = subst (All (λ file. folder_of (string_bytes file) ≡ keyspace_folder id)) (sym files_are)
+        (All-map (λ file. folder_of (string_bytes file) ≡ keyspace_folder id) (λ (e : DirEntry). e.name) listed (λ k d lt. (lists.each k d lt).0))
+
+    pub files_whole : (name : Name) → folder_of name ≡ keyspace_folder id → (state name).now ≢ Missing → Contains (map string_bytes files) name
+    files_whole name inside some =
+        let (i, entry, lt, at, is) = lists.whole name inside some in
+        let less : i < length (map (λ (e : DirEntry). e.name) listed) = subst (λ n. i < n) (sym (length-map listed (λ (e : DirEntry). e.name))) lt in
+        let file = get_or-map (λ (e : DirEntry). e.name) listed i entry entry.name lt ∙ ap (λ (e : DirEntry). e.name) at in
+        subst (λ l. Contains (map string_bytes l) name) (sym files_are)
+        (subst (λ (n : Name). Contains (map string_bytes (map (λ (e : DirEntry). e.name) listed)) n) (ap (λ f. string_bytes f) file ∙ is)
+        (contains_map string_bytes (map (λ (e : DirEntry). e.name) listed) i entry.name less))
+
+    pub files_named : All (IsOwnFile (keyspace_folder id)) listed → All (λ file. IsOwn id (string_bytes file)) files
+    files_named all = subst (All (λ file. IsOwn id (string_bytes file))) (sym files_are)
+        (All-map (λ file. IsOwn id (string_bytes file)) (λ (e : DirEntry). e.name) listed (λ i d lt. (all i d lt).1))
+
+-- ---- what is found
+
+kind_of : (e : Entry) → (e ≢ Missing → IsNoFolder e) → IsNoFolder e
+kind_of Missing kind = tt
+kind_of (File synced unsynced) kind = tt
+kind_of Folder kind = kind (λ none. let no : ⊥ = cc in no)
+
+-- such a folder holds these files and nothing else
+pub holds_own : (state : State) (id : ℕ) (own : OwnFiles) → AreOwnFiles state id own → HoldsOnlyOwn state id → IsNoFile (state (keyspace_folder id)).now
+    → HoldsOnly state (keyspace_folder id) (map string_bytes own.files.items)
+holds_own state id own are holds kind = record {
+  kind = kind;
+  each = All-map (λ (n : Name). IsNoFolder (state n).now) string_bytes own.files.items (λ i d lt.
+      let file = get_or own.files.items i d in
+      kind_of (state (string_bytes file)).now (λ some. (holds (string_bytes file) (are.inside i d lt) some).1));
+  whole = λ q inside some. let (i, lt, at) = are.whole q inside some in (i, q, lt, at, refl);
+}

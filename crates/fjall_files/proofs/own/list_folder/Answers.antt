@@ -1,6 +1,6 @@
 use Rattle.std.proofs.Common.{◌∙◌, subst}
 use Rattle.fjall_base.specs.Disk.{Lists, Name, state_in}
-use Rattle.fjall_repair.proofs.plan.list_folder.Goals as goal
+use Rattle.fjall_files.proofs.own.list_folder.Goals as goal
 
 pub returns-clause-found : goal.returns-clause-found
 returns-clause-found g c honest =
