@@ -19,7 +19,7 @@ use Rattle.fjall_contents.specs.Contents.{is_beyond}
 use Rattle.fjall_versions.proofs.Living.{found_new, found_other, found_without, none_found}
 use Rattle.fjall_versions.proofs.Slots.{get_put, same_id, ties}
 use Rattle.fjall_recovery.specs.Halves.{Tree}
-use Rattle.fjall_recovery.specs.Homes.{Homes, IsPlain}
+use Rattle.fjall_recovery.specs.Homes.{Homes, ClearsAreWithin}
 use Rattle.fjall_recovery.specs.Places.{HasSafeHome, HasSafeHomeAt, HaveSafeHomes, LiesInTree}
 use Rattle.fjall_recovery.proofs.Storing.{plain_versions, versions_inserted, versions_removed}
 use Rattle.fjall_commit.specs.Changes.{AreHoused, first_home, with_home, without_home}
@@ -61,9 +61,9 @@ module _ (state : State) (living : List LivingKeyspace) (homes : Homes) (safe : 
 
 -- ---- the keyspaces after a change
 
--- the first record of a keyspace names no table and tells of no clear
-pub first_plain : (number : ℕ) → IsPlain (fields (first_of number))
-first_plain number = record { tables = refl; clears = All-nil (λ n. is_beyond None n ≡ false) }
+-- the first record of a keyspace tells of no clear
+pub first_clears : (number : ℕ) → ClearsAreWithin (fields (first_of number))
+first_clears number = All-nil (λ n. is_beyond None n ≡ false)
 
 -- the new record knows the number of its change
 past_next : (old : Catalog) (s : Keyspaces) (number : ℕ) (u : Update) → IsUpdate old s number u → number < past_record (fields u.catalog)
@@ -94,7 +94,7 @@ module _ (state : State) (records : List Fields) (t : Tree) (lies : LiesInTree s
         are = are;
         made = All-push (λ k. k.number < past_record (fields u.catalog)) t.keyspaces.living _ (made_still t.last u.catalog t.keyspaces number lies.rests.made later above) above;
         homes = homes_more state t.keyspaces.living t.homes lies.rests.homes _ (first_home number) fresh home;
-        versions = versions_inserted t.homes t.versions t.keyspaces.next (first_home number) [] (plain_versions (fields (first_of number)) (first_plain number)) lies.rests.versions;
+        versions = versions_inserted t.homes t.versions t.keyspaces.next (first_home number) [] (plain_versions (fields (first_of number)) refl (first_clears number)) lies.rests.versions;
       }
 
 -- the next id is no living keyspace's

@@ -41,7 +41,7 @@ use Rattle.fjall_catalog.proofs.Resting.{files_say, rests_with}
 use Rattle.fjall_recovery.specs.Halves.{HasTree, Tree, outside}
 use Rattle.fjall_recovery.proofs.Composing.{AreOthers, Beside, beside_along, beside_settled, not_under, outside_test, settled_at, settled_home, tree_left}
 use Rattle.fjall_commit.specs.Changes.{first_home}
-use Rattle.fjall_commit.proofs.NextKeyspaces.{first_plain}
+use Rattle.fjall_commit.proofs.NextKeyspaces.{first_clears}
 
 -- ---- calls within the folder, and syncs
 
@@ -201,7 +201,9 @@ home_safe id number m1 m2 new text (Ok done) small below is made first then = λ
         last_is = refl;
         tables = tt;
       };
-      plain = first_plain number;
+      indexes = [];
+      indexed = tt;
+      clears = first_clears number;
     }
 
 -- ---- names as the call has them

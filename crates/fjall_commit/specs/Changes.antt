@@ -10,7 +10,7 @@ use Rattle.fjall_catalog.specs.Updates.{IsUpdate}
 use Rattle.fjall_recovery.specs.Folders.{AreMade, past_record}
 use Rattle.fjall_recovery.specs.Halves.{HasTree, Tree}
 use Rattle.fjall_recovery.specs.Places.{HaveSafeHomes, LiesInTree}
-use Rattle.fjall_recovery.specs.Homes.{HaveVersions, plain_home}
+use Rattle.fjall_recovery.specs.Homes.{HaveVersions}
 use Rattle.fjall_home.specs.Homes.{Home}
 use Rattle.std.specs.FinMap.{insert, remove}
 use Rattle.fjall_commit.specs.declared.creation.Creation.{Creation}
@@ -19,7 +19,7 @@ use Rattle.fjall_commit.specs.Removals.{IsUnused}
 
 -- the home of a keyspace that the change of this number made: its first record says so
 abbrev pub first_home : ℕ → Home
-first_home number = plain_home (fields (first_of number))
+first_home number = record { last = fields (first_of number); texts = [] }
 
 -- the tree after the change of this number made a keyspace of this name
 abbrev pub with_home : List ℕ → List (List ℕ) → ℕ → Catalog → Tree → Tree

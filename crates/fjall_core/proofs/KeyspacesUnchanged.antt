@@ -34,7 +34,7 @@ tree_along old new records t same lies =
         catalog = rests_with old new records t.last t.keyspaces catalog (home_along old new same 0 records (home_of t.last catalog.texts) catalog.home);
         made = rests.made;
         homes = homes_along (λ id. Unit {0}) t.keyspaces.living t.homes (λ k d lt. tt) old new
-            (λ id h any home. record { records = home.records; rests = home_along old new same id home.records h home.rests; plain = home.plain }) rests.homes;
+            (λ id h any home. record { records = home.records; rests = home_along old new same id home.records h home.rests; indexes = home.indexes; indexed = home.indexed; clears = home.clears }) rests.homes;
         versions = rests.versions;
       };
       free = λ id least small. ap (λ (p : Place). p.now) (same (table_name 0 id) refl) ∙ lies.free id least small;

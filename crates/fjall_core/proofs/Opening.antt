@@ -30,27 +30,27 @@ abbrev pub held_of : Meaning → Opened → Remembered → Held
 held_of disk o memory = record { disk = disk; journal = o.journal; catalog = o.catalog; memory = memory }
 
 abbrev pub core_of : Meaning → Opened → Held
-core_of disk o = held_of disk o (remembered o.keyspaces o.versions.items o.number)
+core_of disk o = held_of disk o (remembered o.keyspaces o.versions.items o.damaged.items o.number)
 
 -- it stands for the store of the folder
-pub opens : (disk : Meaning) (o : Opened) (store : Store) (next : ℕ) → repair.IsLawful o → store_behind o.keyspaces o.versions.items ≡ store → o.number ≡ next → Opens (core_of disk o) store next
+pub opens : (disk : Meaning) (o : Opened) (store : Store) (next : ℕ) → repair.IsLawful o → store_behind o.keyspaces o.versions.items ≡ store → o.number ≡ next → Opens (core_of disk o) store o.damaged.items next
 opens disk o store next lawful made number =
-    let m = remembered o.keyspaces o.versions.items o.number in
+    let m = remembered o.keyspaces o.versions.items o.damaged.items o.number in
     let table = o.catalog.next_table_id in
     let parts = parts_of (core_of disk o) in
     record {
-      remembered = subst (λ (s : Store). memory.StandsFor m table (opened_state s next parts)) made
-          (subst (λ (n : ℕ). memory.StandsFor m table (opened_state (store_behind o.keyspaces o.versions.items) n parts)) number
+      remembered = subst (λ (s : Store). memory.StandsFor m table (opened_state s o.damaged.items next parts)) made
+          (subst (λ (n : ℕ). memory.StandsFor m table (opened_state (store_behind o.keyspaces o.versions.items) o.damaged.items n parts)) number
           (an_opening_stands m (record { keyspaces = lawful.keyspaces; made = lawful.made; given = lawful.given }) refl refl refl table parts refl));
       journal = refl;
       buffer = refl;
     }
 
 pub opens_on : (image : Image) (disk : Meaning) (o : Opened) → repair.IsLawful o → IsOpenedFrom image o → OpensOn image (core_of disk o)
-opens_on image disk o lawful (folder, is, store, number) = (folder, is, opens disk o (store_held folder) (number_held folder) lawful store number)
+opens_on image disk o lawful (folder, is, store, number) = (folder, o.damaged.items, is, opens disk o (store_held folder) (number_held folder) lawful store number)
 
-pub opens_new : (disk : Meaning) (o : Opened) → repair.IsLawful o → (store : Store) × (next : ℕ) × Opens (core_of disk o) store next
-opens_new disk o lawful = (store_behind o.keyspaces o.versions.items, o.number, opens disk o (store_behind o.keyspaces o.versions.items) o.number lawful refl refl)
+pub opens_new : (disk : Meaning) (o : Opened) → repair.IsLawful o → (store : Store) × (damaged : List ℕ) × (next : ℕ) × Opens (core_of disk o) store damaged next
+opens_new disk o lawful = (store_behind o.keyspaces o.versions.items, o.damaged.items, o.number, opens disk o (store_behind o.keyspaces o.versions.items) o.number lawful refl refl)
 
 -- with that store as its base, and nothing pending
 module _ (disk : Meaning) (folder : Option Contents) (o : Opened) (is : repair.Opens (state_in disk) folder o) where
@@ -94,7 +94,7 @@ module _ (disk : Meaning) (folder : Option Contents) (o : Opened) (is : repair.O
   pub opens_as : (store : Store) → repair.IsLawful o → store ≡ store_held folder → OpensAs (core_of disk o) store
   opens_as store lawful same = subst (λ (s : Store). OpensAs (core_of disk o) s) (sym same) (record {
     next = number_held folder;
-    state = opens disk o (store_held folder) (number_held folder) lawful (is.made ∙ is.store) is.same;
+    state = subst (λ (damaged : List ℕ). Opens (core_of disk o) (store_held folder) damaged (number_held folder)) is.whole (opens disk o (store_held folder) (number_held folder) lawful (is.made ∙ is.store) is.same);
     journal = at_end;
     base = record { same = refl; rests = lies_rest (core_of disk o) here lies; finished = root_finished (state_in disk) is.j is.root; lies = λ well. lies; present = ap kept (sym held ∙ sym is.made) };
   })

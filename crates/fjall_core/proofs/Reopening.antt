@@ -10,9 +10,9 @@ use Rattle.fjall_files.specs.Names.{journal_name}
 use Rattle.fjall_files.specs.Marker.{marker_tells}
 use Rattle.fjall_files.specs.Tidy.{StaysTidy}
 use Rattle.fjall_versions.proofs.Keeping.{nothing_to_keep}
-use Rattle.fjall_recovery.specs.Folders.{Contents, IsSound, IsUnfinished, StandsFor}
+use Rattle.fjall_recovery.specs.Folders.{Contents, IsOpenable, IsUnfinished, StandsFor}
 use Rattle.fjall_recovery.specs.Journals.{Journal}
-use Rattle.fjall_recovery.proofs.Alone.{one_contents}
+use Rattle.fjall_recovery.proofs.Alone.{one_list_of_journals}
 use Rattle.fjall_recovery.specs.Amid.{ComesBackUnfinished, HoldsAmid, StandsAmid}
 use Rattle.fjall_recovery.specs.Held.{Holds, IsFolder, store_held}
 use Rattle.fjall_recovery.proofs.Alike.{kept_alike, standing_amid}
@@ -48,15 +48,15 @@ no_file journals id none has =
     let lt = at.1 in
     omega (arith, lt)
 
-none_back : (state : State) (folder : Option Contents) → Holds state folder → (c : Contents) → IsSound (standing state) c → c.journals ≡ [] → (image : Image) → IsImage state image → (id : ℕ) → id < 2 ^ 64 → IsFile (image (journal_name id)) → ⊥
-none_back state None holds c sound none image is id small file = told_twice sound.marker holds.now.marker
-none_back state (Some d) holds c sound none image is id small file =
-    let same : d ≡ c = one_contents (standing state) d c holds.now sound in
-    no_file d.journals id (ap (λ (e : Contents). e.journals) same ∙ none) (((holds.crash image is).journals.ids.each id).1 (small, file))
+none_back : (state : State) (folder : Option Contents) → Holds state folder → (c : Contents) → IsOpenable (standing state) c → c.journals ≡ [] → (image : Image) → IsImage state image → (id : ℕ) → id < 2 ^ 64 → IsFile (image (journal_name id)) → ⊥
+none_back state None holds c openable none image is id small file = told_twice openable.marker holds.now.marker
+none_back state (Some d) holds c openable none image is id small file =
+    let same : d.journals ≡ c.journals = one_list_of_journals (standing state) d.journals c.journals holds.now.openable.journals openable.journals in
+    no_file d.journals id (same ∙ none) (((holds.crash image is).openable.journals.ids.each id).1 (small, file))
 
 comes_back : (state : State) (folder : Option Contents) → IsFolder (standing state) folder → ComesBack state folder → IsUnfinished (standing state) → ComesBackUnfinished state
 comes_back state None is back begun = back
-comes_back state (Some c) is back begun = absurd (told_twice is.marker begun.marker)
+comes_back state (Some c) is back begun = absurd (told_twice is.openable.marker begun.marker)
 
 -- a disk that holds a store holds it with nothing pending
 pub holds_store_amid : (state : State) (store : Store) → HoldsStore state store → HoldsAmid state store []

@@ -20,7 +20,7 @@ use Rattle.fjall_core.specs.Standing.{ClosesSafely, OwesClosing, RunsOn}
 
 -- what a core was that just opened as this store: the state of the machine, and that nothing is pending on its disk
 abbrev pub start_of : (core : Held) (store : Store) → OpensAs core store → machine.State
-start_of core store opens = opened_state store opens.next (parts_of core)
+start_of core store opens = opened_state store [] opens.next (parts_of core)
 
 abbrev pub begun : Held → Store → Durable
 begun core store = record { meaning = core.disk; base = store; pending = [] }

@@ -11,8 +11,8 @@ use Rattle.fjall_recovery.specs.Folders as folders
 use Rattle.fjall_recovery.specs.Folders.{Contents}
 use Rattle.fjall_recovery.specs.Refusals.{FolderRefuses, IsDue}
 use Rattle.fjall_recovery.specs.Amid.{HoldsAmid, IsBeginning, StandsAmid}
-use Rattle.fjall_recovery.specs.Held.{IsFolder, number_held, store_held}
-use Rattle.fjall_repair.specs.Opened.{StandsForSome}
+use Rattle.fjall_recovery.specs.Held.{IsFolderBut, number_held, store_held}
+use Rattle.fjall_repair.specs.Opened.{IsSomeFolder}
 use Rattle.fjall_state.specs.Machine.{Parts, opened_state}
 use Rattle.fjall_core.specs.Holding.{Held}
 use Rattle.fjall_core.specs.Standing.{HoldsStore, StandsFor, StandsOn, reply_of}
@@ -23,18 +23,19 @@ use Rattle.fjall_core.specs.Crashes.{BlamesDevice}
 abbrev pub parts_of : Held → Parts
 parts_of core = record { journal = core.journal.len; buffer = length core.journal.buffer; table = core.catalog.next_table_id }
 
--- a core that was just opened stands for this store, and its next command takes this number
-abbrev pub Opens : Held → Store → ℕ → Type 0
-Opens core store next = StandsFor core (opened_state store next (parts_of core))
+-- a core that was just opened stands for this store, of which these keyspaces are damaged, and its next command takes this
+-- number
+abbrev pub Opens : Held → Store → List ℕ → ℕ → Type 0
+Opens core store damaged next = StandsFor core (opened_state store damaged next (parts_of core))
 
--- a core that was opened on what stands there
+-- a core that was opened on what stands there: a folder but for the tables of the damaged keyspaces
 abbrev pub OpensOn : Image → Held → Type 0
-OpensOn image core = (folder : Option Contents) × IsFolder image folder × Opens core (store_held folder) (number_held folder)
+OpensOn image core = (folder : Option Contents) × (damaged : List ℕ) × IsFolderBut image folder damaged × Opens core (store_held folder) damaged (number_held folder)
 
 -- Over a disk that returns what it holds, a refusal but `Io` is due to the folder or to want of memory, and the disk
--- holds what it held; after `Io` it does so too, or what stood there stands for a store.
+-- holds what it held; after `Io` it does so too, or what stood there is a folder that opens.
 abbrev pub IsDueTo : Meaning → Meaning → Error → Type 0
-IsDueTo old new (Io kind) = Took old new [] ⊎ StandsForSome (standing (state_in old))
+IsDueTo old new (Io kind) = Took old new [] ⊎ IsSomeFolder (standing (state_in old))
 IsDueTo old new error = IsDue (FolderRefuses (standing (state_in old))) error × Took old new []
 
 -- whatever store the disk held, a crash at each moment from old to new leaves that store
@@ -48,10 +49,10 @@ pub record IsAtEnd (state : State) (writer : Journal) : Type 0 where
   pub len : writer.len ≡ length text
   pub buffer : writer.buffer ≡ []
 
--- A core that was just opened stands for this store, with it as its base, and nothing is pending.
+-- A core that was just opened stands for this store, with it as its base, nothing is pending, and no keyspace is damaged.
 pub record OpensAs (core : Held) (store : Store) : Type 0 where
   pub next : ℕ
-  pub state : Opens core store next
+  pub state : Opens core store [] next
   pub journal : IsAtEnd (state_in core.disk) core.journal
   pub base : StandsOn core (record { meaning = core.disk; base = store; pending = [] })
 

@@ -1,6 +1,6 @@
 //! A core that opens on a disk.
 
-ghost use Rattle.std.specs.Prelude.{◌≡◌, ◌≤◌, ℕ, IsTrue, IsErrAnd, IfOk, IfErr};
+ghost use Rattle.std.specs.Prelude.{◌≡◌, ◌≤◌, ℕ, List, IsTrue, IsErrAnd, IfOk, IfErr};
 ghost use Rattle.fjall_base.specs.Disk.{standing, state_in};
 ghost use Rattle.fjall_base.specs.declared.error.Error.{Error};
 ghost use Rattle.fjall_base.specs.Store.{Store};
@@ -20,7 +20,8 @@ impl<D: Disk> Core<D> {
     /// Opens the database on a disk: reads its folder whole, begins a database where none is there or goes on with one
     /// whose making was cut short, cuts what a crash left unfinished, syncs what counts, and removes what nothing names. The
     /// folder of a keyspace that doesn't live is removed only where all that stands in it are files with the engine's own
-    /// names, and otherwise left wholly as it stands.
+    /// names, and otherwise left wholly as it stands. A keyspace that has a table with a wrong block is damaged: the rest
+    /// works, and reads of that keyspace are refused.
     ///
     /// Refusals hand the disk back: `InvalidVersion`; `JournalRecovery`, `Unrecoverable` and `InvalidTag` for what
     /// stands in journals; `Storage` for what stands in records, tables and options; `OutOfMemory`; `Io`. All is read,
@@ -32,7 +33,7 @@ impl<D: Disk> Core<D> {
         ensures any_moment_err { IsTrue D.honest → IfErr result (λ refused. KeepsStore (D.meaning disk) (D.meaning refused.value)) }
         // Nothing of the engine's own is left that no record names.
         ensures swept { IsTrue D.honest → IfOk result (λ core. Sweeps (D.meaning disk) core) }
-        ensures stands { IfOk result (λ core. (store : Store) × (next : ℕ) × Opens core store next) }
+        ensures stands { IfOk result (λ core. (store : Store) × (damaged : List ℕ) × (next : ℕ) × Opens core store damaged next) }
         ensures later { IfOk result (λ core. (D.meaning disk).faults ≤ core.disk.faults) }
         ensures later_err { IfErr result (λ refused. (D.meaning disk).faults ≤ (D.meaning refused.value).faults) }
         ensures risen { IfErr result (λ refused. HasRisen (D.meaning disk).faults (D.meaning refused.value).faults refused.error) }
@@ -62,7 +63,13 @@ impl<D: Disk> Core<D> {
                 disk,
                 journal: opened.journal,
                 catalog: opened.catalog,
-                memory: EngineState::new(alloc, opened.keyspaces, opened.versions, opened.number),
+                memory: EngineState::new(
+                    alloc,
+                    opened.keyspaces,
+                    opened.versions,
+                    opened.damaged,
+                    opened.number,
+                ),
             }),
             Err(error) => Err(Refused { error, value: disk }),
         }

@@ -15,7 +15,8 @@ use fjall_versions::KeyRange;
 impl<D: Disk> Core<D> {
     /// The value that a key of a keyspace has in a view. A key that no write can have has none.
     ///
-    /// Refusals: `UnknownKeyspace`, `KeyspaceDeleted`, `OutOfMemory`. Nothing changes.
+    /// Refusals: `UnknownKeyspace`, `KeyspaceDeleted`, `Storage(TableDamaged)` where a block of one of its tables is
+    /// wrong, `OutOfMemory`. Nothing changes.
     pub fn get_at(&mut self, view: View, id: u64, key: &[u8]) -> Result<Option<UserValue>>
         ensures serves { IsTrue D.honest → Serves self.old (GetAt view id key.now) (value_reply result) self.new }
         ensures owes { Owes self.old (GetAt view id key.now) (value_reply result) self.new }
@@ -28,7 +29,8 @@ impl<D: Disk> Core<D> {
     /// The first pairs of a keyspace's range in a view or, where `back`, the last ones: at most `max`, in the order of
     /// their keys.
     ///
-    /// Refusals: `UnknownKeyspace`, `KeyspaceDeleted`, `OutOfMemory`. Nothing changes.
+    /// Refusals: `UnknownKeyspace`, `KeyspaceDeleted`, `Storage(TableDamaged)` where a block of one of its tables is
+    /// wrong, `OutOfMemory`. Nothing changes.
     pub fn page_at(
         &mut self,
         view: View,

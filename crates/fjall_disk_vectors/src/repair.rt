@@ -93,8 +93,12 @@ fn count_named(tables: &[String]) -> usize {
 
 // What sweeps a folder that was found on the disk.
 fn sweeping_of(alloc: Global, disk: &mut MemoryDisk, found: &RecoveredFolder) -> Result<SweepPlan> {
+    let mut tree = Vec::new(alloc);
+    if let Some(table) = found.catalog.catalog.table {
+        tree.push(table)?;
+    }
     let living = found.catalog.keyspaces.living();
-    plan_sweep(alloc, disk, Some(1), living, &found.folder_ids)
+    plan_sweep(alloc, disk, &tree, &found.homes, living, &found.folder_ids)
 }
 
 // What sweeps the folder.

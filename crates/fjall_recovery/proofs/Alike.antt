@@ -19,8 +19,8 @@ use Rattle.fjall_meta.specs.Entries.{entries_of}
 use Rattle.fjall_home.specs.Homes.{HoldTables, Home}
 use Rattle.fjall_catalog.specs.Catalog.{HoldsEntries, listed}
 use Rattle.fjall_catalog.specs.Catalog as catalog
-use Rattle.fjall_recovery.specs.Folders.{Contents, IsBegun, IsSound, IsUnfinished, StandsFor, file_bytes}
-use Rattle.fjall_recovery.specs.Homes.{HasPlainHome, HaveHomes, Homes}
+use Rattle.fjall_recovery.specs.Folders.{Contents, IsBegun, IsOpenable, IsUnfinished, StandsFor, file_bytes}
+use Rattle.fjall_recovery.specs.Homes.{HasOpenableHome, HaveHomes, Homes}
 use Rattle.fjall_recovery.proofs.Housing.{homes_alike}
 use Rattle.fjall_recovery.specs.Journals.{Journal, ReadsAs, AreRead, journal_text}
 use Rattle.fjall_recovery.specs.Naming.{JournalsAreNamed, KeyspacesAreNamed}
@@ -35,11 +35,11 @@ read_by image other (j ∷ []) texts read =
     elim read [ inl clean ↦ inl (subst (λ t. ReadsAs t j.batches Clean) (sym texts.0) clean) | inr torn ↦ inr (subst (λ t. ReadsAs t j.batches Torn) (sym texts.0) torn) ]
 read_by image other (j ∷ k ∷ journals) texts read = (subst (λ t. ReadsAs t j.batches Clean) (sym texts.0) read.0, read_by image other (k ∷ journals) texts.1 read.1)
 
--- An image is sound where its marker, its journals and its records are those of a sound one, and its table and its homes say the same.
-pub sound_by : (image other : Image) (c : Contents) → IsSound image c → file_bytes (other (codes "version")) ≡ file_bytes (image (codes "version")) → JournalsAreNamed other
+-- An opening finds nothing wrong in an image where its marker, its journals and its records are those of another one that it finds right, and its table and its homes say the same.
+pub sound_by : (image other : Image) (c : Contents) → IsOpenable image c → file_bytes (other (codes "version")) ≡ file_bytes (image (codes "version")) → JournalsAreNamed other
     → ((id : ℕ) → id < 2 ^ 64 → IsFile (other (journal_name id)) ↔ IsFile (image (journal_name id))) → AllByRecursion (λ (j : Journal). journal_text other j.id ≡ journal_text image j.id) c.journals
     → KeyspacesAreNamed other → other (keyspace_folder 0) ≡ Folder → IsFile (other (current_name 0)) → catalog.records_in other ≡ catalog.records_in image
-    → HoldsEntries other c.last.table (entries_of c.keyspaces.living) → HaveHomes other c.keyspaces.living c.homes → IsSound other c
+    → HoldsEntries other c.last.table (entries_of c.keyspaces.living) → HaveHomes other c.keyspaces.living c.homes → IsOpenable other c
 sound_by image other c sound marker named files texts keyspaces folder file records entries homes = record {
   marker = ap marker_tells marker ∙ sound.marker;
   journals_named = named;
@@ -72,7 +72,6 @@ sound_by image other c sound marker named files texts keyspaces folder file reco
   };
   made = sound.made;
   homes = homes;
-  versions = sound.versions;
 }
 
 -- ---- everywhere
@@ -110,7 +109,7 @@ module _ (image other : Image) (alike : (q : Name) → Alike (image q) (other q)
       let at = alike (table_name id t.id) in
       ((at.file.0 hold.0.0, at.text ∙ hold.0.1), tables_all id tables texts hold.1)
 
-  home_all : (id : ℕ) (h : Home) → HasPlainHome image id h → HasPlainHome other id h
+  home_all : (id : ℕ) (h : Home) → HasOpenableHome image id h → HasOpenableHome other id h
   home_all id h has = record {
     records = has.records;
     home = record {
@@ -123,7 +122,9 @@ module _ (image other : Image) (alike : (q : Name) → Alike (image q) (other q)
         tables = tables_all id h.last.tables h.texts has.home.files.tables;
       };
     };
-    plain = has.plain;
+    indexes = has.indexes;
+    indexed = has.indexed;
+    clears = has.clears;
   }
 
   homes_all : (living : List LivingKeyspace) (homes : Homes) → HaveHomes image living homes → HaveHomes other living homes
@@ -135,7 +136,7 @@ module _ (image other : Image) (alike : (q : Name) → Alike (image q) (other q)
   keyspaces_all : KeyspacesAreNamed image → KeyspacesAreNamed other
   keyspaces_all named name inside folder = named name inside ((alike name).folder.1 folder)
 
-  pub alike_sound : (c : Contents) → IsSound image c → IsSound other c
+  pub alike_sound : (c : Contents) → IsOpenable image c → IsOpenable other c
   alike_sound c sound = sound_by image other c sound (alike (codes "version")).bytes (named_all sound.journals_named) (λ id small. ((alike (journal_name id)).file.1, (alike (journal_name id)).file.0)) (texts_all c.journals)
       (keyspaces_all sound.keyspaces_named) ((alike (keyspace_folder 0)).folder.0 sound.folder) ((alike (current_name 0)).file.0 sound.catalog.files.current) (alike (current_name 0)).counted
       (sound.catalog.texts, tables_all 0 (listed c.last.table) sound.catalog.texts sound.catalog.files.tables, sound.catalog.pairs) (homes_all c.keyspaces.living c.homes sound.homes)
@@ -150,7 +151,7 @@ module _ (image other : Image) (alike : (q : Name) → Alike (image q) (other q)
   }
 
   pub alike_stands : (store : Store) → StandsFor image store → StandsFor other store
-  alike_stands store (inl (c, sound, is)) = inl (c, alike_sound c sound, is)
+  alike_stands store (inl (c, sound, is)) = inl (c, record { openable = alike_sound c sound.openable; versions = sound.versions }, is)
   alike_stands store (inr (begun, is)) = inr (alike_unfinished begun, is)
 
 -- ---- what stands

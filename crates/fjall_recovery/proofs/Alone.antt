@@ -8,10 +8,9 @@ use Rattle.fjall_base.specs.Store.{Store}
 use Rattle.fjall_base.specs.Disk.{Image}
 use Rattle.fjall_journal.specs.Batches.{IsWhole}
 use Rattle.fjall_journal.proofs.Wholes as Wholes
-use Rattle.fjall_tree.specs.Records.{Fields}
 use Rattle.std.specs.FinMap.{get}
 use Rattle.fjall_home.specs.Homes.{Home}
-use Rattle.fjall_home.proofs.Meanings.{last_one, one_home}
+use Rattle.fjall_home.proofs.Meanings.{one_home}
 use Rattle.fjall_meta.specs.Keyspaces.{Keyspaces, keyspace_at}
 use Rattle.fjall_meta.specs.declared.living.LivingKeyspace.{LivingKeyspace}
 use Rattle.fjall_meta.proofs.Rising.{Rises, from_pairs}
@@ -20,8 +19,8 @@ use Rattle.fjall_files.specs.declared.marker.Marker.TheVariants.{Whole, Unfinish
 use Rattle.fjall_files.specs.Marker.{marker_tells}
 use Rattle.fjall_versions.proofs.Slots.{same_maps}
 use Rattle.fjall_catalog.proofs.Meanings.{one_catalog}
-use Rattle.fjall_recovery.specs.Folders.{Contents, IsSound, StandsFor, marker_bytes, store_of}
-use Rattle.fjall_recovery.specs.Homes.{HasHomeAt, HasLast, HaveHomes, HaveVersions, Homes}
+use Rattle.fjall_recovery.specs.Folders.{Contents, IsOpenable, IsSound, StandsFor, marker_bytes, store_of, with_versions}
+use Rattle.fjall_recovery.specs.Homes.{HasHomeAt, HaveHomes, HaveVersions, Homes, Versions}
 use Rattle.fjall_recovery.specs.Journals.{Journal, AreRead, AreJournalIds, HoldsJournals, journal_text}
 use Rattle.fjall_recovery.proofs.Storing.{one_map_of_versions}
 
@@ -95,9 +94,6 @@ one_list_of_journals image journals others a b = one_reading image journals othe
 
 -- ---- keyspaces
 
-pub one_last : (text : List ℕ) (a b : Fields) → HasLast text a → HasLast text b → a ≡ b
-one_last text a b x y = last_one text x.records y.records x.end y.end a b x.whole y.whole x.is y.is
-
 one_at : (image : Image) (id : ℕ) (k : Option LivingKeyspace) (a b : Option Home) → HasHomeAt image id k a → HasHomeAt image id k b → a ≡ b
 one_at image id (Some k) (Some x) (Some y) one two = ap Some (one_home image id one.records two.records x y one.home.files two.home.files).1
 one_at image id (Some k) (Some x) None one two = absurd two
@@ -114,18 +110,25 @@ one_map_of_homes image living homes others a b = same_maps homes others (λ id. 
 same_contents : (c d : Contents) → c.journals ≡ d.journals → c.keyspaces ≡ d.keyspaces → c.last ≡ d.last → c.homes ≡ d.homes → c.versions ≡ d.versions → c ≡ d
 same_contents c d journals keyspaces last homes versions = λ i. record { journals = journals i; keyspaces = keyspaces i; last = last i; homes = homes i; versions = versions i }
 
-pub one_contents : (image : Image) (c d : Contents) → IsSound image c → IsSound image d → c ≡ d
-one_contents image c d a b =
+-- what an opening finds is one, but for the versions
+pub one_openable : (image : Image) (c d : Contents) → IsOpenable image c → IsOpenable image d → with_versions d.versions c ≡ d
+one_openable image c d a b =
     let catalog = one_catalog image a.records b.records c.last d.last c.keyspaces d.keyspaces a.catalog b.catalog in
     let homes = one_map_of_homes image d.keyspaces.living c.homes d.homes (subst (λ (s : Keyspaces). HaveHomes image s.living c.homes) catalog.2 a.homes) b.homes in
-    let versions = one_map_of_versions d.homes c.versions d.versions (subst (λ (h : Homes). HaveVersions h c.versions) homes a.versions) b.versions in
-    same_contents c d (one_list_of_journals image c.journals d.journals a.journals b.journals) catalog.2 catalog.1 homes versions
+    same_contents (with_versions d.versions c) d (one_list_of_journals image c.journals d.journals a.journals b.journals) catalog.2 catalog.1 homes refl
+
+pub one_contents : (image : Image) (c d : Contents) → IsSound image c → IsSound image d → c ≡ d
+one_contents image c d a b =
+    let same = one_openable image c d a.openable b.openable in
+    let homes : c.homes ≡ d.homes = ap (λ (e : Contents). e.homes) same in
+    let versions : c.versions ≡ d.versions = one_map_of_versions d.homes c.versions d.versions (subst (λ (h : Homes). HaveVersions h c.versions) homes a.versions) b.versions in
+    ap (λ (v : Versions). with_versions v c) versions ∙ same
 
 not_both : (told : Result Marker Error) → told ≡ Ok Whole → told ≡ Ok Unfinished → ⊥
 not_both told whole unfinished = let no = sym whole ∙ unfinished in cc
 
 pub one_store : (image : Image) (s t : Store) → StandsFor image s → StandsFor image t → s ≡ t
 one_store image s t (inl (c, sound, is)) (inl (d, other, at)) = is ∙ ap store_of (one_contents image c d sound other) ∙ sym at
-one_store image s t (inl (c, sound, is)) (inr (begun, at)) = absurd (not_both (marker_tells (marker_bytes image)) sound.marker begun.marker)
-one_store image s t (inr (begun, is)) (inl (c, sound, at)) = absurd (not_both (marker_tells (marker_bytes image)) sound.marker begun.marker)
+one_store image s t (inl (c, sound, is)) (inr (begun, at)) = absurd (not_both (marker_tells (marker_bytes image)) sound.openable.marker begun.marker)
+one_store image s t (inr (begun, is)) (inl (c, sound, at)) = absurd (not_both (marker_tells (marker_bytes image)) sound.openable.marker begun.marker)
 one_store image s t (inr (begun, is)) (inr (other, at)) = is ∙ sym at

@@ -2,6 +2,7 @@
 use Rattle.std.proofs.Common.{◌≡◌, ◌≢◌, ◌⊎◌, inl, inr, ℕ, Bool, true, false, List, [], ◌∷◌, drop, map, Result, Err, None, Option, Some, refl, sym, ◌∙◌, ap, subst}
 use Rattle.std.specs.Prelude.{unwrap_or}
 use Rattle.fjall_base.specs.Disk.{Folder, Image}
+use Rattle.fjall_base.specs.Lists.{last_of}
 use Rattle.fjall_base.specs.declared.error.Error.{Error}
 use Rattle.fjall_base.specs.declared.error.Error.TheVariants.{InvalidTag, JournalRecovery, Storage, Unrecoverable}
 use Rattle.fjall_base.specs.declared.error.JournalRecoveryError.{JournalRecoveryError}
@@ -15,6 +16,9 @@ use Rattle.fjall_journal.specs.Steps.{batch_at}
 use Rattle.fjall_journal.proofs.Batches.{some_early, some_goes_on, some_other}
 use Rattle.fjall_versions.specs.Replays.{Fault, Unordered, Indirect, first_fault, least_after, Names, NamesFault}
 use Rattle.fjall_tree.specs.Records.{Fields, HasContradiction}
+use Rattle.fjall_home.specs.Homes.{records_text}
+use Rattle.fjall_home.specs.Reading as home
+use Rattle.fjall_home.proofs.Openings.{openable_no_damage}
 use Rattle.fjall_meta.specs.declared.entry.MetaEntry.{MetaEntry}
 use Rattle.fjall_meta.specs.declared.living.LivingKeyspace.{LivingKeyspace}
 use Rattle.fjall_meta.specs.Keyspaces.{Keyspaces}
@@ -30,7 +34,7 @@ use Rattle.fjall_catalog.proofs.Meanings.{held_one, last_one, one_catalog}
 use Rattle.fjall_recovery.specs.Folders.{AreMade, marker_bytes}
 use Rattle.fjall_recovery.specs.Journals.{ReadsAs, journal_text}
 use Rattle.fjall_recovery.specs.Naming.{JournalsAreNamed}
-use Rattle.fjall_recovery.specs.Refusals.{AreOne, BegunRefuses, CatalogRefuses, FinishedRefuses, FolderRefuses, HomeRefuses, HomesRefuse, IsDue, JournalsRefuse, KeyspacesRefuse, PartsRefuse, SaysNothing, TailRefuses, TreeRefuses, UnfinishedRefuses, is_last}
+use Rattle.fjall_recovery.specs.Refusals.{AreOne, BegunRefuses, CatalogRefuses, FinishedRefuses, FolderRefuses, HasClearBeyond, HomeRefuses, HomesRefuse, IsDue, JournalsRefuse, KeyspacesRefuse, PartsRefuse, SaysNothing, TailRefuses, TreeRefuses, UnfinishedRefuses, is_last}
 use Rattle.fjall_recovery.proofs.Alone.{one_ascending, one_list_of_ids}
 use Rattle.fjall_recovery.proofs.Finishing.{due_as}
 use Rattle.fjall_recovery.proofs.Kept.{marker_is_kept, one_marker}
@@ -147,20 +151,49 @@ module _ (image : Image) where
 
   -- ---- keyspaces
 
-  -- the error of a keyspace without a folder, or of one without records
+  -- where the last record names a table a whole record stands
+  has_a_record : (id : ℕ) → home.HasNoRecord (records_text image id) → home.LacksSome image id → ⊥
+  has_a_record id none lacks = let no : None ≡ Some lacks.last = sym (ap (λ (l : List Fields). last_of l) (none lacks.records lacks.end lacks.whole)) ∙ lacks.last_is in cc
+
+  -- a home is damaged in one way
+  one_home_damage : (id : ℕ) (a b : StorageError) → home.IsDamage image id a → home.IsDamage image id b → a ≡ b
+  one_home_damage id RecordDamaged RecordDamaged x y = refl
+  one_home_damage id RecordDamaged TableDamaged x y = absurd (has_a_record id x y)
+  one_home_damage id TableDamaged RecordDamaged x y = absurd (has_a_record id y x)
+  one_home_damage id TableDamaged TableDamaged x y = refl
+  one_home_damage id RecordDamaged b x y = absurd y
+  one_home_damage id TableDamaged b x y = absurd y
+  one_home_damage id a b x y = absurd x
+
+  -- what is wrong with a home
+  abbrev HomeIsWrong : ℕ → StorageError → Type 0
+  HomeIsWrong id cause = home.IsDamage image id cause ⊎ ((cause ≡ RecordDamaged) × HasClearBeyond image id)
+
+  right_but_for_a_clear : (id : ℕ) (cause : StorageError) → HasClearBeyond image id → home.IsDamage image id cause → ⊥
+  right_but_for_a_clear id cause right bad = openable_no_damage image id right.records right.h right.indexes cause right.openable bad
+
+  one_wrong : (id : ℕ) (a b : StorageError) → HomeIsWrong id a → HomeIsWrong id b → a ≡ b
+  one_wrong id a b (inl x) (inl y) = one_home_damage id a b x y
+  one_wrong id a b (inl x) (inr y) = absurd (right_but_for_a_clear id a y.1 x)
+  one_wrong id a b (inr x) (inl y) = absurd (right_but_for_a_clear id b x.1 y)
+  one_wrong id a b (inr x) (inr y) = x.0 ∙ sym y.0
+
+  -- the error of a keyspace without a folder, or of one whose home is wrong
   abbrev HomeTells : ℕ → Error → Type 0
-  HomeTells id error = ((error ≡ Unrecoverable) × (image (keyspace_folder id) ≢ Folder)) ⊎ ((error ≡ Storage RecordDamaged) × (image (keyspace_folder id) ≡ Folder))
+  HomeTells id error =
+      ((error ≡ Unrecoverable) × (image (keyspace_folder id) ≢ Folder))
+      ⊎ ((cause : StorageError) × (error ≡ Storage cause) × (image (keyspace_folder id) ≡ Folder) × HomeIsWrong id cause)
 
   home_tells : (id : ℕ) (error : Error) → HomeRefuses image id error → HomeTells id error
   home_tells id Unrecoverable is = inl (refl, is)
-  home_tells id (Storage RecordDamaged) is = inr (refl, is.0)
+  home_tells id (Storage cause) is = inr (cause, refl, is.0, is.1)
   home_tells id error is = absurd is
 
   one_told : (id : ℕ) (a b : Error) → HomeTells id a → HomeTells id b → AreOne a b
   one_told id a b (inl x) (inl y) = alike a b (x.0 ∙ sym y.0)
-  one_told id a b (inl x) (inr y) = absurd (x.1 y.1)
-  one_told id a b (inr x) (inl y) = absurd (y.1 x.1)
-  one_told id a b (inr x) (inr y) = alike a b (x.0 ∙ sym y.0)
+  one_told id a b (inl x) (inr (cause, is, folder, wrong)) = absurd (x.1 folder)
+  one_told id a b (inr (cause, is, folder, wrong)) (inl y) = absurd (y.1 folder)
+  one_told id a b (inr (cause, is, folder, wrong)) (inr (other, at, there, bad)) = alike a b (is ∙ ap Storage (one_wrong id cause other wrong bad) ∙ sym at)
 
   -- keyspaces are refused for one error
   pub one_of_homes : (living : List LivingKeyspace) (a b : Error) → HomesRefuse image living a → HomesRefuse image living b → AreOne a b

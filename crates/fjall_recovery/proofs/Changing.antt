@@ -21,7 +21,7 @@ use Rattle.fjall_catalog.proofs.Meanings as Meanings
 use Rattle.fjall_catalog.proofs.Resting.{rests_with}
 use Rattle.fjall_recovery.specs.Folders.{AreMade}
 use Rattle.fjall_recovery.specs.Halves.{HasTree, Tree, outside, with_home_at}
-use Rattle.fjall_recovery.specs.Homes.{HasPlainHome, HasVersions, HaveHomes, HaveVersions}
+use Rattle.fjall_recovery.specs.Homes.{HasOpenableHome, HasVersions, HaveHomes, HaveVersions}
 use Rattle.fjall_recovery.specs.Naming.{KeyspacesAreNamed}
 use Rattle.fjall_recovery.specs.Places.{HasSafeHome, HaveSafeHomes, IsNeverFolder, RestsInTree}
 use Rattle.fjall_recovery.proofs.Composing.{AreNamed, IsOther, keyspaces_left, named_left, other_along, other_left, outside_test, tree_left}
@@ -63,7 +63,7 @@ module _ (id : ℕ) (small : id < 2 ^ 64) where
     named_alike : KeyspacesAreNamed image → KeyspacesAreNamed other
     named_alike named name inside is stray = named name inside (sym (agree name (outside_test id name (misnamed_outside id name small inside stray))) ∙ is) stray
 
-    other_alike : (i : ℕ) (h : Home) → IsOther id i → HasPlainHome image i h → HasPlainHome other i h
+    other_alike : (i : ℕ) (h : Home) → IsOther id i → HasOpenableHome image i h → HasOpenableHome other i h
     other_alike i h is has = plain_alike image other i h (λ q under. agree q (under_out i is q under)) has
 
   module _ (old new : State) (agree : (q : Name) → outside id q ≡ true → new q ≡ old q) where
@@ -80,7 +80,7 @@ module _ (id : ℕ) (h : Home) (versions : List Entry) (t : Tree) (lives : is_so
   zero_other : AreKeyspaces t.keyspaces → IsOther id 0
   zero_other are = (omega arith, λ e. (place_of t.keyspaces id are lives).1 (sym e))
 
-  pub home_in_image : (image other : Image) → HasTree image t → ((q : Name) → outside id q ≡ true → other q ≡ image q) → HasPlainHome other id h → HasVersions h versions
+  pub home_in_image : (image other : Image) → HasTree image t → ((q : Name) → outside id q ≡ true → other q ≡ image q) → HasOpenableHome other id h → HasVersions h versions
       → HasTree other (with_home_at id h versions t)
   home_in_image image other has agree one stored =
       let are = has.catalog.are in
@@ -113,7 +113,7 @@ module _ (id : ℕ) (h : Home) (versions : List Entry) (t : Tree) (lives : is_so
         versions = versions_inserted t.homes t.versions id h versions stored lies.versions;
       }
 
-  pub home_in_crash : (state : State) (image : Image) (records : List Fields) → RestsInTree state records t → IsImageIn Survives (outside id) state image → HasPlainHome image id h → HasVersions h versions
+  pub home_in_crash : (state : State) (image : Image) (records : List Fields) → RestsInTree state records t → IsImageIn Survives (outside id) state image → HasOpenableHome image id h → HasVersions h versions
       → HasTree image (with_home_at id h versions t)
   home_in_crash state image records lies is one stored =
       let are = lies.catalog.are in

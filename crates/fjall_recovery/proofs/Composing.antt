@@ -20,7 +20,7 @@ use Rattle.fjall_meta.specs.declared.living.LivingKeyspace.{LivingKeyspace}
 use Rattle.fjall_catalog.specs.Catalog.{Says}
 use Rattle.fjall_recovery.specs.Folders.{AreMade}
 use Rattle.fjall_recovery.specs.Halves.{HasTree, Tree, outside}
-use Rattle.fjall_recovery.specs.Homes.{HasPlainHome, HaveVersions, Homes}
+use Rattle.fjall_recovery.specs.Homes.{HasOpenableHome, HaveVersions, Homes}
 use Rattle.fjall_recovery.specs.Naming.{KeyspacesAreNamed}
 use Rattle.fjall_recovery.specs.Places.{HasSafeHome, HaveSafeHomes, IsNeverFolder}
 use Rattle.fjall_recovery.proofs.Housing.{homes_along, homes_left}
@@ -85,7 +85,7 @@ beside_settled state folder living homes beside = record {
   folder = settled_at state folder (codes "keyspaces") Folder beside.folder ∙ beside.folder;
   named = λ name at none. settled_never state folder name (beside.named name at none);
   safe = homes_along (λ id. Unit {0}) living homes (λ k d lt. tt) state (settle state folder)
-      (λ id h any home. record { records = home.records; rests = settled_home state folder id home.records h home.rests; plain = home.plain }) beside.safe;
+      (λ id h any home. record { records = home.records; rests = settled_home state folder id home.records h home.rests; indexes = home.indexes; indexed = home.indexed; clears = home.clears }) beside.safe;
 }
 
 -- ---- changes within a keyspace's folder
@@ -96,7 +96,9 @@ module _ (id : ℕ) (small : id < 2 ^ 64) where
   other_along old new agree other h is home = record {
     records = home.records;
     rests = rests_where old new other home.records h (λ q counts. agree q (counted_outside id other q small is.0 is.1 counts)) home.rests;
-    plain = home.plain;
+    indexes = home.indexes;
+    indexed = home.indexed;
+    clears = home.clears;
   }
 
   pub beside_along : (old new : State) (living : List LivingKeyspace) (homes : Homes) → SameOutside (is_under (keyspace_folder id)) old new → AreOthers id living → Beside old living homes → Beside new living homes
@@ -118,12 +120,14 @@ module _ (id : ℕ) (small : id < 2 ^ 64) where
         never_folder (state name) (image name) (named name at none) (inl kept) is_folder
 
     -- another home is left
-    pub other_left : (other : ℕ) (h : Home) → IsOther id other → HasSafeHome state other h → HasPlainHome image other h
+    pub other_left : (other : ℕ) (h : Home) → IsOther id other → HasSafeHome state other h → HasOpenableHome image other h
     other_left other h is_other home = record {
       records = home.records;
       home = region_home (outside id) state image other home.records h is_other.0
           (λ q counts. outside_test id q (counted_outside id other q small is_other.0 is_other.1 counts)) home.rests (usual_region (outside id) state image is);
-      plain = home.plain;
+      indexes = home.indexes;
+      indexed = home.indexed;
+      clears = home.clears;
     }
 
     pub tree_left : (records : List Fields) (t : Tree) → AreOthers id t.keyspaces.living → Beside state t.keyspaces.living t.homes → AreMade t.last t.keyspaces → HaveVersions t.homes t.versions

@@ -14,7 +14,7 @@ use Rattle.fjall_base.specs.Disk.{Entry, Missing, File, Folder, Image, Reads}
 use Rattle.fjall_journal.specs.Batches.{Shown, view}
 use Rattle.fjall_tree.specs.Records.{Fields}
 use Rattle.fjall_tree.specs.Records as records
-use Rattle.fjall_home.specs.Homes.{Home, records_text}
+use Rattle.fjall_home.specs.Homes.{Home}
 use Rattle.fjall_meta.specs.Keyspaces.{Keyspaces, keyspace_at}
 use Rattle.fjall_meta.specs.declared.living.LivingKeyspace.{LivingKeyspace}
 use Rattle.fjall_files.specs.declared.marker.Marker.{Marker}
@@ -27,16 +27,14 @@ use Rattle.fjall_catalog.specs.Catalog.{HasEnd, Says, records_in}
 use Rattle.fjall_catalog.specs.Refusals.{IsRefusal}
 use Rattle.fjall_base.specs.Errors.{IsFaultOrMemory}
 use Rattle.fjall_recovery.specs.declared.folder.RecoveredFolder.{RecoveredFolder}
-use Rattle.fjall_recovery.specs.declared.homes.KeyspaceRecords.{KeyspaceRecords}
-use Rattle.fjall_recovery.specs.Folders.{AreEmpty, AreMade, Contents, IsBegun, IsFinished, IsSound, ReadsFolder, Shows, file_bytes, marker_bytes}
-use Rattle.fjall_recovery.specs.Homes.{AreHomesRead, HasHomeAt, HasPlainHome, HaveHomes, HaveVersions, Homes, Versions, last_in, lasts, plain_home}
+use Rattle.fjall_home.specs.declared.reading.LoadedHome.{LoadedHome}
+use Rattle.fjall_recovery.specs.Folders.{AreEmpty, AreMade, Contents, IsBegun, IsFinished, IsOpenable, ReadsFolder, Shows, file_bytes, marker_bytes}
+use Rattle.fjall_recovery.specs.Homes.{AreHomesRead, HasHomeAt, HasOpenableHome, HaveHomes, Homes, last_in, lasts}
 use Rattle.fjall_recovery.specs.Journals.{Journal, AreFound, AreJournalIds, HoldsJournals}
 use Rattle.fjall_recovery.specs.Naming.{AreFolderIds, JournalsAreNamed, KeyspacesAreNamed}
 use Rattle.fjall_recovery.specs.Refusals.{BegunRefuses, CatalogRefuses, FinishedRefuses, FolderRefuses, HomesRefuse, IsDue, JournalsRefuse, TreeRefuses, UnfinishedRefuses}
-use Rattle.fjall_recovery.proofs.Alone.{one_last}
 use Rattle.fjall_recovery.proofs.Gathering.{due}
-use Rattle.fjall_recovery.proofs.Housing.{IsHoused, all_housed, has_last, plain_read}
-use Rattle.fjall_recovery.proofs.Storing.{no_versions, plain_versions, versions_inserted}
+use Rattle.fjall_recovery.proofs.Housing.{IsHoused, all_housed, home_was_read, last_was_read}
 
 -- ---- causes
 
@@ -81,23 +79,19 @@ catalog_refuses image old new error folder is all = absurd is
 -- ---- what the folder holds
 
 -- the homes of these keyspaces as they were read
-homes_from : List LivingKeyspace → List KeyspaceRecords → Homes
-homes_from (k ∷ living) (home ∷ homes) = insert (homes_from living homes) k.id (plain_home (records.view home.record))
-homes_from living homes = empty
+homes_from : (image : Image) (living : List LivingKeyspace) (homes : List LoadedHome) → AreHomesRead image living homes → Homes
+homes_from image [] homes all = empty
+homes_from image (k ∷ living) [] all = empty
+homes_from image (k ∷ living) (home ∷ homes) all = insert (homes_from image living homes all.1) k.id all.0.loaded.h
 
--- and their versions: none of them has a table
-versions_from : List LivingKeyspace → List KeyspaceRecords → Versions
-versions_from (k ∷ living) (home ∷ homes) = insert (versions_from living homes) k.id []
-versions_from living homes = empty
-
-home_held : (image : Image) (k : LivingKeyspace) (living : List LivingKeyspace) (h : Home) (homes : Homes) → HasPlainHome image k.id h → (id : ℕ) → HasHomeAt image id (keyspace_at id living) (get homes id)
+home_held : (image : Image) (k : LivingKeyspace) (living : List LivingKeyspace) (h : Home) (homes : Homes) → HasOpenableHome image k.id h → (id : ℕ) → HasHomeAt image id (keyspace_at id living) (get homes id)
     → HasHomeAt image id (keyspace_at id (k ∷ living)) (get (insert homes k.id h) id)
 home_held image k living h homes one id rest =
     subst (λ (o : Option Home). HasHomeAt image id (keyspace_at id (k ∷ living)) o) (sym (get_put homes k.id h id))
     (either (k.id == id) refl (id == k.id) refl)
   where
     either : (b : Bool) → (k.id == id) ≡ b → (c : Bool) → (id == k.id) ≡ c → HasHomeAt image id (cond b (Some k) (keyspace_at id living)) (cond c (Some h) (get homes id))
-    either true at true at' = subst (λ i. HasPlainHome image i h) (same_id k.id id at) one
+    either true at true at' = subst (λ i. HasOpenableHome image i h) (same_id k.id id at) one
     either false at false at' = rest
     either true at false at' = let no : ⊥ = grind (arith, nat_tests) in absurd no
     either false at true at' = let no : ⊥ = grind (arith, nat_tests) in absurd no
@@ -105,50 +99,41 @@ home_held image k living h homes one id rest =
 none_held : (image : Image) (id : ℕ) → HasHomeAt image id None (get {R = nat_cmp} empty id)
 none_held image id = subst (λ (o : Option Home). HasHomeAt image id None o) (sym (get-empty nat_cmp id)) tt
 
-homes_held : (image : Image) (living : List LivingKeyspace) (homes : List KeyspaceRecords) → AreHomesRead image living homes → HaveHomes image living (homes_from living homes)
+homes_held : (image : Image) (living : List LivingKeyspace) (homes : List LoadedHome) → (all : AreHomesRead image living homes) → HaveHomes image living (homes_from image living homes all)
 unfolding homes_from
 homes_held image [] [] all = none_held image
 homes_held image [] (h ∷ homes) all = absurd all
 homes_held image (k ∷ living) [] all = absurd all
 homes_held image (k ∷ living) (h ∷ homes) all = λ id.
-    home_held image k living (plain_home (records.view h.record)) (homes_from living homes) (plain_read image k.id (records.view h.record) all.0.folder all.0.read.has) id (homes_held image living homes all.1 id)
-
-versions_held : (image : Image) (living : List LivingKeyspace) (homes : List KeyspaceRecords) → AreHomesRead image living homes → HaveVersions (homes_from living homes) (versions_from living homes)
-unfolding homes_from versions_from
-versions_held image [] [] all = no_versions
-versions_held image [] (h ∷ homes) all = absurd all
-versions_held image (k ∷ living) [] all = absurd all
-versions_held image (k ∷ living) (h ∷ homes) all =
-    versions_inserted (homes_from living homes) (versions_from living homes) k.id (plain_home (records.view h.record)) [] (plain_versions (records.view h.record) all.0.read.has.plain)
-    (versions_held image living homes all.1)
+    home_held image k living all.0.loaded.h (homes_from image living homes all.1) (home_was_read image k.id h all.0) id (homes_held image living homes all.1 id)
 
 -- the records that were read are those of the homes that are there
-pub lasts_read : (image : Image) (living : List LivingKeyspace) (found : List KeyspaceRecords) (homes : Homes) → AreHomesRead image living found → HaveHomes image living homes
-    → map (λ (h : KeyspaceRecords). records.view h.record) found ≡ lasts living homes
+pub lasts_read : (image : Image) (living : List LivingKeyspace) (found : List LoadedHome) (homes : Homes) → AreHomesRead image living found → HaveHomes image living homes
+    → map (λ (h : LoadedHome). records.view h.record) found ≡ lasts living homes
 lasts_read image living found homes all have = of living found all (all_housed image living homes have)
   where
-    of : (some : List LivingKeyspace) (found : List KeyspaceRecords) → AreHomesRead image some found → AllByRecursion (λ k. IsHoused image homes k.id) some → map (λ (h : KeyspaceRecords). records.view h.record) found ≡ lasts some homes
+    of : (some : List LivingKeyspace) (found : List LoadedHome) → AreHomesRead image some found → AllByRecursion (λ k. IsHoused image homes k.id) some → map (λ (h : LoadedHome). records.view h.record) found ≡ lasts some homes
     of [] [] all each = refl
     of [] (h ∷ found) all each = absurd all
     of (k ∷ some) [] all each = absurd all
     of (k ∷ some) (h ∷ found) all each =
-        let last : records.view h.record ≡ each.0.0.last = one_last (records_text image k.id) (records.view h.record) each.0.0.last all.0.read.has (has_last image k.id each.0.0 each.0.2) in
+        let last : records.view h.record ≡ each.0.0.last = last_was_read image k.id each.0.0 h each.0.2 all.0 in
         let at : records.view h.record ≡ last_in (get homes k.id) = last ∙ ap (λ (o : Option Home). last_in o) (sym each.0.1) in
-        ap (λ (r : Fields). r ∷ map (λ (h : KeyspaceRecords). records.view h.record) found) at ∙ ap (λ (l : List Fields). last_in (get homes k.id) ∷ l) (of some found all.1 each.1)
+        ap (λ (r : Fields). r ∷ map (λ (h : LoadedHome). records.view h.record) found) at ∙ ap (λ (l : List Fields). last_in (get homes k.id) ∷ l) (of some found all.1 each.1)
 
--- what was read of a sound folder is what it holds
+-- what was read of a folder is what it holds, and no versions are read
 pub record Holds (image : Image) (f : RecoveredFolder) : Type 0 where
   pub contents : Contents
-  pub sound : IsSound image contents
+  pub sound : IsOpenable image contents
   pub shows : Shows f contents
 
 pub held : (image : Image) (f : RecoveredFolder) → marker_tells (marker_bytes image) ≡ Ok Whole → JournalsAreNamed image → IsFinished image f → Holds image f
 held image f marker named finished =
     let found = finished.journals in
-    let homes = homes_from f.catalog.keyspaces.living f.homes.items in
+    let homes = homes_from image f.catalog.keyspaces.living f.homes.items finished.homes in
     let have = homes_held image f.catalog.keyspaces.living f.homes.items finished.homes in
     record {
-      contents = record { journals = found.journals; keyspaces = f.catalog.keyspaces; last = f.catalog.catalog; homes = homes; versions = versions_from f.catalog.keyspaces.living f.homes.items };
+      contents = record { journals = found.journals; keyspaces = f.catalog.keyspaces; last = f.catalog.catalog; homes = homes; versions = empty };
       sound = record {
         marker = marker;
         journals_named = named;
@@ -159,7 +144,6 @@ held image f marker named finished =
         catalog = finished.catalog;
         made = finished.made;
         homes = have;
-        versions = versions_held image f.catalog.keyspaces.living f.homes.items finished.homes;
       };
       shows = record {
         ids = sym found.named;

@@ -6,7 +6,7 @@ use Rattle.fjall_files.proofs.Parts.{in_region}
 use Rattle.fjall_files.proofs.Under.{folder_is_shorter}
 use Rattle.fjall_journal.specs.Batches.{Written}
 use Rattle.fjall_tree.specs.Records.{Fields}
-use Rattle.fjall_recovery.specs.Folders.{Contents, IsSound, StandsFor}
+use Rattle.fjall_recovery.specs.Folders.{Contents, IsOpenable, IsSound, StandsFor}
 use Rattle.fjall_recovery.specs.Halves.{HasRoot, HasTree, Tree, is_of_keyspaces, is_of_root}
 use Rattle.fjall_recovery.specs.Held.{Holds, IsFolder, store_held}
 use Rattle.fjall_recovery.specs.Places.{Journaling, LiesInRoot, RestsInTree, contents_with}
@@ -20,29 +20,31 @@ tree_of c = record { last = c.last; keyspaces = c.keyspaces; homes = c.homes; ve
 
 pub made : (image : Image) (c : Contents) → HasRoot image c.journals → HasTree image (tree_of c) → IsSound image c
 made image c root tree = record {
-  marker = root.marker;
-  journals_named = root.named;
-  journals = root.holds;
-  keyspaces_named = tree.named;
-  folder = tree.folder;
-  records = tree.records;
-  catalog = tree.catalog;
-  made = tree.made;
-  homes = tree.homes;
+  openable = record {
+    marker = root.marker;
+    journals_named = root.named;
+    journals = root.holds;
+    keyspaces_named = tree.named;
+    folder = tree.folder;
+    records = tree.records;
+    catalog = tree.catalog;
+    made = tree.made;
+    homes = tree.homes;
+  };
   versions = tree.versions;
 }
 
-pub root_of : (image : Image) (c : Contents) → IsSound image c → HasRoot image c.journals
+pub root_of : (image : Image) (c : Contents) → IsOpenable image c → HasRoot image c.journals
 root_of image c sound = record { marker = sound.marker; named = sound.journals_named; holds = sound.journals }
 
 pub tree_in : (image : Image) (c : Contents) → IsSound image c → HasTree image (tree_of c)
 tree_in image c sound = record {
-  named = sound.keyspaces_named;
-  folder = sound.folder;
-  records = sound.records;
-  catalog = sound.catalog;
-  made = sound.made;
-  homes = sound.homes;
+  named = sound.openable.keyspaces_named;
+  folder = sound.openable.folder;
+  records = sound.openable.records;
+  catalog = sound.openable.catalog;
+  made = sound.openable.made;
+  homes = sound.openable.homes;
   versions = sound.versions;
 }
 

@@ -1,49 +1,53 @@
 -- The map of homes: what it has under the id of each keyspace.
-use Rattle.std.proofs.Common.{◌≡◌, ℕ, ◌==◌, Bool, true, false, cond, List, [], All, Option, None, Some, is_some, refl, sym, ◌∙◌, ap, subst}
+use Rattle.std.proofs.Common.{◌≡◌, ℕ, ◌==◌, Bool, true, false, cond, List, All, Option, None, Some, is_some, refl, sym, ◌∙◌, ap, subst}
 use Rattle.std.specs.List.{AllByRecursion}
 use Rattle.std.proofs.lemmas.List.Elements.{All-weaker, recursion_from_All}
 use Rattle.std.specs.FinMap.{get, insert}
-use Rattle.fjall_base.specs.Disk.{Name, Folder, Image, State}
-use Rattle.fjall_files.specs.Names.{current_name, keyspace_folder}
+use Rattle.fjall_base.specs.Disk.{Name, Image, State}
+use Rattle.fjall_files.specs.Names.{keyspace_folder}
 use Rattle.fjall_files.specs.Regions.{is_under}
-use Rattle.fjall_table.specs.declared.table_info.TableInfo.{TableInfo}
-use Rattle.fjall_tree.specs.Records.{Fields}
-use Rattle.fjall_home.specs.Homes.{HoldTables, Home, records_text}
+use Rattle.fjall_tree.specs.Records.{view}
+use Rattle.fjall_home.specs.declared.reading.LoadedHome.{LoadedHome}
+use Rattle.fjall_home.specs.Homes.{Home}
+use Rattle.fjall_home.specs.Reading.{IsOpenable}
 use Rattle.fjall_home.proofs.Meanings.{home_alike}
-use Rattle.fjall_home.proofs.Read.{file_of_records}
+use Rattle.fjall_home.proofs.Openings.{one_loading}
 use Rattle.fjall_meta.specs.declared.living.LivingKeyspace.{LivingKeyspace}
 use Rattle.fjall_meta.specs.Keyspaces.{keyspace_at}
 use Rattle.fjall_versions.proofs.Ids.{each_lives, living_has}
 use Rattle.fjall_versions.proofs.Slots.{get_put, same_id}
-use Rattle.fjall_recovery.specs.Homes.{HasHomeAt, HasLast, HasPlainHome, HaveHomes, Homes, plain_home}
+use Rattle.fjall_recovery.specs.Homes.{ClearsAreWithin, HasHomeAt, HasOpenableHome, HaveHomes, Homes, IsRead}
 use Rattle.fjall_recovery.specs.Places.{HasSafeHome, HasSafeHomeAt, HaveSafeHomes}
 
 -- ---- one home
 
--- the last record of a home is read of its text
-pub has_last : (image : Image) (id : ℕ) (h : Home) → HasPlainHome image id h → HasLast (records_text image id) h.last
-has_last image id h has = record { records = has.records; end = has.home.files.end; whole = has.home.files.whole; is = has.home.files.last_is; plain = has.plain }
+-- an opening finds its files right, to the ends of its tables
+pub openable_of : (image : Image) (id : ℕ) (h : Home) → (has : HasOpenableHome image id h) → IsOpenable image id has.records h has.indexes
+openable_of image id h has = record { files = has.home.files; indexed = has.indexed }
 
--- a folder with records has the home of the last one
-pub plain_read : (image : Image) (id : ℕ) (last : Fields) → image (keyspace_folder id) ≡ Folder → HasLast (records_text image id) last → HasPlainHome image id (plain_home last)
-plain_read image id last folder has = record {
-  records = has.records;
-  home = record {
-    folder = folder;
-    files = record {
-      current = file_of_records (image (current_name id)) has.records has.end last has.whole has.is;
-      end = has.end;
-      whole = has.whole;
-      last_is = has.is;
-      tables = subst (λ (tables : List TableInfo). HoldTables image id tables []) (sym has.plain.tables) tt;
-    };
-  };
-  plain = has.plain;
+-- a home that was read is there
+pub home_was_read : (image : Image) (id : ℕ) (home : LoadedHome) → (is : IsRead image id home) → HasOpenableHome image id is.loaded.h
+home_was_read image id home is = record {
+  records = is.loaded.records;
+  home = record { folder = is.folder; files = is.loaded.openable.files };
+  indexes = is.loaded.indexes;
+  indexed = is.loaded.openable.indexed;
+  clears = subst ClearsAreWithin is.loaded.record_is is.clears;
 }
 
+-- and its last record is the one that was read
+pub last_was_read : (image : Image) (id : ℕ) (h : Home) (home : LoadedHome) → HasOpenableHome image id h → IsRead image id home → view home.record ≡ h.last
+last_was_read image id h home has is = (one_loading image id has.records h has.indexes home (openable_of image id h has) is.loaded).0
+
 -- two images that agree in the keyspace's folder have the same home
-pub plain_alike : (image other : Image) (id : ℕ) (h : Home) → ((q : Name) → is_under (keyspace_folder id) q ≡ true → other q ≡ image q) → HasPlainHome image id h → HasPlainHome other id h
-plain_alike image other id h agree has = record { records = has.records; home = home_alike image other id agree has.records h has.home; plain = has.plain }
+pub plain_alike : (image other : Image) (id : ℕ) (h : Home) → ((q : Name) → is_under (keyspace_folder id) q ≡ true → other q ≡ image q) → HasOpenableHome image id h → HasOpenableHome other id h
+plain_alike image other id h agree has = record {
+  records = has.records;
+  home = home_alike image other id agree has.records h has.home;
+  indexes = has.indexes;
+  indexed = has.indexed;
+  clears = has.clears;
+}
 
 -- ---- homes that are carried over, where something holds of all ids
 
@@ -63,7 +67,7 @@ module _ (P : ℕ → Type 0) (living : List LivingKeyspace) (homes : Homes) (al
   homes_along old new each safe id = along_at old new id (each id) (safe id)
 
   -- to an image of it
-  pub left_at : (state : State) (image : Image) (id : ℕ) → ((h : Home) → P id → HasSafeHome state id h → HasPlainHome image id h) → HasSafeHomeAt state id (keyspace_at id living) (get homes id)
+  pub left_at : (state : State) (image : Image) (id : ℕ) → ((h : Home) → P id → HasSafeHome state id h → HasOpenableHome image id h) → HasSafeHomeAt state id (keyspace_at id living) (get homes id)
       → HasHomeAt image id (keyspace_at id living) (get homes id)
   left_at state image id each = of (keyspace_at id living) refl (get homes id)
     where
@@ -73,11 +77,11 @@ module _ (P : ℕ → Type 0) (living : List LivingKeyspace) (homes : Homes) (al
       of None at (Some h) has = absurd has
       of None at None has = tt
 
-  pub homes_left : (state : State) (image : Image) → ((id : ℕ) (h : Home) → P id → HasSafeHome state id h → HasPlainHome image id h) → HaveSafeHomes state living homes → HaveHomes image living homes
+  pub homes_left : (state : State) (image : Image) → ((id : ℕ) (h : Home) → P id → HasSafeHome state id h → HasOpenableHome image id h) → HaveSafeHomes state living homes → HaveHomes image living homes
   homes_left state image each safe id = left_at state image id (each id) (safe id)
 
   -- to another image
-  pub alike_at : (image other : Image) (id : ℕ) → ((h : Home) → P id → HasPlainHome image id h → HasPlainHome other id h) → HasHomeAt image id (keyspace_at id living) (get homes id)
+  pub alike_at : (image other : Image) (id : ℕ) → ((h : Home) → P id → HasOpenableHome image id h → HasOpenableHome other id h) → HasHomeAt image id (keyspace_at id living) (get homes id)
       → HasHomeAt other id (keyspace_at id living) (get homes id)
   alike_at image other id each = of (keyspace_at id living) refl (get homes id)
     where
@@ -87,14 +91,14 @@ module _ (P : ℕ → Type 0) (living : List LivingKeyspace) (homes : Homes) (al
       of None at (Some h) has = absurd has
       of None at None has = tt
 
-  pub homes_alike : (image other : Image) → ((id : ℕ) (h : Home) → P id → HasPlainHome image id h → HasPlainHome other id h) → HaveHomes image living homes → HaveHomes other living homes
+  pub homes_alike : (image other : Image) → ((id : ℕ) (h : Home) → P id → HasOpenableHome image id h → HasOpenableHome other id h) → HaveHomes image living homes → HaveHomes other living homes
   homes_alike image other each have id = alike_at image other id (each id) (have id)
 
 -- ---- where they are found
 
 -- a keyspace that lives has one
 abbrev pub IsHoused : Image → Homes → ℕ → Type 0
-IsHoused image homes id = (h : Home) × (get homes id ≡ Some h) × HasPlainHome image id h
+IsHoused image homes id = (h : Home) × (get homes id ≡ Some h) × HasOpenableHome image id h
 
 pub is_housed : (image : Image) (living : List LivingKeyspace) (homes : Homes) (id : ℕ) → HaveHomes image living homes → is_some (keyspace_at id living) ≡ true → IsHoused image homes id
 is_housed image living homes id have lives = of (keyspace_at id living) (get homes id) refl lives (have id)
@@ -119,16 +123,16 @@ module _ (living : List LivingKeyspace) (homes : Homes) (id : ℕ) (h : Home) (l
   put_at : (q : ℕ) (b : Bool) → (q == id) ≡ b → get (insert homes id h) q ≡ cond b (Some h) (get homes q)
   put_at q b is = get_put homes id h q ∙ ap (λ c. cond c (Some h) (get homes q)) is
 
-  pub homes_with : (image : Image) → HasPlainHome image id h → ((q : ℕ) → (q == id) ≡ false → HasHomeAt image q (keyspace_at q living) (get homes q)) → HaveHomes image living (insert homes id h)
+  pub homes_with : (image : Image) → HasOpenableHome image id h → ((q : ℕ) → (q == id) ≡ false → HasHomeAt image q (keyspace_at q living) (get homes q)) → HaveHomes image living (insert homes id h)
   homes_with image one others q = of (q == id) refl
     where
-      at : (k : Option LivingKeyspace) → is_some k ≡ true → HasPlainHome image q h → HasHomeAt image q k (Some h)
+      at : (k : Option LivingKeyspace) → is_some k ≡ true → HasOpenableHome image q h → HasHomeAt image q k (Some h)
       at (Some k) some has = has
       at None some has = let no : false ≡ true = some in cc
 
       of : (b : Bool) → (q == id) ≡ b → HasHomeAt image q (keyspace_at q living) (get (insert homes id h) q)
       of true is = subst (λ (o : Option Home). HasHomeAt image q (keyspace_at q living) o) (sym (put_at q true is))
-          (at (keyspace_at q living) (lives_at q is) (subst (λ i. HasPlainHome image i h) (sym (same_id q id is)) one))
+          (at (keyspace_at q living) (lives_at q is) (subst (λ i. HasOpenableHome image i h) (sym (same_id q id is)) one))
       of false is = subst (λ (o : Option Home). HasHomeAt image q (keyspace_at q living) o) (sym (put_at q false is)) (others q is)
 
   pub safe_homes_with : (state : State) → HasSafeHome state id h → ((q : ℕ) → (q == id) ≡ false → HasSafeHomeAt state q (keyspace_at q living) (get homes q)) → HaveSafeHomes state living (insert homes id h)

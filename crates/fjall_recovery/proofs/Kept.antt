@@ -1,5 +1,5 @@
--- What tree 0 says, and with it all of a folder that stands for a store, is refused for no cause.
-use Rattle.std.proofs.Common.{◌≡◌, inl, inr, ℕ, List, Result, Ok, Err, sym, ◌∙◌, subst}
+-- What tree 0 says, and with it all of a folder in which an opening finds nothing wrong, is refused for no cause.
+use Rattle.std.proofs.Common.{◌≡◌, inl, inr, ℕ, List, Option, None, Some, Result, Ok, Err, sym, ◌∙◌, subst}
 use Rattle.std.specs.Prelude.{IfErr, MatchResult}
 use Rattle.fjall_base.specs.Disk.{Image}
 use Rattle.fjall_base.specs.Store.{Store}
@@ -17,7 +17,8 @@ use Rattle.fjall_files.specs.Marker.{marker_tells}
 use Rattle.fjall_catalog.specs.declared.catalog.Catalog.{Catalog}
 use Rattle.fjall_catalog.specs.Catalog.{Says}
 use Rattle.fjall_catalog.proofs.Meanings.{one_catalog}
-use Rattle.fjall_recovery.specs.Folders.{AreMade, Contents, IsBegun, IsSound, IsUnfinished, StandsFor, marker_bytes}
+use Rattle.fjall_recovery.specs.Folders.{AreMade, Contents, IsBegun, IsOpenable, IsUnfinished, StandsFor, marker_bytes}
+use Rattle.fjall_recovery.specs.Held.{IsOpenFolder}
 use Rattle.fjall_recovery.specs.Journals.{AreJournalIds}
 use Rattle.fjall_recovery.specs.Naming.{JournalsAreNamed}
 use Rattle.fjall_recovery.specs.Refusals.{BegunRefuses, CatalogRefuses, FinishedRefuses, FolderRefuses, HomesRefuse, IsDue, JournalsRefuse, KeyspacesRefuse, PartsRefuse, TreeRefuses, UnfinishedRefuses}
@@ -27,7 +28,7 @@ use Rattle.fjall_recovery.proofs.Opened.{held_journals_are_kept, homes_are_kept}
 -- ---- tree 0
 
 -- the catalog that is told is the one that is said
-module _ (image : Image) (c : Contents) (sound : IsSound image c) where
+module _ (image : Image) (c : Contents) (sound : IsOpenable image c) where
   homes_told : (records : List Fields) (last : Catalog) (s : Keyspaces) (error : Error) → Says image records last s → HomesRefuse image s.living error → ⊥
   homes_told records last s error says refused =
       let same : s ≡ c.keyspaces = (one_catalog image records sound.records last c.last s c.keyspaces says sound.catalog).2 in
@@ -80,7 +81,7 @@ one_marker told marker other is at = let same = sym is ∙ at in cc
 parts_along : (image : Image) (marker other : Marker) (error : Error) → marker_tells (marker_bytes image) ≡ Ok marker → marker_tells (marker_bytes image) ≡ Ok other → PartsRefuse marker image error → PartsRefuse other image error
 parts_along image marker other error is at refused = subst (λ (m : Marker). PartsRefuse m image error) (one_marker (marker_tells (marker_bytes image)) marker other is at) refused
 
-sound_is_kept : (image : Image) (c : Contents) (error : Error) → IsSound image c → FolderRefuses image error → ⊥
+sound_is_kept : (image : Image) (c : Contents) (error : Error) → IsOpenable image c → FolderRefuses image error → ⊥
 sound_is_kept image c error sound (inl refused) = marker_is_kept (marker_tells (marker_bytes image)) Whole error sound.marker refused
 sound_is_kept image c error sound (inr (marker, tells, inl misnamed)) = misnamed.1 sound.journals_named
 sound_is_kept image c error sound (inr (marker, tells, inr (named, refused))) = finished_is_kept image c sound error (parts_along image marker Whole error tells sound.marker refused)
@@ -90,9 +91,17 @@ begun_folder_is_kept image error is (inl refused) = marker_is_kept (marker_tells
 begun_folder_is_kept image error is (inr (marker, tells, inl misnamed)) = misnamed.1 is.journals_named
 begun_folder_is_kept image error is (inr (marker, tells, inr (named, refused))) = unfinished_is_kept image error is (parts_along image marker Unfinished error tells is.marker refused)
 
+pub open_folder_is_kept : (image : Image) (folder : Option Contents) (error : Error) → IsOpenFolder image folder → FolderRefuses image error → ⊥
+open_folder_is_kept image (Some c) error sound refused = sound_is_kept image c error sound refused
+open_folder_is_kept image None error begun refused = begun_folder_is_kept image error begun refused
+
+-- in what stands for a store an opening finds nothing wrong
+pub opens : (image : Image) (store : Store) → StandsFor image store → (folder : Option Contents) × IsOpenFolder image folder
+opens image store (inl (c, sound, is)) = (Some c, sound.openable)
+opens image store (inr (begun, is)) = (None, begun)
+
 pub folder_is_kept : (image : Image) (store : Store) (error : Error) → StandsFor image store → FolderRefuses image error → ⊥
-folder_is_kept image store error (inl (c, sound, is)) refused = sound_is_kept image c error sound refused
-folder_is_kept image store error (inr (begun, is)) refused = begun_folder_is_kept image error begun refused
+folder_is_kept image store error stands refused = let it = opens image store stands in open_folder_is_kept image it.0 error it.1 refused
 
 -- ---- as it is read
 
@@ -116,36 +125,36 @@ catalog_spared P old new (Err e) is = fault_spared old new e is
 pub names_spared : (image other : Image) (Named : Image → Type 0) (cause error : Error) → other ≡ image → Named image → IsDue (λ e. (e ≡ cause) × (Named other → ⊥)) error → IsDue (λ e. ⊥) error
 names_spared image other Named cause error same named is = spared (λ e. (e ≡ cause) × (Named other → ⊥)) error (λ e refused. refused.1 (subst Named (sym same) named)) is
 
-pub journals_spared : (image : Image) (c : Contents) (ids : List ℕ) (error : Error) → IsSound image c → AreJournalIds image ids → IsDue (JournalsRefuse image 0 ids) error → IsDue (λ e. ⊥) error
+pub journals_spared : (image : Image) (c : Contents) (ids : List ℕ) (error : Error) → IsOpenable image c → AreJournalIds image ids → IsDue (JournalsRefuse image 0 ids) error → IsDue (λ e. ⊥) error
 journals_spared image c ids error sound are is = spared (JournalsRefuse image 0 ids) error (λ e refused. held_journals_are_kept image c.journals ids e sound.journals are refused) is
 
-pub homes_spared : (image other another : Image) (c : Contents) (records : List Fields) (last : Catalog) (s : Keyspaces) (living : List LivingKeyspace) (error : Error) → other ≡ image → another ≡ image → IsSound image c → Says other records last s → living ≡ s.living
+pub homes_spared : (image other another : Image) (c : Contents) (records : List Fields) (last : Catalog) (s : Keyspaces) (living : List LivingKeyspace) (error : Error) → other ≡ image → another ≡ image → IsOpenable image c → Says other records last s → living ≡ s.living
     → IsDue (HomesRefuse another living) error → IsDue (λ e. ⊥) error
 homes_spared image other another c records last s living error same alike sound says is due =
     spared (HomesRefuse another living) error
     (λ e refused. homes_told image c sound records last s e (subst (λ i. Says i records last s) same says) (subst (λ (l : List LivingKeyspace). HomesRefuse image l e) is (subst (λ i. HomesRefuse i living e) alike refused))) due
 
--- ---- what stands for a store
+-- ---- a folder in which an opening finds nothing wrong
 
-pub names_stand : (image : Image) (store : Store) → StandsFor image store → JournalsAreNamed image
-names_stand image store (inl (c, sound, is)) = sound.journals_named
-names_stand image store (inr (begun, is)) = begun.journals_named
+pub open_names : (image : Image) (folder : Option Contents) → IsOpenFolder image folder → JournalsAreNamed image
+open_names image (Some c) sound = sound.journals_named
+open_names image None begun = begun.journals_named
 
-pub marker_stands : (image : Image) (store : Store) (error : Error) → StandsFor image store → marker_tells (marker_bytes image) ≡ Err error → ⊥
-marker_stands image store error (inl (c, sound, is)) refused = marker_is_kept (marker_tells (marker_bytes image)) Whole error sound.marker refused
-marker_stands image store error (inr (begun, is)) refused = marker_is_kept (marker_tells (marker_bytes image)) Unfinished error begun.marker refused
+pub open_marker : (image : Image) (folder : Option Contents) (error : Error) → IsOpenFolder image folder → marker_tells (marker_bytes image) ≡ Err error → ⊥
+open_marker image (Some c) error sound refused = marker_is_kept (marker_tells (marker_bytes image)) Whole error sound.marker refused
+open_marker image None error begun refused = marker_is_kept (marker_tells (marker_bytes image)) Unfinished error begun.marker refused
 
 not_both : Whole ≡ Unfinished → ⊥
 not_both e = cc
 
-pub whole_stands : (image : Image) (store : Store) → marker_tells (marker_bytes image) ≡ Ok Whole → StandsFor image store → (c : Contents) × IsSound image c
-whole_stands image store tells (inl (c, sound, is)) = (c, sound)
-whole_stands image store tells (inr (begun, is)) = absurd (not_both (one_marker (marker_tells (marker_bytes image)) Whole Unfinished tells begun.marker))
+pub whole_opens : (image : Image) (folder : Option Contents) → marker_tells (marker_bytes image) ≡ Ok Whole → IsOpenFolder image folder → (c : Contents) × IsOpenable image c
+whole_opens image (Some c) tells sound = (c, sound)
+whole_opens image None tells begun = absurd (not_both (one_marker (marker_tells (marker_bytes image)) Whole Unfinished tells begun.marker))
 
-pub begun_stands : (image : Image) (store : Store) → marker_tells (marker_bytes image) ≡ Ok Unfinished → StandsFor image store → IsUnfinished image
-begun_stands image store tells (inl (c, sound, is)) = absurd (not_both (one_marker (marker_tells (marker_bytes image)) Whole Unfinished sound.marker tells))
-begun_stands image store tells (inr (begun, is)) = begun
+begun_opens : (image : Image) (folder : Option Contents) → marker_tells (marker_bytes image) ≡ Ok Unfinished → IsOpenFolder image folder → IsUnfinished image
+begun_opens image (Some c) tells sound = absurd (not_both (one_marker (marker_tells (marker_bytes image)) Whole Unfinished sound.marker tells))
+begun_opens image None tells begun = begun
 
-pub unfinished_spared : (image other : Image) (store : Store) (error : Error) → other ≡ image → marker_tells (marker_bytes image) ≡ Ok Unfinished → StandsFor image store → IsDue (UnfinishedRefuses other) error → IsDue (λ e. ⊥) error
-unfinished_spared image other store error same tells stands is =
-    spared (UnfinishedRefuses other) error (λ e refused. unfinished_is_kept image e (begun_stands image store tells stands) (subst (λ i. UnfinishedRefuses i e) same refused)) is
+pub unfinished_spared : (image other : Image) (folder : Option Contents) (error : Error) → other ≡ image → marker_tells (marker_bytes image) ≡ Ok Unfinished → IsOpenFolder image folder → IsDue (UnfinishedRefuses other) error → IsDue (λ e. ⊥) error
+unfinished_spared image other folder error same tells right is =
+    spared (UnfinishedRefuses other) error (λ e refused. unfinished_is_kept image e (begun_opens image folder tells right) (subst (λ i. UnfinishedRefuses i e) same refused)) is

@@ -12,7 +12,7 @@ use Rattle.fjall_meta.specs.Keyspaces.{keyspace_at}
 use Rattle.fjall_catalog.specs.Catalog.{fields}
 use Rattle.fjall_home.specs.Homes.{Home}
 use Rattle.fjall_home.proofs.Resting.{last_has}
-use Rattle.fjall_recovery.specs.Folders.{Contents, IsSound, number_of, past, past_record, past_records}
+use Rattle.fjall_recovery.specs.Folders.{Contents, IsOpenable, number_of, past, past_record, past_records}
 use Rattle.fjall_recovery.specs.Homes.{HasHomeAt, HaveHomes, Homes, last_in, lasts}
 use Rattle.fjall_recovery.specs.Journals.{batches_in}
 use Rattle.fjall_recovery.proofs.Opened.{none_of_two}
@@ -58,7 +58,7 @@ homes_are_low image living (k ∷ some) homes have =
 
 -- ---- the whole folder
 
-pub number_is_low : (image : Image) (c : Contents) → IsSound image c → number_of c ≤ 2 ^ 63
+pub number_is_low : (image : Image) (c : Contents) → IsOpenable image c → number_of c ≤ 2 ^ 63
 number_is_low image c sound =
     both_low (least_after 0 (map shown (batches_in c.journals))) (past_records (fields c.last ∷ lasts c.keyspaces.living c.homes))
     (least_is_low 0 (map shown (batches_in c.journals)) (omega arith) sound.journals.sound)

@@ -8,7 +8,6 @@ use Rattle.fjall_base.specs.declared.error.Error.{Error}
 use Rattle.fjall_base.specs.declared.error.Error.TheVariants.{Storage, Unrecoverable}
 use Rattle.fjall_base.specs.declared.error.JournalRecoveryError.{JournalRecoveryError}
 use Rattle.fjall_base.specs.declared.error.JournalRecoveryError.TheVariants.{InsufficientLength, TooManyItems, ChecksumMismatch, InvalidFileName}
-use Rattle.fjall_base.specs.declared.error.StorageError.TheVariants.{RecordDamaged}
 use Rattle.fjall_journal.specs.Spelling.{spelling}
 use Rattle.fjall_journal.specs.declared.batch.Tail.{Tail}
 use Rattle.fjall_journal.specs.declared.batch.Tail.TheVariants.{Clean, Torn, Damaged}
@@ -16,11 +15,13 @@ use Rattle.fjall_journal.specs.Batches.{Written, IsTail, shown}
 use Rattle.fjall_journal.proofs.Wholes as Wholes
 use Rattle.fjall_versions.specs.Replays.{Fault, first_fault, least_after, NamesFault}
 use Rattle.fjall_home.specs.Homes.{Home}
-use Rattle.fjall_recovery.specs.Homes.{HasPlainHome, HaveHomes, Homes}
+use Rattle.fjall_home.proofs.Meanings.{one_home}
+use Rattle.fjall_home.proofs.Openings.{openable_no_damage}
+use Rattle.fjall_recovery.specs.Homes.{ClearsAreWithin, HasOpenableHome, HaveHomes, Homes}
 use Rattle.fjall_recovery.specs.Journals.{Journal, ReadsAs, AreRead, HoldsJournals, AreJournalIds, batches_in, journal_text}
 use Rattle.fjall_recovery.specs.Refusals.{HomeRefuses, HomesRefuse, JournalsRefuse, TailRefuses}
 use Rattle.fjall_recovery.proofs.Alone.{one_list_of_ids}
-use Rattle.fjall_recovery.proofs.Housing.{IsHoused, all_housed, has_last}
+use Rattle.fjall_recovery.proofs.Housing.{IsHoused, all_housed, openable_of}
 use Rattle.fjall_versions.proofs.Faults.{first_fault-append}
 use Rattle.fjall_meta.specs.declared.living.LivingKeyspace.{LivingKeyspace}
 
@@ -115,9 +116,12 @@ module _ (image : Image) where
 
   -- ---- keyspaces
 
-  pub home_is_kept : (id : ℕ) (h : Home) (error : Error) → HasPlainHome image id h → HomeRefuses image id error → ⊥
+  pub home_is_kept : (id : ℕ) (h : Home) (error : Error) → HasOpenableHome image id h → HomeRefuses image id error → ⊥
   home_is_kept id h Unrecoverable has refused = refused has.home.folder
-  home_is_kept id h (Storage RecordDamaged) has refused = refused.1 h.last (has_last image id h has)
+  home_is_kept id h (Storage cause) has (folder, inl bad) = openable_no_damage image id has.records h has.indexes cause (openable_of image id h has) bad
+  home_is_kept id h (Storage cause) has (folder, inr (is, bad)) =
+      let same : bad.h ≡ h = (one_home image id bad.records has.records bad.h h bad.openable.files has.home.files).1 in
+      bad.beyond (subst (λ (x : Home). ClearsAreWithin x.last) (sym same) has.clears)
   home_is_kept id h error has refused = refused
 
   pub homes_are_kept : (living : List LivingKeyspace) (homes : Homes) (error : Error) → HaveHomes image living homes → HomesRefuse image living error → ⊥

@@ -6,7 +6,6 @@ use Rattle.std.specs.Cmp.{nat_cmp_total}
 use Rattle.std.specs.List.{flat_map}
 use Rattle.std.specs.Ordering.{nat_cmp}
 use Rattle.std.specs.FinMap.{FinMap, empty, get, insert, remove, get-empty, get-remove}
-use Rattle.fjall_base.specs.Disk.{Image, State}
 use Rattle.fjall_table.specs.Blocks.{Entry}
 use Rattle.fjall_table.specs.declared.table_info.TableInfo.{TableInfo}
 use Rattle.fjall_table.proofs.TableFiles.{one_list_of}
@@ -14,12 +13,11 @@ use Rattle.fjall_tree.specs.Records.{Fields}
 use Rattle.fjall_home.specs.Homes.{Home}
 use Rattle.fjall_home.specs.Reading.{AreRight}
 use Rattle.fjall_meta.specs.declared.living.LivingKeyspace.{LivingKeyspace}
-use Rattle.fjall_meta.specs.Keyspaces.{Keyspaces, keyspace_at}
+use Rattle.fjall_meta.specs.Keyspaces.{Keyspaces}
 use Rattle.fjall_versions.proofs.Slots.{get_put, same_maps, ties}
 use Rattle.fjall_contents.specs.Contents.{AreWithin, IsWithin, is_beyond, nothing_stored}
 use Rattle.fjall_recovery.specs.Folders.{past, past_record, past_records}
-use Rattle.fjall_recovery.specs.Homes.{HasHomeAt, HasVersions, HasVersionsAt, HaveHomes, HaveVersions, Homes, IsPlain, Versions, last_in, lasts, plain_home, stored_at, stored_in, stored_of}
-use Rattle.fjall_recovery.specs.Places.{HasSafeHomeAt, HaveSafeHomes}
+use Rattle.fjall_recovery.specs.Homes.{ClearsAreWithin, HasVersions, HasVersionsAt, HaveVersions, Homes, Versions, last_in, lasts, stored_at, stored_in, stored_of}
 
 -- ---- numbers
 
@@ -137,32 +135,17 @@ nothing_at None versions has none = refl
 pub nothing_in_tables : (homes : Homes) (versions : Versions) → HaveVersions homes versions → (id : ℕ) → (last_in (get homes id)).tables ≡ [] → (stored_in homes versions id).versions ≡ []
 nothing_in_tables homes versions have id none = nothing_at (get homes id) (get versions id) (have id) none
 
--- homes that are plain name none
-plain_names_none : (image : Image) (id : ℕ) (k : Option LivingKeyspace) (h : Option Home) → HasHomeAt image id k h → (last_in h).tables ≡ []
-plain_names_none image id (Some k) (Some h) has = has.plain.tables
-plain_names_none image id (Some k) None has = absurd has
-plain_names_none image id None (Some h) has = absurd has
-plain_names_none image id None None has = refl
+-- the home of a last record that names no table
+abbrev pub plain_home : Fields → Home
+plain_home last = record { last = last; texts = [] }
 
-pub homes_name_none : (image : Image) (living : List LivingKeyspace) (homes : Homes) → HaveHomes image living homes → (id : ℕ) → (last_in (get homes id)).tables ≡ []
-homes_name_none image living homes have id = plain_names_none image id (keyspace_at id living) (get homes id) (have id)
-
-safe_names_none : (state : State) (id : ℕ) (k : Option LivingKeyspace) (h : Option Home) → HasSafeHomeAt state id k h → (last_in h).tables ≡ []
-safe_names_none state id (Some k) (Some h) has = has.plain.tables
-safe_names_none state id (Some k) None has = absurd has
-safe_names_none state id None (Some h) has = absurd has
-safe_names_none state id None None has = refl
-
-pub safe_homes_name_none : (state : State) (living : List LivingKeyspace) (homes : Homes) → HaveSafeHomes state living homes → (id : ℕ) → (last_in (get homes id)).tables ≡ []
-safe_homes_name_none state living homes safe id = safe_names_none state id (keyspace_at id living) (get homes id) (safe id)
-
--- a plain record's home has no versions
-pub plain_versions : (last : Fields) → IsPlain last → HasVersions (plain_home last) []
-plain_versions last plain = record {
+-- it has no versions
+pub plain_versions : (last : Fields) → last.tables ≡ [] → ClearsAreWithin last → HasVersions (plain_home last) []
+plain_versions last none clears = record {
   lists = [];
-  right = subst (λ (tables : List TableInfo). AreRight tables [] []) (sym plain.tables) tt;
+  right = subst (λ (tables : List TableInfo). AreRight tables [] []) (sym none) tt;
   all = refl;
-  within = (All-nil (λ (v : Entry). is_beyond last.persisted v.number ≡ false), plain.clears);
+  within = (All-nil (λ (v : Entry). is_beyond last.persisted v.number ≡ false), clears);
 }
 
 -- ---- one list of versions

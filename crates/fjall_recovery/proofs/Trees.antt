@@ -13,7 +13,7 @@ use Rattle.fjall_catalog.specs.declared.catalog.Catalog.{Catalog}
 use Rattle.fjall_catalog.specs.Catalog.{Rests, Says, home_of}
 use Rattle.fjall_catalog.proofs.Resting.{files_say}
 use Rattle.fjall_catalog.proofs.Meanings as Meanings
-use Rattle.fjall_recovery.specs.Homes.{HasPlainHome, HaveHomes}
+use Rattle.fjall_recovery.specs.Homes.{HasOpenableHome, HaveHomes}
 use Rattle.fjall_recovery.proofs.Housing.{homes_alike, homes_left, plain_alike}
 use Rattle.fjall_recovery.proofs.Listed.{in_keyspaces}
 use Rattle.fjall_recovery.specs.Halves.{HasTree, Tree, is_of_keyspaces}
@@ -59,11 +59,13 @@ module _ (state : State) (image : Image) (seen : IsSeen is_of_keyspaces state im
 
 -- ---- what a crash leaves
 
-home_left : (state : State) (image : Image) → IsImageIn Survives is_of_keyspaces state image → (id : ℕ) (h : Home) → id < 2 ^ 64 → HasSafeHome state id h → HasPlainHome image id h
+home_left : (state : State) (image : Image) → IsImageIn Survives is_of_keyspaces state image → (id : ℕ) (h : Home) → id < 2 ^ 64 → HasSafeHome state id h → HasOpenableHome image id h
 home_left state image is id h small home = record {
   records = home.records;
   home = region_home is_of_keyspaces state image id home.records h small (counted_within id) home.rests (usual_region is_of_keyspaces state image is);
-  plain = home.plain;
+  indexes = home.indexes;
+  indexed = home.indexed;
+  clears = home.clears;
 }
 
 pub crashes_leave_the_tree : (state : State) (image : Image) (records : List Fields) (t : Tree) → RestsInTree state records t → IsImageIn Survives is_of_keyspaces state image → HasTree image t
@@ -77,8 +79,8 @@ crashes_leave_the_tree state image records t rests is =
 pub standing_says : (state : State) (records : List Fields) (last : Catalog) (s : Keyspaces) → Rests state records last s → Says (standing state) records last s
 standing_says state records last s rests = files_say state (standing state) records last s rests (standing_home state 0 records (home_of last rests.texts) rests.home).files
 
-home_stands : (state : State) (id : ℕ) (h : Home) → HasSafeHome state id h → HasPlainHome (standing state) id h
-home_stands state id h home = record { records = home.records; home = standing_home state id home.records h home.rests; plain = home.plain }
+home_stands : (state : State) (id : ℕ) (h : Home) → HasSafeHome state id h → HasOpenableHome (standing state) id h
+home_stands state id h home = record { records = home.records; home = standing_home state id home.records h home.rests; indexes = home.indexes; indexed = home.indexed; clears = home.clears }
 
 -- what stands has the keyspaces that rest
 pub standing_tree : (state : State) (records : List Fields) (t : Tree) → RestsInTree state records t → HasTree (standing state) t

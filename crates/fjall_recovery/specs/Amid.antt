@@ -3,7 +3,7 @@ use Rattle.std.specs.Prelude.{◌≡◌, ℕ, ◌<◌, ◌^◌, List, [], ◌∷
 use Rattle.fjall_base.specs.Store.{Store, Command, fold, kept}
 use Rattle.fjall_base.specs.Disk.{Name, State, Image, IsFile, IsImage, LeavesOnly, Meaning, SomeSurvives, standing, state_in}
 use Rattle.fjall_files.specs.Names.{journal_name}
-use Rattle.fjall_recovery.specs.Folders.{Contents, IsSound, IsUnfinished, StandsFor}
+use Rattle.fjall_recovery.specs.Folders.{Contents, IsOpenable, IsUnfinished, StandsFor}
 
 -- ---- a store with some of the commands
 
@@ -37,7 +37,7 @@ ComesBackUnfinished state = (image : Image) → AreLeft state image → IsUnfini
 pub record HoldsAmid (state : State) (base : Store) (pending : List Command) : Type 0 where
   pub now : StandsAmid base [] pending (standing state)
   pub crash : (image : Image) → IsImage state image → StandsAmid base [] pending image
-  pub journals : (c : Contents) → IsSound (standing state) c → c.journals ≡ [] → (image : Image) → IsImage state image → (id : ℕ) → id < 2 ^ 64 → IsFile (image (journal_name id)) → ⊥
+  pub journals : (c : Contents) → IsOpenable (standing state) c → c.journals ≡ [] → (image : Image) → IsImage state image → (id : ℕ) → id < 2 ^ 64 → IsFile (image (journal_name id)) → ⊥
   pub back : IsUnfinished (standing state) → ComesBackUnfinished state
 
 -- ---- what calls keep of it

@@ -53,8 +53,13 @@ pub record Contents : Type 0 where
   pub homes : Homes
   pub versions : Versions
 
--- The image is a sound folder that was made to its end, and this is what it holds.
-pub record IsSound (image : Image) (c : Contents) : Type 0 where
+-- the same with these versions
+abbrev pub with_versions : Versions → Contents → Contents
+with_versions versions c = record { journals = c.journals; keyspaces = c.keyspaces; last = c.last; homes = c.homes; versions = versions }
+
+-- The image is a folder that was made to its end, an opening finds nothing wrong in it, and this is what it holds. Of tables it
+-- looks at the ends alone, so that nothing is said of the versions.
+pub record IsOpenable (image : Image) (c : Contents) : Type 0 where
   pub marker : marker_tells (marker_bytes image) ≡ Ok Whole
   pub journals_named : JournalsAreNamed image
   pub journals : HoldsJournals image c.journals
@@ -64,6 +69,10 @@ pub record IsSound (image : Image) (c : Contents) : Type 0 where
   pub catalog : Says image records c.last c.keyspaces
   pub made : AreMade c.last c.keyspaces
   pub homes : HaveHomes image c.keyspaces.living c.homes
+
+-- It is sound where every block of its tables is right too, and these are the versions in them.
+pub record IsSound (image : Image) (c : Contents) : Type 0 where
+  pub openable : IsOpenable image c
   pub versions : HaveVersions c.homes c.versions
 
 -- no whole record stands at the front of the bytes, or tree 0's first one alone
@@ -125,4 +134,4 @@ pub record Shows (f : RecoveredFolder) (c : Contents) : Type 0 where
 -- What was read of a folder: what it holds, or that its making was cut short.
 abbrev pub ReadsFolder : Image → Option RecoveredFolder → Type 0
 ReadsFolder image None = IsUnfinished image
-ReadsFolder image (Some f) = IsFinished image f × ((c : Contents) × IsSound image c × Shows f c)
+ReadsFolder image (Some f) = IsFinished image f × ((c : Contents) × IsOpenable image c × Shows f c)

@@ -1,19 +1,19 @@
 -- The homes of keyspaces: the folder of each, with its records.
-use Rattle.std.specs.Prelude.{◌≡◌, ℕ, false, List, [], ◌∷◌, length, map, All, Option, Some, None}
-use Rattle.std.specs.List.{flat_map}
+use Rattle.std.specs.Prelude.{◌≡◌, ℕ, false, ◌==◌, List, [], ◌∷◌, map, All, MatchBool, Option, Some, None}
+use Rattle.std.specs.List.{flat_map, list_any}
 use Rattle.std.specs.Ordering.{nat_cmp}
 use Rattle.std.specs.FinMap.{FinMap, get}
 use Rattle.fjall_base.specs.Disk.{Folder, Image}
-use Rattle.fjall_base.specs.Lists.{last_of}
 use Rattle.fjall_files.specs.Names.{keyspace_folder}
-use Rattle.fjall_tree.specs.Records.{Fields, IsRecords, view}
 use Rattle.fjall_table.specs.Blocks.{Entry}
-use Rattle.fjall_home.specs.Homes.{HasHome, Home, records_text}
-use Rattle.fjall_home.specs.Reading.{AreRight}
+use Rattle.fjall_table.specs.Tables.{Handle}
+use Rattle.fjall_tree.specs.Records.{Fields, view}
+use Rattle.fjall_home.specs.declared.reading.LoadedHome.{LoadedHome}
+use Rattle.fjall_home.specs.Homes.{HasHome, Home}
+use Rattle.fjall_home.specs.Reading.{AreIndexed, AreRight, IsLoaded}
 use Rattle.fjall_contents.specs.Contents.{IsWithin, Stored, is_beyond, nothing_stored}
 use Rattle.fjall_meta.specs.declared.living.LivingKeyspace.{LivingKeyspace}
 use Rattle.fjall_meta.specs.Keyspaces.{keyspace_at}
-use Rattle.fjall_recovery.specs.declared.homes.KeyspaceRecords.{KeyspaceRecords}
 
 -- the homes of keyspaces by their ids
 abbrev pub Homes : Type 0
@@ -21,26 +21,24 @@ Homes = FinMap nat_cmp Home
 
 -- ---- one home
 
--- No table is read yet, so a record tells of none. No clear of it is beyond the persisted number.
-pub record IsPlain (last : Fields) : Type 0 where
-  pub tables : last.tables ≡ []
-  pub clears : All (λ n. is_beyond last.persisted n ≡ false) last.clears
+-- no clear that a record tells is beyond its persisted number
+abbrev pub ClearsAreWithin : Fields → Type 0
+ClearsAreWithin last = All (λ n. is_beyond last.persisted n ≡ false) last.clears
 
--- The keyspace of this id has this home in the image, and its last record is plain.
-pub record HasPlainHome (image : Image) (id : ℕ) (h : Home) : Type 0 where
+-- The keyspace of this id has this home in the image, and an opening finds nothing wrong with it: each of its tables is right at
+-- its end, and no clear of its last record is beyond the persisted number.
+pub record HasOpenableHome (image : Image) (id : ℕ) (h : Home) : Type 0 where
   pub records : List Fields
   pub home : HasHome image id records h
-  pub plain : IsPlain h.last
-
--- the home of these records' last one, which names no table
-abbrev pub plain_home : Fields → Home
-plain_home last = record { last = last; texts = [] }
+  pub indexes : List (List Handle)
+  pub indexed : AreIndexed h.last.tables h.texts indexes
+  pub clears : ClearsAreWithin h.last
 
 -- ---- all of them
 
 -- a keyspace that lives has its home, and no other id has one
 abbrev pub HasHomeAt : Image → ℕ → Option LivingKeyspace → Option Home → Type 0
-HasHomeAt image id (Some k) (Some h) = HasPlainHome image id h
+HasHomeAt image id (Some k) (Some h) = HasOpenableHome image id h
 HasHomeAt image id None None = Unit {0}
 HasHomeAt image id k h = ⊥
 
@@ -89,6 +87,24 @@ HasVersionsAt h versions = ⊥
 abbrev pub HaveVersions : Homes → Versions → Type 0
 HaveVersions homes versions = (id : ℕ) → HasVersionsAt (get homes id) (get versions id)
 
+-- ---- damage
+
+-- some block of the home's tables is wrong, or has a version beyond the persisted number: no versions are in them
+abbrev pub IsDamaged : Home → Type 0
+IsDamaged h = (versions : List Entry) → HasVersions h versions → ⊥
+
+-- a damaged home counts as one without versions
+abbrev pub LacksVersionsAt : Option Home → Option (List Entry) → Type 0
+LacksVersionsAt (Some h) (Some versions) = IsDamaged h × (versions ≡ [])
+LacksVersionsAt h versions = ⊥
+
+-- these homes have these versions, but for those of these ids, which are damaged
+abbrev pub HaveVersionsBut : List ℕ → Homes → Versions → Type 0
+HaveVersionsBut damaged homes versions =
+    (id : ℕ) → MatchBool (list_any (λ other. other == id) damaged) (LacksVersionsAt (get homes id) (get versions id)) (HasVersionsAt (get homes id) (get versions id))
+
+-- ---- what is stored
+
 -- what a home with its versions holds, and nothing where none is
 abbrev pub stored_at : Option Home → Option (List Entry) → Stored
 stored_at (Some h) (Some versions) = stored_of h versions
@@ -100,32 +116,14 @@ stored_in homes versions id = stored_at (get homes id) (get versions id)
 
 -- ---- as they are read
 
--- the last of the whole records at the front of these bytes
-pub record HasLast (text : List ℕ) (last : Fields) : Type 0 where
-  pub records : List Fields
-  pub end : ℕ
-  pub whole : IsRecords text records end
-  pub is : last_of records ≡ Some last
-  pub plain : IsPlain last
-
--- what was read of a keyspace's records: the last one, where the whole ones end, and how many bytes there are
-pub record IsReadFrom (text : List ℕ) (home : KeyspaceRecords) : Type 0 where
-  pub has : HasLast text (view home.record)
-  pub ends : (records : List Fields) (end : ℕ) → IsRecords text records end → end ≡ home.end
-  pub len : home.len ≡ length text
-
--- no such record is there
-abbrev pub HasNoRecord : List ℕ → Type 0
-HasNoRecord text = (last : Fields) → HasLast text last → ⊥
-
--- a keyspace's folder as it was read
-pub record IsRead (image : Image) (id : ℕ) (home : KeyspaceRecords) : Type 0 where
-  pub named : home.id ≡ id
+-- a keyspace's home as it was read
+pub record IsRead (image : Image) (id : ℕ) (home : LoadedHome) : Type 0 where
   pub folder : image (keyspace_folder id) ≡ Folder
-  pub read : IsReadFrom (records_text image id) home
+  pub loaded : IsLoaded image id home
+  pub clears : ClearsAreWithin (view home.record)
 
 -- all of these keyspaces, one after another
-abbrev pub AreHomesRead : Image → List LivingKeyspace → List KeyspaceRecords → Type 0
+abbrev pub AreHomesRead : Image → List LivingKeyspace → List LoadedHome → Type 0
 AreHomesRead image [] [] = Unit {0}
 AreHomesRead image (k ∷ living) (home ∷ homes) = IsRead image k.id home × AreHomesRead image living homes
 AreHomesRead image living homes = ⊥

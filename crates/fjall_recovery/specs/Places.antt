@@ -13,11 +13,13 @@ use Rattle.fjall_meta.specs.declared.living.LivingKeyspace.{LivingKeyspace}
 use Rattle.std.specs.FinMap.{get}
 use Rattle.fjall_home.specs.Homes as homes
 use Rattle.fjall_home.specs.Homes.{Home, IsFree}
+use Rattle.fjall_home.specs.Reading.{AreIndexed}
+use Rattle.fjall_table.specs.Tables.{Handle}
 use Rattle.fjall_meta.specs.Keyspaces.{keyspace_at}
 use Rattle.fjall_catalog.specs.Catalog.{Rests}
 use Rattle.fjall_versions.specs.Replays.{first_fault}
 use Rattle.fjall_recovery.specs.Folders.{AreMade, Contents}
-use Rattle.fjall_recovery.specs.Homes.{HaveVersions, Homes, IsPlain}
+use Rattle.fjall_recovery.specs.Homes.{HaveVersions, Homes, ClearsAreWithin}
 use Rattle.fjall_recovery.specs.Journals.{Journal, batches_in}
 use Rattle.fjall_recovery.specs.Halves.{Tree}
 
@@ -69,11 +71,13 @@ pub record LiesInRoot (state : State) (j : Journaling) : Type 0 where
 
 -- ---- the keyspaces
 
--- The keyspace of this id has this home, all of it safe, and its last record is plain.
+-- The keyspace of this id has this home, all of it safe, and an opening finds nothing wrong with it.
 pub record HasSafeHome (state : State) (id : ℕ) (h : Home) : Type 0 where
   pub records : List Fields
   pub rests : homes.Rests state id records h
-  pub plain : IsPlain h.last
+  pub indexes : List (List Handle)
+  pub indexed : AreIndexed h.last.tables h.texts indexes
+  pub clears : ClearsAreWithin h.last
 
 -- a keyspace that lives has a safe home, and no other id has one
 abbrev pub HasSafeHomeAt : State → ℕ → Option LivingKeyspace → Option Home → Type 0

@@ -22,8 +22,10 @@ use Rattle.fjall_catalog.specs.declared.catalog.Catalog.{Catalog}
 use Rattle.fjall_catalog.specs.Catalog.{Says, records_in}
 use Rattle.fjall_catalog.specs.Refusals.{IsDamage}
 use Rattle.fjall_recovery.specs.Folders.{AreEmpty, AreMade, IsBegun, marker_bytes}
-use Rattle.fjall_home.specs.Homes.{Home, records_text}
-use Rattle.fjall_recovery.specs.Homes.{HasNoRecord, HasPlainHome}
+use Rattle.fjall_home.specs.Homes.{Home}
+use Rattle.fjall_home.specs.Reading as home
+use Rattle.fjall_table.specs.Tables.{Handle}
+use Rattle.fjall_recovery.specs.Homes.{ClearsAreWithin, HasOpenableHome}
 use Rattle.fjall_recovery.specs.Journals.{Journal, ReadsAs, AreJournalIds, HoldsJournals, journal_text}
 use Rattle.fjall_recovery.specs.Naming.{JournalsAreNamed, KeyspacesAreNamed}
 
@@ -64,16 +66,26 @@ JournalsRefuse image least (id ∷ ids) error =
     ⊎ ((first_fault least (map shown batches) ≡ None)
     × (TailRefuses (is_last ids) tail error ⊎ ((tail ≡ Clean) × JournalsRefuse image (least_after least (map shown batches)) ids error))))
 
--- Why a keyspace that lives is refused: it has no folder, or no such records are in it.
+-- The home is right but for a clear of its last record, which is beyond the persisted number.
+pub record HasClearBeyond (image : Image) (id : ℕ) : Type 0 where
+  pub records : List Fields
+  pub h : Home
+  pub indexes : List (List Handle)
+  pub openable : home.IsOpenable image id records h indexes
+  pub beyond : ClearsAreWithin h.last → ⊥
+
+-- Why a keyspace that lives is refused: it has no folder; its records or a table that the last of them names are damaged; or
+-- a clear of that record is beyond the persisted number.
 abbrev pub HomeRefuses : Image → ℕ → Error → Type 0
 HomeRefuses image id Unrecoverable = image (keyspace_folder id) ≢ Folder
-HomeRefuses image id (Storage RecordDamaged) = (image (keyspace_folder id) ≡ Folder) × HasNoRecord (records_text image id)
+HomeRefuses image id (Storage cause) =
+    (image (keyspace_folder id) ≡ Folder) × (home.IsDamage image id cause ⊎ ((cause ≡ RecordDamaged) × HasClearBeyond image id))
 HomeRefuses image id error = ⊥
 
 -- the first of these keyspaces that is refused, where those before it aren't
 abbrev pub HomesRefuse : Image → List LivingKeyspace → Error → Type 0
 HomesRefuse image [] error = ⊥
-HomesRefuse image (k ∷ living) error = HomeRefuses image k.id error ⊎ (((h : Home) × HasPlainHome image k.id h) × HomesRefuse image living error)
+HomesRefuse image (k ∷ living) error = HomeRefuses image k.id error ⊎ (((h : Home) × HasOpenableHome image k.id h) × HomesRefuse image living error)
 
 -- the image says of no keyspaces that they live
 abbrev pub SaysNothing : Image → Type 0

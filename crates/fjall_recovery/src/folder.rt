@@ -1,6 +1,6 @@
 //! A folder, read whole.
 
-ghost use Rattle.std.specs.Prelude.{◌≡◌, ◌<◌, ◌≤◌, ◌↔◌, [], ◌^◌, map, All, IsTrue, IfErr, IfOk, OnOk, List, Ok, Err};
+ghost use Rattle.std.specs.Prelude.{◌≡◌, ◌<◌, ◌≤◌, ◌↔◌, [], ◌^◌, map, All, IsTrue, IfErr, IfOk, OnOk, List, Option, Ok, Err};
 ghost use Rattle.fjall_base.specs.Disk.{Folder, Image, Took};
 ghost use Rattle.fjall_base.specs.Store.{Store};
 ghost use Rattle.fjall_files.specs.Calls.{seen, AllServed};
@@ -10,18 +10,20 @@ ghost use Rattle.fjall_tree.specs.Records.{Fields, view};
 ghost use Rattle.fjall_meta.specs.Keyspaces.{Keyspaces};
 ghost use Rattle.fjall_catalog.specs.declared.catalog.Catalog.{Catalog};
 ghost use Rattle.fjall_catalog.specs.Catalog.{HasEnd, Says, fields};
-ghost use Rattle.fjall_recovery.specs.Folders.{AreMade, Contents, IsFinished, IsSound, ReadsFolder, Shows, StandsFor, marker_bytes, number_of, past, past_record, past_records};
+ghost use Rattle.fjall_recovery.specs.Folders.{AreMade, Contents, IsFinished, IsOpenable, ReadsFolder, Shows, StandsFor, marker_bytes, number_of, past, past_record, past_records};
+ghost use Rattle.fjall_recovery.specs.Held.{IsOpenFolder};
 ghost use Rattle.fjall_recovery.specs.Journals.{AreJournalIds};
 ghost use Rattle.fjall_recovery.specs.Naming.{AreFolderIds};
 ghost use Rattle.fjall_recovery.specs.Refusals.{FinishedRefuses, FolderRefuses, HasRisen, IsDue, IsOpeningRefusal, TreeRefuses};
 
-use crate::homes::{KeyspaceRecords, read_homes};
+use crate::homes::read_homes;
 use crate::journals::{RecoveredJournals, read_journals};
 use crate::listing::{list_journals, list_keyspaces};
 use crate::unfinished::check_unfinished;
 use fjall_base::{Disk, Error, Result, StorageError};
 use fjall_catalog::{Catalog, LoadedCatalog, read_catalog};
 use fjall_files::{MARKER_FILE, Marker, read_marker};
+use fjall_home::LoadedHome;
 use fjall_meta::LivingKeyspace;
 use std::alloc::Global;
 
@@ -35,8 +37,8 @@ pub struct RecoveredFolder {
     pub folder_ids: Vec<u64>,
     /// What tree 0 says.
     pub catalog: LoadedCatalog,
-    /// The records of the keyspaces that live, by id ascending.
-    pub homes: Vec<KeyspaceRecords>,
+    /// The homes of the keyspaces that live, by id ascending: their last records, and the ends of their tables.
+    pub homes: Vec<LoadedHome>,
 }
 
 /// One past the number, and 0 where there is none.
@@ -50,7 +52,7 @@ fn past(number: Option<u64>) -> u64
 }
 
 /// The greatest number that these records tell.
-fn greatest(homes: &[KeyspaceRecords]) -> Option<u64>
+fn greatest(homes: &[LoadedHome]) -> Option<u64>
     ensures { past result ≡ past_records (map (λ home. view home.record) homes.now) }
 {
     let mut greatest = None;
@@ -65,7 +67,7 @@ impl RecoveredFolder {
     /// none does. In a sound folder it is 2^63 at most.
     pub fn number(&self) -> u64
         ensures number { (c : Contents) → Shows self.now c → number_of c < 2 ^ 64 → result ≡ number_of c }
-        ensures sound { (image : Image) (c : Contents) → IsSound image c → Shows self.now c → (result ≡ number_of c) × (result ≤ 2 ^ 63) }
+        ensures sound { (image : Image) (c : Contents) → IsOpenable image c → Shows self.now c → (result ≡ number_of c) × (result ≤ 2 ^ 63) }
     {
         let last = self.catalog.catalog;
         let known = greatest(&self.homes).max(last.persisted).max(last.highest);
@@ -124,9 +126,9 @@ fn read_finished<D: Disk>(
     ensures risen { IfErr result (HasRisen (D.meaning disk.old).faults (D.meaning disk.new).faults) }
     ensures cause { IsTrue D.honest → AreJournalIds (seen (D.meaning disk.old)) journal_ids.items
         → IfErr result (IsDue (FinishedRefuses (seen (D.meaning disk.old)))) }
-    // A sound folder is read.
-    ensures sound { IsTrue D.honest → AreJournalIds (seen (D.meaning disk.old)) journal_ids.items → (c : Contents)
-        → IsSound (seen (D.meaning disk.old)) c → IfErr result (IsDue (λ error. ⊥)) }
+    // A folder in which nothing is wrong is read.
+    ensures openable { IsTrue D.honest → AreJournalIds (seen (D.meaning disk.old)) journal_ids.items → (c : Contents)
+        → IsOpenable (seen (D.meaning disk.old)) c → IfErr result (IsDue (λ error. ⊥)) }
     ensures listed { IfErr result IsOpeningRefusal }
 {
     let journals = read_journals(alloc, disk, &journal_ids)?;
@@ -163,8 +165,9 @@ fn read_version<D: Disk>(alloc: Global, disk: &mut D) -> Result<Marker>
 ///
 /// The first fault in the order of reading refuses, as the formats page says: the marker (`InvalidVersion`), the names of
 /// journals (`InvalidFileName`), the journals one after another, the names in `keyspaces` (`Unrecoverable`), tree 0 with
-/// the names and options that it stores, and each keyspace by its id. A folder without its marker into which something was
-/// written is `Unrecoverable`. `OutOfMemory` and `Io` come as ever.
+/// the names and options that it stores, and each keyspace by its id, its records before its tables. No block of a
+/// keyspace's table is read. A folder without its marker into which something was written is `Unrecoverable`.
+/// `OutOfMemory` and `Io` come as ever.
 pub fn read_folder<D: Disk>(alloc: Global, disk: &mut D) -> Result<Option<RecoveredFolder>>
     ensures found { IsTrue D.honest → IfOk result (λ folder. ReadsFolder (seen (D.meaning disk.old)) folder) }
     ensures same { IsTrue D.honest → Took (D.meaning disk.old) (D.meaning disk.new) [] }
@@ -172,7 +175,8 @@ pub fn read_folder<D: Disk>(alloc: Global, disk: &mut D) -> Result<Option<Recove
     ensures later { (D.meaning disk.old).faults ≤ (D.meaning disk.new).faults }
     ensures risen { IfErr result (HasRisen (D.meaning disk.old).faults (D.meaning disk.new).faults) }
     ensures cause { IsTrue D.honest → IfErr result (IsDue (FolderRefuses (seen (D.meaning disk.old)))) }
-    // A folder that stands for a store is read, unless memory runs out or the disk fails.
+    // A folder in which nothing is wrong is read, unless memory runs out or the disk fails: so is each that stands for a store.
+    ensures openable { IsTrue D.honest → (folder : Option Contents) → IsOpenFolder (seen (D.meaning disk.old)) folder → IfErr result (IsDue (λ error. ⊥)) }
     ensures sound { IsTrue D.honest → (store : Store) → StandsFor (seen (D.meaning disk.old)) store → IfErr result (IsDue (λ error. ⊥)) }
     ensures listed { IfErr result IsOpeningRefusal }
 {

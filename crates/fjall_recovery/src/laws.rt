@@ -8,8 +8,8 @@ ghost use Rattle.fjall_table.specs.Blocks.{Entry};
 ghost use Rattle.fjall_home.specs.Homes.{Home};
 ghost use Rattle.fjall_meta.specs.Keyspaces.{keyspace_at};
 ghost use Rattle.fjall_catalog.specs.Catalog.{Rests, Says};
-ghost use Rattle.fjall_recovery.specs.Homes.{HasPlainHome, HasVersions, HaveHomes, HaveVersions};
-ghost use Rattle.fjall_recovery.specs.Folders.{AreMade, Contents, IsSound, StandsFor};
+ghost use Rattle.fjall_recovery.specs.Homes.{HasOpenableHome, HasVersions, HaveHomes, HaveVersions};
+ghost use Rattle.fjall_recovery.specs.Folders.{AreMade, Contents, IsOpenable, IsSound, StandsFor, with_versions};
 ghost use Rattle.fjall_recovery.specs.Journals.{Journal, HoldsJournals};
 ghost use Rattle.fjall_recovery.specs.Refusals.{AreOne, FolderRefuses};
 ghost use Rattle.fjall_files.specs.Regions.{IsImageIn};
@@ -17,7 +17,7 @@ ghost use Rattle.fjall_journal.specs.Batches.{Written};
 ghost use Rattle.fjall_tree.specs.Records.{Fields};
 ghost use Rattle.fjall_files.specs.Names.{journal_name, keyspace_folder};
 ghost use Rattle.fjall_recovery.specs.Halves.{HasRoot, HasTree, Tree, is_of_keyspaces, is_of_root, outside, with_home_at};
-ghost use Rattle.fjall_recovery.specs.Held.{Holds, IsFolder, store_held};
+ghost use Rattle.fjall_recovery.specs.Held.{Holds, IsFolder, IsOpenFolder, store_held};
 ghost use Rattle.fjall_recovery.specs.Places.{HasSafeHome, HaveSafeHomes, Journaling, LiesInRoot, RestsInTree, contents_with, journals_with};
 
 /// An image holds one list of journals.
@@ -25,9 +25,10 @@ pub fn one_list_of_journals()
     ensures { (image : Image) (journals others : List Journal) → HoldsJournals image journals → HoldsJournals image others → journals ≡ others }
 {}
 
-/// A sound folder holds one thing.
+/// A sound folder holds one thing, and one in which an opening finds nothing wrong does so but for the versions.
 pub fn one_contents()
-    ensures { (image : Image) (c d : Contents) → IsSound image c → IsSound image d → c ≡ d }
+    ensures sound { (image : Image) (c d : Contents) → IsSound image c → IsSound image d → c ≡ d }
+    ensures openable { (image : Image) (c d : Contents) → IsOpenable image c → IsOpenable image d → with_versions d.versions c ≡ d }
 {}
 
 /// A folder is refused for one error alone.
@@ -40,7 +41,12 @@ pub fn one_store()
     ensures { (image : Image) (s t : Store) → StandsFor image s → StandsFor image t → s ≡ t }
 {}
 
-/// No folder that stands for a store is refused: only want of memory or a fault of the disk can keep it from being read.
+/// No folder in which nothing is wrong is refused: only want of memory or a fault of the disk can keep it from being read.
+pub fn openable_folders_are_read()
+    ensures { (image : Image) (folder : Option Contents) (error : Error) → IsOpenFolder image folder → FolderRefuses image error → ⊥ }
+{}
+
+/// So is one that stands for a store.
 pub fn sound_folders_are_read()
     ensures { (image : Image) (store : Store) (error : Error) → StandsFor image store → FolderRefuses image error → ⊥ }
 {}
@@ -68,13 +74,13 @@ pub fn trees_alike()
 /// else of the tree as it is: in what stands, on a disk where all rests, and in whatever a crash leaves of that elsewhere.
 pub fn one_home_changes()
     ensures image { (image other : Image) (t : Tree) (id : ℕ) (h : Home) (versions : List Entry) → HasTree image t
-        → is_some (keyspace_at id t.keyspaces.living) ≡ true → ((q : Name) → outside id q ≡ true → other q ≡ image q) → HasPlainHome other id h → HasVersions h versions
+        → is_some (keyspace_at id t.keyspaces.living) ≡ true → ((q : Name) → outside id q ≡ true → other q ≡ image q) → HasOpenableHome other id h → HasVersions h versions
         → HasTree other (with_home_at id h versions t) }
     ensures rests { (old new : State) (records : List Fields) (t : Tree) (id : ℕ) (h : Home) (versions : List Entry) → RestsInTree old records t
         → is_some (keyspace_at id t.keyspaces.living) ≡ true → ((q : Name) → outside id q ≡ true → new q ≡ old q) → HasSafeHome new id h
         → HasVersions h versions → RestsInTree new records (with_home_at id h versions t) }
     ensures crash { (state : State) (image : Image) (records : List Fields) (t : Tree) (id : ℕ) (h : Home) (versions : List Entry)
-        → RestsInTree state records t → is_some (keyspace_at id t.keyspaces.living) ≡ true → IsImageIn Survives (outside id) state image → HasPlainHome image id h
+        → RestsInTree state records t → is_some (keyspace_at id t.keyspaces.living) ≡ true → IsImageIn Survives (outside id) state image → HasOpenableHome image id h
         → HasVersions h versions → HasTree image (with_home_at id h versions t) }
 {}
 

@@ -4,7 +4,7 @@ use Rattle.fjall_base.specs.Store.{Store, Command, fold, kept}
 use Rattle.fjall_base.specs.Crash.{IsHoused}
 use Rattle.fjall_base.specs.Disk.{State, Image, IsImage, LeavesOnly, Meaning, Took, standing, state_in}
 use Rattle.fjall_base.proofs.Moments.{at_end, started, weaken}
-use Rattle.fjall_recovery.specs.Folders.{Contents, IsSound, IsUnfinished, StandsFor}
+use Rattle.fjall_recovery.specs.Folders.{Contents, IsOpenable, IsUnfinished, StandsFor}
 use Rattle.fjall_recovery.proofs.Alone.{one_store}
 use Rattle.fjall_recovery.specs.Amid.{ComesBackUnfinished, HoldsAmid, StandsAmid}
 use Rattle.fjall_recovery.specs.Places.{Journaling, LiesInRoot}
@@ -37,7 +37,7 @@ held_swept old mid new base pending housed run j root = lies_amid (state_in new)
 
 -- a disk on which a database was begun, perhaps in part
 pub held_begun : (old new : Meaning) (base : Store) (pending : List Command) → IsHoused (state_in new) → LeavesOnly old new (StandsAmid base [] pending) → (IsUnfinished (standing (state_in new)) → ComesBackUnfinished (state_in new))
-    → ((c : Contents) → IsSound (standing (state_in new)) c → c.journals ≡ [] → ⊥) → HoldsAmid (state_in new) base pending
+    → ((c : Contents) → IsOpenable (standing (state_in new)) c → c.journals ≡ [] → ⊥) → HoldsAmid (state_in new) base pending
 held_begun old new base pending housed run back journal =
     let crash : (image : Image) → IsImage (state_in new) image → StandsAmid base [] pending image = λ image is. at_end old new (StandsAmid base [] pending) run image is in
     record {

@@ -3,7 +3,7 @@ use Rattle.std.proofs.Common.{◌≡◌, ◌⊎◌, inl, inr, ⊎_elim, ℕ, ◌
 use Rattle.std.specs.Prelude.{Contains, OnOk, OnErr}
 use Rattle.std.proofs.lemmas.List.{take_all}
 use Rattle.fjall_base.specs.declared.error.Error.{Error}
-use Rattle.fjall_base.specs.Store.{Store, Command}
+use Rattle.fjall_base.specs.Store.{Store, Command, fold, kept}
 use Rattle.fjall_base.specs.Disk.{Name, Entry, Missing, File, Folder, Place, State, Image, IsImage, IsFile, Survives, SomeSurvives, LeavesOnly, Meaning, Took, Put, SyncFolder, making, put, folder_of, standing, state_in}
 use Rattle.fjall_base.proofs.Frames.{replaced, replaced-same, replaced-other}
 use Rattle.fjall_base.proofs.Moments.{at_end, started, stays, steps_on}
@@ -15,7 +15,7 @@ use Rattle.fjall_journal.specs.Batches.{NoneAt}
 use Rattle.fjall_journal.proofs.Cuts.{none_at_nil}
 use Rattle.fjall_files.specs.Marker.{marker_tells}
 use Rattle.fjall_files.specs.Names.{journal_name, current_name}
-use Rattle.fjall_recovery.specs.Folders.{Contents, IsBegun, IsSound, IsUnfinished, StandsFor, file_bytes}
+use Rattle.fjall_recovery.specs.Folders.{Contents, IsBegun, IsOpenable, IsUnfinished, StandsFor, file_bytes}
 use Rattle.fjall_recovery.specs.Journals.{Journal, AreJournalIds}
 use Rattle.fjall_recovery.specs.Amid.{HoldsAmid, StandsAmid}
 use Rattle.fjall_repair.specs.Steps.{IsOpened, active_of, with_active}
@@ -51,7 +51,7 @@ module _ (image made : Image) (active : Name) (is : IsOpened image made active) 
 -- ---- what a crash leaves of it
 
 -- where the active journal is missing, there is none
-no_journals : (image : Image) (c : Contents) → IsSound image c → (active : Name) → active ≡ journal_name (active_of (ids_of c.journals)) → image active ≡ Missing → c.journals ≡ []
+no_journals : (image : Image) (c : Contents) → IsOpenable image c → (active : Name) → active ≡ journal_name (active_of (ids_of c.journals)) → image active ≡ Missing → c.journals ≡ []
 no_journals image c sound active named gone = by c.journals refl
   where
     by : (js : List Journal) → c.journals ≡ js → c.journals ≡ []
@@ -61,7 +61,7 @@ no_journals image c sound active named gone = by c.journals refl
         absurd (subst IsFile (ap image (ap (λ (l : List Journal). journal_name (active_of (ids_of l))) (sym is) ∙ sym named) ∙ gone) there)
 
 -- a folder without files of journals has no journals
-none_there : (image : Image) (c : Contents) → IsSound image c → ((id : ℕ) → id < 2 ^ 64 → IsFile (image (journal_name id)) → ⊥) → c.journals ≡ []
+none_there : (image : Image) (c : Contents) → IsOpenable image c → ((id : ℕ) → id < 2 ^ 64 → IsFile (image (journal_name id)) → ⊥) → c.journals ≡ []
 none_there image c sound none = by c.journals refl
   where
     by : (js : List Journal) → c.journals ≡ js → c.journals ≡ []
@@ -71,7 +71,7 @@ none_there image c sound none = by c.journals refl
         let at = (sound.journals.ids.each j.id).0 has in
         absurd (none j.id at.0 at.1)
 
-module _ (old : State) (active : Name) (c : Contents) (sound : IsSound (standing old) c) (base : Store) (pending : List Command) (holds : HoldsAmid old base pending) (named : active ≡ journal_name (active_of (ids_of c.journals))) where
+module _ (old : State) (active : Name) (c : Contents) (sound : IsOpenable (standing old) c) (base : Store) (pending : List Command) (holds : HoldsAmid old base pending) (named : active ≡ journal_name (active_of (ids_of c.journals))) where
   in_root : folder_of active ≡ []
   in_root = ap (λ (n : Name). folder_of n) named ∙ folder_of-journal (active_of (ids_of c.journals)) (active_small (standing old) (ids_of c.journals) sound.journals.ids)
 
@@ -81,9 +81,9 @@ module _ (old : State) (active : Name) (c : Contents) (sound : IsSound (standing
   opened_stands : (whole image : Image) → IsOpened whole image active → (old active).now ≡ Missing → IsImage old whole → (store : Store) → StandsFor whole store → StandsFor image store
   opened_stands whole image is gone left store (inl (d, other, equal)) =
       let stood_none : c.journals ≡ [] = no_journals (standing old) c sound active named gone in
-      let none : d.journals ≡ [] = none_there whole d other (holds.journals c sound stood_none whole left) in
+      let none : d.journals ≡ [] = none_there whole d other.openable (holds.journals c sound stood_none whole left) in
       let at : active ≡ journal_name (active_of (ids_of d.journals)) = named ∙ ap (λ (l : List Journal). journal_name (active_of (ids_of l))) (stood_none ∙ sym none) in
-      inl (with_active d, opened_sound whole image active is d at other, equal ∙ same_store d)
+      inl (with_active d, record { openable = opened_sound whole image active is d at other.openable; versions = other.versions }, equal ∙ same_store d)
   opened_stands whole image is gone left store (inr (begun, equal)) =
       inr (opened_unfinished whole image active is (active_of (ids_of c.journals)) (active_small (standing old) (ids_of c.journals) sound.journals.ids) named begun, equal)
 
@@ -101,7 +101,7 @@ module _ (old : State) (active : Name) (c : Contents) (sound : IsSound (standing
         holds = before.holds;
         within = before.within;
         stands = opened_stands whole image
-            (record { elsewhere = λ q not. sym (replaced-other image active Missing q (differs q active not)); here = inr (replaced-same image active Missing, new) }) gone is_image _ before.stands;
+            (record { elsewhere = λ q not. sym (replaced-other image active Missing q (differs q active not)); here = inr (replaced-same image active Missing, new) }) gone is_image (kept (fold base before.front)) before.stands;
       }
 
   pub made_amid : (image : Image) → (old active).now ≡ Missing → IsImage (put old active (File [] [])) image → StandsAmid base [] pending image
@@ -111,7 +111,7 @@ module _ (old : State) (active : Name) (c : Contents) (sound : IsSound (standing
 
 -- ---- the moments
 
-module _ (old : Meaning) (active : Name) (c : Contents) (sound : IsSound (standing (state_in old)) c) (base : Store) (pending : List Command) (holds : HoldsAmid (state_in old) base pending) (named : active ≡ journal_name (active_of (ids_of c.journals))) where
+module _ (old : Meaning) (active : Name) (c : Contents) (sound : IsOpenable (standing (state_in old)) c) (base : Store) (pending : List Command) (holds : HoldsAmid (state_in old) base pending) (named : active ≡ journal_name (active_of (ids_of c.journals))) where
   abbrev Stood : Image → Type 0
   Stood = StandsAmid base [] pending
 

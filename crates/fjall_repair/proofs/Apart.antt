@@ -1,5 +1,5 @@
 -- Names in `keyspaces` that are not one.
-use Rattle.std.proofs.Common.{◌≡◌, ℕ, ◌<◌, ◌^◌, true, ◌++◌, codes, decimal, refl, sym, ◌∙◌, ap, arith}
+use Rattle.std.proofs.Common.{◌≡◌, ℕ, ◌<◌, ◌^◌, true, ◌++◌, codes, decimal, refl, sym, ◌∙◌, ap}
 use Rattle.std.proofs.lemmas.List.{append_cancel_left}
 use Rattle.std.proofs.lemmas.Fmt.{decimal_injective}
 use Rattle.fjall_base.specs.Disk.{Name, folder_of}
@@ -21,11 +21,11 @@ not_current id other n small e =
     let folders : keyspace_folder other ≡ keyspace_folder id = sym (of_current other) ∙ ap (λ (m : Name). folder_of m) e ∙ in_folder id n small in
     no_current id n (sym e ∙ ap (λ (f : Name). f ++ codes "/current") folders)
 
-pub same_table : (id n other : ℕ) → id < 2 ^ 64 → n < 2 ^ 64 → other < 2 ^ 64 → table_name 0 other ≡ table_name id n → (id ≡ 0) × (other ≡ n)
-same_table id n other small small_n small_other e =
-    let folders : keyspace_folder id ≡ keyspace_folder 0 = sym (in_folder id n small_n) ∙ ap (λ (m : Name). folder_of m) (sym e) ∙ in_folder 0 other small_other in
-    let zero_id : id ≡ 0 = folders_apart id 0 small (omega arith) folders in
-    (zero_id, tables_apart 0 other n small_other small_n (e ∙ ap (λ (i : ℕ). table_name i n) zero_id))
+pub same_table : (id n other m : ℕ) → id < 2 ^ 64 → n < 2 ^ 64 → other < 2 ^ 64 → m < 2 ^ 64 → table_name id n ≡ table_name other m → (id ≡ other) × (n ≡ m)
+same_table id n other m small_id small_n small_other small_m e =
+    let folders : keyspace_folder id ≡ keyspace_folder other = sym (in_folder id n small_n) ∙ ap (λ (q : Name). folder_of q) e ∙ in_folder other m small_m in
+    let same : id ≡ other = folders_apart id other small_id small_other folders in
+    (same, tables_apart id n m small_n small_m (e ∙ ap (λ (i : ℕ). table_name i m) (sym same)))
 
 -- ---- under `keyspaces`
 

@@ -10,7 +10,7 @@ use Rattle.fjall_base.proofs.States.{alter-same, put-same, settle-in}
 use Rattle.fjall_base.proofs.Names.{bool_cases, same, same_test}
 use Rattle.fjall_files.proofs.Changes.{settle-now}
 use Rattle.fjall_files.specs.Names.{journal_name}
-use Rattle.fjall_recovery.specs.Folders.{Contents, IsSound, IsUnfinished}
+use Rattle.fjall_recovery.specs.Folders.{Contents, IsOpenable, IsUnfinished}
 use Rattle.fjall_recovery.specs.Journals.{Journal}
 use Rattle.fjall_recovery.specs.Places.{journal_ids}
 use Rattle.fjall_repair.specs.Making.{ComesBackUnfinished, IsKept, MayStand}
@@ -122,13 +122,13 @@ active_there old new sealed active awaits elsewhere =
     )
 
 -- and so what stands has one
-pub has_some : (image : Image) (c : Contents) (id : ℕ) → id < 2 ^ 64 → IsFile (image (journal_name id)) → IsSound image c → c.journals ≡ [] → ⊥
+pub has_some : (image : Image) (c : Contents) (id : ℕ) → id < 2 ^ 64 → IsFile (image (journal_name id)) → IsOpenable image c → c.journals ≡ [] → ⊥
 has_some image c id small file sound none =
     let has : Contains [] id = subst (λ (l : List Journal). Contains (map (λ (k : Journal). k.id) l) id) none ((sound.journals.ids.each id).1 (small, file)) in
     let lt = has.1 in
     omega (arith, lt)
 
-pub not_both : (image : Image) (c : Contents) → IsSound image c → IsUnfinished image → ⊥
+pub not_both : (image : Image) (c : Contents) → IsOpenable image c → IsUnfinished image → ⊥
 not_both image c sound begun = let no = sym sound.marker ∙ begun.marker in cc
 
 -- a sync of names changes nothing that stands

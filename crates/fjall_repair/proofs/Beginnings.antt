@@ -13,13 +13,13 @@ use Rattle.fjall_base.specs.Lists.{last_of}
 use Rattle.fjall_files.specs.Texts.{text_in}
 use Rattle.fjall_files.specs.Marker.{marker_tells}
 use Rattle.fjall_files.specs.Names.{journal_name, current_name, table_name}
-use Rattle.fjall_recovery.specs.Folders.{Contents, IsSound, file_bytes}
+use Rattle.fjall_recovery.specs.Folders.{Contents, IsOpenable, file_bytes}
 use Rattle.fjall_recovery.specs.Journals.{Journal, ReadsAs, AreRead, journal_text}
 use Rattle.fjall_recovery.specs.Halves.{HasRoot}
 use Rattle.fjall_repair.specs.Amids.{StaysAmid}
 use Rattle.fjall_repair.specs.Steps.{End, EndsBatches, EndsRecords, IsRightEnd}
 use Rattle.fjall_repair.proofs.Naming.{journal_current, journal_table, marker_journal}
-use Rattle.fjall_repair.proofs.Halving.{root_of, tree_in, sound_of, tree_of, tree_along}
+use Rattle.fjall_repair.proofs.Halving.{root_of, open_tree_in, open_of, tree_of, tree_along}
 use Rattle.fjall_repair.proofs.Cutting.{journal_cut, whole_cut, whole_length}
 use Rattle.fjall_repair.proofs.Trimming.{Cuts, elsewhere, file_back, file_stays, folder_back, folder_stays, records_are_cut}
 use Rattle.fjall_repair.proofs.Ending.{keeps_cut}
@@ -72,7 +72,7 @@ module _ (image other : Image) (f : Name) (len : ℕ) (at : Cuts image other f l
     read_cut (j ∷ k ∷ js) read = (clean_cut j read.0, read_cut (k ∷ js) read.1)
 
     -- the image says the same
-    pub journal_is_cut : (id : ℕ) → f ≡ journal_name id → (c : Contents) → IsSound image c → IsSound other c
+    pub journal_is_cut : (id : ℕ) → f ≡ journal_name id → (c : Contents) → IsOpenable image c → IsOpenable other c
     journal_is_cut id named c sound =
         let root = root_of image c sound in
         let left : HasRoot other c.journals = record {
@@ -90,15 +90,15 @@ module _ (image other : Image) (f : Name) (len : ℕ) (at : Cuts image other f l
             sound = root.holds.sound;
           };
         } in
-        sound_of other c left
+        open_of other c left
         (tree_along image other (tree_of c) (folder_back image other f len at) (folder_stays image other f len at) (λ k. elsewhere image other f len at (current_name k) (λ same. journal_current id k (sym named ∙ sym same)))
-        (λ k m. elsewhere image other f len at (table_name k m) (λ same. journal_table id k m (sym named ∙ sym same))) (tree_in image c sound))
+        (λ k m. elsewhere image other f len at (table_name k m) (λ same. journal_table id k m (sym named ∙ sym same))) (open_tree_in image c sound))
 
 -- ---- what stays
 
-module _ (start : State) (stood : Contents) (sound : IsSound (standing start) stood) (base : Store) (pending : List Command) where
+module _ (start : State) (stood : Contents) (sound : IsOpenable (standing start) stood) (base : Store) (pending : List Command) where
   left_sound : (image other : Image) (f : Name) (len : ℕ) → Cuts image other f len → (start f).older ≡ [] → EndsBatches stood f len ⊎ EndsRecords (standing start) f len → (n : ℕ) → text_in (image f) ≡ take n (text_in (start f).now)
-      → (c : Contents) → IsSound image c → IsSound other c
+      → (c : Contents) → IsOpenable image c → IsOpenable other c
   left_sound image other f len at older (inl b) n part c is =
       let read = last_whole (standing start) stood.journals b.journal b.last sound.journals.read in
       let ends : read.0 ≡ len = whole_length (journal_text (standing start) b.journal.id) b.journal.batches read.0 read.1 ∙ sym b.is in
@@ -113,7 +113,7 @@ module _ (start : State) (stood : Contents) (sound : IsSound (standing start) st
         front = stays.front;
         within = stays.within;
         c = stays.c;
-        sound = left_sound image other f len at older ends was.0 was.1 stays.c stays.sound;
+        sound = record { openable = left_sound image other f len at older ends was.0 was.1 stays.c stays.sound.openable; versions = stays.sound.versions };
         is = stays.is;
         parts = λ q settled.
             let had = stays.parts q settled in

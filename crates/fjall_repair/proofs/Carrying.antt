@@ -13,7 +13,8 @@ use Rattle.fjall_files.specs.Texts.{text_in}
 use Rattle.fjall_tree.proofs.Currents as Currents
 use Rattle.fjall_files.proofs.Tidying.{there_or_not}
 use Rattle.fjall_files.specs.Names.{journal_name, keyspace_folder, current_name}
-use Rattle.fjall_recovery.specs.Folders.{Contents, IsSound, StandsFor, store_of}
+use Rattle.fjall_recovery.specs.Folders.{Contents, IsOpenable, StandsFor, store_of}
+use Rattle.fjall_recovery.specs.Homes.{HaveVersions}
 use Rattle.fjall_recovery.specs.Journals.{Journal}
 use Rattle.fjall_recovery.specs.Held.{Holds}
 use Rattle.fjall_recovery.specs.Places.{texts_of}
@@ -34,7 +35,7 @@ survived_text Missing left is = (0, ap text_in is)
 survived_text Folder left is = (0, ap text_in is)
 survived_text (File synced unsynced) left some = (length synced + some.0, ap text_in some.1 ∙ append-nil (synced ++ take some.0 unsynced) ∙ sym (take-append-add synced unsynced some.0))
 
-pub images_stay : (s : State) (c : Contents) → ((image : Image) → IsImage s image → IsSound image c) → (image : Image) → IsImage s image → Stays s c image
+pub images_stay : (s : State) (c : Contents) → ((image : Image) → IsImage s image → IsOpenable image c) → (image : Image) → IsImage s image → Stays s c image
 images_stay s c sound image is = record {
   sound = sound image is;
   parts = λ q older. ⊎_elim
@@ -111,7 +112,7 @@ pub record IsPreparedBy (P : Image → Type 0) (s : State) (c : Contents) (p : M
 
 -- the same, where each image holds these contents
 abbrev pub IsPrepared : State → Contents → MendPlan → Type 0
-IsPrepared s c p = IsPreparedBy (λ image. IsSound image c) s c p
+IsPrepared s c p = IsPreparedBy (λ image. IsOpenable image c) s c p
 
 pub same_whole_names : (js : List Journal) → whole_names (ids_of (opened js)) ≡ whole_names (ids_of js)
 same_whole_names [] = refl
@@ -160,7 +161,7 @@ module _ (P : Image → Type 0) (m0 m1 m2 m3 : Meaning) (c : Contents) (p : Mend
 
 -- ---- after the files are ended
 
-module _ (P : Image → Type 0) (m3 m4 : Meaning) (c : Contents) (p : MendPlan) (before : IsPreparedBy P (state_in m3) c p) (sound : (image : Image) → IsImage (state_in m4) image → IsSound image c)
+module _ (P : Image → Type 0) (m3 m4 : Meaning) (c : Contents) (p : MendPlan) (before : IsPreparedBy P (state_in m3) c p) (sound : (image : Image) → IsImage (state_in m4) image → IsOpenable image c)
     (ended : All (λ e. IsEnded (state_in m3) (state_in m4) (end_of e)) p.ends.items) (synced : (q : Name) → IsSynced (state_in m3 q).now → IsSynced (state_in m4 q).now)
     (older : (q : Name) → (state_in m4 q).older ≡ (state_in m3 q).older) where
   -- a right end that was ended
@@ -223,38 +224,38 @@ module _ (P : Image → Type 0) (m3 m4 : Meaning) (c : Contents) (p : MendPlan) 
 
 -- ---- the call
 
-module _ (m0 : Meaning) (c : Contents) where
+module _ (m0 : Meaning) (c : Contents) (have : HaveVersions c.homes c.versions) where
   abbrev pub Stood : Image → Type 0
   Stood image = StandsFor image (store_of c)
 
-  sound_stands : (image : Image) → IsSound image (with_active c) → Stood image
-  sound_stands image sound = inl (with_active c, sound, same_store c)
+  sound_stands : (image : Image) → IsOpenable image (with_active c) → Stood image
+  sound_stands image sound = inl (with_active c, record { openable = sound; versions = have }, same_store c)
 
-  pub then_images : (m1 m2 : Meaning) → LeavesOnly m0 m1 Stood → ((image : Image) → IsImage (state_in m1) image → IsSound image (with_active c)) → LeavesOnly m1 m2 (IsImage (state_in m1)) → LeavesOnly m0 m2 Stood
+  pub then_images : (m1 m2 : Meaning) → LeavesOnly m0 m1 Stood → ((image : Image) → IsImage (state_in m1) image → IsOpenable image (with_active c)) → LeavesOnly m1 m2 (IsImage (state_in m1)) → LeavesOnly m0 m2 Stood
   then_images m1 m2 so_far sound run = runs_on m0 m1 m2 Stood so_far (weaken m1 m2 (IsImage (state_in m1)) Stood run (λ image is. sound_stands image (sound image is)))
 
-  pub sound_then : (m1 m2 : Meaning) → ((image : Image) → IsImage (state_in m1) image → IsSound image (with_active c)) → LeavesOnly m1 m2 (IsImage (state_in m1)) → (image : Image) → IsImage (state_in m2) image → IsSound image (with_active c)
+  pub sound_then : (m1 m2 : Meaning) → ((image : Image) → IsImage (state_in m1) image → IsOpenable image (with_active c)) → LeavesOnly m1 m2 (IsImage (state_in m1)) → (image : Image) → IsImage (state_in m2) image → IsOpenable image (with_active c)
   sound_then m1 m2 sound run image is = sound image (at_end m1 m2 (IsImage (state_in m1)) run image is)
 
   pub then_stays : (m3 m4 : Meaning) → LeavesOnly m0 m3 Stood → LeavesOnly m3 m4 (Stays (state_in m3) (with_active c)) → LeavesOnly m0 m4 Stood
   then_stays m3 m4 so_far run = runs_on m0 m3 m4 Stood so_far (weaken m3 m4 (Stays (state_in m3) (with_active c)) Stood run (λ image stays. sound_stands image stays.sound))
 
 -- the facts under the names of the call
-pub prepared_by : (m0 m1 m2 m3 : Meaning) (c : Contents) (p : MendPlan) → Holds (state_in m0) (Some c) → Suits (standing (state_in m0)) c p → ((image : Image) → IsImage (state_in m1) image → IsSound image (with_active c))
+pub prepared_by : (m0 m1 m2 m3 : Meaning) (c : Contents) (p : MendPlan) → Holds (state_in m0) (Some c) → Suits (standing (state_in m0)) c p → ((image : Image) → IsImage (state_in m1) image → IsOpenable image (with_active c))
     → (active : Name) → active ≡ string_bytes p.active → IsOpened (standing (state_in m0)) (standing (state_in m1)) active → ((q : Name) → folder_of q ≡ [] → (state_in m1 q).older ≡ [])
     → LeavesOnly m1 m2 (IsImage (state_in m1)) → ((q : Name) → (state_in m2 q).now ≡ (state_in m1 q).now) → ((q : Name) → (state_in m1 q).older ≡ [] → (state_in m2 q).older ≡ [])
     → (folders : List (String Global)) → folders ≡ p.folders.items → All (λ folder. (q : Name) → folder_of q ≡ string_bytes folder → (state_in m2 q).older ≡ []) folders
     → LeavesOnly m2 m3 (IsImage (state_in m2)) → ((q : Name) → IsSame (state_in m2 q) (state_in m3 q)) → (files : List (String Global)) → files ≡ p.whole.items → All (λ file. IsSynced (state_in m3 (string_bytes file)).now) files
     → IsPrepared (state_in m3) (with_active c) p
 prepared_by m0 m1 m2 m3 c p holds suits sound active active_is made root names same still folders folders_is empty run synced files files_is whole =
-    prepared (λ image. IsSound image (with_active c)) m0 m1 m2 m3 c p suits (active_small (standing (state_in m0)) (ids_of c.journals) holds.now.journals.ids) sound (subst (IsOpened (standing (state_in m0)) (standing (state_in m1))) active_is made) root names same still
+    prepared (λ image. IsOpenable image (with_active c)) m0 m1 m2 m3 c p suits (active_small (standing (state_in m0)) (ids_of c.journals) holds.now.openable.journals.ids) sound (subst (IsOpened (standing (state_in m0)) (standing (state_in m1))) active_is made) root names same still
     (subst (All (λ folder. (q : Name) → folder_of q ≡ string_bytes folder → (state_in m2 q).older ≡ [])) folders_is empty) run synced (subst (All (λ file. IsSynced (state_in m3 (string_bytes file)).now)) files_is whole)
 
 -- the result of the last step
 pub rested_ok : (m3 m4 : Meaning) (c : Contents) (p : MendPlan) (result : Result Unit Error) → IsPrepared (state_in m3) (with_active c) p → LeavesOnly m3 m4 (Stays (state_in m3) (with_active c))
     → OnOk result (All (λ e. IsEnded (state_in m3) (state_in m4) (end_of e)) p.ends.items) → OnOk result ((q : Name) → IsSynced (state_in m3 q).now → IsSynced (state_in m4 q).now)
     → OnOk result ((q : Name) → (state_in m4 q).older ≡ (state_in m3 q).older) → OnOk result (IsRested (state_in m4) (with_active c))
-rested_ok m3 m4 c p (Ok done) before moments ended synced older = rested (λ image. IsSound image (with_active c)) m3 m4 (with_active c) p before (λ image is. (at_end m3 m4 (Stays (state_in m3) (with_active c)) moments image is).sound) ended synced older (last_named c.journals)
+rested_ok m3 m4 c p (Ok done) before moments ended synced older = rested (λ image. IsOpenable image (with_active c)) m3 m4 (with_active c) p before (λ image is. (at_end m3 m4 (Stays (state_in m3) (with_active c)) moments image is).sound) ended synced older (last_named c.journals)
 rested_ok m3 m4 c p (Err e) before moments ended synced older = tt
 
 pub right_by : (s : State) (c : Contents) (p : MendPlan) (ends : List FileEnd) → ends ≡ p.ends.items → IsPrepared s c p → AreRight s c ends

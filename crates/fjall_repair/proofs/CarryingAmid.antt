@@ -11,7 +11,7 @@ use Rattle.fjall_files.specs.Texts.{text_in}
 use Rattle.fjall_files.specs.declared.marker.Marker.{Marker}
 use Rattle.fjall_files.specs.declared.marker.Marker.TheVariants.{Whole, Unfinished}
 use Rattle.fjall_files.specs.Marker.{marker_tells}
-use Rattle.fjall_recovery.specs.Folders.{Contents, IsSound, StandsFor, file_bytes, marker_bytes, store_of}
+use Rattle.fjall_recovery.specs.Folders.{Contents, IsOpenable, IsSound, StandsFor, file_bytes, marker_bytes, store_of}
 use Rattle.fjall_recovery.specs.Amid.{StandsAmid}
 use Rattle.fjall_recovery.proofs.Alike.{Alike, alike_sound, alike_synced}
 use Rattle.fjall_recovery.proofs.Holding.{there_or_not}
@@ -34,7 +34,7 @@ IsPreparedAmid base pending s c p = IsPreparedBy (StandsAmid base [] pending) s 
 pub marker_known : {told : Result Marker Error} → told ≡ Ok Whole → told ≡ Ok Unfinished → ⊥
 marker_known whole unfinished = let no = sym whole ∙ unfinished in cc
 
-module _ (s : State) (c : Contents) (sound : IsSound (standing s) c) (base : Store) (pending : List Command) (p : MendPlan) (before : IsPreparedAmid base pending s c p) where
+module _ (s : State) (c : Contents) (sound : IsOpenable (standing s) c) (base : Store) (pending : List Command) (p : MendPlan) (before : IsPreparedAmid base pending s c p) where
   left_of : (image : Image) → IsImage s image → (q : Name) → IsThere image (folder_of q) → (s q).older ≡ [] → Survives (s q).now (image q)
   left_of image is q there older = ⊎_elim (λ here. here) (λ was. absurd (subst (λ (es : List Entry). SomeSurvives es (image q)) older was)) (is.kept q there)
 
@@ -77,7 +77,7 @@ place_alike old new same = ⊎_elim
 
 -- ---- the call
 
-pub prepared_amid : (m0 m1 m2 m3 : Meaning) (c : Contents) (p : MendPlan) → IsSound (standing (state_in m0)) c → Suits (standing (state_in m0)) c p → (base : Store) (pending : List Command) → LeavesOnly m0 m1 (StandsAmid base [] pending)
+pub prepared_amid : (m0 m1 m2 m3 : Meaning) (c : Contents) (p : MendPlan) → IsOpenable (standing (state_in m0)) c → Suits (standing (state_in m0)) c p → (base : Store) (pending : List Command) → LeavesOnly m0 m1 (StandsAmid base [] pending)
     → (active : Name) → active ≡ string_bytes p.active → IsOpened (standing (state_in m0)) (standing (state_in m1)) active → ((q : Name) → folder_of q ≡ [] → (state_in m1 q).older ≡ [])
     → LeavesOnly m1 m2 (IsImage (state_in m1)) → ((q : Name) → (state_in m2 q).now ≡ (state_in m1 q).now) → ((q : Name) → (state_in m1 q).older ≡ [] → (state_in m2 q).older ≡ [])
     → (folders : List (String Global)) → folders ≡ p.folders.items → All (λ folder. (q : Name) → folder_of q ≡ string_bytes folder → (state_in m2 q).older ≡ []) folders
@@ -88,9 +88,9 @@ prepared_amid m0 m1 m2 m3 c p sound suits base pending moments active active_is 
     (subst (IsOpened (standing (state_in m0)) (standing (state_in m1))) active_is made) root names same still
     (subst (All (λ folder. (q : Name) → folder_of q ≡ string_bytes folder → (state_in m2 q).older ≡ [])) folders_is empty) run synced (subst (All (λ file. IsSynced (state_in m3 (string_bytes file)).now)) files_is whole)
 
--- what stands is sound before the files are ended
-pub stands_then : (m0 m1 m2 m3 : Meaning) (c : Contents) (p : MendPlan) → IsSound (standing (state_in m0)) c → Suits (standing (state_in m0)) c p → (active : Name) → active ≡ string_bytes p.active → IsOpened (standing (state_in m0)) (standing (state_in m1)) active
-    → ((q : Name) → (state_in m2 q).now ≡ (state_in m1 q).now) → ((q : Name) → IsSame (state_in m2 q) (state_in m3 q)) → IsSound (standing (state_in m3)) (with_active c)
+-- an opening finds nothing wrong in what stands before the files are ended
+pub stands_then : (m0 m1 m2 m3 : Meaning) (c : Contents) (p : MendPlan) → IsOpenable (standing (state_in m0)) c → Suits (standing (state_in m0)) c p → (active : Name) → active ≡ string_bytes p.active → IsOpened (standing (state_in m0)) (standing (state_in m1)) active
+    → ((q : Name) → (state_in m2 q).now ≡ (state_in m1 q).now) → ((q : Name) → IsSame (state_in m2 q) (state_in m3 q)) → IsOpenable (standing (state_in m3)) (with_active c)
 stands_then m0 m1 m2 m3 c p sound suits active active_is made same synced =
     let one = opened_sound (standing (state_in m0)) (standing (state_in m1)) active made c (active_is ∙ suits.active) sound in
     alike_sound (standing (state_in m1)) (standing (state_in m3)) (λ q. subst (λ (e : Entry). Alike e (state_in m3 q).now) (same q) (place_alike (state_in m2 q) (state_in m3 q) (synced q))) (with_active c) one
@@ -109,7 +109,7 @@ module _ (base : Store) (pending : List Command) where
   amid_stays m0 m3 m4 so_far run = runs_on m0 m3 m4 Stood so_far (weaken m3 m4 (StaysAmid (state_in m3) base pending) Stood run (λ image stays. stays_stand (state_in m3) image stays))
 
   pub rested_amid : (m3 m4 : Meaning) (c : Contents) (p : MendPlan) (result : Result Unit Error) → IsPreparedAmid base pending (state_in m3) (with_active c) p → LeavesOnly m3 m4 (StaysAmid (state_in m3) base pending)
-      → OnOk result (IsSound (standing (state_in m4)) (with_active c))
+      → OnOk result (IsOpenable (standing (state_in m4)) (with_active c))
       → OnOk result (All (λ e. IsEnded (state_in m3) (state_in m4) (end_of e)) p.ends.items) → OnOk result ((q : Name) → IsSynced (state_in m3 q).now → IsSynced (state_in m4 q).now)
       → OnOk result ((q : Name) → (state_in m4 q).older ≡ (state_in m3 q).older) → OnOk result (IsRested (state_in m4) (with_active c))
   rested_amid m3 m4 c p (Ok done) before moments stands ended synced older =
@@ -120,7 +120,7 @@ module _ (base : Store) (pending : List Command) where
       (each_to (λ f. (q : Name) → folder_of q ≡ f → (state_in m3 q).older ≡ []) (λ f. (q : Name) → folder_of q ≡ f → (state_in m4 q).older ≡ []) (folder_names (map (λ k. k.id) c.keyspaces.living)) (λ f was q at. older q ∙ was q at) before.folders)
       (each_to (λ f. IsSynced (state_in m3 f).now) (λ f. IsSynced (state_in m4 f).now) (whole_names (ids_of (opened c.journals))) (λ f was. synced f was) before.whole)
       (subst (AllByRecursion (λ f. IsSynced (state_in m4 f).now)) before.ended (along_map (λ f. IsSynced (state_in m4 f).now) name_of_end p.ends.items (λ k d lt. (_, ended k d lt))))
-      image is stays.c stays.sound) ended synced older (last_named c.journals)
+      image is stays.c stays.sound.openable) ended synced older (last_named c.journals)
   rested_amid m3 m4 c p (Err e) before moments stands ended synced older = tt
 
 -- ---- names under which the call has its facts

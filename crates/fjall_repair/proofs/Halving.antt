@@ -1,4 +1,4 @@
--- What a sound folder says of its root and of its keyspaces, and images in which these stand alike.
+-- What a folder in which an opening finds nothing wrong says of its root and of its keyspaces, and images in which these stand alike.
 use Rattle.std.proofs.Common.{◌≡◌, inl, inr, ℕ, List, [], ◌∷◌, codes, refl, sym, ◌∙◌, ap, subst}
 use Rattle.fjall_base.specs.Disk.{Name, Entry, Folder, Image, IsFile}
 use Rattle.fjall_journal.specs.declared.batch.Tail.TheVariants.{Clean, Torn}
@@ -8,14 +8,50 @@ use Rattle.fjall_files.specs.Texts.{text_in}
 use Rattle.fjall_files.specs.Marker.{marker_tells}
 use Rattle.fjall_files.specs.Names.{journal_name, keyspace_folder, current_name, table_name}
 use Rattle.fjall_home.specs.Homes.{HasFiles, HoldTables, Home, records_text}
-use Rattle.fjall_catalog.specs.Catalog.{home_of}
-use Rattle.fjall_recovery.specs.Folders.{file_bytes}
-use Rattle.fjall_recovery.specs.Homes.{HasPlainHome}
+use Rattle.fjall_catalog.specs.Catalog.{Says, home_of}
+use Rattle.fjall_recovery.specs.Folders.{AreMade, Contents, IsOpenable, file_bytes}
+use Rattle.fjall_recovery.specs.Homes.{HasOpenableHome, HaveHomes}
 use Rattle.fjall_recovery.specs.Journals.{Journal, ReadsAs, AreRead, journal_text}
-use Rattle.fjall_recovery.specs.Halves.{HasRoot, HasTree, Tree}
+use Rattle.fjall_recovery.specs.Halves.{HasRoot, Tree}
+use Rattle.fjall_recovery.specs.Naming.{KeyspacesAreNamed}
 use Rattle.fjall_repair.proofs.Cutting.{Lasts}
 use Rattle.fjall_repair.proofs.Living.{have_along}
-pub use Rattle.fjall_recovery.proofs.Holding.{tree_of, root_of, tree_in, made as sound_of}
+pub use Rattle.fjall_recovery.proofs.Holding.{tree_of, root_of}
+
+-- ---- the keyspaces
+
+-- the keyspaces of an image in which an opening finds nothing wrong
+pub record HasOpenTree (image : Image) (t : Tree) : Type 0 where
+  pub named : KeyspacesAreNamed image
+  pub folder : image (keyspace_folder 0) ≡ Folder
+  pub records : List Fields
+  pub catalog : Says image records t.last t.keyspaces
+  pub made : AreMade t.last t.keyspaces
+  pub homes : HaveHomes image t.keyspaces.living t.homes
+
+pub open_tree_in : (image : Image) (c : Contents) → IsOpenable image c → HasOpenTree image (tree_of c)
+open_tree_in image c sound = record {
+  named = sound.keyspaces_named;
+  folder = sound.folder;
+  records = sound.records;
+  catalog = sound.catalog;
+  made = sound.made;
+  homes = sound.homes;
+}
+
+-- both halves make a folder
+pub open_of : (image : Image) (c : Contents) → HasRoot image c.journals → HasOpenTree image (tree_of c) → IsOpenable image c
+open_of image c root tree = record {
+  marker = root.marker;
+  journals_named = root.named;
+  journals = root.holds;
+  keyspaces_named = tree.named;
+  folder = tree.folder;
+  records = tree.records;
+  catalog = tree.catalog;
+  made = tree.made;
+  homes = tree.homes;
+}
 
 -- ---- kinds of entries
 
@@ -85,12 +121,18 @@ module _ (image other : Image) where
         },
       )
 
-  home_along : SaysSame → (id : ℕ) (h : Home) → HasPlainHome image id h → HasPlainHome other id h
+  home_along : SaysSame → (id : ℕ) (h : Home) → HasOpenableHome image id h → HasOpenableHome other id h
   home_along same id h has =
       let files = files_along same id has.records h has.home.files in
-      record { records = files.0; home = record { folder = same.stays (keyspace_folder id) has.home.folder; files = files.1 }; plain = has.plain }
+      record {
+        records = files.0;
+        home = record { folder = same.stays (keyspace_folder id) has.home.folder; files = files.1 };
+        indexes = has.indexes;
+        indexed = has.indexed;
+        clears = has.clears;
+      }
 
-  pub tree_with : (t : Tree) → SaysSame → HasTree image t → HasTree other t
+  pub tree_with : (t : Tree) → SaysSame → HasOpenTree image t → HasOpenTree other t
   tree_with t same tree =
       let files = files_along same 0 tree.records (home_of t.last tree.catalog.texts) tree.catalog.files in
       record {
@@ -100,11 +142,10 @@ module _ (image other : Image) where
         catalog = record { texts = tree.catalog.texts; files = files.1; pairs = tree.catalog.pairs; next = tree.catalog.next; are = tree.catalog.are };
         made = tree.made;
         homes = have_along image t.keyspaces.living t.homes other (λ id h lives has. home_along same id h has) tree.homes;
-        versions = tree.versions;
       }
 
   pub tree_along : (t : Tree) → ((q : Name) → other q ≡ Folder → image q ≡ Folder) → ((q : Name) → image q ≡ Folder → other q ≡ Folder)
-      → ((id : ℕ) → other (current_name id) ≡ image (current_name id)) → ((id n : ℕ) → other (table_name id n) ≡ image (table_name id n)) → HasTree image t → HasTree other t
+      → ((id : ℕ) → other (current_name id) ≡ image (current_name id)) → ((id n : ℕ) → other (table_name id n) ≡ image (table_name id n)) → HasOpenTree image t → HasOpenTree other t
   tree_along t back stays currents tables = tree_with t (record {
     back = back;
     stays = stays;

@@ -9,7 +9,7 @@ use Rattle.fjall_base.proofs.Moments.{at_end}
 use Rattle.fjall_base.proofs.Wholes.{all_kept, all_kept_is_left}
 use Rattle.fjall_files.proofs.Changes.{settle-now}
 use Rattle.fjall_files.specs.Names.{journal_name}
-use Rattle.fjall_recovery.specs.Folders.{Contents, IsSound, IsUnfinished}
+use Rattle.fjall_recovery.specs.Folders.{Contents, IsOpenable, IsUnfinished}
 use Rattle.fjall_recovery.specs.Journals.{Journal}
 use Rattle.fjall_recovery.specs.Amid.{HoldsAmid, StandsAmid}
 use Rattle.fjall_recovery.proofs.Alike.{alike_sound, kept_alike, standing_amid}
@@ -21,13 +21,13 @@ use Rattle.fjall_repair.proofs.CarryingAmid.{marker_known, place_alike}
 
 -- some contents
 abbrev pub IsFinishedFolder : Image → Type 0
-IsFinishedFolder image = (d : Contents) × IsSound image d
+IsFinishedFolder image = (d : Contents) × IsOpenable image d
 
 pub not_unfinished : (image : Image) → IsFinishedFolder image → IsUnfinished image → ⊥
 not_unfinished image (d, sound) begun = marker_known sound.marker begun.marker
 
 -- a folder with this journal has journals
-pub has_some : (image : Image) (c : Contents) (id : ℕ) → id < 2 ^ 64 → IsFile (image (journal_name id)) → IsSound image c → c.journals ≡ [] → ⊥
+pub has_some : (image : Image) (c : Contents) (id : ℕ) → id < 2 ^ 64 → IsFile (image (journal_name id)) → IsOpenable image c → c.journals ≡ [] → ⊥
 has_some image c id small file sound none =
     let has : Contains [] id = subst (λ (l : List Journal). Contains (ids_of l) id) none ((sound.journals.ids.each id).1 (small, file)) in
     let lt = has.1 in
@@ -55,9 +55,9 @@ held_from old new base pending housed holds run finished active id small named (
 -- ---- the root is settled
 
 pub settle_stands : (old mid new : Meaning) (active : Name) → Took old mid (making active (File [] []) (state_in old active).now) → IsFile (state_in mid active).now → (result : Result Unit Error) → OnOk result (Took mid new (SyncFolder [] ∷ [])) → OnErr result (Took mid new [])
-    → (c : Contents) → IsSound (standing (state_in old)) c → active ≡ journal_name (active_of (ids_of c.journals)) → IsSound (standing (state_in new)) (with_active c)
+    → (c : Contents) → IsOpenable (standing (state_in old)) c → active ≡ journal_name (active_of (ids_of c.journals)) → IsOpenable (standing (state_in new)) (with_active c)
 settle_stands old mid new active made file result ok err c sound named =
-    subst (λ (i : Image). IsSound i (with_active c)) (let same : (q : Name) → (state_in mid q).now ≡ (state_in new q).now = λ q. sym (by result ok err q) in λ j q. same q j)
+    subst (λ (i : Image). IsOpenable i (with_active c)) (let same : (q : Name) → (state_in mid q).now ≡ (state_in new q).now = λ q. sym (by result ok err q) in λ j q. same q j)
     (opened_sound (standing (state_in old)) (standing (state_in mid)) active (made_opened old mid active made file) c named sound)
   where
     by : (r : Result Unit Error) → OnOk r (Took mid new (SyncFolder [] ∷ [])) → OnErr r (Took mid new []) → (q : Name) → (state_in new q).now ≡ (state_in mid q).now
@@ -67,7 +67,7 @@ settle_stands old mid new active made file result ok err c sound named =
 -- ---- along the other steps
 
 pub sound_along : (old new : State) → ((q : Name) → (new q).now ≡ (old q).now) → IsFinishedFolder (standing old) → IsFinishedFolder (standing new)
-sound_along old new same (d, sound) = (d, subst (λ (i : Image). IsSound i d) (λ j q. sym (same q) j) sound)
+sound_along old new same (d, sound) = (d, subst (λ (i : Image). IsOpenable i d) (λ j q. sym (same q) j) sound)
 
 pub sound_synced : (old new : State) → ((q : Name) → IsSame (old q) (new q)) → IsFinishedFolder (standing old) → IsFinishedFolder (standing new)
 sound_synced old new same (d, sound) = (d, alike_sound (standing old) (standing new) (λ q. place_alike (old q) (new q) (same q)) d sound)
@@ -86,12 +86,12 @@ held_at_end m0 m3 m4 base pending housed run moments active id small named settl
     let whole = at_end m3 m4 (StaysAmid (state_in m3) base pending) moments (all_kept s) (all_kept_is_left s housed) in
     let in_root : folder_of active ≡ [] = ap (λ (n : Name). folder_of n) named ∙ folder_of-journal id small in
     let there : IsFile (s active).now = (kept_alike s active).file.0 (whole.files active in_root settled file) in
-    held_with s base pending housed (λ image is. at_end m0 m4 (StandsAmid base [] pending) run image is) (whole.c, alike_sound (all_kept s) (standing s) (kept_alike s) whole.c whole.sound) id small
+    held_with s base pending housed (λ image is. at_end m0 m4 (StandsAmid base [] pending) run image is) (whole.c, alike_sound (all_kept s) (standing s) (kept_alike s) whole.c whole.sound.openable) id small
     (subst (λ (n : Name). IsFile (s n).now) named there)
 
 -- ---- names under which the call has its facts
 
-pub either_finished : (image : Image) (c : Contents) → IsSound image c ⊎ IsSound image (with_active c) → IsFinishedFolder image
+pub either_finished : (image : Image) (c : Contents) → IsOpenable image c ⊎ IsOpenable image (with_active c) → IsFinishedFolder image
 either_finished image c (inl sound) = (c, sound)
 either_finished image c (inr sound) = (with_active c, sound)
 

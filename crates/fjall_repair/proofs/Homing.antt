@@ -3,13 +3,15 @@ use Rattle.std.proofs.Common.{◌≡◌, List, [], ◌∷◌, length, map, Optio
 use Rattle.fjall_base.specs.Disk.{Folder, Image}
 use Rattle.fjall_files.specs.Names.{keyspace_folder}
 use Rattle.fjall_table.specs.declared.table_info.TableInfo.{TableInfo}
+use Rattle.fjall_table.specs.Tables.{Handle}
 use Rattle.fjall_home.specs.Homes.{HoldTables, Home}
+use Rattle.fjall_home.specs.Reading.{AreIndexed}
 use Rattle.fjall_meta.specs.declared.entry.MetaEntry.{MetaEntry}
 use Rattle.fjall_meta.specs.Keyspaces.{Keyspaces}
 use Rattle.fjall_catalog.specs.declared.catalog.Catalog.{Catalog}
 use Rattle.fjall_catalog.specs.Catalog.{ArePairs, Says, home_of}
 use Rattle.fjall_tree.specs.Records.{Fields}
-use Rattle.fjall_recovery.specs.Homes.{HasPlainHome}
+use Rattle.fjall_recovery.specs.Homes.{HasOpenableHome}
 
 -- the folder is there, with as many bytes in each of the home's tables
 pub record HasCounts (image : Image) (id : ℕ) (h : Home) : Type 0 where
@@ -18,15 +20,28 @@ pub record HasCounts (image : Image) (id : ℕ) (h : Home) : Type 0 where
   pub tables : HoldTables image id h.last.tables texts
   pub counts : map length texts ≡ map length h.texts
 
--- ---- the home of a keyspace that lives, which has no table
+-- ---- the home of a keyspace that lives
 
-no_tables : (image other : Image) (id : ℕ) (tables : List TableInfo) (texts : List (List ℕ)) → tables ≡ [] → HoldTables image id tables texts → HoldTables other id tables texts
-no_tables image other id [] [] none holds = tt
-no_tables image other id [] (bytes ∷ texts) none holds = absurd holds
-no_tables image other id (t ∷ tables) texts none holds = let bad : ⊥ = cc in absurd bad
+-- tables that are right at their ends have the counts that their infos tell
+indexed_count : (tables : List TableInfo) (texts others : List (List ℕ)) (indexes more : List (List Handle)) → AreIndexed tables texts indexes → AreIndexed tables others more → map length others ≡ map length texts
+indexed_count [] [] [] indexes more one two = refl
+indexed_count [] [] (bytes ∷ others) indexes more one two = absurd two
+indexed_count [] (bytes ∷ texts) others indexes more one two = absurd one
+indexed_count (t ∷ tables) [] others indexes more one two = absurd one
+indexed_count (t ∷ tables) (bytes ∷ texts) [] indexes more one two = absurd two
+indexed_count (t ∷ tables) (bytes ∷ texts) (other ∷ others) [] more one two = absurd one
+indexed_count (t ∷ tables) (bytes ∷ texts) (other ∷ others) (handles ∷ indexes) [] one two = absurd two
+indexed_count (t ∷ tables) (bytes ∷ texts) (other ∷ others) (handles ∷ indexes) (index ∷ more) one two =
+    λ j. (two.0.len ∙ sym one.0.len) j ∷ indexed_count tables texts others indexes more one.1 two.1 j
 
-pub plain_counts : (image other : Image) (id : ℕ) (h : Home) → HasPlainHome image id h → other (keyspace_folder id) ≡ Folder → HasCounts other id h
-plain_counts image other id h has folder = record { folder = folder; texts = h.texts; tables = no_tables image other id h.last.tables h.texts has.plain.tables has.home.files.tables; counts = refl }
+-- where the last records are the same
+pub open_counts : (image other : Image) (id : ℕ) (h i : Home) → HasOpenableHome image id h → i.last ≡ h.last → HasOpenableHome other id i → HasCounts other id h
+open_counts image other id h i has same also = record {
+  folder = also.home.folder;
+  texts = i.texts;
+  tables = subst (λ (last : Fields). HoldTables other id last.tables i.texts) same also.home.files.tables;
+  counts = indexed_count h.last.tables h.texts i.texts has.indexes also.indexes has.indexed (subst (λ (last : Fields). AreIndexed last.tables i.texts also.indexes) same also.indexed);
+}
 
 -- ---- tree 0
 

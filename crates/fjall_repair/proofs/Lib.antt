@@ -44,6 +44,7 @@ pub mod Planned
 pub mod Tables
 pub mod Listings
 pub mod Rooted
+pub mod Agreeing
 pub mod Repairing
 pub mod Numbering
 pub mod Replayed

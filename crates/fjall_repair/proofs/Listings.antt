@@ -1,22 +1,27 @@
 -- What is found of folders, one after another.
-use Rattle.std.proofs.Common.{◌≡◌, ◌≢◌, ◌⊎◌, inl, inr, ⊎_elim, ℕ, ◌+◌, ◌-◌, ◌<◌, ◌≤◌, ◌^◌, ◌==◌, Bool, true, List, [], ◌∷◌, ◌++◌, map, length, take, get_or, All, Any, Option, None, Some, refl, sym, ◌∙◌, ap, subst, add-one, arith, length-append}
+use Rattle.std.proofs.Common.{◌≡◌, ◌⊎◌, inl, inr, ⊎_elim, ℕ, ◌+◌, ◌-◌, ◌<◌, ◌≤◌, ◌^◌, ◌==◌, Bool, true, false, if◌then◌else◌, List, [], ◌∷◌, ◌++◌, map, find, length, take, get_or, All, AllPairs, Any, Option, Some, unwrap_or, refl, sym, ◌∙◌, ap, subst, add-one, arith, length-append}
 use Rattle.std.specs.Prelude.{IsTrue, String, string_bytes, ◌↔◌}
 use Rattle.std.specs.List.{Contains, list_any}
+use Rattle.std.specs.Option.{option_map}
+use Rattle.std.proofs.lemmas.List.Kept.{AllPairs-from_increasing}
 use Rattle.std.proofs.lemmas.Bool.Decides.{nat_tests}
-use Rattle.std.proofs.lemmas.List.{append-nil, map-append, map_more, length-map, get_or-map, get_or_default, take_all}
-use Rattle.std.proofs.lemmas.List.Elements.{All-append, All-push, Contains-append_left, Contains-append_right, Contains-get_or, Contains-push_cases}
-use Rattle.std.proofs.lemmas.List.Folds.{Any-from_list_any, list_any-from_Any}
+use Rattle.std.proofs.lemmas.List.{append-nil, map-append, map_more, length-map, get_or-map, take_all}
+use Rattle.std.proofs.lemmas.List.Elements.{All-append, All-contains, All-map, All-push, Contains-append_left, Contains-append_right, Contains-get_or, Contains-push_cases}
 use Rattle.std.proofs.Math.Seq.{get_or-append_right, take-suc}
 use Rattle.std.specs.declared.alloc.Global.{Global}
-use Rattle.fjall_base.specs.Disk.{Name, Meaning, Missing, State, Took}
+use Rattle.fjall_base.specs.Disk.{Name, Meaning, State, Took}
 use Rattle.fjall_base.proofs.Lists.{Any-more}
 use Rattle.fjall_files.specs.Names.{table_name}
+use Rattle.fjall_home.specs.declared.reading.LoadedHome.{LoadedHome}
+use Rattle.fjall_table.specs.declared.table_info.TableInfo.{TableInfo}
+use Rattle.fjall_tree.specs.Records as records
 use Rattle.fjall_meta.specs.declared.living.LivingKeyspace.{LivingKeyspace}
 use Rattle.fjall_files.specs.declared.own.OwnFiles.{OwnFiles}
 use Rattle.fjall_repair.specs.Listing.{AreTables}
 use Rattle.fjall_files.specs.Own.{AreOwnFiles, HoldsOnlyOwn}
-use Rattle.fjall_repair.specs.Sweeps.{FindsHomes, FindsTables, FindsTablesOf, IsUnnamedHome, IsUnnamedTable, Lives}
+use Rattle.fjall_repair.specs.Sweeps.{AreHomesOf, FindsHomes, FindsTables, FindsTablesAt, FindsTablesOf, IsUnnamedHome, IsUnnamedTable, Lives, Names, names_of, tables_at}
 use Rattle.fjall_files.proofs.OwnEntries.{contains_map}
+use Rattle.fjall_repair.proofs.Items.{contained_if, found_at, if_contained}
 
 abbrev Text : Type 0
 Text = String Global
@@ -32,73 +37,82 @@ all_unmap P texts all k d lt =
     subst P (get_or-map string_bytes texts k d (string_bytes d) lt) (all k (string_bytes d) (subst (λ n. k < n) (sym (length-map texts string_bytes)) lt))
 
 -- what is found in one folder is unnamed
-pub unnamed_tables : (state : State) (id : ℕ) (here named : Option ℕ) (living : List LivingKeyspace) (texts : List Text) → id < 2 ^ 64 → AreTables state id here (map string_bytes texts)
-    → ((n : ℕ) → here ≢ Some n → ((id ≡ 0) × (named ≢ Some n)) ⊎ Lives living id) → All (λ text. IsUnnamedTable named living (string_bytes text)) texts
-unnamed_tables state id here named living texts fits found of = all_unmap (IsUnnamedTable named living) texts (λ k d lt.
+pub unnamed_tables : (state : State) (id : ℕ) (named : List TableInfo) (names : Names) (living : List LivingKeyspace) (texts : List Text) → id < 2 ^ 64 → (id ≡ 0) ⊎ Lives living id → names id ≡ map (λ table. table.id) named
+    → AreTables state id named (map string_bytes texts) → All (λ text. IsUnnamedTable names living (string_bytes text)) texts
+unnamed_tables state id named names living texts fits counts at found = all_unmap (IsUnnamedTable names living) texts (λ k d lt.
     let one = found.each (get_or (map string_bytes texts) k d) (Contains-get_or (map string_bytes texts) k d lt) in
-    record { id = id; table = one.0; id_fits = fits; table_fits = one.1; name_is = one.2; unnamed = of one.0 one.3 })
+    record { id = id; table = one.0; id_fits = fits; table_fits = one.1; name_is = one.2; counts = counts; unnamed = λ has. one.3 (subst (λ (l : List ℕ). Contains l one.0) at has) })
 
-pub in_tree : (id : ℕ) (named : Option ℕ) (living : List LivingKeyspace) → id ≡ 0 → (n : ℕ) → named ≢ Some n → ((id ≡ 0) × (named ≢ Some n)) ⊎ Lives living id
-in_tree id named living is n other = inl (is, other)
+-- each table in the folders of these homes is named, or is in this list
+abbrev pub FindsTablesIn : State → Names → List LoadedHome → List Name → Type 0
+FindsTablesIn state names homes list = (id : ℕ) → Contains (map (λ h. h.id) homes) id → FindsTablesAt state names list id
 
-pub finds_none : (state : State) (names : List Name) → FindsTablesOf state [] names
-finds_none state names id n lives fits some = absurd (omega (arith, lives.1))
+pub finds_none : (state : State) (names : Names) (list : List Name) → FindsTablesIn state names [] list
+finds_none state names list id has = absurd (omega (arith, has.1))
 
-module _ (living : List LivingKeyspace) (i : ℕ) (d k : LivingKeyspace) (at : k ≡ get_or living i d) (lt : i < length living) where
-  lives_at : Lives living k.id
-  lives_at = subst (λ (x : LivingKeyspace). Lives living x.id) (sym at) (contains_map (λ (x : LivingKeyspace). x.id) living i d lt)
+-- a longer list has them too
+finds_more : (state : State) (names : Names) (list more : List Name) (id : ℕ) → FindsTablesAt state names list id → FindsTablesAt state names (list ++ more) id
+finds_more state names list more id finds n small some = ⊎_elim (λ is. inl is) (λ has. inr (Contains-append_left list more (table_name id n) has)) (finds n small some)
 
-  -- an id among one more of the keyspaces
-  id_cases : (id : ℕ) → Lives (take (i + 1) living) id → Lives (take i living) id ⊎ (k.id ≡ id)
-  id_cases id lives =
-      let more = Contains-push_cases (map (λ (x : LivingKeyspace). x.id) (take i living)) (get_or living i d).id id
-      (subst (λ (l : List ℕ). Contains l id) (map_more (λ (x : LivingKeyspace). x.id) living i d lt) lives) in
-      ⊎_elim (λ before. inl before) (λ same. inr (ap (λ (x : LivingKeyspace). x.id) at ∙ same)) more
+module _ (living : List LivingKeyspace) (homes : List LoadedHome) (tree : List TableInfo) (i : ℕ) (d home : LoadedHome) (at : home ≡ get_or homes i d) (lt : i < length homes) where
+  -- a home among one more
+  id_cases : (id : ℕ) → Contains (map (λ (h : LoadedHome). h.id) (take (i + 1) homes)) id → Contains (map (λ (h : LoadedHome). h.id) (take i homes)) id ⊎ (home.id ≡ id)
+  id_cases id has =
+      let more = Contains-push_cases (map (λ (h : LoadedHome). h.id) (take i homes)) (get_or homes i d).id id
+      (subst (λ (l : List ℕ). Contains l id) (map_more (λ (h : LoadedHome). h.id) homes i d lt) has) in
+      ⊎_elim (λ before. inl before) (λ same. inr (ap (λ (h : LoadedHome). h.id) at ∙ same)) more
 
-  module _ (state now : State) (same : now ≡ state) (named : Option ℕ) (texts more new : List Text) (fits : k.id < 2 ^ 64) (found : AreTables now k.id None (map string_bytes more)) (new_is : new ≡ texts ++ more) where
+  module _ (are : AreHomesOf living homes) where
+    pub home_lives : Lives living home.id
+    home_lives = subst (λ (l : List ℕ). Contains l home.id) are.same (subst (λ (h : LoadedHome). Contains (map (λ (h : LoadedHome). h.id) homes) h.id) (sym at) (contains_map (λ (h : LoadedHome). h.id) homes i d lt))
+
+    -- what its record names
+    pub home_names : names_of tree homes home.id ≡ map (λ table. table.id) home.record.tables.items
+    home_names =
+        let some : 0 < home.id = All-contains (λ n. 0 < n) (map (λ (k : LivingKeyspace). k.id) living) home.id (All-map (λ n. 0 < n) (λ (k : LivingKeyspace). k.id) living are.some) home_lives in
+        let test : (home.id == 0) ≡ false = grind (arith, nat_tests) in
+        let rise : AllPairs (λ x y. x < y) (map (λ (h : LoadedHome). h.id) homes) = subst (AllPairs (λ x y. x < y)) (sym are.same) (AllPairs-from_increasing (map (λ (k : LivingKeyspace). k.id) living) are.ascending) in
+        let found : find (λ h. h.id == home.id) homes ≡ Some home =
+        subst (λ (h : LoadedHome). find (λ x. x.id == h.id) homes ≡ Some h) (sym at) (found_at (λ (h : LoadedHome). h.id) homes i d rise lt) in
+        ap (λ (b : Bool). map (λ (t : TableInfo). t.id) (if b then tree else tables_at home.id homes)) test
+        ∙ ap (λ (h : Option LoadedHome). map (λ (t : TableInfo). t.id) (unwrap_or (option_map (λ (x : LoadedHome). (records.view x.record).tables) h) [])) found
+
+  module _ (state now : State) (same : now ≡ state) (named : List TableInfo) (texts more new : List Text) (fits : home.id < 2 ^ 64) (named_is : named ≡ home.record.tables.items) (found : AreTables now home.id named (map string_bytes more)) (new_is : new ≡ texts ++ more) where
     names : map string_bytes new ≡ map string_bytes texts ++ map string_bytes more
     names = ap (λ l. map string_bytes l) new_is ∙ map-append string_bytes texts more
 
-    here : AreTables state k.id None (map string_bytes more)
-    here = subst (λ (s : State). AreTables s k.id None (map string_bytes more)) same found
+    here : AreTables state home.id home.record.tables.items (map string_bytes more)
+    here = subst (λ (l : List TableInfo). AreTables state home.id l (map string_bytes more)) named_is (subst (λ (s : State). AreTables s home.id named (map string_bytes more)) same found)
 
-    pub more_unnamed : All (λ text. IsUnnamedTable named living (string_bytes text)) texts → All (λ text. IsUnnamedTable named living (string_bytes text)) new
-    more_unnamed so_far =
-        subst (All (λ text. IsUnnamedTable named living (string_bytes text))) (sym new_is) (All-append (λ text. IsUnnamedTable named living (string_bytes text)) texts more so_far
-        (unnamed_tables state k.id None named living more fits here (λ n other. inr lives_at)))
+    pub more_unnamed : AreHomesOf living homes → All (λ text. IsUnnamedTable (names_of tree homes) living (string_bytes text)) texts → All (λ text. IsUnnamedTable (names_of tree homes) living (string_bytes text)) new
+    more_unnamed are so_far =
+        subst (All (λ text. IsUnnamedTable (names_of tree homes) living (string_bytes text))) (sym new_is) (All-append (λ text. IsUnnamedTable (names_of tree homes) living (string_bytes text)) texts more so_far
+        (unnamed_tables state home.id home.record.tables.items (names_of tree homes) living more fits (inr (home_lives are)) (home_names are) here))
 
-    pub more_found : FindsTables state named (map string_bytes texts) → FindsTables state named (map string_bytes new)
-    more_found so_far n small some = ⊎_elim (λ is. inl is)
-        (λ has. inr (subst (λ (l : List Name). Contains l (table_name 0 n)) (sym names) (Contains-append_left (map string_bytes texts) (map string_bytes more) (table_name 0 n) has))) (so_far n small some)
+    pub more_found : FindsTables state (names_of tree homes) (map string_bytes texts) → FindsTables state (names_of tree homes) (map string_bytes new)
+    more_found so_far = subst (λ (l : List Name). FindsTables state (names_of tree homes) l) (sym names) (finds_more state (names_of tree homes) (map string_bytes texts) (map string_bytes more) 0 so_far)
 
-    pub more_of : FindsTablesOf state (take i living) (map string_bytes texts) → FindsTablesOf state (take (i + 1) living) (map string_bytes new)
-    more_of so_far id n lives small some = subst (λ (l : List Name). Contains l (table_name id n)) (sym names) (⊎_elim
-        (λ before. Contains-append_left (map string_bytes texts) (map string_bytes more) (table_name id n) (so_far id n before small some))
-        (λ (is : k.id ≡ id). Contains-append_right (map string_bytes texts) (map string_bytes more) (table_name id n) (last id n is small some)) (id_cases id lives))
+    pub more_of : AreHomesOf living homes → FindsTablesIn state (names_of tree homes) (take i homes) (map string_bytes texts) → FindsTablesIn state (names_of tree homes) (take (i + 1) homes) (map string_bytes new)
+    more_of are so_far id has = subst (λ (l : List Name). FindsTablesAt state (names_of tree homes) l id) (sym names) (⊎_elim
+        (λ before. finds_more state (names_of tree homes) (map string_bytes texts) (map string_bytes more) id (so_far id before))
+        (λ (is : home.id ≡ id). subst (λ (m : ℕ). FindsTablesAt state (names_of tree homes) (map string_bytes texts ++ map string_bytes more) m) is last) (id_cases id has))
       where
-        last : (id n : ℕ) → k.id ≡ id → n < 2 ^ 64 → (state (table_name id n)).now ≢ Missing → Contains (map string_bytes more) (table_name id n)
-        last id n is small some = subst (λ (m : ℕ). Contains (map string_bytes more) (table_name m n)) is (⊎_elim (λ none. let no : None ≡ Some n = none in cc) (λ has. has)
-            (here.whole n small (λ none. some (subst (λ (m : ℕ). (state (table_name m n)).now ≡ Missing) is none))))
+        last : FindsTablesAt state (names_of tree homes) (map string_bytes texts ++ map string_bytes more) home.id
+        last n small some = ⊎_elim
+            (λ named. inl (subst (λ (l : List ℕ). Contains l n) (sym (home_names are)) named))
+            (λ has. inr (Contains-append_right (map string_bytes texts) (map string_bytes more) (table_name home.id n) has)) (here.whole n small some)
 
-pub finds_all : (state : State) (living : List LivingKeyspace) (i : ℕ) (names : List Name) → length living ≤ i → FindsTablesOf state (take i living) names → FindsTablesOf state living names
-finds_all state living i names le found = subst (λ (l : List LivingKeyspace). FindsTablesOf state l names) (take_all i living le) found
+pub finds_all : (state : State) (names : Names) (living : List LivingKeyspace) (homes : List LoadedHome) (i : ℕ) (list : List Name) → AreHomesOf living homes → length homes ≤ i → FindsTablesIn state names (take i homes) list → FindsTablesOf state names living list
+finds_all state names living homes i list are le found id lives =
+    subst (λ (l : List LoadedHome). FindsTablesIn state names l list) (take_all i homes le) found id (subst (λ (l : List ℕ). Contains l id) (sym are.same) lives)
 
 -- ---- what lives
 
 pub lives_if : (living : List LivingKeyspace) (id : ℕ) → list_any (λ k. k.id == id) living ≡ true → Lives living id
-lives_if living id is =
-    let (i, k, lt, at, same) = Any-from_list_any (λ (k : LivingKeyspace). k.id == id) living is in
-    let equal : k.id ≡ id = grind (arith, nat_tests) in
-    (i, subst (λ n. i < n) (sym (length-map living (λ (k : LivingKeyspace). k.id))) lt, get_or-map (λ (k : LivingKeyspace). k.id) living i k id lt ∙ ap (λ (x : LivingKeyspace). x.id) at ∙ equal)
+lives_if living id is = contained_if (λ k. k.id) living id is
 
 pub if_lives : (living : List LivingKeyspace) (id : ℕ) → Lives living id → list_any (λ k. k.id == id) living ≡ true
-if_lives [] id lives = absurd (omega (arith, lives.1))
-if_lives (k ∷ living) id (i, lt, at) =
-    let less : i < length (k ∷ living) = subst (λ n. i < n) (length-map (k ∷ living) (λ (k : LivingKeyspace). k.id)) lt in
-    let found = get_or (k ∷ living) i k in
-    let same : found.id ≡ id = sym (get_or-map (λ (k : LivingKeyspace). k.id) (k ∷ living) i k id less) ∙ at in
-    let test : (found.id == id) ≡ true = grind (arith, nat_tests) in
-    list_any-from_Any (λ (k : LivingKeyspace). k.id == id) (k ∷ living) (i, found, less, get_or_default (k ∷ living) i found k less, test)
+if_lives living id lives = if_contained (λ k. k.id) living id lives
 
 pub is_named : (living : List LivingKeyspace) (id : ℕ) (result : Bool) → (id ≡ 0 → ⊥) → result ≡ list_any (λ k. k.id == id) living → IsTrue result ↔ ((id ≡ 0) ⊎ Lives living id)
 is_named living id result some is = (

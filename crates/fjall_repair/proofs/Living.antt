@@ -8,7 +8,7 @@ use Rattle.fjall_home.specs.Homes.{Home}
 use Rattle.fjall_meta.specs.declared.living.LivingKeyspace.{LivingKeyspace}
 use Rattle.fjall_meta.specs.Keyspaces.{Keyspaces, AreKeyspaces, keyspace_at}
 use Rattle.fjall_versions.proofs.Ids.{each_lives, living_has}
-use Rattle.fjall_recovery.specs.Homes.{HasHomeAt, HasPlainHome, HaveHomes, Homes}
+use Rattle.fjall_recovery.specs.Homes.{HasHomeAt, HasOpenableHome, HaveHomes, Homes}
 use Rattle.fjall_recovery.specs.Places.{HasSafeHome, HasSafeHomeAt, HaveSafeHomes}
 use Rattle.fjall_recovery.proofs.Housing.{homes_alike}
 use Rattle.fjall_repair.specs.Sweeps.{Lives}
@@ -45,15 +45,15 @@ lives_found living id lives =
 
 module _ (image : Image) (living : List LivingKeyspace) (homes : Homes) where
   -- another image has them where it has each of them
-  pub have_along : (other : Image) → ((id : ℕ) (h : Home) → Lives living id → HasPlainHome image id h → HasPlainHome other id h) → HaveHomes image living homes → HaveHomes other living homes
+  pub have_along : (other : Image) → ((id : ℕ) (h : Home) → Lives living id → HasOpenableHome image id h → HasOpenableHome other id h) → HaveHomes image living homes → HaveHomes other living homes
   have_along other each have = homes_alike (Lives living) living homes (all_live living) image other each have
 
   -- they are safe on a disk where each of them is
-  pub homes_safe : (state : State) → ((id : ℕ) (h : Home) → Lives living id → HasPlainHome image id h → HasSafeHome state id h) → HaveHomes image living homes → HaveSafeHomes state living homes
-  homes_safe state each have id = of (keyspace_at id living) refl (get homes id) (have id)
+  pub homes_safe : (state : State) → ((id : ℕ) (h : Home) → Lives living id → get homes id ≡ Some h → HasOpenableHome image id h → HasSafeHome state id h) → HaveHomes image living homes → HaveSafeHomes state living homes
+  homes_safe state each have id = of (keyspace_at id living) refl (get homes id) refl (have id)
     where
-      of : (k : Option LivingKeyspace) → keyspace_at id living ≡ k → (h : Option Home) → HasHomeAt image id k h → HasSafeHomeAt state id k h
-      of (Some k) at (Some h) has = each id h (living_has (Lives living) living id k at (all_live living)) has
-      of (Some k) at None has = absurd has
-      of None at (Some h) has = absurd has
-      of None at None has = tt
+      of : (k : Option LivingKeyspace) → keyspace_at id living ≡ k → (h : Option Home) → get homes id ≡ h → HasHomeAt image id k h → HasSafeHomeAt state id k h
+      of (Some k) at (Some h) is has = each id h (living_has (Lives living) living id k at (all_live living)) is has
+      of (Some k) at None is has = absurd has
+      of None at (Some h) is has = absurd has
+      of None at None is has = tt

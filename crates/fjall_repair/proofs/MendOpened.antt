@@ -17,14 +17,14 @@ use Rattle.fjall_journal.proofs.Cuts.{none_at_nil}
 use Rattle.fjall_files.specs.Marker.{marker_tells}
 use Rattle.fjall_files.specs.Names.{journal_name, current_name, table_name}
 use Rattle.fjall_contents.specs.Contents.{store_held}
-use Rattle.fjall_recovery.specs.Homes.{stored_in}
-use Rattle.fjall_recovery.specs.Folders.{Contents, IsSound, StandsFor, store_of, file_bytes}
+use Rattle.fjall_recovery.specs.Homes.{HaveVersions, stored_in}
+use Rattle.fjall_recovery.specs.Folders.{Contents, IsOpenable, StandsFor, store_of, file_bytes}
 use Rattle.fjall_recovery.specs.Journals.{Journal, ReadsAs, AreJournalIds, batches_in}
 use Rattle.fjall_recovery.specs.Halves.{HasRoot}
 use Rattle.fjall_recovery.specs.Held.{Holds}
 use Rattle.fjall_repair.specs.Steps.{IsOpened, active_of, opened, with_active}
 use Rattle.fjall_repair.proofs.Naming.{same_or_not, folder_of-journal, journal_current, journal_table, journals_apart, marker_journal}
-use Rattle.fjall_repair.proofs.Halving.{no_folder, root_of, tree_in, tree_of, tree_along, sound_of}
+use Rattle.fjall_repair.proofs.Halving.{no_folder, root_of, open_tree_in, tree_of, tree_along, open_of}
 use Rattle.fjall_repair.proofs.Narrowing.{settle-empty, settled_image}
 
 abbrev pub ids_of : List Journal → List ℕ
@@ -97,17 +97,17 @@ module _ (image made : Image) (active : Name) (is : IsOpened image made active) 
       (λ alike. subst (λ (i : Image). HasRoot i (j ∷ js)) (sym (same_image alike.1)) root)
       (λ new. absurd (subst IsFile new.0 (subst (λ (n : Name). IsFile (image n)) (sym named) (active_there image j.id (ids_of js) root.holds.ids)))) is.here
 
-  pub opened_sound : (c : Contents) → active ≡ journal_name (active_of (ids_of c.journals)) → IsSound image c → IsSound made (with_active c)
+  pub opened_sound : (c : Contents) → active ≡ journal_name (active_of (ids_of c.journals)) → IsOpenable image c → IsOpenable made (with_active c)
   opened_sound c named sound =
       let id = active_of (ids_of c.journals) in
-      sound_of made (with_active c) (root_opened c.journals named (root_of image c sound))
+      open_of made (with_active c) (root_opened c.journals named (root_of image c sound))
       (tree_along image made (tree_of c) opened_back opened_stays (λ k. is.elsewhere (current_name k) (λ same. journal_current id k (sym named ∙ sym same)))
-      (λ k n. is.elsewhere (table_name k n) (λ same. journal_table id k n (sym named ∙ sym same))) (tree_in image c sound))
+      (λ k n. is.elsewhere (table_name k n) (λ same. journal_table id k n (sym named ∙ sym same))) (open_tree_in image c sound))
 
 -- ---- what a crash leaves of it
 
 abbrev pub SoundEither : Contents → Image → Type 0
-SoundEither c image = IsSound image c ⊎ IsSound image (with_active c)
+SoundEither c image = IsOpenable image c ⊎ IsOpenable image (with_active c)
 
 pub same_batches : (js : List Journal) → batches_in (opened js) ≡ batches_in js
 same_batches [] = refl
@@ -116,19 +116,19 @@ same_batches (j ∷ js) = refl
 pub same_store : (c : Contents) → store_of c ≡ store_of (with_active c)
 same_store c = ap (λ (bs : List Written). store_held c.keyspaces (stored_in c.homes c.versions) (map shown bs)) (sym (same_batches c.journals))
 
-pub either_stands : (c : Contents) (image : Image) → SoundEither c image → StandsFor image (store_of c)
-either_stands c image (inl sound) = inl (c, sound, refl)
-either_stands c image (inr sound) = inl (with_active c, sound, same_store c)
+pub either_stands : (c : Contents) → HaveVersions c.homes c.versions → (image : Image) → SoundEither c image → StandsFor image (store_of c)
+either_stands c have image (inl sound) = inl (c, record { openable = sound; versions = have }, refl)
+either_stands c have image (inr sound) = inl (with_active c, record { openable = sound; versions = have }, same_store c)
 
 no_other : (image : Image) (js : List Journal) → HasRoot image js → IsFile (image (journal_name (active_of (ids_of js)))) → opened js ≡ js
 no_other image [] root file = let none = (root.holds.ids.each 1).1 (omega arith, file) in let lt = none.1 in absurd (omega (arith, lt))
 no_other image (j ∷ js) root file = refl
 
 -- where the active journal is there, it is one of the journals
-pub sound_open : (c : Contents) (image : Image) → IsFile (image (journal_name (active_of (ids_of c.journals)))) → SoundEither c image → IsSound image (with_active c)
+pub sound_open : (c : Contents) (image : Image) → IsFile (image (journal_name (active_of (ids_of c.journals)))) → SoundEither c image → IsOpenable image (with_active c)
 sound_open c image file (inr sound) = sound
 sound_open c image file (inl sound) =
-    subst (λ (js : List Journal). IsSound image (let r : Contents = record { journals = js; keyspaces = c.keyspaces; last = c.last; homes = c.homes; versions = c.versions } in r)) (sym (no_other image c.journals (root_of image c sound) file)) sound
+    subst (λ (js : List Journal). IsOpenable image (let r : Contents = record { journals = js; keyspaces = c.keyspaces; last = c.last; homes = c.homes; versions = c.versions } in r)) (sym (no_other image c.journals (root_of image c sound) file)) sound
 
 pub some_swap : (older : List Entry) (entry left : Entry) → SomeSurvives (older ++ entry ∷ []) left → SomeSurvives (entry ∷ older) left
 some_swap [] entry left some = some
@@ -146,13 +146,13 @@ older_image old active image is some = record {
 
 module _ (old : State) (active : Name) (c : Contents) (holds : Holds old (Some c)) (named : active ≡ journal_name (active_of (ids_of c.journals))) where
   in_root : folder_of active ≡ []
-  in_root = ap (λ (n : Name). folder_of n) named ∙ folder_of-journal (active_of (ids_of c.journals)) (active_small (standing old) (ids_of c.journals) holds.now.journals.ids)
+  in_root = ap (λ (n : Name). folder_of n) named ∙ folder_of-journal (active_of (ids_of c.journals)) (active_small (standing old) (ids_of c.journals) holds.now.openable.journals.ids)
 
   abbrev everywhere : Name → Bool
   everywhere q = true
 
   -- an image in which it is made
-  made_image : (image : Image) → (old active).now ≡ Missing → IsImage (put old active (File [] [])) image → image active ≡ File [] [] → IsSound image (with_active c)
+  made_image : (image : Image) → (old active).now ≡ Missing → IsImage (put old active (File [] [])) image → image active ≡ File [] [] → IsOpenable image (with_active c)
   made_image image gone is new =
       let whole = replaced image active Missing in
       let wide = region_put_back {crash = Survives} everywhere old (put old active (File [] [])) image active Missing (λ q out. put-other old active (File [] []) q out)
@@ -161,18 +161,18 @@ module _ (old : State) (active : Name) (c : Contents) (holds : Holds old (Some c
       let is_image : IsImage old whole = record { kept = λ q there. wide.kept q refl there; lost = λ q lost. wide.lost q refl lost } in
       opened_sound whole image active
       (record { elsewhere = λ q not. sym (replaced-other image active Missing q (differs q active not)); here = inr (replaced-same image active Missing, new) })
-      c named (holds.crash whole is_image)
+      c named (holds.crash whole is_image).openable
 
   pub made_either : (image : Image) → (old active).now ≡ Missing → IsImage (put old active (File [] [])) image → SoundEither c image
   made_either image gone is =
       let some = subst (λ (p : Place). SomeSurvives (p.now ∷ p.older) (image active)) (put-same old active (File [] [])) (is.kept active (inl in_root)) in
-      ⊎_elim (λ new. inr (made_image image gone is (new.1 ∙ ap (λ l. File l []) (take_all new.0 [] (omega arith))))) (λ was. inl (holds.crash image (older_image old active image is was))) some
+      ⊎_elim (λ new. inr (made_image image gone is (new.1 ∙ ap (λ l. File l []) (take_all new.0 [] (omega arith))))) (λ was. inl (holds.crash image (older_image old active image is was)).openable) some
 
 -- ---- the moments
 
 module _ (old : Meaning) (active : Name) (c : Contents) (holds : Holds (state_in old) (Some c)) (named : active ≡ journal_name (active_of (ids_of c.journals))) where
   begun : LeavesOnly old old (SoundEither c)
-  begun = started old (SoundEither c) (λ image is. inl (holds.crash image is))
+  begun = started old (SoundEither c) (λ image is. inl (holds.crash image is).openable)
 
   -- nothing was done
   pub still : (new : Meaning) → Took old new [] → LeavesOnly old new (SoundEither c)
@@ -195,7 +195,7 @@ module _ (old : Meaning) (active : Name) (c : Contents) (holds : Holds (state_in
   file_left Folder left file some = absurd file
   file_left (File synced unsynced) left file some = subst IsFile (sym some.1) tt
 
-  pub settled_sound : (mid new : Meaning) → LeavesOnly old new (SoundEither c) → Took mid new (SyncFolder [] ∷ []) → IsFile (state_in mid active).now → (image : Image) → IsImage (state_in new) image → IsSound image (with_active c)
+  pub settled_sound : (mid new : Meaning) → LeavesOnly old new (SoundEither c) → Took mid new (SyncFolder [] ∷ []) → IsFile (state_in mid active).now → (image : Image) → IsImage (state_in new) image → IsOpenable image (with_active c)
   settled_sound mid new run took file image is =
       let root = in_root (state_in old) active c holds named in
       let now : (state_in new active).now ≡ (state_in mid active).now = ap (λ (s : State). (s active).now) took.state ∙ settle-now (state_in mid) [] active in
@@ -235,7 +235,7 @@ module _ (mid new : Meaning) where
   settle_settled (Err e) took = tt
 
 pub still_stands : (old new : Meaning) (c : Contents) → Holds (state_in old) (Some c) → (active : Name) → active ≡ journal_name (active_of (ids_of c.journals)) → Took old new [] → LeavesOnly old new (λ image. StandsFor image (store_of c))
-still_stands old new c holds active named took = weaken old new (SoundEither c) (λ image. StandsFor image (store_of c)) (still old active c holds named new took) (either_stands c)
+still_stands old new c holds active named took = weaken old new (SoundEither c) (λ image. StandsFor image (store_of c)) (still old active c holds named new took) (either_stands c holds.now.versions)
 
 module _ (old mid new : Meaning) (active : Name) (made : Took old mid (making active (File [] []) (state_in old active).now)) where
   settled_run : (c : Contents) (holds : Holds (state_in old) (Some c)) (named : active ≡ journal_name (active_of (ids_of c.journals))) → Took mid new (SyncFolder [] ∷ []) → LeavesOnly old new (SoundEither c)
@@ -243,12 +243,12 @@ module _ (old mid new : Meaning) (active : Name) (made : Took old mid (making ac
 
   pub settle_moment : (result : Result Unit Error) → OnOk result (Took mid new (SyncFolder [] ∷ [])) → OnErr result (Took mid new []) → (c : Contents) → Holds (state_in old) (Some c) → active ≡ journal_name (active_of (ids_of c.journals))
       → LeavesOnly old new (λ image. StandsFor image (store_of c))
-  settle_moment (Ok done) ok err c holds named = weaken old new (SoundEither c) (λ image. StandsFor image (store_of c)) (settled_run c holds named ok) (either_stands c)
+  settle_moment (Ok done) ok err c holds named = weaken old new (SoundEither c) (λ image. StandsFor image (store_of c)) (settled_run c holds named ok) (either_stands c holds.now.versions)
   settle_moment (Err e) ok err c holds named =
-      weaken old new (SoundEither c) (λ image. StandsFor image (store_of c)) (stays old mid new (SoundEither c) (made_moment old active c holds named mid made) err) (either_stands c)
+      weaken old new (SoundEither c) (λ image. StandsFor image (store_of c)) (stays old mid new (SoundEither c) (made_moment old active c holds named mid made) err) (either_stands c holds.now.versions)
 
   pub settle_sound : (result : Result Unit Error) → OnOk result (Took mid new (SyncFolder [] ∷ [])) → IsFile (state_in mid active).now → (c : Contents) → Holds (state_in old) (Some c) → active ≡ journal_name (active_of (ids_of c.journals))
-      → OnOk result ((image : Image) → IsImage (state_in new) image → IsSound image (with_active c))
+      → OnOk result ((image : Image) → IsImage (state_in new) image → IsOpenable image (with_active c))
   settle_sound (Ok done) ok file c holds named = settled_sound old active c holds named mid new (settled_run c holds named ok) ok file
   settle_sound (Err e) ok file c holds named = tt
 

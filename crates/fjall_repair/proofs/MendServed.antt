@@ -15,8 +15,8 @@ use Rattle.fjall_files.proofs.Fitting.{fits_journal, folder_of-folder}
 use Rattle.fjall_files.proofs.Serving.{can_make_journal}
 use Rattle.fjall_meta.specs.declared.living.LivingKeyspace.{LivingKeyspace}
 use Rattle.fjall_recovery.specs.declared.folder.RecoveredFolder.{RecoveredFolder}
-use Rattle.fjall_recovery.specs.declared.homes.KeyspaceRecords.{KeyspaceRecords}
-use Rattle.fjall_recovery.specs.Folders.{Contents, IsFinished, IsSound, file_bytes}
+use Rattle.fjall_home.specs.declared.reading.LoadedHome.{LoadedHome}
+use Rattle.fjall_recovery.specs.Folders.{Contents, IsFinished, IsOpenable, file_bytes}
 use Rattle.fjall_recovery.specs.Homes.{HaveHomes, Homes}
 use Rattle.fjall_recovery.proofs.Housing as Housing
 use Rattle.fjall_repair.specs.declared.mending.plan.FileEnd.{FileEnd}
@@ -35,7 +35,7 @@ use Rattle.fjall_repair.proofs.Suiting.{planned_names, same_ids}
 -- ---- the active journal
 
 -- the active journal can be made
-pub active_can : (state : State) (c : Contents) (p : MendPlan) (name : Name) → IsTidy state → IsSound (standing state) c → Suits (standing state) c p → name ≡ string_bytes p.active → CanCreate state name
+pub active_can : (state : State) (c : Contents) (p : MendPlan) (name : Name) → IsTidy state → IsOpenable (standing state) c → Suits (standing state) c p → name ≡ string_bytes p.active → CanCreate state name
 active_can state c p name tidy sound suits is =
     let id = active_of (ids_of c.journals) in
     subst (CanCreate state) (sym (is ∙ suits.active)) (can_make_journal state id tidy (active_small (standing state) (ids_of c.journals) sound.journals.ids))
@@ -62,7 +62,7 @@ all_keyspaces state housed is =
     (housed.each (keyspace_folder 0) (λ none. let no : Folder ≡ Missing = sym is ∙ none in let bad : ⊥ = cc in bad) (λ root. let no : [] ≡ codes "keyspaces" = sym root ∙ inside in let bad : ⊥ = cc in bad))
 
 -- all folders that are synced are there
-pub folders_there : (state : State) (c : Contents) (folders : List (String Global)) → IsHoused state → IsSound (standing state) c → map string_bytes folders ≡ folder_names (map (λ (k : LivingKeyspace). k.id) c.keyspaces.living)
+pub folders_there : (state : State) (c : Contents) (folders : List (String Global)) → IsHoused state → IsOpenable (standing state) c → map string_bytes folders ≡ folder_names (map (λ (k : LivingKeyspace). k.id) c.keyspaces.living)
     → All (λ folder. IsThere (standing state) (string_bytes folder)) folders
 folders_there state c folders housed sound named =
     back_map (IsThere (standing state)) string_bytes folders (subst (AllByRecursion (IsThere (standing state))) (sym named)
@@ -93,7 +93,7 @@ files_named image [] all = tt
 files_named image (id ∷ ids) all = (all.0, files_named image ids all.1)
 
 -- all files that are whole are there
-pub files_there : (image : Image) (c : Contents) (files : List (String Global)) → IsSound image (with_active c) → map string_bytes files ≡ whole_names (ids_of c.journals) → All (λ file. IsFile (image (string_bytes file))) files
+pub files_there : (image : Image) (c : Contents) (files : List (String Global)) → IsOpenable image (with_active c) → map string_bytes files ≡ whole_names (ids_of c.journals) → All (λ file. IsFile (image (string_bytes file))) files
 files_there image c files sound named =
     let ids = ids_of (with_active c).journals in
     let all = each_taken (λ id. IsFile (image (journal_name id))) (length ids - 1) ids (each_of (λ id. IsFile (image (journal_name id))) ids (λ id has. ((sound.journals.ids.each id).0 has).1)) in
@@ -179,7 +179,7 @@ module _ (id : ℕ) (small : id < 2 ^ 64) where
   home_ends image f tree p some finished named plan dead =
       let are = finished.catalog.are in
       let living = f.catalog.keyspaces.living in
-      let ids : map (λ (h : KeyspaceRecords). h.id) f.homes.items ≡ map (λ (k : LivingKeyspace). k.id) living = same_ids image living f.homes.items finished.homes in
+      let ids : map (λ (h : LoadedHome). h.id) f.homes.items ≡ map (λ (k : LivingKeyspace). k.id) living = same_ids image living f.homes.items finished.homes in
       back_map (λ (q : Name). current_name id ≢ q) name_of_end p.ends.items
       (subst (AllByRecursion (λ (q : Name). current_name id ≢ q)) (sym (planned_names f tree p named plan)) (
         (λ same. journal_current (active_of f.journal_ids.items) id (sym same)),

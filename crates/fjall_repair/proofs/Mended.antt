@@ -5,6 +5,7 @@ use Rattle.fjall_base.specs.Lists.{last_of}
 use Rattle.fjall_files.specs.Names.{journal_name}
 use Rattle.fjall_recovery.specs.declared.folder.RecoveredFolder.{RecoveredFolder}
 use Rattle.fjall_recovery.specs.Folders.{Contents}
+use Rattle.fjall_recovery.specs.Homes.{HaveVersions}
 use Rattle.fjall_recovery.specs.Journals.{Journal, batches_in}
 use Rattle.fjall_recovery.specs.Places.{texts_of}
 use Rattle.fjall_repair.specs.Mended.{IsMended}
@@ -20,9 +21,9 @@ pub same_active : (js : List Journal) → active_of (ids_of (opened js)) ≡ act
 same_active [] = refl
 same_active (j ∷ js) = refl
 
-pub mended : (state : State) (found : RecoveredFolder) (c : Contents) (active : Name) → IsRested state (with_active c) → active ≡ journal_name (active_of (ids_of c.journals))
+pub mended : (state : State) (found : RecoveredFolder) (c : Contents) (active : Name) → HaveVersions c.homes c.versions → IsRested state (with_active c) → active ≡ journal_name (active_of (ids_of c.journals))
     → ((journal : Journal) → last_of (opened c.journals) ≡ Some journal → length (texts_of journal.batches) ≡ found.journals.end) → IsMended state found c active
-mended state found c active rest is ends =
+mended state found c active have rest is ends =
     let p = opened_parted c.journals in
     record {
       j = journaling state (with_active c) rest p;
@@ -33,7 +34,7 @@ mended state found c active rest is ends =
       batches = ap batches_in (with_is state (with_active c) rest p) ∙ same_batches c.journals;
       journals = with_is state (with_active c) rest p;
       records = (sound state (with_active c) rest).records;
-      tree = rests_in_tree state (with_active c) rest;
+      tree = rests_in_tree state (with_active c) rest have;
     }
 
 -- the last journal is the active one

@@ -6,7 +6,7 @@ use Rattle.std.proofs.lemmas.List.Elements.{All-head, All-tail}
 use Rattle.fjall_tree.specs.Records.{Fields, view}
 use Rattle.fjall_catalog.specs.Catalog.{fields}
 use Rattle.fjall_recovery.specs.declared.folder.RecoveredFolder.{RecoveredFolder}
-use Rattle.fjall_recovery.specs.declared.homes.KeyspaceRecords.{KeyspaceRecords}
+use Rattle.fjall_home.specs.declared.reading.LoadedHome.{LoadedHome}
 use Rattle.fjall_recovery.specs.Folders.{past, past_record, past_records}
 use Rattle.fjall_repair.specs.Opened.{HasNumbers, records_of}
 
@@ -33,25 +33,25 @@ module _ (f : RecoveredFolder) (fit : All HasNumbers (records_of f)) where
   tree_number a b tree number first second is all =
       all ∙ ap (λ n. max f.journals.least n) (is ∙ ap (λ n. max n b) (first tree_fits.0) ∙ ap (λ n. max (past f.catalog.catalog.persisted) n) (second tree_fits.1) ∙ sym (max_zero (past_record (fields f.catalog.catalog))))
 
-  module _ (homes : List KeyspaceRecords) (homes_are : homes ≡ f.homes.items) (i : ℕ) (d home : KeyspaceRecords) (at : home ≡ get_or homes i d) (lt : i < length homes) where
+  module _ (homes : List LoadedHome) (homes_are : homes ≡ f.homes.items) (i : ℕ) (d home : LoadedHome) (at : home ≡ get_or homes i d) (lt : i < length homes) where
     home_fits : HasNumbers (view home.record)
     home_fits =
         let all = All-tail HasNumbers (fields f.catalog.catalog) (map (λ h. view h.record) f.homes.items) fit in
         let here : All HasNumbers (map (λ h. view h.record) homes) = subst (λ l. All HasNumbers (map (λ h. view h.record) l)) (sym homes_are) all in
-        let less : i < length (map (λ (h : KeyspaceRecords). view h.record) homes) = subst (λ n. i < n) (sym (length-map homes (λ (h : KeyspaceRecords). view h.record))) lt in
-        subst HasNumbers (get_or-map (λ (h : KeyspaceRecords). view h.record) homes i d (view home.record) lt ∙ ap (λ (h : KeyspaceRecords). view h.record) (sym at)) (here i (view home.record) less)
+        let less : i < length (map (λ (h : LoadedHome). view h.record) homes) = subst (λ n. i < n) (sym (length-map homes (λ (h : LoadedHome). view h.record))) lt in
+        subst HasNumbers (get_or-map (λ (h : LoadedHome). view h.record) homes i d (view home.record) lt ∙ ap (λ (h : LoadedHome). view h.record) (sym at)) (here i (view home.record) less)
 
     -- and of one home more
     pub home_number : (a b mid old new : ℕ) → old ≡ max f.journals.least (past_records (fields f.catalog.catalog ∷ map (λ h. view h.record) (take i homes)))
         → (IfSome home.record.persisted (λ n. n < 2 ^ 63) → a ≡ past home.record.persisted) → (IfSome home.record.highest (λ n. n < 2 ^ 63) → b ≡ past home.record.highest)
         → mid ≡ max old a → new ≡ max mid b → new ≡ max f.journals.least (past_records (fields f.catalog.catalog ∷ map (λ h. view h.record) (take (i + 1) homes)))
     home_number a b mid old new so_far first second mid_is new_is =
-        let front = fields f.catalog.catalog ∷ map (λ (h : KeyspaceRecords). view h.record) (take i homes) in
-        let split : fields f.catalog.catalog ∷ map (λ (h : KeyspaceRecords). view h.record) (take (i + 1) homes) ≡ front ++ view home.record ∷ [] =
-        ap (λ (l : List Fields). fields f.catalog.catalog ∷ l) (map_more (λ (h : KeyspaceRecords). view h.record) homes i d lt ∙ ap (λ (h : KeyspaceRecords). map (λ (h : KeyspaceRecords). view h.record) (take i homes) ++ view h.record ∷ []) (sym at)) in
+        let front = fields f.catalog.catalog ∷ map (λ (h : LoadedHome). view h.record) (take i homes) in
+        let split : fields f.catalog.catalog ∷ map (λ (h : LoadedHome). view h.record) (take (i + 1) homes) ≡ front ++ view home.record ∷ [] =
+        ap (λ (l : List Fields). fields f.catalog.catalog ∷ l) (map_more (λ (h : LoadedHome). view h.record) homes i d lt ∙ ap (λ (h : LoadedHome). map (λ (h : LoadedHome). view h.record) (take i homes) ++ view h.record ∷ []) (sym at)) in
         let both : max (max old a) b ≡ max old (past_record (view home.record)) = sym (max_assoc old a b) ∙ ap (λ n. max old (max n b)) (first home_fits.0) ∙ ap (λ n. max old (max (past home.record.persisted) n)) (second home_fits.1) in
         new_is ∙ ap (λ n. max n b) mid_is ∙ both ∙ ap (λ n. max n (past_record (view home.record))) so_far
         ∙ sym (max_assoc f.journals.least (past_records front) (past_record (view home.record))) ∙ ap (λ n. max f.journals.least n) (sym (one_more front (view home.record)) ∙ ap (λ (l : List Fields). past_records l) (sym split))
 
-  pub all_homes : (homes : List KeyspaceRecords) (i number : ℕ) → homes ≡ f.homes.items → length homes ≤ i → number ≡ max f.journals.least (past_records (fields f.catalog.catalog ∷ map (λ h. view h.record) (take i homes))) → number ≡ max f.journals.least (past_records (records_of f))
+  pub all_homes : (homes : List LoadedHome) (i number : ℕ) → homes ≡ f.homes.items → length homes ≤ i → number ≡ max f.journals.least (past_records (fields f.catalog.catalog ∷ map (λ h. view h.record) (take i homes))) → number ≡ max f.journals.least (past_records (records_of f))
   all_homes homes i number are le is = is ∙ ap (λ l. max f.journals.least (past_records (fields f.catalog.catalog ∷ map (λ h. view h.record) l))) (take_all i homes le ∙ are)

@@ -1,7 +1,9 @@
 -- What was opened, and the disk until then.
-use Rattle.std.proofs.Common.{◌≡◌, inl, inr, ℕ, ◌<◌, max, List, [], ◌∷◌, length, map, All, Option, None, Some, Result, Ok, Err, refl, sym, ◌∙◌, ap, subst, arith}
-use Rattle.std.specs.List.{AllByRecursion}
+use Rattle.std.proofs.Common.{◌≡◌, inl, inr, ℕ, ◌+◌, ◌<◌, ◌==◌, Bool, true, false, if◌then◌else◌, max, List, [], ◌∷◌, length, get_or, map, All, Option, None, Some, Result, Ok, Err, refl, sym, ◌∙◌, ap, subst, arith}
+use Rattle.std.specs.List.{AllByRecursion, AllPairs}
+use Rattle.std.specs.List.Sorted.{IsStrictlyIncreasing}
 use Rattle.std.specs.FinMap.{get}
+use Rattle.std.proofs.lemmas.List.{get_or-map, length-map}
 use Rattle.std.proofs.lemmas.List.Elements.{All-from_recursion, All-nil}
 use Rattle.std.specs.Prelude.{IfOk, IfErr}
 use Rattle.fjall_base.specs.Disk.{Name, State, Image, Survives, LeavesBy, LeavesOnly, Meaning, Took, standing, state_in}
@@ -17,33 +19,35 @@ use Rattle.fjall_files.specs.Names.{journal_name}
 use Rattle.fjall_versions.specs.declared.recovery.Persisted.{Persisted}
 use Rattle.fjall_versions.specs.Versions.{store_of as store_behind}
 use Rattle.fjall_versions.specs.Replays.{bare, first_fault, least_after, persisted_at}
-use Rattle.fjall_contents.specs.Contents.{store_held as store_with}
+use Rattle.fjall_contents.specs.Contents.{nothing_stored, store_held as store_with}
 use Rattle.fjall_contents.specs.Memory.{AreTold, versions_beyond}
 use Rattle.fjall_recovery.specs.Places.{texts_of, contents_with, journals_with}
+use Rattle.fjall_table.specs.declared.table_info.TableInfo.{TableInfo}
 use Rattle.fjall_tree.specs.Records.{Fields, IsRecord}
 use Rattle.fjall_base.specs.Lists.{last_of}
 use Rattle.fjall_tree.specs.Records as records
 use Rattle.fjall_meta.specs.declared.living.LivingKeyspace.{LivingKeyspace}
-use Rattle.fjall_catalog.specs.Catalog.{fields, first_catalog}
+use Rattle.fjall_catalog.specs.Catalog.{fields, first_catalog, listed}
 use Rattle.fjall_home.proofs.Resting.{last_has}
-use Rattle.fjall_recovery.specs.Folders.{Contents, IsFinished, IsSound, IsUnfinished, Shows, StandsFor, number_of, past_record, past_records, store_of}
+use Rattle.fjall_recovery.specs.Folders.{Contents, IsFinished, IsOpenable, IsSound, IsUnfinished, Shows, StandsFor, number_of, past_record, past_records, store_of, with_versions}
 use Rattle.fjall_recovery.specs.declared.folder.RecoveredFolder.{RecoveredFolder}
-use Rattle.fjall_recovery.specs.declared.homes.KeyspaceRecords.{KeyspaceRecords}
-use Rattle.fjall_recovery.specs.Homes.{AreHomesRead, HaveVersions, last_in, lasts, stored_in}
+use Rattle.fjall_home.specs.declared.reading.LoadedHome.{LoadedHome}
+use Rattle.fjall_recovery.specs.Homes.{AreHomesRead, HaveVersionsBut, Versions, lasts, stored_in}
 use Rattle.fjall_recovery.specs.Refusals.{FolderRefuses, HasRisen, IsDue}
-use Rattle.fjall_recovery.proofs.Alone.{one_contents}
 use Rattle.fjall_journal.proofs.Writing.{took_none}
 use Rattle.fjall_files.specs.declared.marker.Marker.TheVariants.{Whole, Unfinished}
 use Rattle.fjall_recovery.specs.Journals.{batches_in}
 use Rattle.fjall_recovery.specs.Held.{Holds, IsFolder, number_held, store_held}
 use Rattle.fjall_recovery.proofs.Holding.{folder_stands, tree_of}
-use Rattle.fjall_recovery.proofs.Storing.{homes_name_none, safe_homes_name_none}
+use Rattle.fjall_recovery.proofs.Damage.{none_damaged, within_but}
 use Rattle.fjall_repair.proofs.Begun as Beginning
-use Rattle.fjall_repair.proofs.Replayed.{replayed_stands, told}
-use Rattle.fjall_repair.specs.Readings.{TakesRead, persisted_of}
+use Rattle.fjall_repair.proofs.Agreeing.{homes_are}
+use Rattle.fjall_repair.proofs.Replayed.{told}
+use Rattle.fjall_contents.proofs.Loaded.{memory_stands_for_the_store}
+use Rattle.fjall_repair.specs.Readings.{TakesRead, names_read, persisted_of}
 use Rattle.fjall_repair.specs.declared.opened.Opened.{Opened}
-use Rattle.fjall_repair.specs.Sweeps.{IsSwept}
-use Rattle.fjall_repair.specs.Opened.{ComesBack, HasNumbers, IsHeldUp, IsOpenedFrom, IsRepaired, IsUnopened, StandsForSome, Opens, Takes, nothing, records_of}
+use Rattle.fjall_repair.specs.Sweeps.{AreHomesOf, IsSwept, names_of, no_names}
+use Rattle.fjall_repair.specs.Opened.{ComesBack, HasNumbers, IsHeldUp, IsOpenedFrom, IsRepaired, IsUnopened, IsSomeFolder, Opens, Takes, nothing, records_of}
 
 -- ---- before the first change
 
@@ -66,62 +70,58 @@ stands_now old folder holds = started old (λ image. StandsFor image (store_held
 -- ---- what was opened
 
 -- what was read is what the folder holds
-pub takes_contents : (found : RecoveredFolder) (contents : Contents) (o : Opened) (active : Name) → Shows found contents → TakesRead o active found
-    → Takes o active found.journals.end contents.last contents.keyspaces (persisted_of found) (map shown (batches_in contents.journals))
-takes_contents found contents o active shows takes = record {
+pub takes_contents : (found : RecoveredFolder) (contents : Contents) (o : Opened) (active : Name) (loaded : List Version) → Shows found contents
+    → Takes o active found.journals.end found.catalog.catalog found.catalog.keyspaces (persisted_of found) loaded (map view found.journals.batches.items)
+    → Takes o active found.journals.end contents.last contents.keyspaces (persisted_of found) loaded (map shown (batches_in contents.journals))
+takes_contents found contents o active loaded shows takes = record {
   journal = takes.journal;
   last_is = takes.last_is ∙ shows.last;
   keyspaces = takes.keyspaces ∙ shows.keyspaces;
   versions = λ stored are.
       takes.versions stored (subst (λ (s : Keyspaces). AreTold s stored (persisted_of found)) (sym shows.keyspaces) are)
-      ∙ ap (λ (s : Keyspaces). versions_beyond s stored [] (map view found.journals.batches.items)) shows.keyspaces
-      ∙ ap (λ (b : List Shown). versions_beyond contents.keyspaces stored [] b) shows.batches;
+      ∙ ap (λ (s : Keyspaces). versions_beyond s stored loaded (map view found.journals.batches.items)) shows.keyspaces
+      ∙ ap (λ (b : List Shown). versions_beyond contents.keyspaces stored loaded b) shows.batches;
 }
 
--- of what a folder holds these persisted numbers are told
-abbrev pub AreToldOf : Contents → List Persisted → Type 0
-AreToldOf contents persisted = AreTold contents.keyspaces (stored_in contents.homes contents.versions) persisted
+-- of a folder in which nothing is wrong for an opening it stands for the store, but for the tables of damaged keyspaces
+pub makes_store : (image : Image) (found : RecoveredFolder) (contents : Contents) (active : Name) (o : Opened) → IsFinished image found → Shows found contents → IsOpenable image contents
+    → TakesRead image o active found
+    → (versions : Versions) × HaveVersionsBut o.damaged.items contents.homes versions × (store_behind o.keyspaces o.versions.items ≡ store_of (with_versions versions contents))
+makes_store image found contents active o read shows is takes =
+    let loads = takes.loads contents is shows in
+    let s = contents.keyspaces in
+    let stored = stored_in contents.homes loads.versions in
+    let batches = map shown (batches_in contents.journals) in
+    let own = takes_contents found contents o active takes.loaded shows takes.takes in (
+      loads.versions,
+      loads.have,
+      (
+          ap (λ (k : Keyspaces). store_behind k o.versions.items) own.keyspaces
+          ∙ ap (λ (v : List Version). store_behind s v) (own.versions stored (told image found contents o.damaged.items loads.versions read shows loads.have))
+          ∙ memory_stands_for_the_store s stored takes.loaded 0 batches (within_but o.damaged.items contents.homes loads.versions s.living image is.homes loads.have s refl) loads.are is.journals.sound
+          ),
+    )
 
--- and it stands for the store of the folder, in which no record names a table
-pub makes_store : (contents : Contents) (active : Name) (end : ℕ) (persisted : List Persisted) (o : Opened)
-    → Takes o active end contents.last contents.keyspaces persisted (map shown (batches_in contents.journals)) → AreToldOf contents persisted
-    → HaveVersions contents.homes contents.versions → ((id : ℕ) → (last_in (get contents.homes id)).tables ≡ []) → first_fault 0 (map shown (batches_in contents.journals)) ≡ None
-    → store_behind o.keyspaces o.versions.items ≡ store_of contents
-makes_store contents active end persisted o takes are have none sound =
-    ap (λ (s : Keyspaces). store_behind s o.versions.items) takes.keyspaces
-    ∙ ap (λ (v : List Version). store_behind contents.keyspaces v) (takes.versions (stored_in contents.homes contents.versions) are)
-    ∙ replayed_stands contents.keyspaces contents.homes contents.versions have none (map shown (batches_in contents.journals)) sound
-
--- so does what was opened of a sound folder
+-- of a sound one nothing is damaged, and it stands for its store
 pub makes_sound : (image : Image) (found : RecoveredFolder) (contents : Contents) (active : Name) (o : Opened) → IsFinished image found → Shows found contents → IsSound image contents
-    → TakesRead o active found → store_behind o.keyspaces o.versions.items ≡ store_of contents
+    → TakesRead image o active found → (o.damaged.items ≡ []) × (store_behind o.keyspaces o.versions.items ≡ store_of contents)
 makes_sound image found contents active o read shows sound takes =
-    makes_store contents active found.journals.end (persisted_of found) o (takes_contents found contents o active shows takes) (told image found contents read shows sound.versions)
-    sound.versions (homes_name_none image contents.keyspaces.living contents.homes sound.homes) sound.journals.sound
+    let made = makes_store image found contents active o read shows sound.openable takes in
+    let none = none_damaged o.damaged.items contents.homes made.0 contents.versions made.1 sound.versions in
+    (none.0, made.2 ∙ ap (λ (v : Versions). store_of (with_versions v contents)) none.1)
 
--- of a database without keyspaces nothing is told, and it stands for the store that holds nothing
-pub nothing_told : AreToldOf nothing []
-nothing_told = All-nil (λ (k : LivingKeyspace). persisted_at k.id [] ≡ (stored_in nothing.homes nothing.versions k.id).persisted)
+-- a database without keyspaces stands for the store that holds nothing
+nothing_told : AreTold no_keyspaces (λ id. nothing_stored) []
+nothing_told = All-nil (λ (k : LivingKeyspace). persisted_at k.id [] ≡ None)
 
-pub makes_nothing : (active : Name) (o : Opened) → Takes o active 0 first_catalog no_keyspaces [] [] → store_behind o.keyspaces o.versions.items ≡ bare no_keyspaces
+pub makes_nothing : (active : Name) (o : Opened) → Takes o active 0 first_catalog no_keyspaces [] [] [] → store_behind o.keyspaces o.versions.items ≡ bare no_keyspaces
 makes_nothing active o takes =
     ap (λ (s : Keyspaces). store_behind s o.versions.items) takes.keyspaces
-    ∙ ap (λ (v : List Version). store_behind no_keyspaces v) (takes.versions (stored_in nothing.homes nothing.versions) nothing_told)
+    ∙ ap (λ (v : List Version). store_behind no_keyspaces v) (takes.versions (λ id. nothing_stored) nothing_told)
 
 module _ (state : State) (contents : Contents) (active : Name) (end : ℕ) (is : IsRepaired state contents active end) where
   same_store : store_of (contents_with is.j (tree_of contents) []) ≡ store_of contents
   same_store = ap (λ (b : List Written). store_with contents.keyspaces (stored_in contents.homes contents.versions) (map shown b)) is.batches
-
-  -- its batches have no fault
-  batches_sound : first_fault 0 (map shown (batches_in contents.journals)) ≡ None
-  batches_sound =
-      subst (λ (b : List Written). first_fault 0 (map shown b) ≡ None) is.batches
-      (subst (λ (l : List Written). first_fault 0 (map shown (batches_in (journals_with is.j l))) ≡ None) is.later is.root.sound)
-
-  made_store : (persisted : List Persisted) (o : Opened) → Takes o active end contents.last contents.keyspaces persisted (map shown (batches_in contents.journals)) → AreToldOf contents persisted
-      → store_behind o.keyspaces o.versions.items ≡ store_of contents
-  made_store persisted o takes are =
-      makes_store contents active end persisted o takes are is.tree.rests.versions (safe_homes_name_none state contents.keyspaces.living contents.homes is.tree.rests.homes) batches_sound
 
   same_number : number_of (contents_with is.j (tree_of contents) []) ≡ number_of contents
   same_number = ap (λ (b : List Written). max (least_after 0 (map shown b)) (past_records (fields contents.last ∷ lasts contents.keyspaces.living contents.homes))) is.batches
@@ -131,10 +131,10 @@ module _ (state : State) (contents : Contents) (active : Name) (end : ℕ) (is :
       writing ∙ ap (λ (n : Name). let w : Journal = record { name = n; buffer = []; len = end } in w) (sym is.active_is)
       ∙ ap (λ (n : ℕ). let w : Journal = record { name = journal_name is.j.active; buffer = []; len = n } in w) (sym is.end_is)
 
-  pub opens_of : (folder : Option Contents) (persisted : List Persisted) (o : Opened)
-      → Takes o active end contents.last contents.keyspaces persisted (map shown (batches_in contents.journals)) → AreToldOf contents persisted
+  pub opens_of : (folder : Option Contents) (persisted : List Persisted) (loaded : List Version) (o : Opened)
+      → Takes o active end contents.last contents.keyspaces persisted loaded (map shown (batches_in contents.journals)) → o.damaged.items ≡ [] → store_behind o.keyspaces o.versions.items ≡ store_of contents
       → store_of contents ≡ store_held folder → o.number ≡ number_of contents → number_of contents ≡ number_held folder → Opens state folder o
-  opens_of folder persisted o takes are store number held = record {
+  opens_of folder persisted loaded o takes whole made store number held = record {
     j = is.j;
     records = is.records;
     t = tree_of contents;
@@ -144,23 +144,44 @@ module _ (state : State) (contents : Contents) (active : Name) (end : ℕ) (is :
     journal = at_end o.journal takes.journal;
     last = sym takes.last_is;
     keyspaces = sym takes.keyspaces;
-    made = made_store persisted o takes are ∙ sym same_store;
+    whole = whole;
+    made = made ∙ sym same_store;
     store = same_store ∙ store;
     number = number ∙ sym same_number;
     same = number ∙ held;
   }
+
+-- ---- the tables that its records name
+
+module _ (image : Image) (found : RecoveredFolder) (read : IsFinished image found) (tree : List TableInfo) (homes : List LoadedHome) (living : List LivingKeyspace)
+    (tree_is : tree ≡ listed found.catalog.catalog.table) (homes_same : homes ≡ found.homes.items) (living_is : living ≡ found.catalog.keyspaces.living) where
+  pub homes_as : AreHomesOf living homes
+  homes_as = subst (λ (l : List LivingKeyspace). AreHomesOf l homes) (sym living_is) (subst (AreHomesOf found.catalog.keyspaces.living) (sym homes_same) (homes_are image found read))
+
+  pub named_as : names_of tree homes ≡ names_read found
+  named_as = ap (λ (t : List TableInfo). names_of t homes) tree_is ∙ ap (λ (h : List LoadedHome). names_of (listed found.catalog.catalog.table) h) homes_same
+
+-- ---- a folder without keyspaces
+
+pub nothing_named : names_of [] [] ≡ no_names
+nothing_named = λ i id. none (id == 0) i
+  where
+    none : (b : Bool) → map (λ (t : TableInfo). t.id) (if b then [] else []) ≡ []
+    none true = refl
+    none false = refl
 
 -- ---- the numbers of a folder that was read
 
 record_numbers : (records : List Fields) (r : Fields) → AllByRecursion IsRecord records → last_of records ≡ Some r → HasNumbers r
 record_numbers records r each last = let is = last_has IsRecord records r each last in (is.consistent.persisted, is.consistent.highest)
 
-home_numbers : (image : Image) (living : List LivingKeyspace) (homes : List KeyspaceRecords) → AreHomesRead image living homes → AllByRecursion HasNumbers (map (λ h. records.view h.record) homes)
+home_numbers : (image : Image) (living : List LivingKeyspace) (homes : List LoadedHome) → AreHomesRead image living homes → AllByRecursion HasNumbers (map (λ h. records.view h.record) homes)
 home_numbers image [] [] read = tt
 home_numbers image [] (home ∷ homes) read = absurd read
 home_numbers image (k ∷ living) [] read = absurd read
 home_numbers image (k ∷ living) (home ∷ homes) read =
-    let has = read.0.read.has in (record_numbers has.records (records.view home.record) has.whole.each has.is, home_numbers image living homes read.1)
+    let l = read.0.loaded in
+    (record_numbers l.records (records.view home.record) l.openable.files.whole.each (l.openable.files.last_is ∙ ap Some (sym l.record_is)), home_numbers image living homes read.1)
 
 module _ (image : Image) (found : RecoveredFolder) (read : IsFinished image found) where
   pub numbers : All HasNumbers (records_of found)
@@ -183,18 +204,40 @@ module _ (image : Image) (found : RecoveredFolder) (read : IsFinished image foun
 
 -- ---- which folder it is
 
-pub finished_is : (image : Image) (contents : Contents) (folder : Option Contents) → IsSound image contents → IsFolder image folder → folder ≡ Some contents
-finished_is image contents None sound begun = let no : Ok Whole ≡ Ok Unfinished = sym sound.marker ∙ begun.marker in absurd (let bad : ⊥ = cc in bad)
-finished_is image contents (Some other) sound is = ap Some (one_contents image other contents is sound)
+-- nothing is said of the versions
+open_with : (image : Image) (c : Contents) (versions : Versions) → IsOpenable image c → IsOpenable image (with_versions versions c)
+open_with image c versions is = record {
+  marker = is.marker;
+  journals_named = is.journals_named;
+  journals = is.journals;
+  keyspaces_named = is.keyspaces_named;
+  folder = is.folder;
+  records = is.records;
+  catalog = is.catalog;
+  made = is.made;
+  homes = is.homes;
+}
+
+-- it is finished where it was read as such
+pub finished_is : (image : Image) (contents : Contents) (folder : Option Contents) → IsOpenable image contents → IsFolder image folder
+    → (other : Contents) × (folder ≡ Some other) × IsSound image other
+finished_is image contents None here begun = let no : Ok Whole ≡ Ok Unfinished = sym here.marker ∙ begun.marker in absurd (let bad : ⊥ = cc in bad)
+finished_is image contents (Some other) here is = (other, refl, is)
 
 pub unfinished_is : (image : Image) (folder : Option Contents) → IsUnfinished image → IsFolder image folder → folder ≡ None
 unfinished_is image None begun is = refl
-unfinished_is image (Some contents) begun is = let no : Ok Whole ≡ Ok Unfinished = sym is.marker ∙ begun.marker in absurd (let bad : ⊥ = cc in bad)
+unfinished_is image (Some contents) begun is = let no : Ok Whole ≡ Ok Unfinished = sym is.openable.marker ∙ begun.marker in absurd (let bad : ⊥ = cc in bad)
 
-pub opened_from : (image : Image) (folder : Option Contents) (result : Result Opened Error) → IsFolder image folder → IfOk result (λ o. store_behind o.keyspaces o.versions.items ≡ store_held folder)
-    → IfOk result (λ o. o.number ≡ number_held folder) → IfOk result (IsOpenedFrom image)
-opened_from image folder (Ok o) is store number = (folder, is, store, number)
-opened_from image folder (Err e) is store number = tt
+pub opened_from : (image : Image) (c : Contents) (result : Result Opened Error) → IsOpenable image c
+    → IfOk result (λ o. (versions : Versions) × HaveVersionsBut o.damaged.items c.homes versions × (store_behind o.keyspaces o.versions.items ≡ store_of (with_versions versions c)))
+    → IfOk result (λ o. o.number ≡ number_of c) → IfOk result (IsOpenedFrom image)
+opened_from image c (Ok o) is (versions, have, store) number = (Some (with_versions versions c), (open_with image c versions is, have), store, number)
+opened_from image c (Err e) is store number = tt
+
+pub begun_from : (image : Image) (result : Result Opened Error) → IsUnfinished image → IfOk result (λ o. o.damaged.items ≡ []) → IfOk result (λ o. store_behind o.keyspaces o.versions.items ≡ bare no_keyspaces)
+    → IfOk result (λ o. o.number ≡ 0) → IfOk result (IsOpenedFrom image)
+begun_from image (Ok o) is whole store number = (None, (is, whole), store, number)
+begun_from image (Err e) is whole store number = tt
 
 -- what is swept after a step that changed nothing
 pub swept_on : (old mid new : State) (result : Result Opened Error) → mid ≡ old → IfOk result (λ o. IsSwept mid new o.catalog o.keyspaces.living) → IfOk result (λ o. IsSwept old new o.catalog o.keyspaces.living)
@@ -207,7 +250,7 @@ pub unopened : (old new : Meaning) (error : Error) → IsDue (FolderRefuses (sta
 unopened old new (Io kind) due took = inl took
 unopened old new error due took = (due, took)
 
-pub held_up : {X : Type 0} (old mid new : Meaning) (result : Result X Error) → StandsForSome (standing (state_in old)) → Took old mid [] → IfErr result (IsHeldUp mid new) → IfErr result (IsUnopened old new)
+pub held_up : {X : Type 0} (old mid new : Meaning) (result : Result X Error) → IsSomeFolder (standing (state_in old)) → Took old mid [] → IfErr result (IsHeldUp mid new) → IfErr result (IsUnopened old new)
 held_up old mid new (Ok x) stands took held = tt
 held_up old mid new (Err (Io kind)) stands took held = inr stands
 held_up old mid new (Err OutOfMemory) stands took held = (tt, took_none old mid new [] took held)

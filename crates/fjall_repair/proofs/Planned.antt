@@ -1,20 +1,22 @@
 -- What a plan has is spared.
-use Rattle.std.proofs.Common.{◌≡◌, ◌≢◌, ◌⊎◌, inl, inr, ⊎_elim, ℕ, ◌<◌, ◌^◌, true, List, [], ◌∷◌, map, get_or, codes, All, Any, Option, None, Some, Result, Ok, Err, OnOk, lit<, refl, sym, ◌∙◌, ap, subst, arith}
+use Rattle.std.proofs.Common.{◌≡◌, ◌≢◌, ◌⊎◌, inl, inr, ⊎_elim, ℕ, ◌<◌, ◌^◌, ◌==◌, Bool, true, false, if◌then◌else◌, List, [], ◌∷◌, map, get_or, codes, All, Any, Option, None, Some, Result, Ok, Err, OnOk, lit<, refl, sym, ◌∙◌, ap, subst, arith}
 use Rattle.std.specs.Prelude.{string_bytes}
 use Rattle.std.specs.List.{AllByRecursion, Contains, flat_map}
 use Rattle.std.specs.FinMap.{get}
 use Rattle.std.specs.Option.{option_map}
 use Rattle.std.proofs.lemmas.List.Elements.{All-append, All-contains, All-from_recursion, All-map, Contains-append_left, Contains-append_right, Contains-push, recursion_from_All}
+use Rattle.std.proofs.lemmas.Bool.Decides.{nat_tests}
 use Rattle.std.proofs.lemmas.List.Concat.{flat_map-cons}
 use Rattle.fjall_base.specs.declared.error.Error.{Error}
 use Rattle.fjall_base.specs.Disk.{Name, Entry, Missing, File, Folder, State, Meaning, folder_of, standing, state_in}
+use Rattle.fjall_base.proofs.Names.{bool_cases}
 use Rattle.fjall_files.specs.Regions.{is_under, Within}
 use Rattle.fjall_files.proofs.Under.{in_folder}
 use Rattle.fjall_table.specs.declared.table_info.TableInfo.{TableInfo}
 use Rattle.fjall_tree.specs.Records.{Fields}
 use Rattle.fjall_files.specs.Names.{keyspace_folder, current_name, table_name}
 use Rattle.fjall_home.specs.Homes.{Home, IsFree}
-use Rattle.fjall_home.proofs.Resting.{At, IsGiven, all_given, each_more}
+use Rattle.fjall_home.proofs.Resting.{At, IsGiven, all_given, each_more, last_record as home_record}
 use Rattle.fjall_meta.specs.declared.living.LivingKeyspace.{LivingKeyspace}
 use Rattle.fjall_meta.specs.Keyspaces.{AreKeyspaces, Keyspaces, keyspace_at}
 use Rattle.fjall_versions.proofs.Ids.{living_has}
@@ -22,14 +24,14 @@ use Rattle.fjall_catalog.specs.declared.catalog.Catalog.{Catalog}
 use Rattle.fjall_catalog.specs.Catalog.{fields, listed}
 use Rattle.fjall_catalog.proofs.Resting.{last_record}
 use Rattle.fjall_recovery.specs.Halves.{Tree}
-use Rattle.fjall_recovery.specs.Homes.{IsPlain}
+use Rattle.fjall_recovery.specs.Homes.{last_in}
 use Rattle.fjall_recovery.specs.Places.{HasSafeHomeAt, LiesInTree, RestsInTree}
 use Rattle.fjall_recovery.proofs.Named.{under_within}
 use Rattle.fjall_repair.specs.declared.plan.SweepPlan.{SweepPlan}
 use Rattle.fjall_files.specs.declared.own.OwnFiles.{OwnFiles}
 use Rattle.fjall_recovery.specs.Naming.{AreFolderIds}
 use Rattle.fjall_files.specs.Own.{AreOwnFiles, HoldsOnlyOwn}
-use Rattle.fjall_repair.specs.Sweeps.{AreGone, BringsNoTable, FindsAll, FindsTables, IsSwept, IsPlan, IsUnnamedHome, IsUnnamedTable, Lives, Removes, home_names, named_in, planned}
+use Rattle.fjall_repair.specs.Sweeps.{AreGone, BringsNoTable, FindsAll, FindsTables, IsSwept, IsPlan, IsUnnamedHome, IsUnnamedTable, Lives, Names, NamesTable, Removes, home_names, names_in, planned}
 use Rattle.fjall_repair.proofs.Apart as Apart
 use Rattle.fjall_files.proofs.OwnEntries.{contains_map}
 use Rattle.fjall_repair.proofs.Removals as Removals
@@ -51,47 +53,70 @@ lives_some s are id lives none =
     let more : 0 < id = All-contains (λ (n : ℕ). 0 < n) (map (λ (k : LivingKeyspace). k.id) s.living) id some lives in
     omega (arith, more, none)
 
+zero_test : (id : ℕ) → id ≢ 0 → (id == 0) ≡ false
+zero_test id some = elim (bool_cases (id == 0)) [
+  | inl is ↦ let none : id ≡ 0 = grind (arith, nat_tests) in absurd (some none)
+  | inr not ↦ not
+]
+
 -- a keyspace that is found by its id lives
 found_lives : (living : List LivingKeyspace) (id : ℕ) (k : LivingKeyspace) → keyspace_at id living ≡ Some k → Lives living id
 found_lives living id k e = living_has (Lives living) living id k e (λ i d lt. contains_map (λ (j : LivingKeyspace). j.id) living i d lt)
 
--- a plain home rests on no table
-at_plain : (P : Name → Type 0) (id : ℕ) (last : Fields) → IsPlain last → P (codes "keyspaces") → P (keyspace_folder id) → P (current_name id) → At id last.tables P
-at_plain P id last plain all folder current =
-    record { keyspaces_folder = all; folder = folder; current = current; each = subst (λ (l : List TableInfo). AllByRecursion (λ i. P (table_name id i.id)) l) (sym plain.tables) tt }
+-- what holds of each id of these tables
+each_given : (P : ℕ → Type 0) (next : ℕ) (tables : List TableInfo) → AllByRecursion (IsGiven next) tables → ((n : ℕ) → n < 2 ^ 64 → Contains (map (λ i. i.id) tables) n → P n) → AllByRecursion (λ i. P i.id) tables
+each_given P next tables given to =
+    recursion_from_All (λ (i : TableInfo). P i.id) tables (λ k d lt. to (get_or tables k d).id (All-from_recursion (IsGiven next) tables given k d lt).0 (contains_map (λ (i : TableInfo). i.id) tables k d lt))
 
 module _ (state : State) (records : List Fields) (t : Tree) (rests : RestsInTree state records t) where
-  -- the id of the table that tree 0's last record names has its place, and was given out
+  -- the ids of the tables that tree 0's last record names have their place, and were given out
   named_given : AllByRecursion (IsGiven t.last.next_table_id) (listed t.last.table)
   named_given = all_given (fields t.last) (last_record state records t.last t.keyspaces rests.catalog)
 
-  -- a home is that of a keyspace that lives, and plain
-  home_lives : (id : ℕ) (h : Home) → get t.homes id ≡ Some h → Lives t.keyspaces.living id × IsPlain h.last
-  home_lives id h is = of (keyspace_at id t.keyspaces.living) refl (get t.homes id) is (rests.homes id)
+  -- so have those of a home, which is that of a keyspace that lives
+  home_given : (id : ℕ) (h : Home) → get t.homes id ≡ Some h → Lives t.keyspaces.living id × AllByRecursion (IsGiven h.last.next_table_id) h.last.tables
+  home_given id h is = of (keyspace_at id t.keyspaces.living) refl (get t.homes id) is (rests.homes id)
     where
-      of : (k : Option LivingKeyspace) → keyspace_at id t.keyspaces.living ≡ k → (there : Option Home) → there ≡ Some h → HasSafeHomeAt state id k there → Lives t.keyspaces.living id × IsPlain h.last
-      of (Some k) e (Some i) is safe = let same : i ≡ h = cc in (found_lives t.keyspaces.living id k e, subst (λ (j : Home). IsPlain j.last) same safe.plain)
+      of : (k : Option LivingKeyspace) → keyspace_at id t.keyspaces.living ≡ k → (there : Option Home) → there ≡ Some h → HasSafeHomeAt state id k there
+          → Lives t.keyspaces.living id × AllByRecursion (IsGiven h.last.next_table_id) h.last.tables
+      of (Some k) e (Some i) is safe =
+          let same : i ≡ h = cc in
+          (found_lives t.keyspaces.living id k e, subst (λ (j : Home). AllByRecursion (IsGiven j.last.next_table_id) j.last.tables) same (all_given i.last (home_record state id safe.records i safe.rests)))
       of None e (Some i) is safe = absurd safe
       of (Some k) e None is safe = absurd safe
       of None e None is safe = let no : None ≡ Some h = is in cc
 
-  -- what holds of each keyspace that lives holds of each home
-  at_homes : (P : Name → Type 0) → P (codes "keyspaces") → ((id : ℕ) → Lives t.keyspaces.living id → id < 2 ^ 64 → P (keyspace_folder id) × P (current_name id)) → (id : ℕ) (h : Home) → get t.homes id ≡ Some h → At id h.last.tables P
-  at_homes P all to id h is =
-      let here = home_lives id h is in
-      let both = to id here.0 (lives_small t.keyspaces rests.catalog.are id here.0) in
-      at_plain P id h.last here.1 all both.0 both.1
+  names_home : (id : ℕ) (h : Home) → get t.homes id ≡ Some h → Lives t.keyspaces.living id → names_in t id ≡ map (λ i. i.id) h.last.tables
+  names_home id h is lives =
+      let some : id ≢ 0 = lives_some t.keyspaces rests.catalog.are id lives in
+      ap (λ (b : Bool). map (λ (i : TableInfo). i.id) (if b then listed t.last.table else (last_in (get t.homes id)).tables)) (zero_test id some)
+      ∙ ap (λ (o : Option Home). map (λ (i : TableInfo). i.id) (last_in o).tables) is
+
+  -- what holds of each keyspace that lives, and of each table that its record names, holds of each home
+  at_homes : (P : Name → Type 0) → P (codes "keyspaces") → ((id : ℕ) → Lives t.keyspaces.living id → id < 2 ^ 64 → P (keyspace_folder id) × P (current_name id))
+      → ((id n : ℕ) → Lives t.keyspaces.living id → id < 2 ^ 64 → n < 2 ^ 64 → Contains (names_in t id) n → P (table_name id n)) → (id : ℕ) (h : Home) → get t.homes id ≡ Some h → At id h.last.tables P
+  at_homes P all to each id h is =
+      let here = home_given id h is in
+      let small = lives_small t.keyspaces rests.catalog.are id here.0 in
+      let both = to id here.0 small in
+      let names = names_home id h is here.0 in
+      record {
+        keyspaces_folder = all;
+        folder = both.0;
+        current = both.1;
+        each = each_given (λ n. P (table_name id n)) h.last.next_table_id h.last.tables here.1 (λ n fits has. each id n here.0 small fits (subst (λ (l : List ℕ). Contains l n) (sym names) has));
+      }
 
   -- a table that is unnamed
-  table_spare : (name : Name) → IsUnnamedTable (named_in t) t.keyspaces.living name → IsSpare t name
+  table_spare : (name : Name) → IsUnnamedTable (names_in t) t.keyspaces.living name → IsSpare t name
   table_spare name un = subst (IsSpare t) (sym un.name_is) (record {
     catalog = record {
       keyspaces_folder = not_it;
       folder = λ e. folders 0 (omega arith) e;
       current = λ e. Apart.not_current un.id 0 un.table un.table_fits e;
-      each = named_apart t.last.table refl named_given;
+      each = each_given (λ n. table_name 0 n ≢ table_name un.id un.table) t.last.next_table_id (listed t.last.table) named_given (λ n fits has. apart 0 n (omega arith) fits has);
     };
-    homes = at_homes (λ q. q ≢ table_name un.id un.table) not_it (λ id lives fits. (folders id fits, λ e. Apart.not_current un.id id un.table un.table_fits e));
+    homes = at_homes (λ q. q ≢ table_name un.id un.table) not_it (λ id lives fits. (folders id fits, λ e. Apart.not_current un.id id un.table un.table_fits e)) (λ id n lives small fits has. apart id n small fits has);
     strays = λ q in_all stray e. Apart.not_all un.id (sym in_all ∙ ap (λ (n : Name). folder_of n) e ∙ Apart.in_folder un.id un.table un.table_fits);
   })
     where
@@ -104,15 +129,10 @@ module _ (state : State) (records : List Fields) (t : Tree) (rests : RestsInTree
       folders : (id : ℕ) → id < 2 ^ 64 → keyspace_folder id ≢ table_name un.id un.table
       folders id fits e = Apart.not_all un.id (sym (Apart.in_keyspaces id fits) ∙ inside (keyspace_folder id) e)
 
-      named_apart : (table : Option TableInfo) → t.last.table ≡ table → AllByRecursion (IsGiven t.last.next_table_id) (listed table) → AllByRecursion (λ i. table_name 0 i.id ≢ table_name un.id un.table) (listed table)
-      named_apart None is given = tt
-      named_apart (Some i) is given = (
-        λ e.
-            let same = Apart.same_table un.id un.table i.id un.id_fits un.table_fits given.0.0 e in
-            ⊎_elim (λ (tree : (un.id ≡ 0) × (named_in t ≢ Some un.table)). tree.1 (ap (λ o. option_map (λ (i : TableInfo). i.id) o) is ∙ ap (λ (n : ℕ). Some n) same.1))
-            (λ lives. lives_some t.keyspaces rests.catalog.are un.id lives same.0) un.unnamed,
-        tt,
-      )
+      apart : (id n : ℕ) → id < 2 ^ 64 → n < 2 ^ 64 → Contains (names_in t id) n → table_name id n ≢ table_name un.id un.table
+      apart id n small fits has e =
+          let same = Apart.same_table id n un.id un.table small fits un.id_fits un.table_fits e in
+          un.unnamed (subst (λ (m : ℕ). Contains (names_in t un.id) m) same.1 (subst (λ (i : ℕ). Contains (names_in t i) n) same.0 has))
 
   module _ (home : OwnFiles) (un : IsUnnamedHome t.keyspaces.living home) where
     other_id : (id : ℕ) → Lives t.keyspaces.living id → id ≢ un.id
@@ -128,14 +148,17 @@ module _ (state : State) (records : List Fields) (t : Tree) (rests : RestsInTree
         keyspaces_folder = Apart.not_all un.id;
         folder = λ e. un.some (sym (Apart.folders_apart 0 un.id (omega arith) un.fits e));
         current = λ e. currents 0 (omega arith) e;
-        each = table_of (λ q. q ≢ keyspace_folder un.id) (λ n fits e. Apart.not_all 0 (sym (Apart.in_keyspaces un.id un.fits) ∙ ap (λ (n : Name). folder_of n) (sym e) ∙ Apart.in_folder 0 n fits));
+        each = table_of (λ q. q ≢ keyspace_folder un.id) (λ n fits. tables 0 n fits);
       };
-      homes = at_homes (λ q. q ≢ keyspace_folder un.id) (Apart.not_all un.id) (λ id lives fits. (λ e. other_id id lives (Apart.folders_apart id un.id fits un.fits e), currents id fits));
+      homes = at_homes (λ q. q ≢ keyspace_folder un.id) (Apart.not_all un.id) (λ id lives fits. (λ e. other_id id lives (Apart.folders_apart id un.id fits un.fits e), currents id fits)) (λ id n lives small fits has. tables id n fits);
       strays = λ q in_all stray e. stray un.id (un.fits, e);
     })
       where
         currents : (id : ℕ) → id < 2 ^ 64 → current_name id ≢ keyspace_folder un.id
         currents id fits e = Apart.not_all id (sym (Apart.in_keyspaces un.id un.fits) ∙ ap (λ (n : Name). folder_of n) (sym e) ∙ Apart.of_current id)
+
+        tables : (id n : ℕ) → n < 2 ^ 64 → table_name id n ≢ keyspace_folder un.id
+        tables id n fits e = Apart.not_all id (sym (Apart.in_keyspaces un.id un.fits) ∙ ap (λ (q : Name). folder_of q) (sym e) ∙ Apart.in_folder id n fits)
 
     -- what is in it
     inner_spare : (file : Name) → folder_of file ≡ keyspace_folder un.id → IsSpare t file
@@ -149,7 +172,7 @@ module _ (state : State) (records : List Fields) (t : Tree) (rests : RestsInTree
       homes = at_homes (λ q. q ≢ file) not_it (λ id lives fits. (
         (λ e. Apart.not_all un.id (sym (Apart.in_keyspaces id fits) ∙ at (keyspace_folder id) e)),
         (λ e. other_id id lives (Apart.folders_apart id un.id fits un.fits (sym (Apart.of_current id) ∙ at (current_name id) e))),
-      ));
+      )) (λ id n lives small fits has e. other_id id lives (Apart.folders_apart id un.id small un.fits (sym (Apart.in_folder id n fits) ∙ at (table_name id n) e)));
       strays = λ q in_all stray e. Apart.not_all un.id (sym in_all ∙ at q e);
     }
       where
@@ -176,8 +199,8 @@ inner_within : (id : ℕ) (file : Name) → folder_of file ≡ keyspace_folder i
 inner_within id file inside = under_within id file (in_folder (keyspace_folder id) file (λ none. cc) inside)
 
 -- its names are in `keyspaces`
-pub planned_within : (named : Option ℕ) (living : List LivingKeyspace) (plan : SweepPlan) → IsPlan named living plan → All (λ name. is_under (codes "keyspaces") name ≡ true) (planned plan)
-planned_within named living plan is = planned_all (λ name. is_under (codes "keyspaces") name ≡ true) plan
+pub planned_within : (names : Names) (living : List LivingKeyspace) (plan : SweepPlan) → IsPlan names living plan → All (λ name. is_under (codes "keyspaces") name ≡ true) (planned plan)
+planned_within names living plan is = planned_all (λ name. is_under (codes "keyspaces") name ≡ true) plan
     (λ i d lt. let un = is.tables i d lt in subst (λ (n : Name). is_under (codes "keyspaces") n ≡ true) (sym un.name_is) (Apart.table_within un.id un.table))
     (λ i d lt. let un = is.homes i d lt in (
       subst (λ (n : Name). is_under (codes "keyspaces") n ≡ true) (sym un.folder_is) (Apart.home_within un.id),
@@ -186,7 +209,7 @@ planned_within named living plan is = planned_all (λ name. is_under (codes "key
 
 module _ (state : State) (records : List Fields) (t : Tree) (rests : RestsInTree state records t) where
   -- keyspaces that rest don't rest on any of them
-  pub planned_spare : (plan : SweepPlan) → IsPlan (named_in t) t.keyspaces.living plan → All (IsSpare t) (planned plan)
+  pub planned_spare : (plan : SweepPlan) → IsPlan (names_in t) t.keyspaces.living plan → All (IsSpare t) (planned plan)
   planned_spare plan is = planned_all (IsSpare t) plan
       (λ i d lt. table_spare state records t rests _ (is.tables i d lt))
       (λ i d lt. let un = is.homes i d lt in (
@@ -194,12 +217,12 @@ module _ (state : State) (records : List Fields) (t : Tree) (rests : RestsInTree
         λ j e less. inner_spare state records t rests _ un _ (un.inside j e less),
       ))
 
-  pub spare_run : (plan : SweepPlan) (old new : Meaning) → IsPlan (named_in t) t.keyspaces.living plan → Removes (Contains (planned plan)) old new → Removes (IsSpare t) old new
+  pub spare_run : (plan : SweepPlan) (old new : Meaning) → IsPlan (names_in t) t.keyspaces.living plan → Removes (Contains (planned plan)) old new → Removes (IsSpare t) old new
   spare_run plan old new is run = Removals.weaker (Contains (planned plan)) (IsSpare t) old new (λ name has. All-contains (IsSpare t) (planned plan) name (planned_spare plan is) has) run
 
-pub within_run : (named : Option ℕ) (living : List LivingKeyspace) (plan : SweepPlan) (old new : Meaning) → IsPlan named living plan → Removes (Contains (planned plan)) old new → Within (codes "keyspaces") old new
-within_run named living plan old new is run =
-    Removals.within (Contains (planned plan)) (codes "keyspaces") old new (λ name has. All-contains (λ n. is_under (codes "keyspaces") n ≡ true) (planned plan) name (planned_within named living plan is) has) run
+pub within_run : (names : Names) (living : List LivingKeyspace) (plan : SweepPlan) (old new : Meaning) → IsPlan names living plan → Removes (Contains (planned plan)) old new → Within (codes "keyspaces") old new
+within_run names living plan old new is run =
+    Removals.within (Contains (planned plan)) (codes "keyspaces") old new (λ name has. All-contains (λ n. is_under (codes "keyspaces") n ≡ true) (planned plan) name (planned_within names living plan is) has) run
 
 -- ---- the ids that are free
 
@@ -208,15 +231,13 @@ missing_or_not Missing = inl refl
 missing_or_not (File synced unsynced) = inr (λ e. let no : File synced unsynced ≡ Missing = e in cc)
 missing_or_not Folder = inr (λ e. let no : Folder ≡ Missing = e in cc)
 
--- the table that is named has an id below the next one
-named_below : (t : Tree) (id : ℕ) → AllByRecursion (IsGiven t.last.next_table_id) (listed t.last.table) → named_in t ≡ Some id → id < t.last.next_table_id
-named_below t id given named = of t.last.table given named
-  where
-    of : (table : Option TableInfo) → AllByRecursion (IsGiven t.last.next_table_id) (listed table) → option_map (λ (i : TableInfo). i.id) table ≡ Some id → id < t.last.next_table_id
-    of None given named = let no : None ≡ Some id = named in cc
-    of (Some i) given named = let same : i.id ≡ id = cc in subst (λ (n : ℕ). n < t.last.next_table_id) same given.0.1
+-- a table that is named has an id below the next one
+named_below : (t : Tree) (id : ℕ) → AllByRecursion (IsGiven t.last.next_table_id) (listed t.last.table) → Contains (names_in t 0) id → id < t.last.next_table_id
+named_below t id given has =
+    All-contains (λ n. n < t.last.next_table_id) (map (λ (i : TableInfo). i.id) (listed t.last.table)) id
+    (All-map (λ n. n < t.last.next_table_id) (λ (i : TableInfo). i.id) (listed t.last.table) (λ k d lt. (All-from_recursion (IsGiven t.last.next_table_id) (listed t.last.table) given k d lt).1)) has
 
-pub tables_free : (old new : Meaning) (records : List Fields) (t : Tree) (plan : SweepPlan) → RestsInTree (state_in old) records t → FindsTables (state_in old) (named_in t) (map string_bytes plan.tables.items)
+pub tables_free : (old new : Meaning) (records : List Fields) (t : Tree) (plan : SweepPlan) → RestsInTree (state_in old) records t → FindsTables (state_in old) (names_in t) (map string_bytes plan.tables.items)
     → Removes (Contains (planned plan)) old new → AreGone (state_in new) (planned plan) → IsFree (state_in new) 0 t.last.next_table_id
 tables_free old new records t plan rests finds run gone id least small = elim (missing_or_not (state_in old (table_name 0 id)).now) [
   | inl none ↦ Removals.stays_missing (Contains (planned plan)) old new (table_name 0 id) run none
@@ -227,8 +248,8 @@ tables_free old new records t plan rests finds run gone id least small = elim (m
       (finds id small some)
 ]
 
-pub swept : (old new : Meaning) (records : List Fields) (t : Tree) (plan : SweepPlan) (r : Result Unit Error) → RestsInTree (state_in old) records t → FindsTables (state_in old) (named_in t) (map string_bytes plan.tables.items)
-    → IsPlan (named_in t) t.keyspaces.living plan → Removes (Contains (planned plan)) old new → OnOk r (AreGone (state_in new) (planned plan)) → OnOk r (LiesInTree (state_in new) records t)
+pub swept : (old new : Meaning) (records : List Fields) (t : Tree) (plan : SweepPlan) (r : Result Unit Error) → RestsInTree (state_in old) records t → FindsTables (state_in old) (names_in t) (map string_bytes plan.tables.items)
+    → IsPlan (names_in t) t.keyspaces.living plan → Removes (Contains (planned plan)) old new → OnOk r (AreGone (state_in new) (planned plan)) → OnOk r (LiesInTree (state_in new) records t)
 swept old new records t plan (Ok done) rests finds is run gone = record {
   rests = spared records t old new (spare_run (state_in old) records t rests plan old new is run) rests;
   free = tables_free old new records t plan rests finds run gone;
@@ -237,8 +258,9 @@ swept old new records t plan (Err e) rests finds is run gone = tt
 
 -- ---- what is left
 
-module _ (old new : State) (last : Catalog) (living : List LivingKeyspace) (ids : List ℕ) (plan : SweepPlan) (finds : FindsAll old (option_map (λ table. table.id) last.table) living ids plan) (are : AreFolderIds (standing old) ids) (gone : AreGone new (planned plan))
-    (small : (id : ℕ) → Lives living id → id < 2 ^ 64) (brings : BringsNoTable old new) where
+module _ (old new : State) (last : Catalog) (living : List LivingKeyspace) (names : Names) (ids : List ℕ) (plan : SweepPlan) (finds : FindsAll old names living ids plan) (are : AreFolderIds (standing old) ids) (gone : AreGone new (planned plan))
+    (small : (id : ℕ) → Lives living id → id < 2 ^ 64) (brings : BringsNoTable old new)
+    (tree : (n : ℕ) → Contains (names 0) n → option_map (λ table. table.id) last.table ≡ Some n) (named : (id n : ℕ) → Lives living id → Contains (names id) n → NamesTable (standing old) id n) where
   at_planned : (name : Name) → Contains (planned plan) name → (new name).now ≡ Missing
   at_planned name has = All-contains (λ (n : Name). (new n).now ≡ Missing) (planned plan) name (All-from_recursion (λ (n : Name). (new n).now ≡ Missing) (planned plan) gone) has
 
@@ -262,12 +284,12 @@ module _ (old new : State) (last : Catalog) (living : List LivingKeyspace) (ids 
     files = λ id name fits some dead stands holds inside there.
         let home = found id fits some dead stands holds in
         home_name id home name (Contains-append_left (map string_bytes home.1.files.items) (string_bytes home.1.folder ∷ []) name (home.4.whole name inside there));
-    tables = λ id n fits lives. elim (missing_or_not (old (table_name id n)).now) [
+    tables = λ id n fits lives unnamed. elim (missing_or_not (old (table_name id n)).now) [
       | inl none ↦ brings id n (small id lives) fits none
-      | inr some ↦ table_planned id n (finds.tables_of id n lives fits some)
+      | inr some ↦ ⊎_elim (λ has. absurd (unnamed (named id n lives has))) (λ has. table_planned id n has) (finds.tables_of id lives n fits some)
     ];
     others = λ n fits other. elim (missing_or_not (old (table_name 0 n)).now) [
       | inl none ↦ brings 0 n (lit< tt) fits none
-      | inr some ↦ ⊎_elim (λ is. absurd (other is)) (λ has. table_planned 0 n has) (finds.tables n fits some)
+      | inr some ↦ ⊎_elim (λ has. absurd (other (tree n has))) (λ has. table_planned 0 n has) (finds.tables n fits some)
     ];
   }

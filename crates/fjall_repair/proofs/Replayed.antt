@@ -2,7 +2,7 @@
 use Rattle.std.proofs.Common.{◌≡◌, ℕ, zero, suc, ◌<◌, ◌^◌, ◌==◌, Bool, true, false, cond, List, [], ◌∷◌, length, get_or, map, find, All, Option, None, Some, unwrap_or, is_some, refl, sym, ◌∙◌, ap, subst, arith}
 use Rattle.std.proofs.lemmas.Bool.{and_parts, true≢false}
 use Rattle.std.proofs.lemmas.Bool.Decides.{nat_tests}
-use Rattle.std.proofs.lemmas.List.Elements.{All-nil}
+use Rattle.std.proofs.lemmas.List.Elements.{All-weaker}
 use Rattle.std.specs.Option.{option_map}
 use Rattle.std.specs.FinMap.{get}
 use Rattle.fjall_base.specs.Disk.{Image}
@@ -17,16 +17,17 @@ use Rattle.fjall_versions.specs.declared.recovery.Persisted.{Persisted}
 use Rattle.fjall_versions.specs.declared.version.Version.{Version}
 use Rattle.fjall_versions.specs.Replays.{counts, first_fault, persisted_at}
 use Rattle.fjall_versions.specs.Versions.{store_of as store_behind}
+use Rattle.fjall_versions.proofs.Ids.{living_has}
 use Rattle.fjall_versions.proofs.Naming.{made_were_given}
 use Rattle.fjall_versions.proofs.Slots.{same_id}
 use Rattle.fjall_contents.specs.Contents.{Stored, counts_beyond, is_beyond, store_held}
 use Rattle.fjall_contents.specs.Memory.{AreLoaded, AreTold, versions_beyond}
 use Rattle.fjall_contents.proofs.Loaded.{memory_stands_for_the_store}
 use Rattle.fjall_recovery.specs.declared.folder.RecoveredFolder.{RecoveredFolder}
-use Rattle.fjall_recovery.specs.declared.homes.KeyspaceRecords.{KeyspaceRecords}
+use Rattle.fjall_home.specs.declared.reading.LoadedHome.{LoadedHome}
 use Rattle.fjall_recovery.specs.Folders.{Contents, IsFinished, Shows}
-use Rattle.fjall_recovery.specs.Homes.{AreHomesRead, HaveVersions, Homes, Versions, last_in, lasts, stored_in}
-use Rattle.fjall_recovery.proofs.Storing.{are_within, nothing_in_tables, stored_persisted}
+use Rattle.fjall_recovery.specs.Homes.{AreHomesRead, HaveVersionsBut, Homes, Versions, last_in, lasts, stored_in}
+use Rattle.fjall_recovery.proofs.Damage.{persisted_but}
 use Rattle.fjall_repair.specs.Readings.{persisted_in, persisted_of}
 
 -- ---- ids that were given out
@@ -36,6 +37,15 @@ pub beyond_given : (s : Keyspaces) → AreKeyspaces s → (stored : ℕ → Stor
     → All (λ v. v.keyspace_id < s.next) versions → All (λ v. v.keyspace_id < s.next) (versions_beyond s stored versions batches)
 beyond_given s all stored =
     made_were_given s all (counts_beyond s stored) (λ number id e. (and_parts (counts s number id) (is_beyond (stored id).persisted number) e).0)
+
+-- so is what is of keyspaces that live
+pub living_given : (s : Keyspaces) → AreKeyspaces s → (versions : List Version) → All (λ v. is_some (keyspace_at v.keyspace_id s.living) ≡ true) versions → All (λ v. v.keyspace_id < s.next) versions
+living_given s all versions live = All-weaker (λ (v : Version). is_some (keyspace_at v.keyspace_id s.living) ≡ true) (λ (v : Version). v.keyspace_id < s.next)
+    (λ v lives. below (keyspace_at v.keyspace_id s.living) v.keyspace_id refl lives) versions live
+  where
+    below : (k : Option LivingKeyspace) (id : ℕ) → keyspace_at id s.living ≡ k → is_some k ≡ true → id < s.next
+    below (Some k) id at some = living_has (λ i. i < s.next) s.living id k at all.given
+    below None id at some = absurd (true≢false (sym some))
 
 -- something of which these numbers are told
 abbrev pub told_stored : List Persisted → ℕ → Stored
@@ -47,26 +57,26 @@ told_by s persisted i d lt = refl
 -- ---- the persisted numbers that were read
 
 -- the number of an id is that of the first home of it
-first_told : (b : Bool) (h : KeyspaceRecords) (others : Option Persisted) → b ≡ true → unwrap_or (option_map (λ (p : Persisted). p.number) (cond b (Some (persisted_in h)) others)) None ≡ h.record.persisted
+first_told : (b : Bool) (h : LoadedHome) (others : Option Persisted) → b ≡ true → unwrap_or (option_map (λ (p : Persisted). p.number) (cond b (Some (persisted_in h)) others)) None ≡ h.record.persisted
 first_told true h others is = refl
 first_told false h others is = absurd (true≢false (sym is))
 
-later_told : (b : Bool) (h : KeyspaceRecords) (others : Option Persisted) (n : Option ℕ) → (b ≡ true → h.record.persisted ≡ n) → unwrap_or (option_map (λ (p : Persisted). p.number) others) None ≡ n
+later_told : (b : Bool) (h : LoadedHome) (others : Option Persisted) (n : Option ℕ) → (b ≡ true → h.record.persisted ≡ n) → unwrap_or (option_map (λ (p : Persisted). p.number) others) None ≡ n
     → unwrap_or (option_map (λ (p : Persisted). p.number) (cond b (Some (persisted_in h)) others)) None ≡ n
 later_told true h others n here there = here refl
 later_told false h others n here there = there
 
-told_at : (homes : Homes) (image : Image) (living : List LivingKeyspace) (read : List KeyspaceRecords) → AreHomesRead image living read → map (λ h. records.view h.record) read ≡ lasts living homes
+told_at : (homes : Homes) (image : Image) (living : List LivingKeyspace) (read : List LoadedHome) → AreHomesRead image living read → map (λ h. records.view h.record) read ≡ lasts living homes
     → (i : ℕ) (d : LivingKeyspace) → i < length living → persisted_at (get_or living i d).id (map persisted_in read) ≡ (last_in (get homes (get_or living i d).id)).persisted
 told_at homes image [] read are same i d lt = absurd (omega (arith, lt))
 told_at homes image (k ∷ living) [] are same i d lt = absurd are
 told_at homes image (k ∷ living) (h ∷ read) are same zero d lt =
-    let named : h.id ≡ k.id = are.0.named in
+    let named : h.id ≡ k.id = are.0.loaded.named in
     let here : records.view h.record ≡ last_in (get homes k.id) = cc in
     first_told (h.id == k.id) h (find (λ (p : Persisted). p.id == k.id) (map persisted_in read)) (grind (arith, nat_tests)) ∙ ap (λ (f : Fields). f.persisted) here
 told_at homes image (k ∷ living) (h ∷ read) are same (suc i) d lt =
     let id = (get_or living i d).id in
-    let named : h.id ≡ k.id = are.0.named in
+    let named : h.id ≡ k.id = are.0.loaded.named in
     let here : records.view h.record ≡ last_in (get homes k.id) = cc in
     let rest : map (λ h. records.view h.record) read ≡ lasts living homes = cc in
     later_told (h.id == id) h (find (λ (p : Persisted). p.id == id) (map persisted_in read)) (last_in (get homes id)).persisted
@@ -74,24 +84,8 @@ told_at homes image (k ∷ living) (h ∷ read) are same (suc i) d lt =
     (told_at homes image living read are.1 rest i d (omega (arith, lt)))
 
 -- of each keyspace that lives its record tells the number
-pub told : (image : Image) (found : RecoveredFolder) (c : Contents) → IsFinished image found → Shows found c → HaveVersions c.homes c.versions
-    → AreTold c.keyspaces (stored_in c.homes c.versions) (persisted_of found)
-told image found c read shows have i d lt =
+pub told : (image : Image) (found : RecoveredFolder) (c : Contents) (damaged : List ℕ) (versions : Versions) → IsFinished image found → Shows found c → HaveVersionsBut damaged c.homes versions
+    → AreTold c.keyspaces (stored_in c.homes versions) (persisted_of found)
+told image found c damaged versions read shows have i d lt =
     told_at c.homes image c.keyspaces.living found.homes.items (subst (λ (s : Keyspaces). AreHomesRead image s.living found.homes.items) shows.keyspaces read.homes) shows.homes i d lt
-    ∙ sym (stored_persisted c.homes c.versions have (get_or c.keyspaces.living i d).id)
-
--- ---- the store
-
--- where nothing lies in tables nothing is loaded
-none_loaded : (s : Keyspaces) (stored : ℕ → Stored) → ((id : ℕ) → (stored id).versions ≡ []) → AreLoaded s stored []
-none_loaded s stored none = record {
-  each = All-nil (λ v. is_some (keyspace_at v.keyspace_id s.living) ≡ true);
-  values = λ i d lt key. (let k = get_or s.living i d in ap (λ (vs : List Entry). value_at key (2 ^ 63) (stored k.id).clears vs) (sym (none k.id)));
-}
-
--- where no record names a table, what the batches make in memory stands for the store of files and journals
-pub replayed_stands : (s : Keyspaces) (homes : Homes) (versions : Versions) → HaveVersions homes versions → ((id : ℕ) → (last_in (get homes id)).tables ≡ []) → (batches : List Shown)
-    → first_fault 0 batches ≡ None → store_behind s (versions_beyond s (stored_in homes versions) [] batches) ≡ store_held s (stored_in homes versions) batches
-replayed_stands s homes versions have none batches sound =
-    let stored = stored_in homes versions in
-    memory_stands_for_the_store s stored [] 0 batches (are_within homes versions have s) (none_loaded s stored (λ id. nothing_in_tables homes versions have id (none id))) sound
+    ∙ sym (persisted_but damaged c.homes versions have (get_or c.keyspaces.living i d).id)

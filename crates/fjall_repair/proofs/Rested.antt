@@ -3,6 +3,7 @@ use Rattle.std.proofs.Common.{◌≡◌, ◌⊎◌, inl, inr, ⊎_elim, ℕ, ◌
 use Rattle.std.specs.Prelude.{Contains}
 use Rattle.std.specs.List.{flat_map, AllByRecursion}
 use Rattle.std.specs.List.Sorted.{IsStrictlyIncreasing}
+use Rattle.std.specs.FinMap.{get}
 use Rattle.std.proofs.lemmas.List.{append-nil, get_or_default, length-append, length-drop, map-append, nil_from_length, take_all, take_at}
 use Rattle.std.proofs.Math.Seq.{get_or-append_right}
 use Rattle.fjall_base.specs.Crash.{keeping}
@@ -22,8 +23,8 @@ use Rattle.fjall_home.specs.Homes.{AreSafe, HasHome, HoldTables, HoldsText, Home
 use Rattle.fjall_home.proofs.Resting.{IsGiven, all_given, each_more, last_has}
 use Rattle.fjall_versions.specs.Replays.{first_fault}
 use Rattle.fjall_catalog.specs.Catalog.{Rests, home_of}
-use Rattle.fjall_recovery.specs.Folders.{Contents, IsSound, file_bytes}
-use Rattle.fjall_recovery.specs.Homes.{HasPlainHome}
+use Rattle.fjall_recovery.specs.Folders.{Contents, IsOpenable, file_bytes}
+use Rattle.fjall_recovery.specs.Homes.{HasOpenableHome, HaveVersions}
 use Rattle.fjall_recovery.specs.Journals.{Journal, ReadsAs, AreRead, batches_in, journal_text}
 use Rattle.fjall_recovery.specs.Places.{HasSafeHome, IsNeverFile, Journaling, LiesInRoot, RestsInTree, journal_ids, journals_with, texts_of}
 use Rattle.fjall_recovery.proofs.Housing.{is_housed}
@@ -31,7 +32,7 @@ use Rattle.fjall_repair.specs.Steps.{IsRested, IsSynced, active_of, sealed_of}
 use Rattle.fjall_repair.specs.Sweeps.{Lives}
 use Rattle.fjall_repair.proofs.Naming.{folder_of-journal, folder_of-folder, folder_of-current, folder_of-table}
 use Rattle.fjall_repair.proofs.Halving.{tree_of}
-use Rattle.fjall_repair.proofs.Homing.{HasCounts, catalog_counts, plain_counts}
+use Rattle.fjall_repair.proofs.Homing.{HasCounts, catalog_counts, open_counts}
 use Rattle.fjall_repair.proofs.Items.{contains_map, each_in}
 use Rattle.fjall_repair.proofs.Living.{homes_safe, ids_fit, ids_with, lives_found, with_living}
 use Rattle.fjall_repair.proofs.Cutting.{whole_length}
@@ -147,7 +148,7 @@ module _ (s : State) (c : Contents) (rest : IsRested s c) where
   abbrev pub image : Image
   image = left 0 s
 
-  pub sound : IsSound image c
+  pub sound : IsOpenable image c
   sound = rest.images (left 0 s) (left_is 0 s)
 
   seen : (q : Name) → IsThere image (folder_of q) → image q ≡ keeping 0 (s q).now
@@ -328,7 +329,7 @@ module _ (s : State) (c : Contents) (rest : IsRested s c) where
   -- ---- the keyspaces
 
   -- what another crash leaves holds the same
-  others : (k : ℕ) → IsSound (left k s) c
+  others : (k : ℕ) → IsOpenable (left k s) c
   others k = rest.images (left k s) (left_is k s)
 
   catalog_rests : Rests s sound.records c.last c.keyspaces
@@ -343,21 +344,29 @@ module _ (s : State) (c : Contents) (rest : IsRested s c) where
         are = says.are;
       }
 
-  safe_home : (id : ℕ) (h : Home) → Lives c.keyspaces.living id → HasPlainHome image id h → HasSafeHome s id h
-  safe_home id h lives stands =
-      let folder : (k : ℕ) → left k s (keyspace_folder id) ≡ Folder = λ k. (is_housed (left k s) c.keyspaces.living c.homes id (others k).homes (lives_found c.keyspaces.living id lives)).2.home.folder in
-      record {
-        records = stands.records;
-        rests = home_rests id (with_living c.keyspaces.living id lives) stands.records h stands.home (λ k. plain_counts image (left k s) id h stands (folder k));
-        plain = stands.plain;
-      }
+  -- the same home is there in what another crash leaves
+  home_counts : (id : ℕ) (h : Home) → Lives c.keyspaces.living id → get c.homes id ≡ Some h → HasOpenableHome image id h → (k : ℕ) → HasCounts (left k s) id h
+  home_counts id h lives at stands k =
+      let there = is_housed (left k s) c.keyspaces.living c.homes id (others k).homes (lives_found c.keyspaces.living id lives) in
+      let both : Some there.0 ≡ Some h = sym there.1 ∙ at in
+      let same : there.0 ≡ h = cc in
+      open_counts image (left k s) id h there.0 stands (ap (λ (i : Home). i.last) same) there.2
 
-  pub rests_in_tree : RestsInTree s sound.records (tree_of c)
-  rests_in_tree = record {
+  safe_home : (id : ℕ) (h : Home) → Lives c.keyspaces.living id → get c.homes id ≡ Some h → HasOpenableHome image id h → HasSafeHome s id h
+  safe_home id h lives at stands = record {
+    records = stands.records;
+    rests = home_rests id (with_living c.keyspaces.living id lives) stands.records h stands.home (home_counts id h lives at stands);
+    indexes = stands.indexes;
+    indexed = stands.indexed;
+    clears = stands.clears;
+  }
+
+  pub rests_in_tree : HaveVersions c.homes c.versions → RestsInTree s sound.records (tree_of c)
+  rests_in_tree have = record {
     named = λ name inside none. subst (λ (es : List Entry). AllByRecursion IsNoFolder ((s name).now ∷ es)) (sym (rest.folders.0 name inside))
         (no_folder (s name).now (λ folder. sound.keyspaces_named name inside (names_left (codes "keyspaces") (inr keyspaces_there) name inside ∙ ap (keeping 0) folder) none), tt);
     catalog = catalog_rests;
     made = sound.made;
     homes = homes_safe image c.keyspaces.living c.homes s safe_home sound.homes;
-    versions = sound.versions;
+    versions = have;
   }

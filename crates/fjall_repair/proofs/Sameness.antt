@@ -1,4 +1,4 @@
--- Where all that counts is synced, an image that is sound is what stands.
+-- Where all that counts is synced, an image in which an opening finds nothing wrong holds what stands.
 use Rattle.std.proofs.Common.{◌≡◌, inl, inr, ⊎_elim, ℕ, ◌<◌, ◌^◌, List, [], ◌∷◌, length, take, map, codes, refl, sym, ◌∙◌, ap, subst, arith}
 use Rattle.std.specs.Prelude.{◌↔◌, Contains}
 use Rattle.std.specs.List.{AllByRecursion}
@@ -10,21 +10,23 @@ use Rattle.fjall_table.specs.declared.table_info.TableInfo.{TableInfo}
 use Rattle.fjall_tree.specs.Records.{Fields, IsRecord, IsRecords}
 use Rattle.fjall_files.specs.Names.{journal_name, keyspace_folder, current_name, table_name}
 use Rattle.fjall_home.specs.Homes.{HasFiles, HoldTables, HoldsText, Home}
+use Rattle.fjall_home.proofs.Meanings as homes
 use Rattle.fjall_home.proofs.Resting.{IsGiven, all_given, each_more, last_has}
+use Rattle.fjall_meta.specs.Keyspaces.{Keyspaces}
 use Rattle.fjall_catalog.specs.Catalog.{home_of}
 use Rattle.fjall_catalog.specs.Catalog as catalog
-use Rattle.fjall_catalog.proofs.Meanings.{last_one}
-use Rattle.fjall_recovery.specs.Folders.{Contents, IsSound, file_bytes}
-use Rattle.fjall_recovery.specs.Homes.{HasPlainHome}
+use Rattle.fjall_catalog.proofs.Meanings.{last_one, one_catalog}
+use Rattle.fjall_recovery.specs.Folders.{Contents, IsOpenable, file_bytes}
+use Rattle.fjall_recovery.specs.Homes.{HasOpenableHome}
 use Rattle.fjall_recovery.specs.Journals.{Journal, journal_text}
 use Rattle.fjall_recovery.proofs.Alike.{sound_by}
-use Rattle.fjall_recovery.proofs.Holding.{there_or_not}
+use Rattle.fjall_recovery.proofs.Housing.{is_housed}
 use Rattle.fjall_repair.specs.Steps.{IsSynced, active_of, ended_names, folder_names, whole_names}
 use Rattle.fjall_repair.specs.Sweeps.{Lives}
-use Rattle.fjall_repair.proofs.Naming.{folder_of-journal, folder_of-folder, folder_of-current, folder_of-table}
-use Rattle.fjall_repair.proofs.Homing.{HasCounts, catalog_counts, plain_counts}
+use Rattle.fjall_repair.proofs.Naming.{folder_of-journal, folder_of-current, folder_of-table}
+use Rattle.fjall_repair.proofs.Homing.{HasCounts, catalog_counts, open_counts}
 use Rattle.fjall_repair.proofs.Items.{contains_map, each_in}
-use Rattle.fjall_repair.proofs.Living.{have_along, ids_fit, ids_with, with_living}
+use Rattle.fjall_repair.proofs.Living.{have_along, ids_fit, ids_with, lives_found, with_living}
 use Rattle.fjall_repair.proofs.Trimming.{fits_all}
 use Rattle.fjall_repair.proofs.MendOpened.{ids_of}
 use Rattle.fjall_repair.proofs.Rested.{Parted, active_parted, each_both, each_front, last_parted, parted, sealed_parted}
@@ -37,9 +39,6 @@ file_survives Missing left is = ((λ f. absurd (subst IsFile is f)), (λ f. absu
 file_survives Folder left is = ((λ f. absurd (subst IsFile is f)), (λ f. absurd f))
 file_survives (File synced unsynced) left some = ((λ f. tt), (λ f. subst IsFile (sym some.1) tt))
 
-folder_survives : (e left : Entry) → Survives e left → e ≡ Folder → left ≡ Folder
-folder_survives e left some is = subst (λ (d : Entry). Survives d left) is some
-
 same_by_length : (text part : List ℕ) (n count : ℕ) → part ≡ take n text → length text ≡ count → length part ≡ count → part ≡ text
 same_by_length text part n count is all some =
     let l = ap length is in
@@ -48,11 +47,11 @@ same_by_length text part n count is all some =
 
 -- ---- an image of a disk on which all that counts is synced
 
-module _ (s : State) (c : Contents) (sound : IsSound (standing s) c) (root : (q : Name) → folder_of q ≡ [] → (s q).older ≡ [])
+module _ (s : State) (c : Contents) (sound : IsOpenable (standing s) c) (root : (q : Name) → folder_of q ≡ [] → (s q).older ≡ [])
     (folders : AllByRecursion (λ f. (q : Name) → folder_of q ≡ f → (s q).older ≡ []) (folder_names (map (λ k. k.id) c.keyspaces.living)))
     (whole : AllByRecursion (λ f. IsSynced (s f).now) (whole_names (ids_of c.journals)))
     (ended : AllByRecursion (λ f. IsSynced (s f).now) (ended_names (active_of (ids_of c.journals)) (map (λ k. k.id) c.keyspaces.living)))
-    (image : Image) (is : IsImage s image) (d : Contents) (other : IsSound image d) where
+    (image : Image) (is : IsImage s image) (d : Contents) (other : IsOpenable image d) where
   seen : (q : Name) → IsThere image (folder_of q) → (s q).older ≡ [] → Survives (s q).now (image q)
   seen q there older = ⊎_elim (λ here. here) (λ was. absurd (subst (λ (es : List Entry). SomeSurvives es (image q)) older was)) (is.kept q there)
 
@@ -89,10 +88,6 @@ module _ (s : State) (c : Contents) (sound : IsSound (standing s) c) (root : (q 
 
   -- ---- the keyspaces
 
-  keyspaces_there : IsThere image (codes "keyspaces")
-  keyspaces_there = subst (IsThere image) (folder_of-folder 0 (omega arith))
-      (⊎_elim (λ there. there) (λ gone. let no : Missing ≡ Folder = sym (is.lost (keyspace_folder 0) gone) ∙ other.folder in let bad : ⊥ = cc in absurd bad) (there_or_not image (folder_of (keyspace_folder 0))))
-
   -- a home of tree 0 or of a keyspace that lives
   module _ (id : ℕ) (has : Contains (ids_with c.keyspaces.living) id) where
     small : id < 2 ^ 64
@@ -100,11 +95,6 @@ module _ (s : State) (c : Contents) (sound : IsSound (standing s) c) (root : (q 
 
     inside : (q : Name) → folder_of q ≡ keyspace_folder id → (s q).older ≡ []
     inside = each_in (λ f. (q : Name) → folder_of q ≡ f → (s q).older ≡ []) (map keyspace_folder (ids_with c.keyspaces.living)) (keyspace_folder id) (contains_map keyspace_folder (ids_with c.keyspaces.living) id has) folders.1
-
-    folder_stays : (s (keyspace_folder id)).now ≡ Folder → image (keyspace_folder id) ≡ Folder
-    folder_stays stands =
-        let at = folder_of-folder id small in
-        folder_survives (s (keyspace_folder id)).now (image (keyspace_folder id)) (seen (keyspace_folder id) (subst (IsThere image) (sym at) keyspaces_there) (folders.0 (keyspace_folder id) at)) stands
 
     file_there : (q : Name) → folder_of q ≡ keyspace_folder id → image (keyspace_folder id) ≡ Folder → IsThere image (folder_of q)
     file_there q at there = subst (IsThere image) (sym at) (inr there)
@@ -154,18 +144,39 @@ module _ (s : State) (c : Contents) (sound : IsSound (standing s) c) (root : (q 
   same_files = files_alike_here 0 first_has sound.records (home_of c.last sound.catalog.texts) sound.catalog.files
       (catalog_counts (standing s) image sound.records other.records c.last d.last c.keyspaces d.keyspaces sound.catalog one_last other.catalog other.folder)
 
-  home_alike : (id : ℕ) (h : Home) → Lives c.keyspaces.living id → HasPlainHome (standing s) id h → HasPlainHome image id h
+  -- it says that the same keyspaces live
+  same_keyspaces : c.keyspaces ≡ d.keyspaces
+  same_keyspaces =
+      let says : catalog.Says image sound.records c.last c.keyspaces =
+      record { texts = sound.catalog.texts; files = same_files; pairs = sound.catalog.pairs; next = sound.catalog.next; are = sound.catalog.are } in
+      (one_catalog image sound.records other.records c.last d.last c.keyspaces d.keyspaces says other.catalog).2
+
+  -- and the home of each of them is there, with as many bytes in its tables
+  same_counts : (id : ℕ) (h : Home) → Lives c.keyspaces.living id → HasOpenableHome (standing s) id h → HasCounts image id h
+  same_counts id h lives stands =
+      let has = with_living c.keyspaces.living id lives in
+      let alive = lives_found d.keyspaces.living id (subst (λ (k : Keyspaces). Lives k.living id) same_keyspaces lives) in
+      let there = is_housed image d.keyspaces.living d.homes id other.homes alive in
+      let files = there.2.home.files in
+      let whole = subst (λ (e : Entry). IsRecords (text_in e) there.2.records files.end) (current_alike id has there.2.home.folder) files.whole in
+      let same : there.0.last ≡ h.last =
+      homes.last_one (text_in (s (current_name id)).now) there.2.records stands.records files.end stands.home.files.end there.0.last h.last whole stands.home.files.whole files.last_is stands.home.files.last_is in
+      open_counts (standing s) image id h there.0 stands same there.2
+
+  home_alike : (id : ℕ) (h : Home) → Lives c.keyspaces.living id → HasOpenableHome (standing s) id h → HasOpenableHome image id h
   home_alike id h lives stands =
       let has = with_living c.keyspaces.living id lives in
-      let folder = folder_stays id has stands.home.folder in
+      let counts = same_counts id h lives stands in
       record {
         records = stands.records;
-        home = record { folder = folder; files = files_alike_here id has stands.records h stands.home.files (plain_counts (standing s) image id h stands folder) };
-        plain = stands.plain;
+        home = record { folder = counts.folder; files = files_alike_here id has stands.records h stands.home.files counts };
+        indexes = stands.indexes;
+        indexed = stands.indexed;
+        clears = stands.clears;
       }
 
   -- the image holds what stands
-  pub same_sound : IsSound image c
+  pub same_sound : IsOpenable image c
   same_sound = sound_by (standing s) image c sound (ap file_bytes (synced_seen (codes "version") (inl refl) (root (codes "version") refl) whole.0)) other.journals_named files_alike (texts_all c.journals refl)
       other.keyspaces_named other.folder same_files.current (ap text_in (current_alike 0 first_has other.folder)) (sound.catalog.texts, same_files.tables, sound.catalog.pairs)
       (have_along (standing s) c.keyspaces.living c.homes image home_alike sound.homes)

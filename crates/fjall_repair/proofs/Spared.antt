@@ -33,7 +33,7 @@ tree_more t P Q to at = record {
 
 -- what stands at those names is all that matters
 home_along : (old new : State) (id : ℕ) (k : Option LivingKeyspace) (h : Option Home) → ((i : Home) → h ≡ Some i → At id i.last.tables (λ q. new q ≡ old q)) → HasSafeHomeAt old id k h → HasSafeHomeAt new id k h
-home_along old new id (Some k) (Some h) at have = record { records = have.records; rests = home_rests_along old new id have.records h (at h refl) have.rests; plain = have.plain }
+home_along old new id (Some k) (Some h) at have = record { records = have.records; rests = home_rests_along old new id have.records h (at h refl) have.rests; indexes = have.indexes; indexed = have.indexed; clears = have.clears }
 home_along old new id None None at have = tt
 home_along old new id (Some k) None at have = absurd have
 home_along old new id None (Some h) at have = absurd have

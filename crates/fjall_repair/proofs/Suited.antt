@@ -6,7 +6,7 @@ use Rattle.fjall_base.specs.declared.error.Error.{Error}
 use Rattle.fjall_base.specs.Disk.{Name, Meaning, State, standing, state_in}
 use Rattle.fjall_files.specs.Names.{journal_name, current_name, table_name}
 use Rattle.fjall_recovery.specs.declared.folder.RecoveredFolder.{RecoveredFolder}
-use Rattle.fjall_recovery.specs.declared.homes.KeyspaceRecords.{KeyspaceRecords}
+use Rattle.fjall_home.specs.declared.reading.LoadedHome.{LoadedHome}
 use Rattle.fjall_recovery.specs.Folders.{Contents, IsFinished, Shows}
 use Rattle.fjall_recovery.specs.Held.{Holds}
 use Rattle.fjall_repair.specs.declared.mending.plan.FileEnd.{FileEnd}
@@ -21,7 +21,7 @@ use Rattle.fjall_repair.proofs.Suiting.{ends_found, ends_length, planned_names, 
 
 -- a plan of a folder that was read suits it
 pub suited : (state : State) (f : RecoveredFolder) (c : Contents) (p : MendPlan) → Holds state (Some c) → IsFinished (standing state) f → Shows f c → IsMendingOf (standing state) f p → Suits (standing state) c p
-suited state f c p holds finished shows is = suits (standing state) f c is.0 p holds.now finished shows is.1 is.2
+suited state f c p holds finished shows is = suits (standing state) f c is.0 p holds.now.openable finished shows is.1 is.2
 
 -- what follows of what a success gives
 pub on_ok_then : (result : Result Unit Error) (P Q : Type 0) → (P → Q) → OnOk result P → OnOk result Q
@@ -32,7 +32,7 @@ on_ok_then (Err e) P Q to is = tt
 pub mended_by : (m0 m2 : Meaning) (f : RecoveredFolder) (c : Contents) (p : MendPlan) → Holds (state_in m0) (Some c) → IsFinished (standing (state_in m0)) f → Shows f c → IsMendingOf (standing (state_in m0)) f p → IsRested (state_in m2) (with_active c)
     → IsMended (state_in m2) f c (string_bytes p.active)
 mended_by m0 m2 f c p holds finished shows is rested =
-    mended (state_in m2) f c (string_bytes p.active) rested (is.2.active ∙ ap (λ ids. journal_name (active_of ids)) shows.ids) (ends_length (standing (state_in m0)) c.journals f.journals.end f.journals.torn (ends_found (standing (state_in m0)) f c holds.now finished))
+    mended (state_in m2) f c (string_bytes p.active) holds.now.versions rested (is.2.active ∙ ap (λ ids. journal_name (active_of ids)) shows.ids) (ends_length (standing (state_in m0)) c.journals f.journals.end f.journals.torn (ends_found (standing (state_in m0)) f c holds.now.openable finished))
 
 -- ---- tables
 
@@ -55,4 +55,4 @@ module _ (id n : ℕ) where
   pub no_ends : (f : RecoveredFolder) (tree : End) (p : MendPlan) → tree.name ≡ current_name 0 → IsPlanOf f tree p → All (λ (e : FileEnd). table_name id n ≢ string_bytes e.name) p.ends.items
   no_ends f tree p named plan = back_map (λ (q : Name). table_name id n ≢ q) name_of_end p.ends.items
       (subst (AllByRecursion (λ (q : Name). table_name id n ≢ q)) (sym (planned_names f tree p named plan))
-      ((λ same. journal_table (active_of f.journal_ids.items) id n (sym same)), ((λ same. current_table 0 id n (sym same)), no_currents (map (λ (h : KeyspaceRecords). h.id) f.homes.items))))
+      ((λ same. journal_table (active_of f.journal_ids.items) id n (sym same)), ((λ same. current_table 0 id n (sym same)), no_currents (map (λ (h : LoadedHome). h.id) f.homes.items))))

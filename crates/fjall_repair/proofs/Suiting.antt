@@ -1,20 +1,19 @@
 -- The plan for a folder that was read suits it.
 use Rattle.std.proofs.Common.{◌≡◌, inl, inr, ⊎_elim, ℕ, ◌≤◌, Bool, true, false, List, [], ◌∷◌, ◌++◌, length, drop, map, Some, nat_lt, string_bytes, refl, sym, ◌∙◌, ap, subst, arith}
-use Rattle.std.specs.List.{flat_map, AllByRecursion}
-use Rattle.std.proofs.lemmas.List.{length-append, length-drop, length-take}
-use Rattle.std.proofs.lemmas.List.Concat.{flat_map-cons}
+use Rattle.std.specs.List.{AllByRecursion}
+use Rattle.std.proofs.lemmas.List.{length-drop}
 use Rattle.std.proofs.lemmas.Bool.Decides.{nat_tests}
-use Rattle.fjall_base.specs.Disk.{Name, Entry, Missing, File, Folder, Image, IsFile}
+use Rattle.fjall_base.specs.Disk.{Name, Entry, Image, IsFile}
 use Rattle.fjall_journal.specs.Batches.{IsWhole, IsTail}
-use Rattle.fjall_tree.specs.Records.{Fields, IsRecords, record_text}
+use Rattle.fjall_tree.specs.Records.{Fields, IsRecords}
 use Rattle.fjall_base.specs.Lists.{last_of}
-use Rattle.fjall_tree.proofs.Currents.{one_reading, records_apart}
+use Rattle.fjall_tree.proofs.Currents.{one_reading}
 use Rattle.fjall_files.specs.Names.{journal_name, current_name}
 use Rattle.fjall_meta.specs.Keyspaces.{Keyspaces}
 use Rattle.fjall_meta.specs.declared.living.LivingKeyspace.{LivingKeyspace}
 use Rattle.fjall_recovery.specs.declared.folder.RecoveredFolder.{RecoveredFolder}
-use Rattle.fjall_recovery.specs.declared.homes.KeyspaceRecords.{KeyspaceRecords}
-use Rattle.fjall_recovery.specs.Folders.{Contents, IsFinished, IsSound, Shows}
+use Rattle.fjall_home.specs.declared.reading.LoadedHome.{LoadedHome}
+use Rattle.fjall_recovery.specs.Folders.{Contents, IsFinished, IsOpenable, Shows}
 use Rattle.fjall_recovery.specs.Homes.{AreHomesRead}
 use Rattle.fjall_recovery.specs.Journals.{Journal, AreJournalIds, EndsAt, HoldsJournals, journal_text, tail_of}
 use Rattle.fjall_recovery.proofs.Alone.{one_list_of_journals}
@@ -36,7 +35,7 @@ use Rattle.fjall_repair.proofs.Carrying.{name_of_end}
 -- ---- journals
 
 -- the journals that were read are those of the folder, and they end there
-pub ends_found : (image : Image) (f : RecoveredFolder) (c : Contents) → IsSound image c → IsFinished image f → EndsAt image c.journals f.journals.end f.journals.torn
+pub ends_found : (image : Image) (f : RecoveredFolder) (c : Contents) → IsOpenable image c → IsFinished image f → EndsAt image c.journals f.journals.end f.journals.torn
 ends_found image f c sound finished =
     let found = finished.journals in
     let holds : HoldsJournals image found.journals = record { ids = subst (AreJournalIds image) (sym found.named) finished.journal_ids; read = found.read; sound = found.gathers.sound } in
@@ -113,7 +112,7 @@ module _ (image made : Image) (active : Name) (is : IsOpened image made active) 
           long = (let le = whole.within in omega (arith, le, count));
         }
 
-    tree_right : (c d : Contents) (e : End) → IsSound image d → IsTreeEnd image e → IsRightEnd made c e
+    tree_right : (c d : Contents) (e : End) → IsOpenable image d → IsTreeEnd image e → IsRightEnd made c e
     tree_right c d e sound tree =
         let files = sound.catalog.files in
         records_right c 0 e sound.records tree.named files.current (subst (λ n. IsRecords (text_in (image (current_name 0))) sound.records n) (tree.is sound.records files.end files.whole) files.whole) tree.uncut
@@ -121,57 +120,39 @@ module _ (image made : Image) (active : Name) (is : IsOpened image made active) 
     not_less : (n m : ℕ) → nat_lt n m ≡ false → m ≤ n
     not_less n m is = grind (arith, nat_tests)
 
-    -- records stand in a file
-    no_text : (r : Fields) (rs : List Fields) (end : ℕ) → IsRecords [] (r ∷ rs) end → ⊥
-    no_text r rs end whole =
-        let l = ap length whole.texts in
-        let m = length-take {A = ℕ} end [] in
-        let n = ap length (flat_map-cons record_text r rs) in
-        let k = length-append (record_text r) (flat_map record_text rs) in
-        let some = records_apart.some r in
-        omega (arith, l, m, n, k, some)
-
-    some_file : (e : Entry) (r : Fields) (rs : List Fields) (end : ℕ) → IsRecords (text_in e) (r ∷ rs) end → IsFile e
-    some_file Missing r rs end whole = absurd (no_text r rs end whole)
-    some_file Folder r rs end whole = absurd (no_text r rs end whole)
-    some_file (File synced unsynced) r rs end whole = tt
-
-    last_file : (e : Entry) (last : Fields) (rs : List Fields) (end : ℕ) → IsRecords (text_in e) rs end → last_of rs ≡ Some last → IsFile e
-    last_file e last [] end whole is = let bad : ⊥ = cc in absurd bad
-    last_file e last (r ∷ rs) end whole is = some_file e r rs end whole
-
-    homes_right : (c : Contents) (living : List LivingKeyspace) (homes : List KeyspaceRecords) → AreHomesRead image living homes → AllByRecursion (IsRightEnd made c) (map home_end homes)
+    homes_right : (c : Contents) (living : List LivingKeyspace) (homes : List LoadedHome) → AreHomesRead image living homes → AllByRecursion (IsRightEnd made c) (map home_end homes)
     homes_right c [] [] all = tt
     homes_right c [] (h ∷ homes) all = absurd all
     homes_right c (k ∷ living) [] all = absurd all
     homes_right c (k ∷ living) (h ∷ homes) all =
-        let read = all.0.read in
-        let at : home_end h ≡ record { name = current_name k.id; cut = nat_lt h.end h.len; len = h.end } = ap (λ id. let e : End = record { name = current_name id; cut = nat_lt h.end h.len; len = h.end } in e) all.0.named in
-        let len = read.len in (
-          records_right c k.id (home_end h) read.has.records (ap current_name all.0.named) (last_file (image (current_name k.id)) _ read.has.records read.has.end read.has.whole read.has.is)
-              (subst (λ n. IsRecords (text_in (image (current_name k.id))) read.has.records n) (read.ends read.has.records read.has.end read.has.whole) read.has.whole)
+        let read = all.0.loaded in
+        let at : home_end h ≡ record { name = current_name k.id; cut = nat_lt h.end h.len; len = h.end } = ap (λ id. let e : End = record { name = current_name id; cut = nat_lt h.end h.len; len = h.end } in e) read.named in
+        let files = read.openable.files in
+        let len = read.len_is in (
+          records_right c k.id (home_end h) read.records (ap current_name read.named) files.current
+              (subst (λ n. IsRecords (text_in (image (current_name k.id))) read.records n) (sym read.end_is) files.whole)
               (λ not. (let le = not_less h.end h.len not in omega (arith, le, len))),
           homes_right c living homes all.1,
         )
 
 -- ---- names
 
-pub same_ids : (image : Image) (living : List LivingKeyspace) (homes : List KeyspaceRecords) → AreHomesRead image living homes → map (λ (h : KeyspaceRecords). h.id) homes ≡ map (λ (k : LivingKeyspace). k.id) living
+pub same_ids : (image : Image) (living : List LivingKeyspace) (homes : List LoadedHome) → AreHomesRead image living homes → map (λ (h : LoadedHome). h.id) homes ≡ map (λ (k : LivingKeyspace). k.id) living
 same_ids image [] [] all = refl
 same_ids image [] (h ∷ homes) all = absurd all
 same_ids image (k ∷ living) [] all = absurd all
-same_ids image (k ∷ living) (h ∷ homes) all = ap (λ id. id ∷ map (λ (g : KeyspaceRecords). g.id) homes) all.0.named ∙ ap (λ ids. k.id ∷ ids) (same_ids image living homes all.1)
+same_ids image (k ∷ living) (h ∷ homes) all = ap (λ id. id ∷ map (λ (g : LoadedHome). g.id) homes) all.0.loaded.named ∙ ap (λ ids. k.id ∷ ids) (same_ids image living homes all.1)
 
 names_of : (ends : List FileEnd) → map name_of_end ends ≡ map (λ (e : End). e.name) (map end_of ends)
 names_of [] = refl
 names_of (e ∷ ends) = ap (λ ns. string_bytes e.name ∷ ns) (names_of ends)
 
-home_names : (homes : List KeyspaceRecords) → map (λ (e : End). e.name) (map home_end homes) ≡ map current_name (map (λ (h : KeyspaceRecords). h.id) homes)
+home_names : (homes : List LoadedHome) → map (λ (e : End). e.name) (map home_end homes) ≡ map current_name (map (λ (h : LoadedHome). h.id) homes)
 home_names [] = refl
 home_names (h ∷ homes) = ap (λ ns. current_name h.id ∷ ns) (home_names homes)
 
 -- the names of all files that are ended
-pub planned_names : (f : RecoveredFolder) (tree : End) (p : MendPlan) → tree.name ≡ current_name 0 → IsPlanOf f tree p → map name_of_end p.ends.items ≡ ended_names (active_of f.journal_ids.items) (map (λ (h : KeyspaceRecords). h.id) f.homes.items)
+pub planned_names : (f : RecoveredFolder) (tree : End) (p : MendPlan) → tree.name ≡ current_name 0 → IsPlanOf f tree p → map name_of_end p.ends.items ≡ ended_names (active_of f.journal_ids.items) (map (λ (h : LoadedHome). h.id) f.homes.items)
 planned_names f tree p named plan =
     names_of p.ends.items ∙ ap (map (λ (e : End). e.name)) plan.ends
     ∙ ap (λ (n : Name). journal_name (active_of f.journal_ids.items) ∷ n ∷ map (λ (e : End). e.name) (map home_end f.homes.items)) named
@@ -196,17 +177,17 @@ pub plan_is : (image : Image) (f : RecoveredFolder) (result : Result MendPlan Er
 plan_is image f (Ok p) read is = (tree_end f.catalog, tree_ends image f read, is)
 plan_is image f (Err e) read is = tt
 
-pub suits : (image : Image) (f : RecoveredFolder) (c : Contents) (tree : End) (p : MendPlan) → IsSound image c → IsFinished image f → Shows f c → IsTreeEnd image tree → IsPlanOf f tree p → Suits image c p
+pub suits : (image : Image) (f : RecoveredFolder) (c : Contents) (tree : End) (p : MendPlan) → IsOpenable image c → IsFinished image f → Shows f c → IsTreeEnd image tree → IsPlanOf f tree p → Suits image c p
 suits image f c tree p sound finished shows tree_end plan =
     let ids : f.journal_ids.items ≡ ids_of c.journals = shows.ids in
-    let living : map (λ (h : KeyspaceRecords). h.id) f.homes.items ≡ map (λ (k : LivingKeyspace). k.id) c.keyspaces.living =
+    let living : map (λ (h : LoadedHome). h.id) f.homes.items ≡ map (λ (k : LivingKeyspace). k.id) c.keyspaces.living =
     same_ids image f.catalog.keyspaces.living f.homes.items finished.homes ∙ ap (λ (s : Keyspaces). map (λ (k : LivingKeyspace). k.id) s.living) shows.keyspaces in
     let active : string_bytes p.active ≡ journal_name (active_of (ids_of c.journals)) = plan.active ∙ ap (λ l. journal_name (active_of l)) ids in
     record {
       active = active;
       folders = plan.folders ∙ ap folder_names living;
       whole = plan.whole ∙ ap whole_names ids;
-      ended = planned_names f tree p tree_end.named plan ∙ ap (λ l. ended_names (active_of l) (map (λ (h : KeyspaceRecords). h.id) f.homes.items)) ids ∙ ap (λ l. ended_names (active_of (ids_of c.journals)) l) living;
+      ended = planned_names f tree p tree_end.named plan ∙ ap (λ l. ended_names (active_of l) (map (λ (h : LoadedHome). h.id) f.homes.items)) ids ∙ ap (λ l. ended_names (active_of (ids_of c.journals)) l) living;
       right = λ made is. subst (AllByRecursion (IsRightEnd made (with_active c))) (sym plan.ends) (
         subst (λ (n : Name). IsRightEnd made (with_active c) (let e : End = record { name = n; cut = f.journals.torn; len = f.journals.end } in e)) plan.active
             (journal_right image made (string_bytes p.active) is (with_active c) c.journals f.journals.end f.journals.torn refl active sound.journals.ids (ends_found image f c sound finished)),

@@ -1,5 +1,5 @@
 -- No removal of what no record names is a call that no disk can serve.
-use Rattle.std.proofs.Common.{◌≡◌, ◌≢◌, ◌⊎◌, inl, inr, ⊎_elim, zero, suc, ℕ, ◌<◌, ◌^◌, List, [], ◌∷◌, ◌++◌, get_or, map, All, Option, refl, sym, ◌∙◌, ap, subst, arith}
+use Rattle.std.proofs.Common.{◌≡◌, ◌≢◌, ◌⊎◌, inl, inr, ⊎_elim, zero, suc, ℕ, ◌<◌, ◌^◌, List, [], ◌∷◌, ◌++◌, get_or, map, All, refl, sym, ◌∙◌, ap, subst, arith}
 use Rattle.std.specs.Prelude.{string_bytes}
 use Rattle.std.specs.List.{Contains}
 use Rattle.std.specs.Str.{bytes_eq}
@@ -14,7 +14,7 @@ use Rattle.fjall_files.proofs.OfKinds.{kind_now}
 use Rattle.fjall_meta.specs.declared.living.LivingKeyspace.{LivingKeyspace}
 use Rattle.fjall_files.specs.declared.own.OwnFiles.{OwnFiles}
 use Rattle.fjall_files.specs.Own.{AreOwnFiles, HoldsOnlyOwn}
-use Rattle.fjall_repair.specs.Sweeps.{AreGone, HasAll, IsOwnHome, IsUnnamedHome, IsUnnamedTable, Lives, Removes, removals}
+use Rattle.fjall_repair.specs.Sweeps.{AreGone, HasAll, IsOwnHome, IsUnnamedHome, IsUnnamedTable, Lives, Names, Removes, removals}
 use Rattle.fjall_repair.proofs.Removals.{after_missing, stays_missing}
 
 -- ---- what is left of a name
@@ -104,8 +104,8 @@ pub have_all_still : (P : Name → Type 0) (old new : Meaning) (run : Removes P 
 have_all_still P old new run homes all k d lt = has_all_still P old new run (get_or homes k d) (all k d lt)
 
 -- no table that no record names is a folder
-pub table_no_folder : (state : State) → IsTidy state → (named : Option ℕ) (living : List LivingKeyspace) (name : Name) → IsUnnamedTable named living name → IsNoFolder (state name).now
-table_no_folder state tidy named living name is = subst (λ (n : Name). IsNoFolder (state n).now) (sym is.name_is) (kind_now state tidy (Table is.id is.table) (is.id_fits, is.table_fits))
+pub table_no_folder : (state : State) → IsTidy state → (names : Names) (living : List LivingKeyspace) (name : Name) → IsUnnamedTable names living name → IsNoFolder (state name).now
+table_no_folder state tidy names living name is = subst (λ (n : Name). IsNoFolder (state n).now) (sym is.name_is) (kind_now state tidy (Table is.id is.table) (is.id_fits, is.table_fits))
 
 -- ---- homes as they are found
 

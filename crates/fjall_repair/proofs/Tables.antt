@@ -1,11 +1,9 @@
 -- The tables that lists tell.
-use Rattle.std.proofs.Common.{◌≡◌, ◌≢◌, ◌⊎◌, inl, inr, ⊎_elim, ℕ, ◌+◌, ◌<◌, ◌^◌, Bool, true, false, not, eqb, cond, List, [], ◌∷◌, ◌++◌, map, filter, length, take, drop, get_or, All, Any, Option, None, Some, Result, Ok, Err, refl, sym, ◌∙◌, ap, subst, arith, take-append-drop}
+use Rattle.std.proofs.Common.{◌≡◌, ◌≢◌, ◌⊎◌, inl, inr, ⊎_elim, ℕ, ◌+◌, ◌<◌, ◌^◌, ◌==◌, Bool, true, false, not, cond, List, [], ◌∷◌, ◌++◌, map, filter, length, take, drop, get_or, All, Any, Result, Ok, Err, refl, sym, ◌∙◌, ap, subst, take-append-drop}
 use Rattle.std.specs.Prelude.{IfOk, String, Vec, string_bytes}
-use Rattle.std.specs.Option.{option_eq}
-use Rattle.std.specs.List.{Contains}
+use Rattle.std.specs.List.{Contains, list_any}
 use Rattle.std.proofs.lemmas.List.{append-nil, map-append, length-map}
 use Rattle.std.proofs.Math.ListN as ListN
-use Rattle.std.proofs.lemmas.Bool.Decides.{nat_tests}
 use Rattle.std.proofs.lemmas.List.Elements.{All-contains, All-contains_itself, All-filter, All-map, Contains-append_left, Contains-push, filter-append, filter_more, filter_passes}
 use Rattle.std.specs.declared.alloc.Global.{Global}
 use Rattle.fjall_base.specs.declared.error.Error.{Error}
@@ -14,47 +12,44 @@ use Rattle.fjall_base.specs.Disk.{Name, Missing, State, Lists}
 use Rattle.fjall_base.proofs.Names.{bool_cases}
 use Rattle.fjall_files.specs.Names.{keyspace_folder, table_name}
 use Rattle.fjall_files.specs.Lists.{AreIds, IsTableIn}
+use Rattle.fjall_table.specs.declared.table_info.TableInfo.{TableInfo}
 use Rattle.fjall_repair.specs.Listing.{AreTables, as_file, is_other, other_tables}
 use Rattle.fjall_repair.proofs.Apart as Apart
-use Rattle.fjall_repair.proofs.Items.{contains_map}
+use Rattle.fjall_repair.proofs.Items.{contained_if, contains_map, if_contained}
 
--- ---- ids but one
+-- ---- ids but those that are named
 
-other_is : (named : Option ℕ) (n : ℕ) → not (option_eq eqb (Some n) named) ≡ is_other named n
-other_is None n = refl
-other_is (Some m) n = refl
+abbrev ids_of : List TableInfo → List ℕ
+ids_of tables = map (λ table. table.id) tables
 
-other_not : (named : Option ℕ) (n : ℕ) → is_other named n ≡ true → named ≢ Some n
-other_not None n is e = cc
-other_not (Some m) n is e =
-    let same : m ≡ n = cc in
-    let at : eqb n m ≡ true = grind (arith, nat_tests) in
-    let no : false ≡ true = rw at at is in cc
+other_not : (named : List TableInfo) (n : ℕ) → is_other named n ≡ true → Contains (ids_of named) n → ⊥
+other_not named n is has =
+    let no : false ≡ true = sym (ap not (if_contained (λ table. table.id) named n has)) ∙ is in cc
 
-other_cases : (named : Option ℕ) (n : ℕ) → (is_other named n ≡ true) ⊎ (named ≡ Some n)
-other_cases None n = inl refl
-other_cases (Some m) n = elim (bool_cases (eqb n m)) [
-  | inl at ↦ let same : m ≡ n = grind (arith, nat_tests) in inr (ap Some same)
+other_cases : (named : List TableInfo) (n : ℕ) → (is_other named n ≡ true) ⊎ Contains (ids_of named) n
+other_cases named n = elim (bool_cases (list_any (λ table. table.id == n) named)) [
+  | inl at ↦ inr (contained_if (λ table. table.id) named n at)
   | inr differ ↦ inl (ap not differ)
 ]
 
-more_tables : (id : ℕ) (named : Option ℕ) (ids : List ℕ) (i d : ℕ) → i < length ids
+more_tables : (id : ℕ) (named : List TableInfo) (ids : List ℕ) (i d : ℕ) → i < length ids
     → other_tables id named (take (i + 1) ids) ≡ other_tables id named (take i ids) ++ map (table_name id) (cond (is_other named (get_or ids i d)) (get_or ids i d ∷ []) [])
 more_tables id named ids i d lt =
     ap (λ (l : List ℕ). map (table_name id) l) (filter_more (is_other named) ids i d lt) ∙ map-append (table_name id) (filter (is_other named) (take i ids)) (cond (is_other named (get_or ids i d)) (get_or ids i d ∷ []) [])
 
-module _ (id : ℕ) (named : Option ℕ) (ids : List ℕ) (i d : ℕ) (lt : i < length ids) where
+module _ (id : ℕ) (named : List TableInfo) (ids : List ℕ) (i d : ℕ) (lt : i < length ids) where
   -- one more that isn't named
-  pub one_other : (names new : List Name) (name : Name) → names ≡ other_tables id named (take i ids) → new ≡ names ++ name ∷ [] → name ≡ table_name id (get_or ids i d) → not (option_eq eqb (Some (get_or ids i d)) named) ≡ true → new ≡ other_tables id named (take (i + 1) ids)
+  pub one_other : (names new : List Name) (name : Name) → names ≡ other_tables id named (take i ids) → new ≡ names ++ name ∷ [] → name ≡ table_name id (get_or ids i d) → list_any (λ table. table.id == get_or ids i d) named ≡ false
+      → new ≡ other_tables id named (take (i + 1) ids)
   one_other names new name so_far is at other =
       is ∙ ap (λ (l : List Name). l ++ name ∷ []) so_far ∙ ap (λ (n : Name). other_tables id named (take i ids) ++ n ∷ []) at
-      ∙ sym (more_tables id named ids i d lt ∙ ap (λ (b : Bool). other_tables id named (take i ids) ++ map (table_name id) (cond b (get_or ids i d ∷ []) [])) (sym (other_is named (get_or ids i d)) ∙ other))
+      ∙ sym (more_tables id named ids i d lt ∙ ap (λ (b : Bool). other_tables id named (take i ids) ++ map (table_name id) (cond (not b) (get_or ids i d ∷ []) [])) other)
 
-  -- the named one
-  pub the_named : (names : List Name) → names ≡ other_tables id named (take i ids) → not (option_eq eqb (Some (get_or ids i d)) named) ≡ false → names ≡ other_tables id named (take (i + 1) ids)
+  -- one that is
+  pub the_named : (names : List Name) → names ≡ other_tables id named (take i ids) → list_any (λ table. table.id == get_or ids i d) named ≡ true → names ≡ other_tables id named (take (i + 1) ids)
   the_named names so_far same =
       so_far ∙ sym (append-nil (other_tables id named (take i ids)))
-      ∙ sym (more_tables id named ids i d lt ∙ ap (λ (b : Bool). other_tables id named (take i ids) ++ map (table_name id) (cond b (get_or ids i d ∷ []) [])) (sym (other_is named (get_or ids i d)) ∙ same))
+      ∙ sym (more_tables id named ids i d lt ∙ ap (λ (b : Bool). other_tables id named (take i ids) ++ map (table_name id) (cond (not b) (get_or ids i d ∷ []) [])) same)
 
 -- ---- lists
 
@@ -81,17 +76,17 @@ module _ (state : State) (id : ℕ) (listed files : List DirEntry) (lists : List
       let told : Any (λ e. IsTableIn (keyspace_folder id) (as_file e) n) listed = (k, entry, lt, at, (refl, (fits, name_is))) in
       (are.each n).1 (subst (Any (λ e. IsTableIn (keyspace_folder id) e n)) (sym files_are) (any_map (λ e. IsTableIn (keyspace_folder id) e n) as_file listed told))
 
-  pub are_tables : (named : Option ℕ) (names : List Name) → names ≡ other_tables id named ids → AreTables state id named names
+  pub are_tables : (named : List TableInfo) (names : List Name) → names ≡ other_tables id named ids → AreTables state id named names
   are_tables named names is = subst (AreTables state id named) (sym is) (record {
-    each = λ name has. All-contains (λ m. (n : ℕ) × (n < 2 ^ 64) × (m ≡ table_name id n) × (named ≢ Some n)) (other_tables id named ids) name
-        (All-map (λ m. (n : ℕ) × (n < 2 ^ 64) × (m ≡ table_name id n) × (named ≢ Some n)) (table_name id) (filter (is_other named) ids)
+    each = λ name has. All-contains (λ m. (n : ℕ) × (n < 2 ^ 64) × (m ≡ table_name id n) × (Contains (ids_of named) n → ⊥)) (other_tables id named ids) name
+        (All-map (λ m. (n : ℕ) × (n < 2 ^ 64) × (m ≡ table_name id n) × (Contains (ids_of named) n → ⊥)) (table_name id) (filter (is_other named) ids)
         (λ k d lt. (get_or (filter (is_other named) ids) k d, All-filter (is_other named) (λ n. n < 2 ^ 64) ids small k d lt, refl, other_not named (get_or (filter (is_other named) ids) k d) (filter_passes (is_other named) ids k d lt)))) has;
     whole = λ n fits some. ⊎_elim
         (λ other. inr (contains_map (table_name id) (filter (is_other named) ids) n (contains_filter (is_other named) ids n (listed_id n fits some) other)))
         (λ same. inl same) (other_cases named n);
   })
 
-pub tables_ok : (state : State) (id : ℕ) (named : Option ℕ) (listed files : List DirEntry) (ids : List ℕ) (folder : Name) (result : Result (Vec (String Global) Global) Error) → Lists state folder listed → folder ≡ keyspace_folder id
+pub tables_ok : (state : State) (id : ℕ) (named : List TableInfo) (listed files : List DirEntry) (ids : List ℕ) (folder : Name) (result : Result (Vec (String Global) Global) Error) → Lists state folder listed → folder ≡ keyspace_folder id
     → files ≡ map as_file listed → AreIds (IsTableIn (keyspace_folder id)) files ids
     → IfOk result (λ names. map string_bytes names.items ≡ other_tables id named ids) → IfOk result (λ names. AreTables state id named (map string_bytes names.items))
 tables_ok state id named listed files ids folder (Ok names) lists at files_are are is =

@@ -1,4 +1,4 @@
--- A sound folder of which one file is cut behind all that counts in it is the same sound folder.
+-- A folder in which an opening finds nothing wrong holds the same where one of its files is cut behind all that counts in it.
 use Rattle.std.proofs.Common.{◌≡◌, ◌≢◌, ◌⊎◌, inl, inr, ⊎_elim, ℕ, suc, ◌<◌, ◌≤◌, ◌^◌, List, [], ◌∷◌, length, take, map, codes, All, Some, refl, sym, ◌∙◌, ap, subst, arith}
 use Rattle.std.specs.Prelude.{Contains}
 use Rattle.std.specs.List.{AllByRecursion}
@@ -13,13 +13,13 @@ use Rattle.fjall_meta.proofs.Rising.{Rises, from_pairs}
 use Rattle.fjall_files.specs.Names.{journal_name, current_name, table_name}
 use Rattle.fjall_home.proofs.Resting.{last_has}
 use Rattle.fjall_files.specs.Marker.{marker_tells}
-use Rattle.fjall_recovery.specs.Folders.{Contents, IsSound, file_bytes}
+use Rattle.fjall_recovery.specs.Folders.{Contents, IsOpenable, file_bytes}
 use Rattle.fjall_recovery.specs.Journals.{Journal, ReadsAs, AreRead, journal_text}
 use Rattle.fjall_recovery.specs.Halves.{HasRoot}
 use Rattle.fjall_recovery.specs.Places.{texts_of}
 use Rattle.fjall_repair.specs.Steps.{EndsBatches, EndsRecords, Stays}
 use Rattle.fjall_repair.proofs.Naming.{journal_current, journal_table, current_table, marker_journal, marker_current, journals_apart}
-use Rattle.fjall_repair.proofs.Halving.{SaysSame, file_is, no_folder, root_of, tree_in, sound_of, tree_of, root_along, tree_along, tree_with}
+use Rattle.fjall_repair.proofs.Halving.{SaysSame, file_is, no_folder, root_of, open_tree_in, open_of, tree_of, root_along, tree_along, tree_with}
 use Rattle.fjall_repair.proofs.Cutting.{Lasts, journal_cut, records_cut}
 
 -- ---- the ids of journals
@@ -99,10 +99,10 @@ module _ (image other : Image) (f : Name) (len : ℕ) (at : Cuts image other f l
       };
     }
 
-    pub active_cut : (c : Contents) → last_of c.journals ≡ Some a → IsSound image c → IsSound other c
-    active_cut c last sound = sound_of other c (root_cut c.journals last (root_of image c sound))
+    pub active_cut : (c : Contents) → last_of c.journals ≡ Some a → IsOpenable image c → IsOpenable other c
+    active_cut c last sound = open_of other c (root_cut c.journals last (root_of image c sound))
         (tree_along image other (tree_of c) folder_back folder_stays (λ id. elsewhere (current_name id) (λ same. journal_current a.id id (sym named ∙ sym same)))
-        (λ id n. elsewhere (table_name id n) (λ same. journal_table a.id id n (sym named ∙ sym same))) (tree_in image c sound))
+        (λ id n. elsewhere (table_name id n) (λ same. journal_table a.id id n (sym named ∙ sym same))) (open_tree_in image c sound))
 
   -- ---- records
 
@@ -125,11 +125,11 @@ module _ (image other : Image) (f : Name) (len : ℕ) (at : Cuts image other f l
       tables = λ k m. elsewhere (table_name k m) (λ same. current_table id k m (sym named ∙ sym same));
     }
 
-    pub records_are_cut : (c : Contents) → IsSound image c → IsSound other c
+    pub records_are_cut : (c : Contents) → IsOpenable image c → IsOpenable other c
     records_are_cut c sound =
-        sound_of other c
+        open_of other c
         (root_along image other c.journals (elsewhere (codes "version") (λ same. marker_current id (same ∙ named))) (λ j. elsewhere (journal_name j) (λ same. journal_current j id (same ∙ named))) file_back (root_of image c sound))
-        (tree_with image other (tree_of c) says_same (tree_in image c sound))
+        (tree_with image other (tree_of c) says_same (open_tree_in image c sound))
 
 -- ---- what stays
 

@@ -6,7 +6,7 @@ use Rattle.fjall_base.specs.Disk.{Name, Entry, Missing, File, Folder, Image, IsF
 use Rattle.fjall_base.proofs.Moments.{at_end, runs_on, weaken}
 use Rattle.fjall_files.specs.Texts.{text_in}
 use Rattle.fjall_files.specs.Trims.{IsTrimmed, ended, ended_place}
-use Rattle.fjall_recovery.specs.Folders.{Contents, IsSound}
+use Rattle.fjall_recovery.specs.Folders.{Contents, IsOpenable}
 use Rattle.fjall_repair.specs.declared.mending.plan.FileEnd.{FileEnd}
 use Rattle.fjall_repair.specs.Amids.{StaysAmid}
 use Rattle.fjall_repair.specs.Steps.{IsRightEnd, Stays, end_of}
@@ -46,7 +46,7 @@ ended_cuts mid new f cut len placed elsewhere q = ⊎_elim
     (λ not. inl (ap (λ (p : Place). p.now) (elsewhere q not))) (same_or_not q f)
 
 -- at the start
-pub stays_first : (start : State) (c : Contents) → IsSound (standing start) c → Stays start c (standing start)
+pub stays_first : (start : State) (c : Contents) → IsOpenable (standing start) c → Stays start c (standing start)
 stays_first start c sound = record { sound = sound; parts = λ q older. (length (text_in (start q).now), sym (take_all (length (text_in (start q).now)) (text_in (start q).now) (omega arith))) }
 
 module _ (old mid new : Meaning) (ends : List FileEnd) (i : ℕ) (x : FileEnd) (at : x ≡ get_or ends i x) (lt : i < length ends) (file : Name) (is : file ≡ string_bytes x.name) where
@@ -56,7 +56,7 @@ module _ (old mid new : Meaning) (ends : List FileEnd) (i : ℕ) (x : FileEnd) (
   settled : AreSettled (state_in old) ends → (state_in old (string_bytes x.name)).older ≡ []
   settled all = item_has (λ e. (state_in old (string_bytes e.name)).older ≡ []) ends i x at lt all
 
-  pub turn_amid : (c : Contents) → IsSound (standing (state_in old)) c → AreRight (state_in old) c ends → AreSettled (state_in old) ends → (base : Store) (pending : List Command) → LeavesOnly old mid (StaysAmid (state_in old) base pending)
+  pub turn_amid : (c : Contents) → IsOpenable (standing (state_in old)) c → AreRight (state_in old) c ends → AreSettled (state_in old) ends → (base : Store) (pending : List Command) → LeavesOnly old mid (StaysAmid (state_in old) base pending)
       → LeavesOnly mid new (IsTrimmed (state_in mid) file x.len) → LeavesOnly old new (StaysAmid (state_in old) base pending)
   turn_amid c sound all older base pending so_far run =
       let here = subst (λ (n : Name). LeavesOnly mid new (IsTrimmed (state_in mid) n x.len)) is run in

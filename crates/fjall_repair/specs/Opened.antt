@@ -14,14 +14,14 @@ use Rattle.fjall_catalog.specs.Catalog.{fields, first_catalog}
 use Rattle.fjall_contents.specs.Contents.{Stored}
 use Rattle.fjall_contents.specs.Memory.{AreTold, versions_beyond}
 use Rattle.fjall_versions.specs.declared.recovery.Persisted.{Persisted}
+use Rattle.fjall_versions.specs.declared.version.Version.{Version}
 use Rattle.fjall_versions.specs.Versions.{store_of as store_behind}
 use Rattle.fjall_recovery.specs.declared.folder.RecoveredFolder.{RecoveredFolder}
-use Rattle.fjall_base.specs.Store.{Store}
-use Rattle.fjall_recovery.specs.Folders.{Contents, StandsFor, number_of, store_of}
+use Rattle.fjall_recovery.specs.Folders.{Contents, number_of, store_of}
 use Rattle.fjall_recovery.specs.Journals.{batches_in}
 use Rattle.fjall_recovery.specs.Refusals.{FolderRefuses, IsDue}
 use Rattle.fjall_recovery.specs.Halves.{Tree}
-use Rattle.fjall_recovery.specs.Held.{IsFolder, number_held, store_held}
+use Rattle.fjall_recovery.specs.Held.{IsFolderBut, IsOpenFolder, number_held, store_held}
 use Rattle.fjall_recovery.specs.Places.{Journaling, LiesInRoot, LiesInTree, contents_with, journals_with, texts_of}
 use Rattle.fjall_repair.specs.Making.{ComesBackUnfinished}
 use Rattle.fjall_repair.specs.declared.opened.Opened.{Opened}
@@ -39,6 +39,7 @@ pub record Opens (state : State) (folder : Option Contents) (o : Opened) : Type 
   pub journal : o.journal ≡ record { name = journal_name j.active; buffer = []; len = length (texts_of j.whole) }
   pub last : t.last ≡ o.catalog
   pub keyspaces : t.keyspaces ≡ o.keyspaces
+  pub whole : o.damaged.items ≡ []
   pub made : store_behind o.keyspaces o.versions.items ≡ store_of (contents_with j t [])
   pub store : store_of (contents_with j t []) ≡ store_held folder
   pub number : o.number ≡ number_of (contents_with j t [])
@@ -51,16 +52,18 @@ pub record IsLawful (o : Opened) : Type 0 where
   pub given : All (λ v. v.keyspace_id < o.keyspaces.next) o.versions.items
 
 -- This is opened: a writer at the end of the active journal, what the last record of tree 0 says, the keyspaces that live, and
--- the versions that the batches make of them, each beyond its persisted number.
-pub record Takes (o : Opened) (active : Name) (end : ℕ) (last : Catalog) (s : Keyspaces) (persisted : List Persisted) (batches : List Shown) : Type 0 where
+-- the versions that were loaded, with those that the batches make, each beyond its keyspace's persisted number.
+pub record Takes (o : Opened) (active : Name) (end : ℕ) (last : Catalog) (s : Keyspaces) (persisted : List Persisted) (loaded : List Version) (batches : List Shown) : Type 0 where
   pub journal : o.journal ≡ record { name = active; buffer = []; len = end }
   pub last_is : o.catalog ≡ last
   pub keyspaces : o.keyspaces ≡ s
-  pub versions : (stored : ℕ → Stored) → AreTold s stored persisted → o.versions.items ≡ versions_beyond s stored [] batches
+  pub versions : (stored : ℕ → Stored) → AreTold s stored persisted → o.versions.items ≡ versions_beyond s stored loaded batches
 
--- what was opened is what the image holds: its store, and one past the greatest number in it
+-- What was opened is what the image holds, but for the tables of the damaged keyspaces: its store, and one past the greatest
+-- number in it.
 abbrev pub IsOpenedFrom : Image → Opened → Type 0
-IsOpenedFrom image o = (folder : Option Contents) × IsFolder image folder × (store_behind o.keyspaces o.versions.items ≡ store_held folder) × (o.number ≡ number_held folder)
+IsOpenedFrom image o =
+    (folder : Option Contents) × IsFolderBut image folder o.damaged.items × (store_behind o.keyspaces o.versions.items ≡ store_held folder) × (o.number ≡ number_held folder)
 
 -- Where a folder's making was cut short, whatever may come back in folders that are made anew is such a folder too.
 abbrev pub ComesBack : State → Option Contents → Type 0
@@ -102,12 +105,12 @@ IsHeldUp old new (Io kind) = Unit {0}
 IsHeldUp old new OutOfMemory = Took old new []
 IsHeldUp old new error = ⊥
 
--- the folder stands for some store
-abbrev pub StandsForSome : Image → Type 0
-StandsForSome image = (store : Store) × StandsFor image store
+-- the folder is one that opens
+abbrev pub IsSomeFolder : Image → Type 0
+IsSomeFolder image = (folder : Option Contents) × IsOpenFolder image folder
 
 -- The disk failed, or memory ran out or the folder is refused, before anything was changed. Where the disk failed and
--- something was changed, the folder is one that stands for a store.
+-- something was changed, the folder is one that opens.
 abbrev pub IsUnopened : Meaning → Meaning → Error → Type 0
-IsUnopened old new (Io kind) = Took old new [] ⊎ StandsForSome (standing (state_in old))
+IsUnopened old new (Io kind) = Took old new [] ⊎ IsSomeFolder (standing (state_in old))
 IsUnopened old new error = IsDue (FolderRefuses (standing (state_in old))) error × Took old new []

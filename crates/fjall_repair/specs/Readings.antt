@@ -1,50 +1,58 @@
 -- What is so of a folder as it was read, and of the plans that were made of it.
-use Rattle.std.specs.Prelude.{ℕ, List, Option, map, string_bytes}
-use Rattle.std.specs.Option.{option_map}
-use Rattle.fjall_base.specs.Disk.{Meaning, Name, State}
+use Rattle.std.specs.Prelude.{ℕ, List, map, string_bytes}
+use Rattle.fjall_base.specs.Disk.{Image, Meaning, Name, State}
 use Rattle.fjall_files.specs.Calls.{seen}
 use Rattle.fjall_journal.specs.Batches.{view}
+use Rattle.fjall_home.specs.declared.reading.LoadedHome.{LoadedHome}
+use Rattle.fjall_catalog.specs.Catalog.{listed}
 use Rattle.fjall_versions.specs.declared.recovery.Persisted.{Persisted}
+use Rattle.fjall_versions.specs.declared.version.Version.{Version}
 use Rattle.fjall_recovery.specs.declared.folder.RecoveredFolder.{RecoveredFolder}
-use Rattle.fjall_recovery.specs.declared.homes.KeyspaceRecords.{KeyspaceRecords}
-use Rattle.fjall_recovery.specs.Folders.{Contents, IsFinished, IsSound, Shows}
+use Rattle.fjall_recovery.specs.Folders.{Contents, IsFinished, IsOpenable, IsSound, Shows}
+use Rattle.fjall_loading.specs.Loading.{Loads}
 use Rattle.fjall_repair.specs.declared.opened.Opened.{Opened}
 use Rattle.fjall_repair.specs.declared.plan.SweepPlan.{SweepPlan}
 use Rattle.fjall_repair.specs.Opened.{Takes}
-use Rattle.fjall_repair.specs.Sweeps.{FindsAll, FindsTables, IsPlan}
+use Rattle.fjall_repair.specs.Sweeps.{FindsAll, FindsTables, IsPlan, Names, names_of}
 
 -- P is so of what the folder on the disk holds, where it was read as this
 abbrev pub WhereRead : Meaning → RecoveredFolder → (Contents → Type 0) → Type 0
 WhereRead disk found P = (c : Contents) → IsFinished (seen disk) found → Shows found c → P c
 
+-- the same where an opening finds nothing wrong in the folder
+abbrev pub WhereOpenable : Meaning → RecoveredFolder → (Contents → Type 0) → Type 0
+WhereOpenable disk found P = (c : Contents) → IsFinished (seen disk) found → Shows found c → IsOpenable (seen disk) c → P c
+
 -- the same where the folder is sound
 abbrev pub WhereSound : Meaning → RecoveredFolder → (Contents → Type 0) → Type 0
 WhereSound disk found P = (c : Contents) → IsFinished (seen disk) found → Shows found c → IsSound (seen disk) c → P c
 
--- the id of the table that the last record of tree 0 names, as it was read
-abbrev pub table_of : RecoveredFolder → Option ℕ
-table_of found = option_map (λ table. table.id) found.catalog.catalog.table
+-- the ids of the tables that last records name, as they were read
+abbrev pub names_read : RecoveredFolder → Names
+names_read found = names_of (listed found.catalog.catalog.table) found.homes.items
 
 -- the plan is of what no record of the folder that was read names
 abbrev pub IsSweepOf : RecoveredFolder → SweepPlan → Type 0
-IsSweepOf found plan = IsPlan (table_of found) found.catalog.keyspaces.living plan
+IsSweepOf found plan = IsPlan (names_read found) found.catalog.keyspaces.living plan
 
 -- each table of tree 0's folder is the one that is named, or one that the plan removes
 abbrev pub FindsNamed : State → RecoveredFolder → SweepPlan → Type 0
-FindsNamed state found plan = FindsTables state (table_of found) (map string_bytes plan.tables.items)
+FindsNamed state found plan = FindsTables state (names_read found) (map string_bytes plan.tables.items)
 
 -- the plan has all that no record of the folder that was read names
 abbrev pub FindsUnnamed : State → RecoveredFolder → SweepPlan → Type 0
-FindsUnnamed state found plan = FindsAll state (table_of found) found.catalog.keyspaces.living found.folder_ids.items plan
+FindsUnnamed state found plan = FindsAll state (names_read found) found.catalog.keyspaces.living found.folder_ids.items plan
 
 -- the persisted number that a keyspace's last record tells
-abbrev pub persisted_in : KeyspaceRecords → Persisted
+abbrev pub persisted_in : LoadedHome → Persisted
 persisted_in home = record { id = home.id; number = home.record.persisted }
 
 -- those of all the keyspaces that live
 abbrev pub persisted_of : RecoveredFolder → List Persisted
 persisted_of found = map persisted_in found.homes.items
 
--- this is opened of the folder that was read, with that active journal
-abbrev pub TakesRead : Opened → Name → RecoveredFolder → Type 0
-TakesRead o active found = Takes o active found.journals.end found.catalog.catalog found.catalog.keyspaces (persisted_of found) (map view found.journals.batches.items)
+-- This is opened of the folder that was read, with that active journal, and with what its tables hold.
+pub record TakesRead (image : Image) (o : Opened) (active : Name) (found : RecoveredFolder) : Type 0 where
+  pub loaded : List Version
+  pub takes : Takes o active found.journals.end found.catalog.catalog found.catalog.keyspaces (persisted_of found) loaded (map view found.journals.batches.items)
+  pub loads : (c : Contents) → IsOpenable image c → Shows found c → Loads c o.damaged.items loaded

@@ -9,8 +9,8 @@ use Rattle.fjall_files.specs.Calls.{seen}
 use Rattle.fjall_files.specs.Names.{journal_name, keyspace_folder, current_name}
 use Rattle.fjall_catalog.specs.declared.reading.LoadedCatalog.{LoadedCatalog}
 use Rattle.fjall_recovery.specs.declared.folder.RecoveredFolder.{RecoveredFolder}
-use Rattle.fjall_recovery.specs.declared.homes.KeyspaceRecords.{KeyspaceRecords}
-use Rattle.fjall_recovery.specs.Folders.{Contents, IsSound}
+use Rattle.fjall_home.specs.declared.reading.LoadedHome.{LoadedHome}
+use Rattle.fjall_recovery.specs.Folders.{Contents, IsOpenable}
 use Rattle.fjall_recovery.specs.Journals.{Journal}
 use Rattle.fjall_recovery.specs.Places.{texts_of}
 use Rattle.fjall_repair.specs.declared.mending.plan.FileEnd.{FileEnd}
@@ -45,7 +45,7 @@ abbrev pub whole_names : List ℕ → List Name
 whole_names ids = codes "version" ∷ map journal_name (sealed_of ids)
 
 -- the end of a keyspace's records as they were read
-abbrev pub home_end : KeyspaceRecords → End
+abbrev pub home_end : LoadedHome → End
 home_end h = record { name = current_name h.id; cut = nat_lt h.end h.len; len = h.end }
 
 -- the end of tree 0's records as they were read
@@ -108,9 +108,10 @@ pub record IsSame (old new : Place) : Type 0 where
 abbrev pub IsEnded : State → State → End → Type 0
 IsEnded start state e = (state e.name).now ≡ File (take e.len (text_in (start e.name).now)) []
 
--- The image is the sound folder, and each file whose name is synced has a beginning of what it had.
+-- An opening finds nothing wrong in the image, which holds this, and each file whose name is synced has a beginning of what it
+-- had.
 pub record Stays (start : State) (c : Contents) (image : Image) : Type 0 where
-  pub sound : IsSound image c
+  pub sound : IsOpenable image c
   pub parts : (q : Name) → (start q).older ≡ [] → (n : ℕ) × (text_in (image q) ≡ take n (text_in (start q).now))
 
 -- ---- the plan
@@ -137,7 +138,7 @@ journal_end f = record { name = journal_name (active_of f.journal_ids.items); cu
 -- the plan for the folder that was read, whose tree 0 has this end
 pub record IsPlanOf (f : RecoveredFolder) (tree : End) (p : MendPlan) : Type 0 where
   pub active : string_bytes p.active ≡ journal_name (active_of f.journal_ids.items)
-  pub folders : map string_bytes p.folders.items ≡ folder_names (map (λ (h : KeyspaceRecords). h.id) f.homes.items)
+  pub folders : map string_bytes p.folders.items ≡ folder_names (map (λ (h : LoadedHome). h.id) f.homes.items)
   pub whole : map string_bytes p.whole.items ≡ whole_names f.journal_ids.items
   pub ends : map end_of p.ends.items ≡ journal_end f ∷ tree ∷ map home_end f.homes.items
 
@@ -147,11 +148,11 @@ pub record IsPlanOf (f : RecoveredFolder) (tree : End) (p : MendPlan) : Type 0 w
 abbrev pub EndsWithRecords : List ℕ → Type 0
 EndsWithRecords text = (records : List Fields) (end : ℕ) → IsRecords text records end → length text ≤ end
 
--- When all steps were taken: whatever a crash leaves is the sound folder, no name that counts is unsynced, nor is a file that
--- the plan names, and nothing stands behind the active journal's batches, nor behind the records of tree 0 and of each keyspace
--- that lives.
+-- When all steps were taken: an opening finds nothing wrong in whatever a crash leaves, which holds this; no name that counts is
+-- unsynced, nor is a file that the plan names; and nothing stands behind the active journal's batches, nor behind the records of
+-- tree 0 and of each keyspace that lives.
 pub record IsRested (state : State) (c : Contents) : Type 0 where
-  pub images : (image : Image) → IsImage state image → IsSound image c
+  pub images : (image : Image) → IsImage state image → IsOpenable image c
   pub root : (q : Name) → folder_of q ≡ [] → (state q).older ≡ []
   pub folders : AllByRecursion (λ f. (q : Name) → folder_of q ≡ f → (state q).older ≡ []) (folder_names (map (λ k. k.id) c.keyspaces.living))
   pub whole : AllByRecursion (λ f. IsSynced (state f).now) (whole_names (map (λ (j : Journal). j.id) c.journals))
@@ -173,6 +174,6 @@ AreRightEnds image c ends = All (λ e. IsRightEnd image c (end_of e)) ends
 abbrev pub AreNamesSynced : State → List FileEnd → Type 0
 AreNamesSynced state ends = All (λ e. (state (string_bytes e.name)).older ≡ []) ends
 
--- P is so of a sound folder on the disk that the plan suits
+-- P is so of what the folder on the disk holds, where an opening finds nothing wrong in it and the plan suits it
 abbrev pub WhereSuits : Meaning → MendPlan → (Contents → Type 0) → Type 0
-WhereSuits disk plan P = (c : Contents) → IsSound (seen disk) c → Suits (seen disk) c plan → P c
+WhereSuits disk plan P = (c : Contents) → IsOpenable (seen disk) c → Suits (seen disk) c plan → P c

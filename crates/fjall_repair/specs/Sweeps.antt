@@ -1,15 +1,24 @@
 -- What no record names, and what its removal leaves.
-use Rattle.std.specs.Prelude.{◌≡◌, ◌≢◌, ◌⊎◌, ℕ, ◌<◌, ◌^◌, List, [], ◌∷◌, ◌++◌, map, All, Any, Contains, Option, Some, string_bytes}
+use Rattle.std.specs.Prelude.{◌≡◌, ◌≢◌, ◌⊎◌, ◌==◌, if◌then◌else◌, ℕ, ◌<◌, ◌^◌, List, [], ◌∷◌, ◌++◌, map, find, All, Any, Contains, unwrap_or, Some, string_bytes}
 use Rattle.std.specs.List.{flat_map, AllByRecursion}
+use Rattle.std.specs.List.Sorted.{IsStrictlyIncreasing}
+use Rattle.std.specs.FinMap.{get}
 use Rattle.std.specs.Option.{option_map}
-use Rattle.fjall_base.specs.Disk.{Name, Missing, Folder, State, Step, Put, Meaning, Took, folder_of}
+use Rattle.fjall_base.specs.Disk.{Name, Missing, Folder, Image, State, Step, Put, Meaning, Took, folder_of, standing}
 use Rattle.fjall_files.specs.Names.{keyspace_folder, table_name}
 use Rattle.fjall_files.specs.Own.{AreOwnFiles, HoldsOnlyOwn, IsOwn}
+use Rattle.fjall_files.specs.declared.own.OwnFiles.{OwnFiles}
+use Rattle.fjall_table.specs.declared.table_info.TableInfo.{TableInfo}
+use Rattle.fjall_tree.specs.Records.{Fields}
+use Rattle.fjall_tree.specs.Records as records
+use Rattle.fjall_home.specs.declared.reading.LoadedHome.{LoadedHome}
+use Rattle.fjall_home.specs.Homes.{HasHome, Home}
 use Rattle.fjall_meta.specs.declared.living.LivingKeyspace.{LivingKeyspace}
 use Rattle.fjall_catalog.specs.declared.catalog.Catalog.{Catalog}
+use Rattle.fjall_catalog.specs.Catalog.{listed}
+use Rattle.fjall_recovery.specs.Homes.{last_in}
 use Rattle.fjall_recovery.specs.Halves.{Tree}
 use Rattle.fjall_repair.specs.declared.plan.SweepPlan.{SweepPlan}
-use Rattle.fjall_files.specs.declared.own.OwnFiles.{OwnFiles}
 
 -- ---- what is named
 
@@ -17,21 +26,47 @@ use Rattle.fjall_files.specs.declared.own.OwnFiles.{OwnFiles}
 abbrev pub Lives : List LivingKeyspace → ℕ → Type 0
 Lives living id = Contains (map (λ k. k.id) living) id
 
--- the id of the table that tree 0's last record names
-abbrev pub named_in : Tree → Option ℕ
-named_in t = option_map (λ table. table.id) t.last.table
+-- the ids of the tables that last records name, by the ids of the keyspaces; 0 is that of tree 0
+abbrev pub Names : Type 0
+Names = ℕ → List ℕ
+
+-- none
+abbrev pub no_names : Names
+no_names id = []
+
+-- the tables that a keyspace's last record names, of records as they were read; none where there is no such keyspace
+abbrev pub tables_at : ℕ → List LoadedHome → List TableInfo
+tables_at id homes = unwrap_or (option_map (λ h. (records.view h.record).tables) (find (λ h. h.id == id) homes)) []
+
+-- those of records as they were read: of tree 0 these tables, and of each keyspace its home's
+abbrev pub names_of : List TableInfo → List LoadedHome → Names
+names_of tree homes id = map (λ table. table.id) (if id == 0 then tree else tables_at id homes)
+
+-- those of a tree's records
+abbrev pub names_in : Tree → Names
+names_in t id = map (λ table. table.id) (if id == 0 then listed t.last.table else (last_in (get t.homes id)).tables)
+
+-- these are the homes of these keyspaces, by id ascending; none is tree 0
+pub record AreHomesOf (living : List LivingKeyspace) (homes : List LoadedHome) : Type 0 where
+  pub same : map (λ h. h.id) homes ≡ map (λ k. k.id) living
+  pub some : All (λ k. 0 < k.id) living
+  pub ascending : IsStrictlyIncreasing (map (λ k. k.id) living)
+
+-- the last record that an image has of a keyspace names a table of that id
+abbrev pub NamesTable : Image → ℕ → ℕ → Type 0
+NamesTable image id n = (records : List Fields) × (h : Home) × HasHome image id records h × Contains (map (λ table. table.id) h.last.tables) n
 
 -- ---- what is not
 
--- A table's name that no record has: in tree 0's folder another than the one that is named, and any in the folder of a
--- keyspace that lives, since no record names a table there.
-pub record IsUnnamedTable (named : Option ℕ) (living : List LivingKeyspace) (name : Name) : Type 0 where
+-- A table's name that no record has, in tree 0's folder or in that of a keyspace that lives.
+pub record IsUnnamedTable (names : Names) (living : List LivingKeyspace) (name : Name) : Type 0 where
   pub id : ℕ
   pub table : ℕ
   pub id_fits : id < 2 ^ 64
   pub table_fits : table < 2 ^ 64
   pub name_is : name ≡ table_name id table
-  pub unnamed : ((id ≡ 0) × (named ≢ Some table)) ⊎ Lives living id
+  pub counts : (id ≡ 0) ⊎ Lives living id
+  pub unnamed : Contains (names id) table → ⊥
 
 -- The folder of a keyspace that doesn't live, and names that are right in it and that the engine gives.
 pub record IsUnnamedHome (living : List LivingKeyspace) (home : OwnFiles) : Type 0 where
@@ -43,20 +78,24 @@ pub record IsUnnamedHome (living : List LivingKeyspace) (home : OwnFiles) : Type
   pub inside : All (λ file. folder_of (string_bytes file) ≡ keyspace_folder id) home.files.items
   pub own : All (λ file. IsOwn id (string_bytes file)) home.files.items
 
--- a plan of what no record names, where tree 0's names this table and these keyspaces live
-pub record IsPlan (named : Option ℕ) (living : List LivingKeyspace) (plan : SweepPlan) : Type 0 where
-  pub tables : All (λ table. IsUnnamedTable named living (string_bytes table)) plan.tables.items
+-- a plan of what no record names, where the records name these tables and these keyspaces live
+pub record IsPlan (names : Names) (living : List LivingKeyspace) (plan : SweepPlan) : Type 0 where
+  pub tables : All (λ table. IsUnnamedTable names living (string_bytes table)) plan.tables.items
   pub homes : All (IsUnnamedHome living) plan.homes.items
 
 -- ---- all of it
 
--- each table that stands in tree 0's folder is the one that is named, or has one of these names
-abbrev pub FindsTables : State → Option ℕ → List Name → Type 0
-FindsTables state named names = (n : ℕ) → n < 2 ^ 64 → (state (table_name 0 n)).now ≢ Missing → (named ≡ Some n) ⊎ Contains names (table_name 0 n)
+-- each table that stands in the folder of this id is named, or is in this list
+abbrev pub FindsTablesAt : State → Names → List Name → ℕ → Type 0
+FindsTablesAt state names list id = (n : ℕ) → n < 2 ^ 64 → (state (table_name id n)).now ≢ Missing → Contains (names id) n ⊎ Contains list (table_name id n)
 
--- each table that stands in the folder of one of these keyspaces has one of these names
-abbrev pub FindsTablesOf : State → List LivingKeyspace → List Name → Type 0
-FindsTablesOf state living names = (id n : ℕ) → Lives living id → n < 2 ^ 64 → (state (table_name id n)).now ≢ Missing → Contains names (table_name id n)
+-- so is each in tree 0's folder
+abbrev pub FindsTables : State → Names → List Name → Type 0
+FindsTables state names list = FindsTablesAt state names list 0
+
+-- and each in the folder of one of these keyspaces
+abbrev pub FindsTablesOf : State → Names → List LivingKeyspace → List Name → Type 0
+FindsTablesOf state names living list = (id : ℕ) → Lives living id → FindsTablesAt state names list id
 
 -- the home has the names of all that stands in its folder
 abbrev pub HasAll : State → OwnFiles → Type 0
@@ -74,9 +113,9 @@ FindsHomes state living ids homes = (id : ℕ) → Contains ids id → id ≢ 0 
 -- The plan has all that no record names, of what stands in the folders of the keyspaces that live and in those of these ids,
 -- and of each of its homes all that stands in it. A folder is one of its homes only where it holds nothing but the engine's own
 -- files: any other is left as it stands.
-pub record FindsAll (state : State) (named : Option ℕ) (living : List LivingKeyspace) (ids : List ℕ) (plan : SweepPlan) : Type 0 where
-  pub tables : FindsTables state named (map string_bytes plan.tables.items)
-  pub tables_of : FindsTablesOf state living (map string_bytes plan.tables.items)
+pub record FindsAll (state : State) (names : Names) (living : List LivingKeyspace) (ids : List ℕ) (plan : SweepPlan) : Type 0 where
+  pub tables : FindsTables state names (map string_bytes plan.tables.items)
+  pub tables_of : FindsTablesOf state names living (map string_bytes plan.tables.items)
   pub homes : FindsHomes state living ids plan.homes.items
   pub each : All (HasAll state) plan.homes.items
   pub spares : All (IsOwnHome state) plan.homes.items
@@ -110,12 +149,12 @@ abbrev pub BringsNoTable : State → State → Type 0
 BringsNoTable old new = (id n : ℕ) → id < 2 ^ 64 → n < 2 ^ 64 → (old (table_name id n)).now ≡ Missing → (new (table_name id n)).now ≡ Missing
 
 -- Of what no record names this is gone from `keyspaces`. Of what stood there before: each folder of a keyspace that doesn't
--- live, and all in it, where all that stood in it were files with the engine's own names. And no table is there in the folder
--- of a keyspace that lives, nor one in tree 0's but that which its last record names.
+-- live, and all in it, where all that stood in it were files with the engine's own names. And no table is there in tree 0's
+-- folder, nor in that of a keyspace that lives, but those that its last record names.
 pub record IsSwept (old new : State) (last : Catalog) (living : List LivingKeyspace) : Type 0 where
   pub homes : (id : ℕ) → id < 2 ^ 64 → id ≢ 0 → (Lives living id → ⊥) → (old (keyspace_folder id)).now ≡ Folder → HoldsOnlyOwn old id
       → (new (keyspace_folder id)).now ≡ Missing
   pub files : (id : ℕ) (name : Name) → id < 2 ^ 64 → id ≢ 0 → (Lives living id → ⊥) → (old (keyspace_folder id)).now ≡ Folder → HoldsOnlyOwn old id
       → folder_of name ≡ keyspace_folder id → (old name).now ≢ Missing → (new name).now ≡ Missing
-  pub tables : (id n : ℕ) → n < 2 ^ 64 → Lives living id → (new (table_name id n)).now ≡ Missing
+  pub tables : (id n : ℕ) → n < 2 ^ 64 → Lives living id → (NamesTable (standing old) id n → ⊥) → (new (table_name id n)).now ≡ Missing
   pub others : (n : ℕ) → n < 2 ^ 64 → option_map (λ table. table.id) last.table ≢ Some n → (new (table_name 0 n)).now ≡ Missing

@@ -8,8 +8,10 @@ use fjall_versions::Version;
 /// A database that was opened. All that it holds is synced.
 #[derive(Drop)]
 pub struct Opened {
-    /// What the batches of all journals make of the keyspaces that live, oldest first.
+    /// What tables and journals hold of the keyspaces that live, oldest first; of the damaged ones what journals hold alone.
     pub versions: Vec<Version>,
+    /// The keyspaces that have a table with a wrong block, by id ascending.
+    pub damaged: Vec<u64>,
     /// A writer that goes on at the end of the active journal.
     pub journal: Writer,
     /// What the last record of tree 0 says.

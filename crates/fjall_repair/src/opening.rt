@@ -1,6 +1,6 @@
 //! A database opened: all of its folder is read before anything is changed, and the store is the same at each moment.
 
-ghost use Rattle.std.specs.Prelude.{◌≡◌, ◌≤◌, IfErr, IfOk, IsErrAnd, IsTrue, None, Option, Some};
+ghost use Rattle.std.specs.Prelude.{◌≡◌, ◌≤◌, [], IfErr, IfOk, IsErrAnd, IsTrue, None, Option, Some};
 ghost use Rattle.fjall_base.specs.declared.error.Error.{Error};
 ghost use Rattle.fjall_base.specs.Disk.{LeavesOnly, state_in};
 ghost use Rattle.fjall_files.specs.Calls.{seen, AllServed};
@@ -9,10 +9,11 @@ ghost use Rattle.fjall_meta.specs.Keyspaces.{no_keyspaces};
 ghost use Rattle.fjall_versions.specs.Replays.{bare};
 ghost use Rattle.fjall_versions.specs.Versions.{store_of as store_behind};
 ghost use Rattle.fjall_recovery.specs.Amid.{LeavesAmid, KeepsAmid, WhereAmid};
-ghost use Rattle.fjall_recovery.specs.Folders.{Contents, IsFinished, IsUnfinished, Shows, StandsFor, number_of as number_in, store_of};
+ghost use Rattle.fjall_recovery.specs.Folders.{Contents, IsFinished, IsUnfinished, StandsFor, number_of as number_in, store_of, with_versions};
+ghost use Rattle.fjall_recovery.specs.Homes.{HaveVersionsBut, Versions};
 ghost use Rattle.fjall_recovery.specs.Refusals.{AreOne, FolderRefuses, HasRisen, IsDue, IsOpeningRefusal};
 ghost use Rattle.fjall_recovery.specs.Held.{Holds, store_held, IsFolder};
-ghost use Rattle.fjall_repair.specs.Readings.{WhereRead, WhereSound};
+ghost use Rattle.fjall_repair.specs.Readings.{WhereOpenable, WhereRead, WhereSound};
 ghost use Rattle.fjall_repair.specs.Making.{ComesBackUnfinished};
 ghost use Rattle.fjall_repair.specs.Opened.{ComesBack, IsHeldUp, IsLawful, IsOpenedFrom, IsUnopened, Opens};
 ghost use Rattle.fjall_repair.specs.Sweeps.{IsSwept};
@@ -29,6 +30,7 @@ fn open_unfinished<D: Disk>(alloc: Global, disk: &mut D) -> Result<Opened>
     ensures opened { IsTrue D.honest → Holds (state_in (D.meaning disk.old)) None → IfOk result (Opens (state_in (D.meaning disk.new)) None) }
     ensures swept { IsTrue D.honest → IfOk result (λ o. IsSwept (state_in (D.meaning disk.old)) (state_in (D.meaning disk.new)) o.catalog o.keyspaces.living) }
     ensures store { IfOk result (λ o. store_behind o.keyspaces o.versions.items ≡ bare no_keyspaces) }
+    ensures whole { IfOk result (λ o. o.damaged.items ≡ []) }
     ensures number { IfOk result (λ o. o.number ≡ 0) }
     ensures lawful { IfOk result IsLawful }
     ensures any_moment { IsTrue D.honest → Holds (state_in (D.meaning disk.old)) None → ComesBackUnfinished (state_in (D.meaning disk.old))
@@ -61,7 +63,8 @@ fn open_finished<D: Disk>(alloc: Global, disk: &mut D, found: RecoveredFolder) -
     ensures swept { IsTrue D.honest → IsFinished (seen (D.meaning disk.old)) found
         → IfOk result (λ o. IsSwept (state_in (D.meaning disk.old)) (state_in (D.meaning disk.new)) o.catalog o.keyspaces.living) }
     ensures store { IsTrue D.honest
-        → WhereSound (D.meaning disk.old) found (λ contents. IfOk result (λ o. store_behind o.keyspaces o.versions.items ≡ store_of contents)) }
+        → WhereOpenable (D.meaning disk.old) found (λ contents. IfOk result (λ o. (versions : Versions) × HaveVersionsBut o.damaged.items contents.homes versions
+        × (store_behind o.keyspaces o.versions.items ≡ store_of (with_versions versions contents)))) }
     ensures number { IsTrue D.honest → WhereRead (D.meaning disk.old) found (λ contents. IfOk result (λ o. o.number ≡ number_in contents)) }
     ensures lawful { IfOk result IsLawful }
     ensures any_moment { IsTrue D.honest → WhereRead (D.meaning disk.old) found (λ contents. Holds (state_in (D.meaning disk.old)) (Some contents)
@@ -71,14 +74,14 @@ fn open_finished<D: Disk>(alloc: Global, disk: &mut D, found: RecoveredFolder) -
     ensures due { IsTrue D.honest → WhereRead (D.meaning disk.old) found (λ contents. IfErr result (IsHeldUp (D.meaning disk.old) (D.meaning disk.new))) }
     ensures listed { IfErr result IsOpeningRefusal }
     // Where a crash of the disk leaves different stores, so does one of this call; what stands is opened.
-    ensures amid { IsTrue D.honest → WhereSound (D.meaning disk.old) found (λ contents. LeavesAmid (D.meaning disk.old) (D.meaning disk.new)) }
+    ensures amid { IsTrue D.honest → WhereOpenable (D.meaning disk.old) found (λ contents. LeavesAmid (D.meaning disk.old) (D.meaning disk.new)) }
     ensures opens { IsTrue D.honest
         → WhereSound (D.meaning disk.old) found (λ contents.
         WhereAmid (D.meaning disk.old) (IfOk result (Opens (state_in (D.meaning disk.new)) (Some contents)))) }
-    ensures held { IsTrue D.honest → WhereSound (D.meaning disk.old) found (λ contents. KeepsAmid (D.meaning disk.old) (D.meaning disk.new)) }
+    ensures held { IsTrue D.honest → WhereOpenable (D.meaning disk.old) found (λ contents. KeepsAmid (D.meaning disk.old) (D.meaning disk.new)) }
     ensures kinds { IsTrue D.honest → IsFinished (seen (D.meaning disk.old)) found → StaysTidy (D.meaning disk.old) (D.meaning disk.new) }
     ensures served { IsTrue D.honest → IsTidy (state_in (D.meaning disk.old))
-        → WhereSound (D.meaning disk.old) found (λ contents. AllServed (D.meaning disk.old) (D.meaning disk.new)) }
+        → WhereOpenable (D.meaning disk.old) found (λ contents. AllServed (D.meaning disk.old) (D.meaning disk.new)) }
 {
     let ToMend {
         opened,
@@ -94,6 +97,9 @@ fn open_finished<D: Disk>(alloc: Global, disk: &mut D, found: RecoveredFolder) -
 ///
 /// Such a folder goes only where all that stands in it are files with the engine's own names, `current` or a table's. One
 /// that holds anything else is left wholly as it stands, and the opening goes on: once that is gone, the next one removes it.
+///
+/// A folder with a wrong block in a keyspace's table opens: the keyspace is among the damaged ones, and none of what its tables
+/// hold is taken into memory.
 ///
 /// Where the folder is refused, or memory runs out, nothing of the disk has changed: the refusals are those of
 /// `read_folder`, and all memory is got before the first change. `Io` comes for a fault of the disk, and then a new open

@@ -1,16 +1,19 @@
 //! What no record names: found before anything is removed.
 
 ghost use Rattle.std.specs.List.{list_any};
-ghost use Rattle.std.specs.Prelude.{◌≡◌, ◌==◌, ◌↔◌, ◌⊎◌, ◌≤◌, ◌<◌, ◌^◌, [], All, IfErr, IfOk, IsOkUnless, IsTrue, None, map, string_bytes};
+ghost use Rattle.std.specs.Prelude.{◌≡◌, ◌==◌, ◌↔◌, ◌⊎◌, ◌≤◌, ◌<◌, ◌^◌, [], List, All, IfErr, IfOk, IsOkUnless, IsTrue, map, string_bytes};
 ghost use Rattle.fjall_base.specs.Disk.{Took, state_in};
 ghost use Rattle.fjall_recovery.specs.Refusals.{HasRisen, IsDue};
 ghost use Rattle.fjall_files.specs.Calls.{AllServed};
+ghost use Rattle.fjall_meta.specs.declared.living.LivingKeyspace.{LivingKeyspace};
 ghost use Rattle.fjall_repair.specs.Listing.{AreTables, as_file, other_tables};
-ghost use Rattle.fjall_repair.specs.Sweeps.{FindsAll, FindsHomes, FindsTables, FindsTablesOf, HasAll, IsOwnHome, IsPlan, IsUnnamedHome, IsUnnamedTable, Lives};
+ghost use Rattle.fjall_repair.specs.Sweeps.{AreHomesOf, FindsAll, FindsHomes, FindsTables, FindsTablesOf, HasAll, IsOwnHome, IsPlan, IsUnnamedHome, IsUnnamedTable, Lives, names_of};
 
 use fjall_base::{DirEntry, Disk, Error, Result};
 use fjall_files::{OwnFiles, list_folder, list_own_files, table_name, tables};
+use fjall_home::LoadedHome;
 use fjall_meta::LivingKeyspace;
+use fjall_table::TableInfo;
 use std::alloc::Global;
 
 /// What no record names, and is to be removed.
@@ -22,14 +25,21 @@ pub struct SweepPlan {
     pub homes: Vec<OwnFiles>,
 }
 
-/// The names of the tables of these ids in the folder of a keyspace, but that of the one that is named.
-fn other_names(alloc: Global, id: u64, named: Option<u64>, ids: &[u64]) -> Result<Vec<String>>
-    ensures names { IfOk result (λ names. map string_bytes names.items ≡ other_tables id named ids.now) }
+/// Whether one of these tables has this id.
+fn names_table(named: &[TableInfo], id: u64) -> bool
+    ensures { result ≡ list_any (λ table. table.id == id) named.now }
+{
+    named.iter().any(|table| table.id == id)
+}
+
+/// The names of the tables of these ids in the folder of a keyspace, but those of the ones that are named.
+fn other_names(alloc: Global, id: u64, named: &[TableInfo], ids: &[u64]) -> Result<Vec<String>>
+    ensures names { IfOk result (λ names. map string_bytes names.items ≡ other_tables id named.now ids.now) }
     ensures only { IsOkUnless result Error.OutOfMemory }
 {
     let mut names = Vec::new(alloc);
     for table in ids {
-        if Some(*table) != named {
+        if !names_table(named, *table) {
             names.push(table_name(alloc, id, *table)?)?;
         }
     }
@@ -48,14 +58,14 @@ fn as_files(alloc: Global, listed: Vec<DirEntry>) -> Result<Vec<DirEntry>>
     Ok(files.collect(alloc)?)
 }
 
-/// The names of the tables that stand in the folder of this id, but that of the one that is named.
+/// The names of the tables that stand in the folder of this id, but those of the ones that are named.
 fn list_tables<D: Disk>(
     alloc: Global,
     disk: &mut D,
     id: u64,
-    named: Option<u64>,
+    named: &[TableInfo],
 ) -> Result<Vec<String>>
-    ensures found { IsTrue D.honest → IfOk result (λ names. AreTables (state_in (D.meaning disk.old)) id named (map string_bytes names.items)) }
+    ensures found { IsTrue D.honest → IfOk result (λ names. AreTables (state_in (D.meaning disk.old)) id named.now (map string_bytes names.items)) }
     ensures fits { id < 2 ^ 64 }
     ensures same { IsTrue D.honest → Took (D.meaning disk.old) (D.meaning disk.new) [] }
     ensures served { IsTrue D.honest → AllServed (D.meaning disk.old) (D.meaning disk.new) }
@@ -69,25 +79,29 @@ fn list_tables<D: Disk>(
     other_names(alloc, id, named, &ids)
 }
 
-/// The names of the tables that no record names: in tree 0's folder, and in those of the keyspaces that live.
+/// The names of the tables that no record names: in tree 0's folder, whose record names these, and in those of the keyspaces
+/// that live, which have these homes.
 fn list_all_tables<D: Disk>(
     alloc: Global,
     disk: &mut D,
-    named: Option<u64>,
-    living: &[LivingKeyspace],
+    tree: &[TableInfo],
+    homes: &[LoadedHome],
 ) -> Result<Vec<String>>
-    ensures unnamed { IsTrue D.honest → IfOk result (λ names. All (λ name. IsUnnamedTable named living.now (string_bytes name)) names.items) }
-    ensures tree { IsTrue D.honest → IfOk result (λ names. FindsTables (state_in (D.meaning disk.old)) named (map string_bytes names.items)) }
-    ensures others { IsTrue D.honest → IfOk result (λ names. FindsTablesOf (state_in (D.meaning disk.old)) living.now (map string_bytes names.items)) }
+    ensures unnamed { IsTrue D.honest → (living : List LivingKeyspace) → AreHomesOf living homes.now
+        → IfOk result (λ list. All (λ name. IsUnnamedTable (names_of tree.now homes.now) living (string_bytes name)) list.items) }
+    ensures tree { IsTrue D.honest
+        → IfOk result (λ list. FindsTables (state_in (D.meaning disk.old)) (names_of tree.now homes.now) (map string_bytes list.items)) }
+    ensures others { IsTrue D.honest → (living : List LivingKeyspace) → AreHomesOf living homes.now
+        → IfOk result (λ list. FindsTablesOf (state_in (D.meaning disk.old)) (names_of tree.now homes.now) living (map string_bytes list.items)) }
     ensures same { IsTrue D.honest → Took (D.meaning disk.old) (D.meaning disk.new) [] }
     ensures served { IsTrue D.honest → AllServed (D.meaning disk.old) (D.meaning disk.new) }
     ensures later { (D.meaning disk.old).faults ≤ (D.meaning disk.new).faults }
     ensures risen { IfErr result (HasRisen (D.meaning disk.old).faults (D.meaning disk.new).faults) }
     ensures only { IfErr result (IsDue (λ error. ⊥)) }
 {
-    let mut names = list_tables(alloc, disk, 0, named)?;
-    for keyspace in living {
-        let mut more = list_tables(alloc, disk, keyspace.id, None)?;
+    let mut names = list_tables(alloc, disk, 0, tree)?;
+    for home in homes {
+        let mut more = list_tables(alloc, disk, home.id, &home.record.tables)?;
         names.append(&mut more)?;
     }
     Ok(names)
@@ -136,9 +150,9 @@ fn list_homes<D: Disk>(
     Ok(homes)
 }
 
-/// What no record names, of what stands in `keyspaces`: the tables in tree 0's folder but the named one, the tables in
-/// the folders of the keyspaces that live, whose records name none, and of the folders with these ids those of keyspaces
-/// that don't live. A folder that has a table's name counts as a table there, though it can't be removed like a file.
+/// What no record names, of what stands in `keyspaces`: the tables in tree 0's folder but these, the tables in the folders of
+/// the keyspaces that live but those that the records of their homes name, and of the folders with these ids those of
+/// keyspaces that don't live. A folder that has a table's name counts as a table there, though it can't be removed like a file.
 ///
 /// The folder of a keyspace that doesn't live is in the plan only where all that stands in it are files with the engine's
 /// own names: `current`, or a table's. One that holds anything else, as `keyspaces/7/notes`, is left wholly as it stands.
@@ -147,19 +161,21 @@ fn list_homes<D: Disk>(
 pub fn plan_sweep<D: Disk>(
     alloc: Global,
     disk: &mut D,
-    named_table: Option<u64>,
+    tree: &[TableInfo],
+    homes: &[LoadedHome],
     living: &[LivingKeyspace],
     folder_ids: &[u64],
 ) -> Result<SweepPlan>
-    ensures right { IsTrue D.honest → IfOk result (IsPlan named_table living.now) }
-    ensures whole { IsTrue D.honest → IfOk result (FindsAll (state_in (D.meaning disk.old)) named_table living.now folder_ids.now) }
+    ensures right { IsTrue D.honest → AreHomesOf living.now homes.now → IfOk result (IsPlan (names_of tree.now homes.now) living.now) }
+    ensures whole { IsTrue D.honest → AreHomesOf living.now homes.now
+        → IfOk result (FindsAll (state_in (D.meaning disk.old)) (names_of tree.now homes.now) living.now folder_ids.now) }
     ensures same { IsTrue D.honest → Took (D.meaning disk.old) (D.meaning disk.new) [] }
     ensures served { IsTrue D.honest → AllServed (D.meaning disk.old) (D.meaning disk.new) }
     ensures later { (D.meaning disk.old).faults ≤ (D.meaning disk.new).faults }
     ensures risen { IfErr result (HasRisen (D.meaning disk.old).faults (D.meaning disk.new).faults) }
     ensures only { IfErr result (IsDue (λ error. ⊥)) }
 {
-    let tables = list_all_tables(alloc, disk, named_table, living)?;
+    let tables = list_all_tables(alloc, disk, tree, homes)?;
     let homes = list_homes(alloc, disk, living, folder_ids)?;
     Ok(SweepPlan { tables, homes })
 }

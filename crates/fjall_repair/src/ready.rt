@@ -1,11 +1,10 @@
 //! All that opening a folder takes, in memory before the disk is changed.
 
-ghost use Rattle.std.specs.Prelude.{◌≡◌, ◌<◌, ◌≤◌, [], ℕ, List, All, IfErr, IfOk, IsOkUnless, IsTrue, None, map, max, string_bytes};
-ghost use Rattle.std.specs.Option.{option_map};
+ghost use Rattle.std.specs.Prelude.{◌≡◌, ◌<◌, ◌≤◌, [], ℕ, List, All, IfErr, IfOk, IsOkUnless, IsTrue, is_some, map, max, string_bytes, true};
 ghost use Rattle.fjall_base.specs.Disk.{Image, Took, state_in};
 ghost use Rattle.fjall_journal.specs.Batches.{view};
-ghost use Rattle.fjall_meta.specs.Keyspaces.{AreKeyspaces, no_keyspaces};
-ghost use Rattle.fjall_catalog.specs.Catalog.{first_catalog};
+ghost use Rattle.fjall_meta.specs.Keyspaces.{AreKeyspaces, keyspace_at, no_keyspaces};
+ghost use Rattle.fjall_catalog.specs.Catalog.{first_catalog, listed};
 ghost use Rattle.fjall_files.specs.Calls.{seen, AllServed};
 ghost use Rattle.fjall_files.specs.Names.{journal_name};
 ghost use Rattle.fjall_contents.specs.Contents.{Stored};
@@ -13,11 +12,11 @@ ghost use Rattle.fjall_contents.specs.Memory.{AreTold, versions_beyond};
 ghost use Rattle.fjall_recovery.specs.Folders.{IsFinished, IsUnfinished, past_records};
 ghost use Rattle.fjall_recovery.specs.Naming.{AreFolderIds};
 ghost use Rattle.fjall_recovery.specs.Refusals.{HasRisen, IsDue, IsOpeningRefusal};
-ghost use Rattle.fjall_repair.specs.Readings.{IsSweepOf, FindsUnnamed, TakesRead, persisted_in};
+ghost use Rattle.fjall_repair.specs.Readings.{IsSweepOf, FindsUnnamed, TakesRead, persisted_in, persisted_of};
 ghost use Rattle.fjall_repair.specs.Plans.{IsPlan as IsMakingOf};
 ghost use Rattle.fjall_repair.specs.Mended.{IsMendingOf};
 ghost use Rattle.fjall_repair.specs.Opened.{HasNumbers, IsLawful, Takes, records_of};
-ghost use Rattle.fjall_repair.specs.Sweeps.{FindsAll, IsPlan};
+ghost use Rattle.fjall_repair.specs.Sweeps.{FindsAll, IsPlan, no_names};
 
 use crate::numbers::{check_made, number_of};
 use crate::opened::Opened;
@@ -27,9 +26,12 @@ use fjall_base::{Disk, Error, Result};
 use fjall_catalog::Catalog;
 use fjall_contents::replay_beyond;
 use fjall_files::journal_name;
+use fjall_home::LoadedHome;
+use fjall_loading::{Loaded, load_homes};
 use fjall_journal::{Batch, Writer};
 use fjall_meta::MetaKeyspace;
-use fjall_recovery::{KeyspaceRecords, RecoveredFolder, list_keyspaces};
+use fjall_recovery::{RecoveredFolder, list_keyspaces};
+use fjall_table::TableInfo;
 use fjall_versions::{Persisted, Version};
 use std::alloc::Global;
 
@@ -57,7 +59,8 @@ pub(crate) struct ToMend {
 
 /// What a database without keyspaces opens as.
 fn new_database(alloc: Global, active: u64) -> Result<Opened>
-    ensures opened { IfOk result (λ o. Takes o (journal_name active) 0 first_catalog no_keyspaces [] []) }
+    ensures opened { IfOk result (λ o. Takes o (journal_name active) 0 first_catalog no_keyspaces [] [] []) }
+    ensures whole { IfOk result (λ o. o.damaged.items ≡ []) }
     ensures number { IfOk result (λ o. o.number ≡ 0) }
     ensures lawful { IfOk result IsLawful }
     ensures only { IsOkUnless result Error.OutOfMemory }
@@ -65,6 +68,7 @@ fn new_database(alloc: Global, active: u64) -> Result<Opened>
     let name = journal_name(alloc, active)?;
     Ok(Opened {
         versions: Vec::new(alloc),
+        damaged: Vec::new(alloc),
         journal: Writer::from_file(alloc, name.as_str(), 0)?,
         catalog: Catalog::new(),
         keyspaces: MetaKeyspace::new(alloc),
@@ -75,10 +79,11 @@ fn new_database(alloc: Global, active: u64) -> Result<Opened>
 /// Gets ready to begin a database, or to go on with one whose making was cut short.
 pub(crate) fn ready_to_begin<D: Disk>(alloc: Global, disk: &mut D) -> Result<ToBegin>
     ensures making { IsTrue D.honest → IfOk result (λ r. IsMakingOf (seen (D.meaning disk.old)) r.making) }
-    ensures sweep { IsTrue D.honest → IfOk result (λ r. IsPlan None [] r.sweep) }
+    ensures sweep { IsTrue D.honest → IfOk result (λ r. IsPlan no_names [] r.sweep) }
     ensures finds { IsTrue D.honest
-        → IfOk result (λ r. (ids : List ℕ) × AreFolderIds (seen (D.meaning disk.old)) ids × FindsAll (state_in (D.meaning disk.old)) None [] ids r.sweep) }
-    ensures opened { IfOk result (λ r. Takes r.opened (journal_name r.making.active) 0 first_catalog no_keyspaces [] []) }
+        → IfOk result (λ r. (ids : List ℕ) × AreFolderIds (seen (D.meaning disk.old)) ids × FindsAll (state_in (D.meaning disk.old)) no_names [] ids r.sweep) }
+    ensures opened { IfOk result (λ r. Takes r.opened (journal_name r.making.active) 0 first_catalog no_keyspaces [] [] []) }
+    ensures whole { IfOk result (λ r. r.opened.damaged.items ≡ []) }
     ensures number { IfOk result (λ r. r.opened.number ≡ 0) }
     ensures lawful { IfOk result (λ r. IsLawful r.opened) }
     ensures same { IsTrue D.honest → Took (D.meaning disk.old) (D.meaning disk.new) [] }
@@ -89,7 +94,7 @@ pub(crate) fn ready_to_begin<D: Disk>(alloc: Global, disk: &mut D) -> Result<ToB
     ensures listed { IfErr result IsOpeningRefusal }
 {
     let ids = list_keyspaces(alloc, disk)?;
-    let sweep = plan_sweep(alloc, disk, None, &[], &ids)?;
+    let sweep = plan_sweep(alloc, disk, &[], &[], &[], &ids)?;
     let making = plan_beginning(alloc, disk)?;
     Ok(ToBegin {
         opened: new_database(alloc, making.active)?,
@@ -98,15 +103,20 @@ pub(crate) fn ready_to_begin<D: Disk>(alloc: Global, disk: &mut D) -> Result<ToB
     })
 }
 
-/// The id of the table that tree 0's last record names.
-fn named_table(catalog: &Catalog) -> Option<u64>
-    ensures { result ≡ option_map (λ table. table.id) catalog.now.table }
+/// The table that tree 0's last record names, where it names one.
+fn tables_of(alloc: Global, catalog: &Catalog) -> Result<Vec<TableInfo>>
+    ensures ok { IfOk result (λ tables. tables.items ≡ listed catalog.now.table) }
+    ensures only { IsOkUnless result Error.OutOfMemory }
 {
-    catalog.table.map(|table| table.id)
+    let mut tables = Vec::new(alloc);
+    if let Some(table) = catalog.table {
+        tables.push(table)?;
+    }
+    Ok(tables)
 }
 
 /// The persisted numbers that these records tell.
-fn persisted_of(alloc: Global, homes: &[KeyspaceRecords]) -> Result<Vec<Persisted>>
+fn persisted_of(alloc: Global, homes: &[LoadedHome]) -> Result<Vec<Persisted>>
     ensures ok { IfOk result (λ persisted. persisted.items ≡ map persisted_in homes.now) }
     ensures only { IsOkUnless result Error.OutOfMemory }
 {
@@ -120,28 +130,38 @@ fn persisted_of(alloc: Global, homes: &[KeyspaceRecords]) -> Result<Vec<Persiste
     Ok(persisted)
 }
 
-/// What the batches of the journals make of the keyspaces that live, each beyond its persisted number.
+/// These versions of keyspaces that live, and those that the batches of the journals make, each beyond its keyspace's persisted
+/// number.
 fn replayed(
-    alloc: Global,
     keyspaces: &MetaKeyspace,
     persisted: &[Persisted],
+    loaded: Vec<Version>,
     batches: Vec<Batch>,
 ) -> Result<Vec<Version>>
+    requires live { All (λ v. is_some (keyspace_at v.keyspace_id keyspaces.now.living) ≡ true) loaded.items }
     ensures ok { (stored : ℕ → Stored) → AreTold keyspaces.now stored persisted.now
-        → IfOk result (λ versions. versions.items ≡ versions_beyond keyspaces.now stored [] (map view batches.items)) }
+        → IfOk result (λ versions. versions.items ≡ versions_beyond keyspaces.now stored loaded.items (map view batches.items)) }
     ensures given { IfOk result (λ versions. All (λ v. v.keyspace_id < keyspaces.now.next) versions.items) }
     ensures lawful { AreKeyspaces keyspaces.now }
     ensures only { IsOkUnless result Error.OutOfMemory }
 {
     prove!(0 < keyspaces.next_id());
-    let mut versions = Vec::new(alloc);
+    let mut versions = loaded;
     replay_beyond(keyspaces, persisted, batches, &mut versions)?;
     Ok(versions)
 }
 
-/// What a folder opens as that was read, and whose journal goes on at the end of this file.
-fn database_of(alloc: Global, found: RecoveredFolder, active: &str) -> Result<Opened>
-    ensures opened { IfOk result (λ o. TakesRead o active.now found) }
+/// What a folder opens as that was read, of whose tables this was loaded, and whose journal goes on at the end of this file.
+fn database_of(
+    alloc: Global,
+    found: RecoveredFolder,
+    loaded: Loaded,
+    active: &str,
+) -> Result<Opened>
+    requires live { All (λ v. is_some (keyspace_at v.keyspace_id found.catalog.keyspaces.living) ≡ true) loaded.versions.items }
+    ensures opened { IfOk result (λ o. Takes o active.now found.journals.end found.catalog.catalog found.catalog.keyspaces (persisted_of found) loaded.versions.items
+        (map view found.journals.batches.items)) }
+    ensures damaged { IfOk result (λ o. o.damaged.items ≡ loaded.damaged.items) }
     ensures number { All HasNumbers (records_of found) → IfOk result (λ o. o.number ≡ max found.journals.least (past_records (records_of found))) }
     ensures lawful { IfOk result IsLawful }
     ensures risen { (faults : ℕ) → IfErr result (HasRisen faults faults) }
@@ -158,9 +178,15 @@ fn database_of(alloc: Global, found: RecoveredFolder, active: &str) -> Result<Op
         ..
     } = found;
     let persisted = persisted_of(alloc, &homes)?;
-    let versions = replayed(alloc, &catalog.keyspaces, &persisted, journals.batches)?;
+    let versions = replayed(
+        &catalog.keyspaces,
+        &persisted,
+        loaded.versions,
+        journals.batches,
+    )?;
     Ok(Opened {
         versions,
+        damaged: loaded.damaged,
         journal,
         catalog: catalog.catalog,
         keyspaces: catalog.keyspaces,
@@ -175,9 +201,11 @@ pub(crate) fn ready_to_mend<D: Disk>(
     found: RecoveredFolder,
 ) -> Result<ToMend>
     ensures mending { (image : Image) → IsFinished image found → IfOk result (λ r. IsMendingOf image found r.mending) }
-    ensures sweep { IsTrue D.honest → IfOk result (λ r. IsSweepOf found r.sweep) }
-    ensures finds { IsTrue D.honest → IfOk result (λ r. FindsUnnamed (state_in (D.meaning disk.old)) found r.sweep) }
-    ensures opened { IfOk result (λ r. TakesRead r.opened (string_bytes r.mending.active) found) }
+    ensures sweep { IsTrue D.honest → (image : Image) → IsFinished image found → IfOk result (λ r. IsSweepOf found r.sweep) }
+    ensures finds { IsTrue D.honest → (image : Image) → IsFinished image found
+        → IfOk result (λ r. FindsUnnamed (state_in (D.meaning disk.old)) found r.sweep) }
+    ensures opened { IsTrue D.honest → IsFinished (seen (D.meaning disk.old)) found
+        → IfOk result (λ r. TakesRead (seen (D.meaning disk.old)) r.opened (string_bytes r.mending.active) found) }
     ensures number { All HasNumbers (records_of found) → IfOk result (λ r. r.opened.number ≡ max found.journals.least (past_records (records_of found))) }
     ensures lawful { IfOk result (λ r. IsLawful r.opened) }
     ensures same { IsTrue D.honest → Took (D.meaning disk.old) (D.meaning disk.new) [] }
@@ -187,12 +215,20 @@ pub(crate) fn ready_to_mend<D: Disk>(
     ensures due { IsTrue D.honest → (image : Image) → IsFinished image found → IfErr result (IsDue (λ error. ⊥)) }
     ensures listed { IfErr result IsOpeningRefusal }
 {
-    let named = named_table(&found.catalog.catalog);
-    let living = found.catalog.keyspaces.living();
-    let sweep = plan_sweep(alloc, disk, named, living, &found.folder_ids)?;
+    let tree = tables_of(alloc, &found.catalog.catalog)?;
+    let keyspaces = &found.catalog.keyspaces;
+    let sweep = plan_sweep(
+        alloc,
+        disk,
+        &tree,
+        &found.homes,
+        keyspaces.living(),
+        &found.folder_ids,
+    )?;
+    let loaded = load_homes(alloc, disk, keyspaces, &found.homes)?;
     let mending = plan_mending(alloc, &found)?;
     Ok(ToMend {
-        opened: database_of(alloc, found, mending.active.as_str())?,
+        opened: database_of(alloc, found, loaded, mending.active.as_str())?,
         mending,
         sweep,
     })

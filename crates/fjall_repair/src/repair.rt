@@ -11,12 +11,12 @@ ghost use Rattle.fjall_recovery.specs.Amid.{LeavesAmid, KeepsAmid, WhereAmid};
 ghost use Rattle.fjall_recovery.specs.declared.folder.RecoveredFolder.{RecoveredFolder};
 ghost use Rattle.fjall_recovery.specs.Folders.{IsFinished, IsUnfinished, StandsFor, store_of};
 ghost use Rattle.fjall_recovery.specs.Held.{Holds};
-ghost use Rattle.fjall_repair.specs.Readings.{WhereRead, WhereSound, IsSweepOf, FindsNamed};
+ghost use Rattle.fjall_repair.specs.Readings.{WhereOpenable, WhereRead, WhereSound, IsSweepOf, FindsNamed};
 ghost use Rattle.fjall_repair.specs.Making.{ComesBackUnfinished};
 ghost use Rattle.fjall_repair.specs.Plans.{IsPlan as IsMakingOf};
 ghost use Rattle.fjall_repair.specs.Mended.{IsMendingOf};
 ghost use Rattle.fjall_repair.specs.Opened.{IsRepaired, nothing};
-ghost use Rattle.fjall_repair.specs.Sweeps.{AreGone, BringsNoTable, FindsTables, IsPlan, planned, HasAll};
+ghost use Rattle.fjall_repair.specs.Sweeps.{AreGone, BringsNoTable, FindsTables, IsPlan, planned, no_names, HasAll};
 
 use crate::plan::SweepPlan;
 use crate::sweeping::sweep;
@@ -43,19 +43,19 @@ pub(crate) fn mend_and_sweep<D: Disk>(
         → BringsNoTable (state_in (D.meaning disk.old)) (state_in (D.meaning disk.new)) }
     // The same where a crash of the disk leaves different stores.
     ensures amid { IsTrue D.honest → (found : RecoveredFolder)
-        → WhereSound (D.meaning disk.old) found (λ contents. IsMendingOf (seen (D.meaning disk.old)) found mending.now
+        → WhereOpenable (D.meaning disk.old) found (λ contents. IsMendingOf (seen (D.meaning disk.old)) found mending.now
         → IsSweepOf found plan.now → LeavesAmid (D.meaning disk.old) (D.meaning disk.new)) }
     ensures repaired { IsTrue D.honest → (found : RecoveredFolder)
         → WhereSound (D.meaning disk.old) found (λ contents. IsMendingOf (seen (D.meaning disk.old)) found mending.now → IsSweepOf found plan.now
         → WhereAmid (D.meaning disk.old) (FindsNamed (state_in (D.meaning disk.old)) found plan.now
         → OnOk result (IsRepaired (state_in (D.meaning disk.new)) contents (string_bytes mending.now.active) found.journals.end))) }
     ensures held { IsTrue D.honest → (found : RecoveredFolder)
-        → WhereSound (D.meaning disk.old) found (λ contents. IsMendingOf (seen (D.meaning disk.old)) found mending.now
+        → WhereOpenable (D.meaning disk.old) found (λ contents. IsMendingOf (seen (D.meaning disk.old)) found mending.now
         → IsSweepOf found plan.now → KeepsAmid (D.meaning disk.old) (D.meaning disk.new)) }
     ensures kinds { IsTrue D.honest → (found : RecoveredFolder) → IsFinished (seen (D.meaning disk.old)) found
         → IsMendingOf (seen (D.meaning disk.old)) found mending.now → StaysTidy (D.meaning disk.old) (D.meaning disk.new) }
     ensures served { IsTrue D.honest → IsTidy (state_in (D.meaning disk.old)) → (found : RecoveredFolder)
-        → WhereSound (D.meaning disk.old) found (λ contents. IsMendingOf (seen (D.meaning disk.old)) found mending.now
+        → WhereOpenable (D.meaning disk.old) found (λ contents. IsMendingOf (seen (D.meaning disk.old)) found mending.now
         → IsSweepOf found plan.now → All (HasAll (state_in (D.meaning disk.old))) plan.now.homes.items → AllServed (D.meaning disk.old) (D.meaning disk.new)) }
 {
     mend(disk, mending)?;
@@ -69,26 +69,26 @@ pub(crate) fn begin_and_sweep<D: Disk>(
     plan: &SweepPlan,
 ) -> Result<()>
     ensures any_moment { IsTrue D.honest → Holds (state_in (D.meaning disk.old)) None → ComesBackUnfinished (state_in (D.meaning disk.old))
-        → IsMakingOf (seen (D.meaning disk.old)) making.now → IsPlan None [] plan.now
+        → IsMakingOf (seen (D.meaning disk.old)) making.now → IsPlan no_names [] plan.now
         → LeavesOnly (D.meaning disk.old) (D.meaning disk.new) (λ image. StandsFor image (bare no_keyspaces)) }
-    ensures ok { IsTrue D.honest → Holds (state_in (D.meaning disk.old)) None → IsMakingOf (seen (D.meaning disk.old)) making.now → IsPlan None [] plan.now
-        → FindsTables (state_in (D.meaning disk.old)) None (map string_bytes plan.now.tables.items)
+    ensures ok { IsTrue D.honest → Holds (state_in (D.meaning disk.old)) None → IsMakingOf (seen (D.meaning disk.old)) making.now → IsPlan no_names [] plan.now
+        → FindsTables (state_in (D.meaning disk.old)) no_names (map string_bytes plan.now.tables.items)
         → OnOk result (IsRepaired (state_in (D.meaning disk.new)) nothing (journal_name making.now.active) 0) }
     ensures gone { IsTrue D.honest → OnOk result (AreGone (state_in (D.meaning disk.new)) (planned plan.now)) }
     ensures cause { OnlyFaults (D.meaning disk.old) (D.meaning disk.new) result }
     ensures tables { IsTrue D.honest → IsMakingOf (seen (D.meaning disk.old)) making.now
         → BringsNoTable (state_in (D.meaning disk.old)) (state_in (D.meaning disk.new)) }
     // The same where a crash of the disk leaves different stores.
-    ensures amid { IsTrue D.honest → IsUnfinished (seen (D.meaning disk.old)) → IsMakingOf (seen (D.meaning disk.old)) making.now → IsPlan None [] plan.now
+    ensures amid { IsTrue D.honest → IsUnfinished (seen (D.meaning disk.old)) → IsMakingOf (seen (D.meaning disk.old)) making.now → IsPlan no_names [] plan.now
         → LeavesAmid (D.meaning disk.old) (D.meaning disk.new) }
-    ensures repaired { IsTrue D.honest → IsUnfinished (seen (D.meaning disk.old)) → IsMakingOf (seen (D.meaning disk.old)) making.now → IsPlan None [] plan.now
-        → FindsTables (state_in (D.meaning disk.old)) None (map string_bytes plan.now.tables.items)
+    ensures repaired { IsTrue D.honest → IsUnfinished (seen (D.meaning disk.old)) → IsMakingOf (seen (D.meaning disk.old)) making.now → IsPlan no_names [] plan.now
+        → FindsTables (state_in (D.meaning disk.old)) no_names (map string_bytes plan.now.tables.items)
         → OnOk result (IsRepaired (state_in (D.meaning disk.new)) nothing (journal_name making.now.active) 0) }
-    ensures held { IsTrue D.honest → IsUnfinished (seen (D.meaning disk.old)) → IsMakingOf (seen (D.meaning disk.old)) making.now → IsPlan None [] plan.now
+    ensures held { IsTrue D.honest → IsUnfinished (seen (D.meaning disk.old)) → IsMakingOf (seen (D.meaning disk.old)) making.now → IsPlan no_names [] plan.now
         → KeepsAmid (D.meaning disk.old) (D.meaning disk.new) }
     ensures kinds { IsTrue D.honest → IsMakingOf (seen (D.meaning disk.old)) making.now → StaysTidy (D.meaning disk.old) (D.meaning disk.new) }
     ensures served { IsTrue D.honest → IsTidy (state_in (D.meaning disk.old)) → IsMakingOf (seen (D.meaning disk.old)) making.now
-        → IsPlan None [] plan.now → All (HasAll (state_in (D.meaning disk.old))) plan.now.homes.items → AllServed (D.meaning disk.old) (D.meaning disk.new) }
+        → IsPlan no_names [] plan.now → All (HasAll (state_in (D.meaning disk.old))) plan.now.homes.items → AllServed (D.meaning disk.old) (D.meaning disk.new) }
 {
     begin(disk, making)?;
     sweep(disk, plan)

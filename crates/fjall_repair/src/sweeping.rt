@@ -1,6 +1,6 @@
 //! What no record names, removed: what is named stays as it was.
 
-ghost use Rattle.std.specs.Prelude.{ℕ, All, List, IsTrue, OnOk, Option, codes, map, string_bytes};
+ghost use Rattle.std.specs.Prelude.{All, List, IsTrue, OnOk, codes, map, string_bytes};
 ghost use Rattle.std.specs.List.{flat_map, Contains};
 ghost use Rattle.fjall_base.specs.Disk.{IsNoFolder, LeavesOnly, OnlyFaults, state_in};
 ghost use Rattle.fjall_files.specs.Calls.{AllServed};
@@ -9,7 +9,7 @@ ghost use Rattle.fjall_meta.specs.declared.living.LivingKeyspace.{LivingKeyspace
 ghost use Rattle.fjall_recovery.specs.Halves.{HasTree, Tree};
 ghost use Rattle.fjall_recovery.specs.Places.{LiesInTree, RestsInTree};
 ghost use Rattle.fjall_files.specs.Regions.{Within};
-ghost use Rattle.fjall_repair.specs.Sweeps.{AreGone, FindsTables, HasAll, IsPlan, IsUnnamedHome, Removes, home_names, named_in, planned};
+ghost use Rattle.fjall_repair.specs.Sweeps.{AreGone, FindsTables, HasAll, IsPlan, IsUnnamedHome, Names, Removes, home_names, names_in, planned};
 ghost use Rattle.fjall_tree.specs.Records.{Fields};
 
 use crate::plan::SweepPlan;
@@ -68,24 +68,24 @@ pub fn sweep<D: Disk>(disk: &mut D, plan: &SweepPlan) -> Result<()>
     // Names of the plan are removed and nothing else is done, and after a success none of them is left.
     ensures removes { IsTrue D.honest → Removes (Contains (planned plan.now)) (D.meaning disk.old) (D.meaning disk.new) }
     ensures gone { IsTrue D.honest → OnOk result (AreGone (state_in (D.meaning disk.new)) (planned plan.now)) }
-    ensures within { IsTrue D.honest → (t : Tree) → IsPlan (named_in t) t.keyspaces.living plan.now
+    ensures within { IsTrue D.honest → (t : Tree) → IsPlan (names_in t) t.keyspaces.living plan.now
         → Within (codes "keyspaces") (D.meaning disk.old) (D.meaning disk.new) }
     // A crash at any moment of the call leaves what the records name.
-    ensures any_moment { IsTrue D.honest → (records : List Fields) (t : Tree) → IsPlan (named_in t) t.keyspaces.living plan.now
+    ensures any_moment { IsTrue D.honest → (records : List Fields) (t : Tree) → IsPlan (names_in t) t.keyspaces.living plan.now
         → RestsInTree (state_in (D.meaning disk.old)) records t
         → LeavesOnly (D.meaning disk.old) (D.meaning disk.new) (λ image. HasTree image t) }
     // It rests as before, also where the call fails.
-    ensures rests { IsTrue D.honest → (records : List Fields) (t : Tree) → IsPlan (named_in t) t.keyspaces.living plan.now
+    ensures rests { IsTrue D.honest → (records : List Fields) (t : Tree) → IsPlan (names_in t) t.keyspaces.living plan.now
         → RestsInTree (state_in (D.meaning disk.old)) records t
         → RestsInTree (state_in (D.meaning disk.new)) records t }
-    ensures ok { IsTrue D.honest → (records : List Fields) (t : Tree) → IsPlan (named_in t) t.keyspaces.living plan.now
+    ensures ok { IsTrue D.honest → (records : List Fields) (t : Tree) → IsPlan (names_in t) t.keyspaces.living plan.now
         → RestsInTree (state_in (D.meaning disk.old)) records t
-        → FindsTables (state_in (D.meaning disk.old)) (named_in t) (map string_bytes plan.now.tables.items)
+        → FindsTables (state_in (D.meaning disk.old)) (names_in t) (map string_bytes plan.now.tables.items)
         → OnOk result (LiesInTree (state_in (D.meaning disk.new)) records t) }
     ensures cause { OnlyFaults (D.meaning disk.old) (D.meaning disk.new) result }
     ensures kinds { IsTrue D.honest → StaysTidy (D.meaning disk.old) (D.meaning disk.new) }
-    ensures served { IsTrue D.honest → IsTidy (state_in (D.meaning disk.old)) → (named : Option ℕ) (living : List LivingKeyspace)
-        → IsPlan named living plan.now → All (HasAll (state_in (D.meaning disk.old))) plan.now.homes.items
+    ensures served { IsTrue D.honest → IsTidy (state_in (D.meaning disk.old)) → (names : Names) (living : List LivingKeyspace)
+        → IsPlan names living plan.now → All (HasAll (state_in (D.meaning disk.old))) plan.now.homes.items
         → AllServed (D.meaning disk.old) (D.meaning disk.new) }
 {
     remove_all(disk, &plan.tables)?;

@@ -32,7 +32,7 @@ pub record OpenedOn (honest : Bool) (disk : Meaning) (core : Held) : Type 0 wher
   pub safe : IsTrue honest → (store : Store) → HoldsStore (state_in disk) store → OpensAs core store
   pub any_moment : IsTrue honest → KeepsStore disk core.disk
   pub amid : IsTrue honest → (base : Store) (pending : List Command) → HoldsAmid (state_in disk) base pending → OpensAmid disk core base pending
-  pub stands : (store : Store) × (next : ℕ) × Opens core store next
+  pub stands : (store : Store) × (damaged : List ℕ) × (next : ℕ) × Opens core store damaged next
 
 -- A core refused to be opened on this disk, for its cause: `Io` only where the count of faults rose. Whatever store the
 -- disk held, a crash at each moment of the opening leaves it.

@@ -8,7 +8,8 @@ use Rattle.std.specs.Ordering.{nat_cmp}
 use Rattle.std.specs.Option.{is_some}
 use Rattle.fjall_base.specs.Pairs.{Bytes, Pairs, altered, lookup}
 use Rattle.fjall_base.specs.Store.{Command, Create, Delete, Store, apply, fold, kept, map_at}
-use Rattle.fjall_base.specs.declared.error.Error.TheVariants.{KeyspaceDeleted, UnknownKeyspace}
+use Rattle.fjall_base.specs.declared.error.Error.TheVariants.{KeyspaceDeleted, Storage, UnknownKeyspace}
+use Rattle.fjall_base.specs.declared.error.StorageError.TheVariants.{TableDamaged}
 use Rattle.fjall_meta.specs.Keyspaces.{Keyspaces, id_of, is_name}
 use Rattle.fjall_options.specs.Options.{AreOptions}
 use Rattle.fjall_versions.specs.declared.version.Version.{Version}
@@ -54,7 +55,7 @@ kept_due f JournalDiskSpace = refl
 pub facts_agree : (m : Remembered) (table : ℕ) (s : State) → StandsFor m table s → (call : Call) → due s call ≡ due_in (facts_of m table) call
 facts_agree m table s stands call =
     kept_due (facts s) call
-    ∙ (λ i. due_in (record { store = stands.present i; next = stands.number i; poisoned = stands.poisoned i; lasting = stands.lasting i; handles = stands.handles i; table = stands.next_table i }) call)
+    ∙ (λ i. due_in (record { store = stands.present i; next = stands.number i; poisoned = stands.poisoned i; lasting = stands.lasting i; damaged = stands.damaged i; handles = stands.handles i; table = stands.next_table i }) call)
     ∙ sym (kept_due (facts_of m table) call)
 
 same_names : (m : Remembered) (table : ℕ) (s : State) → StandsFor m table s → (present s).names ≡ (store_of m.keyspaces m.versions).names
@@ -103,6 +104,7 @@ a_write_stands m table s stands id key o lives =
       poisoned = stands.poisoned;
       handles = stands.handles;
       lasting = stands.lasting;
+      damaged = stands.damaged;
       next_table = stands.next_table;
       lawful = version_is_lawful version m stands.lawful lives;
     }
@@ -138,6 +140,7 @@ a_creation_stands m table s stands name options named fresh are free =
       poisoned = stands.poisoned;
       handles = stands.handles;
       lasting = stands.lasting;
+      damaged = stands.damaged;
       next_table = ap (λ n. n + 1) stands.next_table;
       lawful = creation_is_lawful name options m is named (none_named m.keyspaces is.keyspaces m.versions name fresh) are free;
     }
@@ -164,6 +167,7 @@ a_deletion_stands m table s stands id lives =
       poisoned = stands.poisoned;
       handles = stands.handles;
       lasting = ap (λ l. l ++ id ∷ []) stands.lasting;
+      damaged = stands.damaged;
       next_table = λ i. if nat_le 2 (len (names i)) then stands.next_table i + 1 else stands.next_table i;
       lawful = deletion_is_lawful id m stands.lawful;
     }
@@ -178,6 +182,7 @@ a_retained_stands m table s stands id = record {
   poisoned = stands.poisoned;
   handles = ap (λ h. one_more h id) stands.handles;
   lasting = stands.lasting;
+  damaged = stands.damaged;
   next_table = stands.next_table;
   lawful = retained_is_lawful id m stands.lawful;
 }
@@ -241,6 +246,7 @@ module _ (m : Remembered) (table : ℕ) (s : State) (stands : StandsFor m table 
     poisoned = stands.poisoned;
     handles = ap (λ h. one_less h id) stands.handles;
     lasting = ap (λ l. if last then without l id else l) stands.lasting;
+    damaged = stands.damaged;
     next_table = stands.next_table;
     lawful = is;
   }
@@ -267,12 +273,13 @@ a_fault_stands m table s stands parts = record {
   poisoned = refl;
   handles = stands.handles;
   lasting = stands.lasting;
+  damaged = stands.damaged;
   next_table = refl;
   lawful = poisoned_is_lawful m stands.lawful;
 }
 
 pub a_fault_poisons : (s : State) (parts : Parts) → IsPoisoned s (record s { poisoned = true; parts = parts })
-a_fault_poisons s parts = record { history = refl; poisoned = refl; handles = refl; lasting = refl }
+a_fault_poisons s parts = record { history = refl; poisoned = refl; handles = refl; lasting = refl; damaged = refl }
 
 pub other_parts_stand : (m : Remembered) (table : ℕ) (s : State) → StandsFor m table s → (parts : Parts) → parts.table ≡ table → StandsFor m table (record s { parts = parts })
 other_parts_stand m table s stands parts is = record {
@@ -282,16 +289,17 @@ other_parts_stand m table s stands parts is = record {
   poisoned = stands.poisoned;
   handles = stands.handles;
   lasting = stands.lasting;
+  damaged = stands.damaged;
   next_table = is;
   lawful = stands.lawful;
 }
 
 -- ---- reads
 
-none_refused : (unknown among : Bool) → first_due ((unknown, UnknownKeyspace) ∷ (not among, KeyspaceDeleted) ∷ []) ≡ None → among ≡ true
-none_refused true among none = absurd (true≢false (ap is_some none))
-none_refused false true none = refl
-none_refused false false none = absurd (true≢false (ap is_some none))
+none_refused : (unknown among damaged : Bool) → first_due ((unknown, UnknownKeyspace) ∷ (not among, KeyspaceDeleted) ∷ (damaged, Storage TableDamaged) ∷ []) ≡ None → among ≡ true
+none_refused true among damaged none = absurd (true≢false (ap is_some none))
+none_refused false true damaged none = refl
+none_refused false false damaged none = absurd (true≢false (ap is_some none))
 
 among_has : (P : ℕ → Type 0) (ids : List ℕ) (id : ℕ) → All P ids → is_among ids id ≡ true → P id
 among_has P [] id all e = absurd (true≢false (sym e))
@@ -303,7 +311,7 @@ among_has P (other ∷ ids) id all e = either (other == id) refl e (among_has P 
 
 pub pairs_agree : (m : Remembered) (table : ℕ) (s : State) → StandsFor m table s → (id : ℕ) → first_due (read_refusals (facts_of m table) id) ≡ None → pairs_in id m.versions ≡ map_at (present s).maps id
 pairs_agree m table s stands id none =
-    either (is_living (store_of m.keyspaces m.versions) id) refl (none_refused (is_unknown (store_of m.keyspaces m.versions) id) (is_read (facts_of m table) id) none)
+    either (is_living (store_of m.keyspaces m.versions) id) refl (none_refused (is_unknown (store_of m.keyspaces m.versions) id) (is_read (facts_of m table) id) (is_among m.damaged id) none)
   where
     either : (b : Bool) → is_living (store_of m.keyspaces m.versions) id ≡ b → (b || is_among m.lasting id) ≡ true → pairs_in id m.versions ≡ map_at (present s).maps id
     either true lives found = sym (living_map m table s stands id lives)
@@ -342,7 +350,7 @@ module _ (m : Remembered) (table : ℕ) (s : State) (stands : StandsFor m table 
 -- ---- an opening
 
 pub an_opening_stands : (m : Remembered) → IsLawful m → m.handles ≡ empty → m.lasting ≡ [] → m.poisoned ≡ false
-    → (table : ℕ) (parts : Parts) → parts.table ≡ table → StandsFor m table (opened_state (store_of m.keyspaces m.versions) m.next parts)
+    → (table : ℕ) (parts : Parts) → parts.table ≡ table → StandsFor m table (opened_state (store_of m.keyspaces m.versions) m.damaged m.next parts)
 an_opening_stands m is handles lasting well table parts at =
     let P : ℕ → Type 0 = λ id. map_at (store_of m.keyspaces m.versions).maps id ≡ pairs_in id m.versions in
     record {
@@ -352,6 +360,7 @@ an_opening_stands m is handles lasting well table parts at =
       poisoned = sym well;
       handles = sym handles;
       lasting = sym lasting;
+      damaged = refl;
       next_table = at;
       lawful = is;
     }

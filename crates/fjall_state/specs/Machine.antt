@@ -7,7 +7,8 @@ use Rattle.std.specs.FinMap.{FinMap, contains_key, empty, get, insert, len, remo
 use Rattle.fjall_base.specs.Pairs.{Bytes, byte_order, lookup, pairs_between, page}
 use Rattle.fjall_base.specs.Store.{Store, Command, Options, Write, Create, Delete, apply, kept, map_at}
 use Rattle.fjall_base.specs.declared.error.Error.{Error}
-use Rattle.fjall_base.specs.declared.error.Error.TheVariants.{Io, Poisoned, KeyspaceDeleted, KeyEmpty, KeyTooLong, ValueTooLong, InvalidName, OutOfMemory, NumbersUsedUp, UnknownKeyspace}
+use Rattle.fjall_base.specs.declared.error.Error.TheVariants.{Io, Storage, Poisoned, KeyspaceDeleted, KeyEmpty, KeyTooLong, ValueTooLong, InvalidName, OutOfMemory, NumbersUsedUp, UnknownKeyspace}
+use Rattle.fjall_base.specs.declared.error.StorageError.TheVariants.{TableDamaged}
 use Rattle.fjall_journal.specs.Writer.{counted, goes_out}
 use Rattle.fjall_options.specs.Options.{is_set, value_of}
 use Rattle.fjall_meta.specs.Keyspaces.{is_name}
@@ -29,21 +30,24 @@ pub record Parts : Type 0 where
   pub table : ℕ
 
 -- The history, whether a fault of the disk has poisoned the engine, how many handles of each keyspace are counted, the
--- deleted keyspaces whose last maps are still read, and the parts that its counts speak of.
+-- deleted keyspaces whose last maps are still read, the keyspaces that have a table with a wrong block, which are not
+-- read, and the parts that its counts speak of. No call changes which keyspaces are damaged: an id is never given anew.
 pub record State : Type 0 where
   pub history : History
   pub poisoned : Bool
   pub handles : FinMap nat_cmp ℕ
   pub lasting : List ℕ
+  pub damaged : List ℕ
   pub parts : Parts
 
--- just opened
-abbrev pub opened_state : Store → ℕ → Parts → State
-opened_state store base parts = record {
+-- just opened, where these keyspaces have a table with a wrong block
+abbrev pub opened_state : Store → List ℕ → ℕ → Parts → State
+opened_state store damaged base parts = record {
   history = record { opened = store; base = base; commands = [] };
   poisoned = false;
   handles = empty;
   lasting = [];
+  damaged = damaged;
   parts = parts;
 }
 
@@ -118,17 +122,18 @@ persists_by_hand s id = is_living s id && is_by_hand (unwrap_or (get s.options i
 -- ---- what refuses a call
 
 -- What refusals look at: the store, the next number, whether the engine is poisoned, the deleted keyspaces that are
--- still read, how many handles are counted, and the id of tree 0's next table.
+-- still read, those that have a table with a wrong block, how many handles are counted, and the id of tree 0's next table.
 pub record Facts : Type 0 where
   pub store : Store
   pub next : ℕ
   pub poisoned : Bool
   pub lasting : List ℕ
+  pub damaged : List ℕ
   pub handles : FinMap nat_cmp ℕ
   pub table : ℕ
 
 abbrev pub facts : State → Facts
-facts s = record { store = present s; next = number s.history; poisoned = s.poisoned; lasting = s.lasting; handles = s.handles; table = s.parts.table }
+facts s = record { store = present s; next = number s.history; poisoned = s.poisoned; lasting = s.lasting; damaged = s.damaged; handles = s.handles; table = s.parts.table }
 
 -- the first refusal whose cause holds
 abbrev pub first_due : List (Bool × Error) → Option Error
@@ -154,7 +159,7 @@ is_read f id = is_living f.store id || is_among f.lasting id
 
 -- the refusals of a read
 abbrev pub read_refusals : Facts → ℕ → List (Bool × Error)
-read_refusals f id = (is_unknown f.store id, UnknownKeyspace) ∷ (not (is_read f id), KeyspaceDeleted) ∷ []
+read_refusals f id = (is_unknown f.store id, UnknownKeyspace) ∷ (not (is_read f id), KeyspaceDeleted) ∷ (is_among f.damaged id, Storage TableDamaged) ∷ []
 
 -- Numbers end at 2^63, and ids at the greatest u64. Where a keyspace is left, a change of the keyspaces takes an id for
 -- the table of all of them.
@@ -248,6 +253,7 @@ pub record IsPoisoned (old new : State) : Type 0 where
   pub poisoned : new.poisoned ≡ true
   pub handles : new.handles ≡ old.handles
   pub lasting : new.lasting ≡ old.lasting
+  pub damaged : new.damaged ≡ old.damaged
 
 -- the settings of some keyspace have a value of 2^32 bytes or more, for which no table has room
 abbrev pub HasLongOption : Store → Type 0

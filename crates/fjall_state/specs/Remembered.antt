@@ -15,7 +15,8 @@ use Rattle.fjall_state.specs.Ops.{Op, value_in}
 use Rattle.fjall_state.specs.Machine.{Facts, State, handles_of, is_deleted, one_less, one_more, present, without}
 
 -- The keyspaces that live, the versions of all keyspaces, oldest first, the next number, whether a fault has poisoned
--- the engine, how many handles of each keyspace are counted, and the deleted keyspaces whose last maps are still read.
+-- the engine, how many handles of each keyspace are counted, the deleted keyspaces whose last maps are still read, and
+-- the keyspaces that have a table with a wrong block, which are not read.
 pub record Remembered : Type 0 where
   pub keyspaces : Keyspaces
   pub versions : List Version
@@ -23,6 +24,7 @@ pub record Remembered : Type 0 where
   pub poisoned : Bool
   pub handles : FinMap nat_cmp ℕ
   pub lasting : List ℕ
+  pub damaged : List ℕ
 
 -- Keyspaces were made under lesser numbers than the next one, and versions are of ids that were given out.
 pub record IsLawful (m : Remembered) : Type 0 where
@@ -36,7 +38,7 @@ handles_code = code coded_ℕ coded_ℕ
 
 -- what refusals look at, the id of tree 0's next table being this one
 abbrev pub facts_of : Remembered → ℕ → Facts
-facts_of m table = record { store = store_of m.keyspaces m.versions; next = m.next; poisoned = m.poisoned; lasting = m.lasting; handles = m.handles; table = table }
+facts_of m table = record { store = store_of m.keyspaces m.versions; next = m.next; poisoned = m.poisoned; lasting = m.lasting; damaged = m.damaged; handles = m.handles; table = table }
 
 -- The state is one that an engine may be in that holds this in memory: its present is what the versions make of the
 -- keyspaces, but for deleted ones, of which those that are still read have their last maps.
@@ -47,12 +49,21 @@ pub record StandsFor (m : Remembered) (table : ℕ) (s : State) : Type 0 where
   pub poisoned : s.poisoned ≡ m.poisoned
   pub handles : s.handles ≡ m.handles
   pub lasting : s.lasting ≡ m.lasting
+  pub damaged : s.damaged ≡ m.damaged
   pub next_table : s.parts.table ≡ table
   pub lawful : IsLawful m
 
--- just opened
-abbrev pub remembered : Keyspaces → List Version → ℕ → Remembered
-remembered keyspaces versions next = record { keyspaces = keyspaces; versions = versions; next = next; poisoned = false; handles = empty; lasting = [] }
+-- just opened, where these keyspaces have a table with a wrong block
+abbrev pub remembered : Keyspaces → List Version → List ℕ → ℕ → Remembered
+remembered keyspaces versions damaged next = record {
+  keyspaces = keyspaces;
+  versions = versions;
+  next = next;
+  poisoned = false;
+  handles = empty;
+  lasting = [];
+  damaged = damaged;
+}
 
 -- the refusal is the one that is due and, where none is, memory ran out
 abbrev pub IsDueOrMemory : Option Error → Error → Type 0

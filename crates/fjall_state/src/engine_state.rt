@@ -1,10 +1,11 @@
 //! What an engine holds in memory: keyspaces that were made under lesser numbers than the next one, and versions
 //! of ids that were given out.
 
-ghost use Rattle.std.specs.Prelude.{◌≡◌, ◌≢◌, ◌<◌, ◌+◌, ◌-◌, ◌^◌, ◌++◌, ◌∷◌, [], ℕ, List, All, None, is_some, true, false, length, map, IfOk, IfErr, OnOk, OnErr, IsOkUnless, IsPermutation, IsSorted};
+ghost use Rattle.std.specs.Prelude.{◌≡◌, ◌≢◌, ◌<◌, ◌+◌, ◌-◌, ◌^◌, ◌++◌, ◌∷◌, [], ℕ, List, All, None, is_some, not, true, false, length, map, IfOk, IfErr, OnOk, OnErr, IsOkUnless, IsPermutation, IsSorted};
 ghost use Rattle.std.specs.FinMap.{empty, from_entries, len, values};
 ghost use Rattle.std.specs.Option.{option_copied};
 ghost use Rattle.fjall_base.specs.Pairs.{Bytes, byte_order, page, pairs_between};
+ghost use Rattle.fjall_base.specs.declared.error.Error.TheVariants.{KeyspaceDeleted, UnknownKeyspace};
 ghost use Rattle.fjall_meta.specs.Keyspaces.{id_of, is_name};
 ghost use Rattle.fjall_versions.specs.declared.version.Version.{Version};
 ghost use Rattle.fjall_versions.specs.Versions.{newest, pairs_in, store_of};
@@ -12,7 +13,7 @@ ghost use Rattle.fjall_state.specs.declared.call.Call.TheVariants.{Retain};
 ghost use Rattle.fjall_state.specs.Machine.{due_in, first_due, handles_of, has_name, is_among, is_living, is_read, is_unknown, one_less, persists_by_hand, read_refusals};
 ghost use Rattle.fjall_state.specs.Remembered.{IsDueOrMemory, IsLawful, Remembered, facts_of, is_last, let_go, poisoned, released, remembered, retained, with_creation, with_deletion, with_version};
 
-use fjall_base::{Error, KvPair, Result, Slice, UserValue};
+use fjall_base::{Error, KvPair, Result, Slice, StorageError, UserValue};
 use fjall_meta::{LivingKeyspace, MetaKeyspace};
 use fjall_options::KeyspaceCreateOptions;
 use fjall_versions::{KeyRange, Version, newest_value, page};
@@ -21,8 +22,8 @@ use std::collections::BTreeMap;
 use std::marker::Model;
 
 /// What an engine holds in memory: the keyspaces that live, the versions of all keyspaces, oldest first, the next
-/// number, whether a fault has poisoned it, how many handles of each keyspace are counted, and the deleted
-/// keyspaces that are still read.
+/// number, whether a fault has poisoned it, how many handles of each keyspace are counted, the deleted keyspaces
+/// that are still read, and the keyspaces that aren't read since a block of one of their tables is wrong.
 #[derive(Debug, Drop)]
 pub struct EngineState {
     keyspaces: MetaKeyspace,
@@ -31,6 +32,7 @@ pub struct EngineState {
     poisoned: bool,
     handles: BTreeMap<u64, u64>,
     lasting: Vec<u64>,
+    damaged: Vec<u64>,
 }
 
 impl Model for EngineState {
@@ -49,6 +51,7 @@ impl Model for EngineState {
       poisoned = m.poisoned;
       handles = from_entries m.handles.entries;
       lasting = m.lasting.items;
+      damaged = m.damaged.items;
     } };
 
     ghost invariant = { λ m. IsLawful (record {
@@ -58,6 +61,7 @@ impl Model for EngineState {
       poisoned = m.poisoned;
       handles = from_entries m.handles.entries;
       lasting = m.lasting.items;
+      damaged = m.damaged.items;
     }) };
 }
 
@@ -93,16 +97,18 @@ fn shared_value(value: Option<&UserValue>) -> Result<Option<UserValue>>
 }
 
 impl EngineState {
-    /// These keyspaces, with these versions, whose next change takes this number.
+    /// These keyspaces, with these versions, whose next change takes this number. The damaged ones have a table with
+    /// a wrong block.
     pub fn new(
         alloc: Global,
         keyspaces: MetaKeyspace,
         versions: Vec<Version>,
+        damaged: Vec<u64>,
         next: u64,
     ) -> EngineState
         requires made { All (λ k. k.number < next) keyspaces.living }
         requires given { All (λ v. v.keyspace_id < keyspaces.next) versions.items }
-        ensures { result ≡ remembered keyspaces versions.items next }
+        ensures { result ≡ remembered keyspaces versions.items damaged.items next }
     {
         EngineState {
             keyspaces,
@@ -111,6 +117,7 @@ impl EngineState {
             poisoned: false,
             handles: BTreeMap::new(alloc),
             lasting: Vec::new(alloc),
+            damaged,
         }
     }
 
@@ -229,6 +236,13 @@ impl EngineState {
         self.is_living(id) || self.is_lasting(id)
     }
 
+    /// Whether a block of one of the tables of the keyspace of this id is wrong, so that it isn't read.
+    pub fn is_damaged(&self, id: u64) -> bool
+        ensures { result ≡ is_among self.now.damaged id }
+    {
+        self.damaged.iter().any(|other| *other == id)
+    }
+
     /// How many handles of a keyspace are counted.
     pub fn handle_count(&self, id: u64) -> u64
         ensures { result ≡ handles_of self.now.handles id }
@@ -244,9 +258,10 @@ impl EngineState {
     }
 }
 
-/// What refuses a read of the keyspace of this id.
-fn read_refusal(memory: &EngineState, id: u64) -> Option<Error>
-    ensures { result ≡ first_due (read_refusals (facts_of memory.now 0) id) }
+/// What refuses a handle of the keyspace of this id.
+fn handle_refusal(memory: &EngineState, id: u64) -> Option<Error>
+    ensures { let f = facts_of memory.now 0 in
+        result ≡ first_due ((is_unknown f.store id, UnknownKeyspace) ∷ (not (is_read f id), KeyspaceDeleted) ∷ []) }
 {
     if memory.is_unknown(id) {
         return Some(Error::UnknownKeyspace);
@@ -257,26 +272,41 @@ fn read_refusal(memory: &EngineState, id: u64) -> Option<Error>
     None
 }
 
+/// What refuses a read of the keyspace of this id.
+fn read_refusal(memory: &EngineState, id: u64) -> Option<Error>
+    ensures { result ≡ first_due (read_refusals (facts_of memory.now 0) id) }
+{
+    if let Some(error) = handle_refusal(memory, id) {
+        return Some(error);
+    }
+    if memory.is_damaged(id) {
+        return Some(Error::Storage(StorageError::TableDamaged));
+    }
+    None
+}
+
 impl EngineState {
     /// The value that a key of a keyspace has, where it has one. A deleted keyspace is read as long as handles of
     /// it are counted.
     ///
-    /// Refusals: `UnknownKeyspace`, `KeyspaceDeleted`, `OutOfMemory`.
+    /// Refusals: `UnknownKeyspace`, `KeyspaceDeleted`, `Storage(TableDamaged)` where a block of one of its tables is
+    /// wrong, `OutOfMemory`.
     pub fn get(&self, id: u64, key: &[u8]) -> Result<Option<UserValue>>
         ensures due { OnOk result (first_due (read_refusals (facts_of self.now 0) id) ≡ None) }
         ensures ok { IfOk result (λ found. found ≡ newest self.now.versions id key.now) }
         ensures cause { IfErr result (IsDueOrMemory (first_due (read_refusals (facts_of self.now 0) id))) }
     {
-        if let Some(error) = read_refusal(self, id) {
-            return Err(error);
+        match read_refusal(self, id) {
+            Some(error) => Err(error),
+            None => shared_value(newest_value(&self.versions, id, key)),
         }
-        shared_value(newest_value(&self.versions, id, key))
     }
 
     /// The first or, from behind, the last pairs of a keyspace between the bounds, at most `max`, in the keys'
     /// order.
     ///
-    /// Refusals: `UnknownKeyspace`, `KeyspaceDeleted`, `OutOfMemory`.
+    /// Refusals: `UnknownKeyspace`, `KeyspaceDeleted`, `Storage(TableDamaged)` where a block of one of its tables is
+    /// wrong, `OutOfMemory`.
     pub fn page(
         &self,
         alloc: Global,
@@ -380,7 +410,7 @@ impl EngineState {
         self.lasting = lasting;
     }
 
-    /// Counts one handle more of a keyspace.
+    /// Counts one handle more of a keyspace, a damaged one too.
     ///
     /// Refusals: `UnknownKeyspace`, `KeyspaceDeleted` where it isn't read any more, `NumbersUsedUp`, `OutOfMemory`.
     /// After each of them nothing has changed.
@@ -390,7 +420,7 @@ impl EngineState {
         ensures unchanged { OnErr result (self.new ≡ self.old) }
         ensures cause { IfErr result (IsDueOrMemory (due_in (facts_of self.old 0) (Retain id))) }
     {
-        if let Some(error) = read_refusal(self, id) {
+        if let Some(error) = handle_refusal(self, id) {
             return Err(error);
         }
         let Some(count) = self.handle_count(id).checked_add(1) else {

@@ -101,10 +101,10 @@ pub fn options_agree()
         → persists_by_hand (present s) id ≡ persists_by_hand (store_of m.keyspaces m.versions) id }
 {}
 
-/// What was just opened stands for the state just opened.
+/// What was just opened stands for the state just opened, whichever keyspaces are damaged.
 pub fn an_opening_stands()
     ensures { (m : Remembered) → IsLawful m → m.handles ≡ empty → m.lasting ≡ [] → m.poisoned ≡ false
-        → (table : ℕ) (parts : Parts) → parts.table ≡ table → StandsFor m table (opened_state (store_of m.keyspaces m.versions) m.next parts) }
+        → (table : ℕ) (parts : Parts) → parts.table ≡ table → StandsFor m table (opened_state (store_of m.keyspaces m.versions) m.damaged m.next parts) }
 {}
 
 /// Where nothing refuses a call, what it asks for is there.

@@ -1,6 +1,6 @@
 //! What an engine holds in memory: keyspaces made, written, deleted and read, and refusals in their order.
 
-use fjall_base::{Error, KvPair, Result, Slice};
+use fjall_base::{Error, KvPair, Result, Slice, StorageError};
 use fjall_journal::{PersistMode, ValueType};
 use fjall_meta::MetaKeyspace;
 use fjall_options::KeyspaceCreateOptions;
@@ -65,7 +65,24 @@ fn release(memory: &mut EngineState, id: u64) -> Result<()> {
 
 /// A memory without keyspaces.
 fn empty(alloc: Global) -> EngineState {
-    EngineState::new(alloc, MetaKeyspace::new(alloc), Vec::new(alloc), 1)
+    EngineState::new(
+        alloc,
+        MetaKeyspace::new(alloc),
+        Vec::new(alloc),
+        Vec::new(alloc),
+        1,
+    )
+}
+
+/// The same, where the keyspace that gets the id 1 is damaged.
+fn first_damaged(alloc: Global) -> Result<EngineState> {
+    Ok(EngineState::new(
+        alloc,
+        MetaKeyspace::new(alloc),
+        Vec::new(alloc),
+        Vec::from_slice(alloc, &[1])?,
+        1,
+    ))
 }
 
 /// The keyspaces 1, "b", and 2, "a".
@@ -95,6 +112,8 @@ fn one_deleted(alloc: Global) -> Result<EngineState> {
 enum Step {
     /// A new run begins without keyspaces.
     New,
+    /// The same, where the first one will be damaged.
+    NewDamaged,
     Create(&'static [u8]),
     Change(u64, &'static [u8], Change<'static>),
     Delete(u64),
@@ -107,6 +126,7 @@ enum Step {
 fn take(alloc: Global, memory: &mut EngineState, step: Step) -> Result<u64> {
     match step {
         Step::New => *memory = empty(alloc),
+        Step::NewDamaged => *memory = first_damaged(alloc)?,
         Step::Create(name) => return create(alloc, memory, name),
         Step::Change(id, key, what) => change(alloc, memory, id, key, what)?,
         Step::Delete(id) => delete(alloc, memory, id)?,
@@ -201,6 +221,8 @@ const PUT_W: Step = Step::Change(1, b"k", Change::Put(b"w"));
 const AWAY: Step = Step::Change(1, b"k", Change::RemoveWeak);
 
 const UNKNOWN: Bytes<'static> = Err(Error::UnknownKeyspace);
+
+const DAMAGED: Bytes<'static> = Err(Error::Storage(StorageError::TableDamaged));
 
 const LIVES: State = (true, true, false, 0);
 
@@ -351,6 +373,62 @@ const ROWS: &[Row] = &[
         LIVES,
         Ok((None, 0)),
     ),
+    // A damaged keyspace is written, held and deleted, and never read.
+    (
+        Step::NewDamaged,
+        Ok(0),
+        (0, 1, 1, 0, 0),
+        &[],
+        1,
+        GONE,
+        UNKNOWN,
+    ),
+    (
+        Step::Create(b"b"),
+        Ok(1),
+        (1, 2, 2, 0, 21),
+        &[(b"b", 1)],
+        1,
+        LIVES,
+        DAMAGED,
+    ),
+    (
+        Step::Create(b"a"),
+        Ok(2),
+        (2, 3, 3, 0, 42),
+        BOTH,
+        2,
+        LIVES,
+        Ok((None, 0)),
+    ),
+    (PUT_V, Ok(0), (2, 3, 4, 1, 42), BOTH, 1, LIVES, DAMAGED),
+    (
+        Step::Retain(1),
+        Ok(0),
+        (2, 3, 4, 1, 42),
+        BOTH,
+        1,
+        (true, true, false, 1),
+        DAMAGED,
+    ),
+    (
+        Step::Delete(1),
+        Ok(0),
+        (1, 3, 5, 1, 21),
+        &[(b"a", 2)],
+        1,
+        (false, true, true, 1),
+        DAMAGED,
+    ),
+    (
+        Step::Release(1),
+        Ok(0),
+        (1, 3, 5, 0, 21),
+        &[(b"a", 2)],
+        1,
+        GONE,
+        Err(Error::KeyspaceDeleted),
+    ),
 ];
 
 #[test]
@@ -394,6 +472,7 @@ fn memory_of(alloc: Global, named: Given) -> Result<EngineState> {
         Given::UsedUp => EngineState::new(
             alloc,
             MetaKeyspace::new(alloc),
+            Vec::new(alloc),
             Vec::new(alloc),
             1 << 63,
         ),

@@ -6,7 +6,7 @@ ghost use Rattle.fjall_meta.specs.Keyspaces.{no_keyspaces};
 ghost use Rattle.fjall_files.specs.Calls.{seen, AllServed};
 ghost use Rattle.fjall_files.specs.Tidy.{IsTidy, StaysTidy};
 ghost use Rattle.fjall_versions.specs.Replays.{bare};
-ghost use Rattle.fjall_recovery.specs.Folders.{Contents, IsSound, IsUnfinished, StandsFor};
+ghost use Rattle.fjall_recovery.specs.Folders.{Contents, IsOpenable, IsUnfinished, StandsFor};
 ghost use Rattle.fjall_repair.specs.Begun.{IsBegunOn};
 ghost use Rattle.fjall_repair.specs.Making.{ComesBackUnfinished, GoesOn, IsMaking, KeepsHomes, KeepsTables};
 ghost use Rattle.fjall_repair.specs.Plans.{AwaitsMarker, IsPlan, KeepsMarker};
@@ -58,7 +58,7 @@ pub fn begin<D: Disk>(disk: &mut D, plan: &BeginPlan) -> Result<()>
     ensures back { IsTrue D.honest → IsPlan (seen (D.meaning disk.old)) plan.now → ComesBackUnfinished (state_in (D.meaning disk.old))
         → IsUnfinished (seen (D.meaning disk.new)) → ComesBackUnfinished (state_in (D.meaning disk.new)) }
     ensures journal { IsTrue D.honest → IsPlan (seen (D.meaning disk.old)) plan.now → ComesBackUnfinished (state_in (D.meaning disk.old))
-        → (c : Contents) → IsSound (seen (D.meaning disk.new)) c → c.journals ≡ [] → ⊥ }
+        → (c : Contents) → IsOpenable (seen (D.meaning disk.new)) c → c.journals ≡ [] → ⊥ }
 {
     prepare(disk, plan)?;
     mark(disk, plan.marker, &plan.header)

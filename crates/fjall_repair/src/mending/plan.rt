@@ -6,7 +6,8 @@ ghost use Rattle.fjall_repair.specs.Steps.{IsPlanOf, active_of, end_of, folder_n
 use fjall_base::{Error, Result};
 use fjall_catalog::LoadedCatalog;
 use fjall_files::{KEYSPACES_FOLDER, MARKER_FILE, current_name, journal_name, keyspace_folder};
-use fjall_recovery::{KeyspaceRecords, RecoveredFolder};
+use fjall_home::LoadedHome;
+use fjall_recovery::RecoveredFolder;
 use std::alloc::Global;
 
 /// A file, and where it is to end.
@@ -44,7 +45,7 @@ fn active_id(ids: &[u64]) -> u64
 }
 
 /// The folders of all keyspaces, of tree 0 and of these keyspaces.
-fn folders_of(alloc: Global, homes: &[KeyspaceRecords]) -> Result<Vec<String>>
+fn folders_of(alloc: Global, homes: &[LoadedHome]) -> Result<Vec<String>>
     ensures names { IfOk result (λ folders. map string_bytes folders.items ≡ folder_names (map (λ h. h.id) homes.now)) }
     ensures only { IsOkUnless result Error.OutOfMemory }
 {
@@ -73,7 +74,7 @@ fn whole_files(alloc: Global, ids: &[u64]) -> Result<Vec<String>>
 }
 
 /// The end of the records of this keyspace.
-fn end_of_home(alloc: Global, home: &KeyspaceRecords) -> Result<FileEnd>
+fn end_of_home(alloc: Global, home: &LoadedHome) -> Result<FileEnd>
     ensures end { IfOk result (λ end. end_of end ≡ home_end home.now) }
     ensures only { IsOkUnless result Error.OutOfMemory }
 {
@@ -89,7 +90,7 @@ fn ends_of(
     alloc: Global,
     journal: FileEnd,
     tree: FileEnd,
-    homes: &[KeyspaceRecords],
+    homes: &[LoadedHome],
 ) -> Result<Vec<FileEnd>>
     ensures ends { IfOk result (λ ends. map end_of ends.items ≡ end_of journal ∷ end_of tree ∷ map home_end homes.now) }
     ensures only { IsOkUnless result Error.OutOfMemory }

@@ -5,7 +5,7 @@ ghost use Rattle.fjall_base.specs.Store.{Command, Store};
 ghost use Rattle.fjall_base.specs.Disk.{Image, IsFile, IsImage, LeavesOnly, Name, OnlyFaults, Took, folder_of, state_in, CanCreate, File, IsThere};
 ghost use Rattle.fjall_files.specs.Calls.{seen, AllServed, StaysWhere};
 ghost use Rattle.fjall_files.specs.Tidy.{FitsAt, IsTidy, StaysTidy};
-ghost use Rattle.fjall_recovery.specs.Folders.{Contents, IsSound, StandsFor, store_of};
+ghost use Rattle.fjall_recovery.specs.Folders.{Contents, IsOpenable, StandsFor, store_of};
 ghost use Rattle.fjall_recovery.specs.Amid.{HoldsAmid, StandsAmid, LeavesAmid, KeepsAmid, WhereAmid};
 ghost use Rattle.fjall_recovery.specs.Held.{Holds};
 ghost use Rattle.fjall_repair.specs.Amids.{StaysAmid, AllStayAmid};
@@ -20,17 +20,17 @@ fn settle_root<D: Disk>(disk: &mut D, active: &str) -> Result<()>
     ensures any_moment { IsTrue D.honest → (c : Contents) → Holds (state_in (D.meaning disk.old)) (Some c) → IsActiveIn c active.now
         → LeavesOnly (D.meaning disk.old) (D.meaning disk.new) (λ image. StandsFor image (store_of c)) }
     ensures sound { IsTrue D.honest → (c : Contents) → Holds (state_in (D.meaning disk.old)) (Some c) → IsActiveIn c active.now
-        → OnOk result ((image : Image) → IsImage (state_in (D.meaning disk.new)) image → IsSound image (with_active c)) }
+        → OnOk result ((image : Image) → IsImage (state_in (D.meaning disk.new)) image → IsOpenable image (with_active c)) }
     ensures opened { IsTrue D.honest → OnOk result (IsOpened (seen (D.meaning disk.old)) (seen (D.meaning disk.new)) active.now) }
     ensures settled { IsTrue D.honest → OnOk result ((q : Name) → folder_of q ≡ [] → (state_in (D.meaning disk.new) q).older ≡ []) }
     ensures elsewhere { IsTrue D.honest → (q : Name) → q ≢ active.now → (state_in (D.meaning disk.new) q).now ≡ (state_in (D.meaning disk.old) q).now }
     ensures cause { OnlyFaults (D.meaning disk.old) (D.meaning disk.new) result }
     // Where a crash may leave different stores, it leaves no others.
-    ensures amid { IsTrue D.honest → (c : Contents) → IsSound (seen (D.meaning disk.old)) c → (base : Store) (pending : List Command)
+    ensures amid { IsTrue D.honest → (c : Contents) → IsOpenable (seen (D.meaning disk.old)) c → (base : Store) (pending : List Command)
         → HoldsAmid (state_in (D.meaning disk.old)) base pending → IsActiveIn c active.now
         → LeavesOnly (D.meaning disk.old) (D.meaning disk.new) (StandsAmid base [] pending) }
-    ensures stands { IsTrue D.honest → (c : Contents) → IsSound (seen (D.meaning disk.old)) c → IsActiveIn c active.now
-        → IsSound (seen (D.meaning disk.new)) c ⊎ IsSound (seen (D.meaning disk.new)) (with_active c) }
+    ensures stands { IsTrue D.honest → (c : Contents) → IsOpenable (seen (D.meaning disk.old)) c → IsActiveIn c active.now
+        → IsOpenable (seen (D.meaning disk.new)) c ⊎ IsOpenable (seen (D.meaning disk.new)) (with_active c) }
     ensures there { IsTrue D.honest → Took (D.meaning disk.old) (D.meaning disk.new) [] ⊎ IsFile (state_in (D.meaning disk.new) active.now).now }
     ensures kinds { IsTrue D.honest → FitsAt active.now (File [] []) → StaysTidy (D.meaning disk.old) (D.meaning disk.new) }
     ensures served { IsTrue D.honest → CanCreate (state_in (D.meaning disk.old)) active.now → AllServed (D.meaning disk.old) (D.meaning disk.new) }
@@ -88,13 +88,13 @@ fn end_files<D: Disk>(disk: &mut D, ends: &[FileEnd]) -> Result<()>
     ensures elsewhere { IsTrue D.honest → StaysWhere (D.meaning disk.old) (D.meaning disk.new) (λ q. All (λ e. q ≢ string_bytes e.name) ends.now) }
     ensures cause { OnlyFaults (D.meaning disk.old) (D.meaning disk.new) result }
     // Where a crash may leave different stores, it leaves no others.
-    ensures amid { IsTrue D.honest → (c : Contents) → IsSound (seen (D.meaning disk.old)) c → AreRightEnds (seen (D.meaning disk.old)) c ends.now
+    ensures amid { IsTrue D.honest → (c : Contents) → IsOpenable (seen (D.meaning disk.old)) c → AreRightEnds (seen (D.meaning disk.old)) c ends.now
         → AreNamesSynced (state_in (D.meaning disk.old)) ends.now
         → (base : Store) (pending : List Command) → AllStayAmid (state_in (D.meaning disk.old)) base pending
         → LeavesOnly (D.meaning disk.old) (D.meaning disk.new) (StaysAmid (state_in (D.meaning disk.old)) base pending) }
-    ensures stands { IsTrue D.honest → (c : Contents) → IsSound (seen (D.meaning disk.old)) c → AreRightEnds (seen (D.meaning disk.old)) c ends.now
+    ensures stands { IsTrue D.honest → (c : Contents) → IsOpenable (seen (D.meaning disk.old)) c → AreRightEnds (seen (D.meaning disk.old)) c ends.now
         → AreNamesSynced (state_in (D.meaning disk.old)) ends.now
-        → OnOk result (IsSound (seen (D.meaning disk.new)) c) }
+        → OnOk result (IsOpenable (seen (D.meaning disk.new)) c) }
     ensures kinds { IsTrue D.honest → StaysTidy (D.meaning disk.old) (D.meaning disk.new) }
     ensures served { IsTrue D.honest → (c : Contents) → AreRightEnds (seen (D.meaning disk.old)) c ends.now
         → AllServed (D.meaning disk.old) (D.meaning disk.new) }

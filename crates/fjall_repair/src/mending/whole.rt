@@ -7,10 +7,10 @@ ghost use Rattle.fjall_files.specs.Names.{current_name, table_name};
 ghost use Rattle.fjall_files.specs.Tidy.{IsTidy, StaysTidy};
 ghost use Rattle.fjall_recovery.specs.Amid.{LeavesAmid, KeepsAmid, WhereAmid};
 ghost use Rattle.fjall_recovery.specs.declared.folder.RecoveredFolder.{RecoveredFolder};
-ghost use Rattle.fjall_recovery.specs.Folders.{IsFinished, IsSound, StandsFor, store_of};
+ghost use Rattle.fjall_recovery.specs.Folders.{IsFinished, StandsFor, store_of};
 ghost use Rattle.fjall_recovery.specs.Held.{Holds};
 ghost use Rattle.fjall_repair.specs.Sweeps.{Lives};
-ghost use Rattle.fjall_repair.specs.Readings.{WhereRead, WhereSound};
+ghost use Rattle.fjall_repair.specs.Readings.{WhereOpenable, WhereRead, WhereSound};
 ghost use Rattle.fjall_repair.specs.Mended.{IsMended, IsMendingOf};
 
 use crate::mending::plan::{MendPlan, plan_of};
@@ -45,14 +45,14 @@ pub fn mend<D: Disk>(disk: &mut D, plan: &MendPlan) -> Result<()>
     ensures cause { OnlyFaults (D.meaning disk.old) (D.meaning disk.new) result }
     // The same where a crash of the disk leaves different stores: the base with a beginning of the pending commands.
     ensures amid { IsTrue D.honest → (found : RecoveredFolder)
-        → WhereSound (D.meaning disk.old) found (λ c. IsMendingOf (seen (D.meaning disk.old)) found plan.now
+        → WhereOpenable (D.meaning disk.old) found (λ c. IsMendingOf (seen (D.meaning disk.old)) found plan.now
         → LeavesAmid (D.meaning disk.old) (D.meaning disk.new)) }
     ensures mended { IsTrue D.honest → (found : RecoveredFolder)
         → WhereSound (D.meaning disk.old) found (λ c. IsMendingOf (seen (D.meaning disk.old)) found plan.now
         → WhereAmid (D.meaning disk.old) (OnOk result (IsMended (state_in (D.meaning disk.new)) found c (string_bytes plan.now.active)))) }
     // Then it holds them still, also where the call fails.
     ensures held { IsTrue D.honest → (found : RecoveredFolder)
-        → WhereSound (D.meaning disk.old) found (λ c. IsMendingOf (seen (D.meaning disk.old)) found plan.now
+        → WhereOpenable (D.meaning disk.old) found (λ c. IsMendingOf (seen (D.meaning disk.old)) found plan.now
         → KeepsAmid (D.meaning disk.old) (D.meaning disk.new)) }
     ensures kinds { IsTrue D.honest → (found : RecoveredFolder) → IsFinished (seen (D.meaning disk.old)) found
         → IsMendingOf (seen (D.meaning disk.old)) found plan.now → StaysTidy (D.meaning disk.old) (D.meaning disk.new) }
@@ -61,8 +61,8 @@ pub fn mend<D: Disk>(disk: &mut D, plan: &MendPlan) -> Result<()>
         → (id : ℕ) → 0 < id → id < 2 ^ 64 → (Lives found.catalog.keyspaces.living id → ⊥)
         → (state_in (D.meaning disk.new) (current_name id)).now ≡ (state_in (D.meaning disk.old) (current_name id)).now }
     ensures served { IsTrue D.honest → IsTidy (state_in (D.meaning disk.old)) → (found : RecoveredFolder)
-        → WhereRead (D.meaning disk.old) found (λ c. IsMendingOf (seen (D.meaning disk.old)) found plan.now
-        → IsSound (seen (D.meaning disk.old)) c → AllServed (D.meaning disk.old) (D.meaning disk.new)) }
+        → WhereOpenable (D.meaning disk.old) found (λ c. IsMendingOf (seen (D.meaning disk.old)) found plan.now
+        → AllServed (D.meaning disk.old) (D.meaning disk.new)) }
 {
     carry_out(disk, plan)
 }

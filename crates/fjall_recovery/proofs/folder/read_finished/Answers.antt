@@ -58,21 +58,21 @@ returns-clause-found g c honest ids =
     finished_of image _ _ _ _ c.deref.result.now _ one (step ∙ one) (next ∙ (step ∙ one)) c.deref.ensures.value ids (c.in_ok-journals.ensures.found honest) (c.in_ok-folder_ids.ensures.ids honest) (c.in_ok-folder_ids.ensures.named honest)
     (c.in_ok-catalog.ensures.folder honest folders) (c.in_ok-catalog.ensures.says honest) (c.in_ok-catalog.ensures.end honest) c.in_ok-catalog.ensures.made c.living.ensures (c.in_ok-homes.ensures.read honest later)
 
-pub returns-in_err-journals-clause-sound : goal.returns-in_err-journals-clause-sound
-returns-in_err-journals-clause-sound g c honest ids held sound =
+pub returns-in_err-journals-clause-openable : goal.returns-in_err-journals-clause-openable
+returns-in_err-journals-clause-openable g c honest ids held sound =
     let p = err_from_is_err_and c.from_residual.result c.from_residual.ensures.1 in
     let image : Image = standing (state_in (g.D.Disk.meaning c.args.disk.now)) in
     rw (p.1, p.2) (journals_spared image held c.deref.result.now c.in_err-journals.field-0.0 sound (subst (AreJournalIds image) (sym c.deref.ensures.value) ids) (c.in_err-journals.ensures.cause honest))
 
-pub returns-in_err-folder_ids-clause-sound : goal.returns-in_err-folder_ids-clause-sound
-returns-in_err-folder_ids-clause-sound g c honest ids held sound =
+pub returns-in_err-folder_ids-clause-openable : goal.returns-in_err-folder_ids-clause-openable
+returns-in_err-folder_ids-clause-openable g c honest ids held sound =
     let p = err_from_is_err_and c.from_residual-in_err-folder_ids.result c.from_residual-in_err-folder_ids.ensures.1 in
     let image : Image = standing (state_in (g.D.Disk.meaning c.args.disk.now)) in
     rw (p.1, p.2)
     (names_spared image _ KeyspacesAreNamed Unrecoverable c.in_err-folder_ids.field-0.0 (ap standing (c.in_ok-journals.ensures.same honest).state) sound.keyspaces_named (c.in_err-folder_ids.ensures.cause honest))
 
-pub returns-in_err-catalog-clause-sound : goal.returns-in_err-catalog-clause-sound
-returns-in_err-catalog-clause-sound g c honest ids held sound =
+pub returns-in_err-catalog-clause-openable : goal.returns-in_err-catalog-clause-openable
+returns-in_err-catalog-clause-openable g c honest ids held sound =
     let p = err_from_is_err_and c.from_residual-in_err-catalog.result c.from_residual-in_err-catalog.ensures.1 in
     let one = ap standing (c.in_ok-journals.ensures.same honest).state in
     let step = ap standing (c.in_ok-folder_ids.ensures.same honest).state in
@@ -82,8 +82,8 @@ returns-in_err-catalog-clause-sound g c honest ids held sound =
     (c.in_err-catalog.ensures.sound honest folders sound.records held.last held.keyspaces (subst (λ i. Says i sound.records held.last held.keyspaces) back sound.catalog) sound.made
     (subst (λ (i : Image). i (keyspace_folder 0) ≡ Folder) back sound.folder))
 
-pub returns-in_err-homes-clause-sound : goal.returns-in_err-homes-clause-sound
-returns-in_err-homes-clause-sound g c honest ids held sound =
+pub returns-in_err-homes-clause-openable : goal.returns-in_err-homes-clause-openable
+returns-in_err-homes-clause-openable g c honest ids held sound =
     let p = err_from_is_err_and c.from_residual-in_err-homes.result c.from_residual-in_err-homes.ensures.1 in
     let image : Image = standing (state_in (g.D.Disk.meaning c.args.disk.now)) in
     let one = ap standing (c.in_ok-journals.ensures.same honest).state in

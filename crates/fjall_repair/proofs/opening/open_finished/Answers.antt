@@ -1,21 +1,20 @@
 use Rattle.std.proofs.Common.{◌≡◌, Some, map, refl, sym, subst, All, ◌∙◌}
 use Rattle.std.specs.Prelude.{string_bytes}
-use Rattle.std.specs.Option.{option_map}
 use Rattle.std.proofs.lemmas.Result.{err_from_is_err_and}
 use Rattle.fjall_base.specs.Disk.{Image, Meaning, State, standing, state_in}
 use Rattle.fjall_base.proofs.Moments.{stays}
 use Rattle.fjall_meta.specs.Keyspaces.{AreKeyspaces, Keyspaces}
 use Rattle.fjall_catalog.specs.declared.catalog.Catalog.{Catalog}
-use Rattle.fjall_recovery.specs.Folders.{IsFinished, IsSound}
+use Rattle.fjall_recovery.specs.Folders.{IsFinished, IsOpenable, IsSound}
 use Rattle.fjall_repair.specs.Mended.{IsMendingOf}
 use Rattle.fjall_repair.specs.Sweeps.{BringsNoTable, FindsTables, IsSwept, HasAll}
+use Rattle.fjall_repair.proofs.Agreeing.{home_named, tree_named}
 use Rattle.fjall_repair.proofs.Planned.{is_swept, lives_small}
-use Rattle.fjall_repair.proofs.Openings.{held_early, holds_on, makes_sound, number_is, numbers, opens_of, run_on, stands_now, takes_contents}
+use Rattle.fjall_repair.proofs.Openings.{held_early, holds_on, makes_sound, makes_store, number_is, numbers, opens_of, run_on, stands_now, takes_contents}
 use Rattle.fjall_files.specs.Tidy.{IsTidy}
 use Rattle.fjall_files.proofs.Tidying.{stays_both, stays_none as tidy_none}
 use Rattle.fjall_repair.proofs.Amid.{amid_now, amid_on}
-use Rattle.fjall_repair.proofs.Replayed.{told}
-use Rattle.fjall_repair.specs.Readings.{persisted_of}
+use Rattle.fjall_repair.specs.Readings.{names_read, persisted_of}
 use Rattle.fjall_repair.proofs.opening.open_finished.Goals as goal
 
 pub returns-in_err-opened-clause-any_moment : goal.returns-in_err-opened-clause-any_moment
@@ -38,7 +37,7 @@ returns-in_err-mend_and_sweep-clause-any_moment g c honest contents read shows h
     run_on (m c.args.disk.now) (m c.ready_to_mend.new.disk) same (m c.mend_and_sweep.new.disk) _
     (c.in_err-mend_and_sweep.ensures.any_moment honest found contents (subst (λ (s : State). IsFinished (standing s) found) (sym same.state) read) shows
     (holds_on (m c.args.disk.now) (m c.ready_to_mend.new.disk) same (Some contents) holds)
-    (subst (λ (s : State). IsMendingOf (standing s) found ready.mending) (sym same.state) (c.in_ok-opened.ensures.mending _ read)) (c.in_ok-opened.ensures.sweep honest))
+    (subst (λ (s : State). IsMendingOf (standing s) found ready.mending) (sym same.state) (c.in_ok-opened.ensures.mending _ read)) (c.in_ok-opened.ensures.sweep honest _ read))
 
 pub returns-clause-opened : goal.returns-clause-opened
 returns-clause-opened g c honest contents read shows holds =
@@ -49,10 +48,12 @@ returns-clause-opened g c honest contents read shows holds =
     let same = c.in_ok-opened.ensures.same honest in
     let repaired = c.in_ok-mend_and_sweep.ensures.ok honest found contents (subst (λ (s : State). IsFinished (standing s) found) (sym same.state) read) shows
     (holds_on (m c.args.disk.now) (m c.ready_to_mend.new.disk) same (Some contents) holds)
-    (subst (λ (s : State). IsMendingOf (standing s) found ready.mending) (sym same.state) (c.in_ok-opened.ensures.mending _ read)) (c.in_ok-opened.ensures.sweep honest)
-    (subst (λ (s : State). FindsTables s (option_map (λ table. table.id) found.catalog.catalog.table) (map string_bytes ready.sweep.tables.items)) (sym same.state) (c.in_ok-opened.ensures.finds honest).tables) in
-    opens_of (state_in (m c.mend_and_sweep.new.disk)) contents (string_bytes ready.mending.active) found.journals.end repaired (Some contents) (persisted_of found) ready.opened
-    (takes_contents found contents ready.opened (string_bytes ready.mending.active) shows c.in_ok-opened.ensures.opened) (told image found contents read shows repaired.tree.rests.versions) refl
+    (subst (λ (s : State). IsMendingOf (standing s) found ready.mending) (sym same.state) (c.in_ok-opened.ensures.mending _ read)) (c.in_ok-opened.ensures.sweep honest _ read)
+    (subst (λ (s : State). FindsTables s (names_read found) (map string_bytes ready.sweep.tables.items)) (sym same.state) (c.in_ok-opened.ensures.finds honest _ read).tables) in
+    let takes = c.in_ok-opened.ensures.opened honest read in
+    let made = makes_sound image found contents (string_bytes ready.mending.active) ready.opened read shows holds.now takes in
+    opens_of (state_in (m c.mend_and_sweep.new.disk)) contents (string_bytes ready.mending.active) found.journals.end repaired (Some contents) (persisted_of found) takes.loaded ready.opened
+    (takes_contents found contents ready.opened (string_bytes ready.mending.active) takes.loaded shows takes.takes) made.0 made.1 refl
     (number_is image found read contents ready.opened.number shows (c.in_ok-opened.ensures.number (numbers image found read))) refl
 
 pub returns-clause-swept : goal.returns-clause-swept
@@ -66,17 +67,19 @@ returns-clause-swept g c honest read =
     let same : mid ≡ old = (c.in_ok-opened.ensures.same honest).state in
     let mending = subst (λ (s : State). IsMendingOf (standing s) found ready.mending) (sym same) (c.in_ok-opened.ensures.mending _ read) in
     let brings = subst (λ (s : State). BringsNoTable s new) same (c.in_ok-mend_and_sweep.ensures.tables honest found mending) in
-    let keyspaces = c.in_ok-opened.ensures.opened.keyspaces in
+    let takes = (c.in_ok-opened.ensures.opened honest read).takes in
+    let keyspaces = takes.keyspaces in
     let are = subst AreKeyspaces keyspaces c.in_ok-opened.ensures.lawful.keyspaces in
     subst (λ (s : Keyspaces). IsSwept old new ready.opened.catalog s.living) (sym keyspaces)
-    (subst (λ (last : Catalog). IsSwept old new last found.catalog.keyspaces.living) (sym c.in_ok-opened.ensures.opened.last_is)
-    (is_swept old new found.catalog.catalog found.catalog.keyspaces.living found.folder_ids.items ready.sweep (c.in_ok-opened.ensures.finds honest) read.folder_ids (c.in_ok-mend_and_sweep.ensures.gone honest) (lives_small found.catalog.keyspaces are) brings))
+    (subst (λ (last : Catalog). IsSwept old new last found.catalog.keyspaces.living) (sym takes.last_is)
+    (is_swept old new found.catalog.catalog found.catalog.keyspaces.living (names_read found) found.folder_ids.items ready.sweep (c.in_ok-opened.ensures.finds honest _ read) read.folder_ids (c.in_ok-mend_and_sweep.ensures.gone honest) (lives_small found.catalog.keyspaces are) brings
+    (tree_named (standing old) found read) (home_named (standing old) found read)))
 
 pub returns-clause-store : goal.returns-clause-store
 returns-clause-store g c honest contents read shows sound =
     let ready = c.in_ok-opened.field-0 in
     let image : Image = standing (state_in (g.D.Disk.meaning c.args.disk.now)) in
-    makes_sound image c.args.found contents (string_bytes ready.mending.active) ready.opened read shows sound c.in_ok-opened.ensures.opened
+    makes_store image c.args.found contents (string_bytes ready.mending.active) ready.opened read shows sound (c.in_ok-opened.ensures.opened honest read)
 
 pub returns-clause-number : goal.returns-clause-number
 returns-clause-number g c honest contents read shows =
@@ -92,7 +95,7 @@ returns-clause-any_moment g c honest contents read shows holds =
     run_on (m c.args.disk.now) (m c.ready_to_mend.new.disk) same (m c.mend_and_sweep.new.disk) _
     (c.in_ok-mend_and_sweep.ensures.any_moment honest found contents (subst (λ (s : State). IsFinished (standing s) found) (sym same.state) read) shows
     (holds_on (m c.args.disk.now) (m c.ready_to_mend.new.disk) same (Some contents) holds)
-    (subst (λ (s : State). IsMendingOf (standing s) found ready.mending) (sym same.state) (c.in_ok-opened.ensures.mending _ read)) (c.in_ok-opened.ensures.sweep honest))
+    (subst (λ (s : State). IsMendingOf (standing s) found ready.mending) (sym same.state) (c.in_ok-opened.ensures.mending _ read)) (c.in_ok-opened.ensures.sweep honest _ read))
 
 pub returns-in_err-opened-clause-kinds : goal.returns-in_err-opened-clause-kinds
 returns-in_err-opened-clause-kinds g c honest read = tidy_none _ _ (c.in_err-opened.ensures.same honest)
@@ -114,8 +117,8 @@ returns-in_err-mend_and_sweep-clause-served g c honest tidy contents read shows 
     let ready = c.in_ok-opened.field-0 in
     let same = c.in_ok-opened.ensures.same honest in
     c.in_err-mend_and_sweep.ensures.served honest (subst IsTidy (sym same.state) tidy) found contents (subst (λ (s : State). IsFinished (standing s) found) (sym same.state) read) shows
-    (subst (λ (s : State). IsSound (standing s) contents) (sym same.state) sound) (subst (λ (s : State). IsMendingOf (standing s) found ready.mending) (sym same.state) (c.in_ok-opened.ensures.mending _ read)) (c.in_ok-opened.ensures.sweep honest)
-    (subst (λ (s : State). All (HasAll s) ready.sweep.homes.items) (sym same.state) (c.in_ok-opened.ensures.finds honest).each)
+    (subst (λ (s : State). IsOpenable (standing s) contents) (sym same.state) sound) (subst (λ (s : State). IsMendingOf (standing s) found ready.mending) (sym same.state) (c.in_ok-opened.ensures.mending _ read)) (c.in_ok-opened.ensures.sweep honest _ read)
+    (subst (λ (s : State). All (HasAll s) ready.sweep.homes.items) (sym same.state) (c.in_ok-opened.ensures.finds honest _ read).each)
     ∙ c.in_ok-opened.ensures.served honest
 
 pub returns-clause-kinds : goal.returns-clause-kinds
@@ -132,8 +135,8 @@ returns-clause-served g c honest tidy contents read shows sound =
     let ready = c.in_ok-opened.field-0 in
     let same = c.in_ok-opened.ensures.same honest in
     c.in_ok-mend_and_sweep.ensures.served honest (subst IsTidy (sym same.state) tidy) found contents (subst (λ (s : State). IsFinished (standing s) found) (sym same.state) read) shows
-    (subst (λ (s : State). IsSound (standing s) contents) (sym same.state) sound) (subst (λ (s : State). IsMendingOf (standing s) found ready.mending) (sym same.state) (c.in_ok-opened.ensures.mending _ read)) (c.in_ok-opened.ensures.sweep honest)
-    (subst (λ (s : State). All (HasAll s) ready.sweep.homes.items) (sym same.state) (c.in_ok-opened.ensures.finds honest).each)
+    (subst (λ (s : State). IsOpenable (standing s) contents) (sym same.state) sound) (subst (λ (s : State). IsMendingOf (standing s) found ready.mending) (sym same.state) (c.in_ok-opened.ensures.mending _ read)) (c.in_ok-opened.ensures.sweep honest _ read)
+    (subst (λ (s : State). All (HasAll s) ready.sweep.homes.items) (sym same.state) (c.in_ok-opened.ensures.finds honest _ read).each)
     ∙ c.in_ok-opened.ensures.served honest
 
 pub returns-in_err-opened-clause-amid : goal.returns-in_err-opened-clause-amid
@@ -152,8 +155,8 @@ returns-in_err-mend_and_sweep-clause-amid g c honest contents read shows sound b
     let same = c.in_ok-opened.ensures.same honest in
     run_on (m c.args.disk.now) (m c.ready_to_mend.new.disk) same (m c.mend_and_sweep.new.disk) _
     (c.in_err-mend_and_sweep.ensures.amid honest found contents (subst (λ (s : State). IsFinished (standing s) found) (sym same.state) read) shows
-    (subst (λ (s : State). IsSound (standing s) contents) (sym same.state) sound)
-    (subst (λ (s : State). IsMendingOf (standing s) found ready.mending) (sym same.state) (c.in_ok-opened.ensures.mending _ read)) (c.in_ok-opened.ensures.sweep honest)
+    (subst (λ (s : State). IsOpenable (standing s) contents) (sym same.state) sound)
+    (subst (λ (s : State). IsMendingOf (standing s) found ready.mending) (sym same.state) (c.in_ok-opened.ensures.mending _ read)) (c.in_ok-opened.ensures.sweep honest _ read)
     base pending (amid_on (m c.args.disk.now) (m c.ready_to_mend.new.disk) same base pending holds))
 
 pub returns-in_err-mend_and_sweep-clause-held : goal.returns-in_err-mend_and_sweep-clause-held
@@ -163,8 +166,8 @@ returns-in_err-mend_and_sweep-clause-held g c honest contents read shows sound b
     let ready = c.in_ok-opened.field-0 in
     let same = c.in_ok-opened.ensures.same honest in
     (c.in_err-mend_and_sweep.ensures.held honest found contents (subst (λ (s : State). IsFinished (standing s) found) (sym same.state) read) shows
-    (subst (λ (s : State). IsSound (standing s) contents) (sym same.state) sound)
-    (subst (λ (s : State). IsMendingOf (standing s) found ready.mending) (sym same.state) (c.in_ok-opened.ensures.mending _ read)) (c.in_ok-opened.ensures.sweep honest)
+    (subst (λ (s : State). IsOpenable (standing s) contents) (sym same.state) sound)
+    (subst (λ (s : State). IsMendingOf (standing s) found ready.mending) (sym same.state) (c.in_ok-opened.ensures.mending _ read)) (c.in_ok-opened.ensures.sweep honest _ read)
     base pending (amid_on (m c.args.disk.now) (m c.ready_to_mend.new.disk) same base pending holds))
 
 pub returns-clause-amid : goal.returns-clause-amid
@@ -175,8 +178,8 @@ returns-clause-amid g c honest contents read shows sound base pending holds =
     let same = c.in_ok-opened.ensures.same honest in
     run_on (m c.args.disk.now) (m c.ready_to_mend.new.disk) same (m c.mend_and_sweep.new.disk) _
     (c.in_ok-mend_and_sweep.ensures.amid honest found contents (subst (λ (s : State). IsFinished (standing s) found) (sym same.state) read) shows
-    (subst (λ (s : State). IsSound (standing s) contents) (sym same.state) sound)
-    (subst (λ (s : State). IsMendingOf (standing s) found ready.mending) (sym same.state) (c.in_ok-opened.ensures.mending _ read)) (c.in_ok-opened.ensures.sweep honest)
+    (subst (λ (s : State). IsOpenable (standing s) contents) (sym same.state) sound)
+    (subst (λ (s : State). IsMendingOf (standing s) found ready.mending) (sym same.state) (c.in_ok-opened.ensures.mending _ read)) (c.in_ok-opened.ensures.sweep honest _ read)
     base pending (amid_on (m c.args.disk.now) (m c.ready_to_mend.new.disk) same base pending holds))
 
 pub returns-clause-held : goal.returns-clause-held
@@ -186,8 +189,8 @@ returns-clause-held g c honest contents read shows sound base pending holds =
     let ready = c.in_ok-opened.field-0 in
     let same = c.in_ok-opened.ensures.same honest in
     (c.in_ok-mend_and_sweep.ensures.held honest found contents (subst (λ (s : State). IsFinished (standing s) found) (sym same.state) read) shows
-    (subst (λ (s : State). IsSound (standing s) contents) (sym same.state) sound)
-    (subst (λ (s : State). IsMendingOf (standing s) found ready.mending) (sym same.state) (c.in_ok-opened.ensures.mending _ read)) (c.in_ok-opened.ensures.sweep honest)
+    (subst (λ (s : State). IsOpenable (standing s) contents) (sym same.state) sound)
+    (subst (λ (s : State). IsMendingOf (standing s) found ready.mending) (sym same.state) (c.in_ok-opened.ensures.mending _ read)) (c.in_ok-opened.ensures.sweep honest _ read)
     base pending (amid_on (m c.args.disk.now) (m c.ready_to_mend.new.disk) same base pending holds))
 
 pub returns-clause-opens : goal.returns-clause-opens
@@ -199,9 +202,11 @@ returns-clause-opens g c honest contents read shows sound base pending holds =
     let same = c.in_ok-opened.ensures.same honest in
     let repaired = c.in_ok-mend_and_sweep.ensures.repaired honest found contents (subst (λ (s : State). IsFinished (standing s) found) (sym same.state) read) shows
     (subst (λ (s : State). IsSound (standing s) contents) (sym same.state) sound)
-    (subst (λ (s : State). IsMendingOf (standing s) found ready.mending) (sym same.state) (c.in_ok-opened.ensures.mending _ read)) (c.in_ok-opened.ensures.sweep honest)
+    (subst (λ (s : State). IsMendingOf (standing s) found ready.mending) (sym same.state) (c.in_ok-opened.ensures.mending _ read)) (c.in_ok-opened.ensures.sweep honest _ read)
     base pending (amid_on (m c.args.disk.now) (m c.ready_to_mend.new.disk) same base pending holds)
-    (subst (λ (s : State). FindsTables s (option_map (λ table. table.id) found.catalog.catalog.table) (map string_bytes ready.sweep.tables.items)) (sym same.state) (c.in_ok-opened.ensures.finds honest).tables) in
-    opens_of (state_in (m c.mend_and_sweep.new.disk)) contents (string_bytes ready.mending.active) found.journals.end repaired (Some contents) (persisted_of found) ready.opened
-    (takes_contents found contents ready.opened (string_bytes ready.mending.active) shows c.in_ok-opened.ensures.opened) (told image found contents read shows repaired.tree.rests.versions) refl
+    (subst (λ (s : State). FindsTables s (names_read found) (map string_bytes ready.sweep.tables.items)) (sym same.state) (c.in_ok-opened.ensures.finds honest _ read).tables) in
+    let takes = c.in_ok-opened.ensures.opened honest read in
+    let made = makes_sound image found contents (string_bytes ready.mending.active) ready.opened read shows sound takes in
+    opens_of (state_in (m c.mend_and_sweep.new.disk)) contents (string_bytes ready.mending.active) found.journals.end repaired (Some contents) (persisted_of found) takes.loaded ready.opened
+    (takes_contents found contents ready.opened (string_bytes ready.mending.active) takes.loaded shows takes.takes) made.0 made.1 refl
     (number_is image found read contents ready.opened.number shows (c.in_ok-opened.ensures.number (numbers image found read))) refl

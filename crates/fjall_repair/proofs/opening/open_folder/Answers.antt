@@ -3,14 +3,14 @@ use Rattle.std.specs.Prelude.{IfOk}
 use Rattle.std.proofs.lemmas.Result.{err_from_is_err_and}
 use Rattle.fjall_base.specs.Disk.{Image, LeavesOnly, Meaning, State, standing, state_in}
 use Rattle.fjall_base.proofs.Moments.{stays}
-use Rattle.fjall_recovery.specs.Folders.{Contents, IsFinished, ReadsFolder, StandsFor, IsSound}
+use Rattle.fjall_recovery.specs.Folders.{Contents, IsFinished, ReadsFolder, StandsFor, IsOpenable, IsSound}
 use Rattle.fjall_recovery.proofs.Causes.{due_once}
-use Rattle.fjall_recovery.proofs.Kept.{folder_is_kept}
+use Rattle.fjall_recovery.proofs.Kept.{open_folder_is_kept}
 use Rattle.fjall_recovery.specs.Held.{Holds, store_held}
-use Rattle.fjall_recovery.proofs.Holding.{folder_stands}
+use Rattle.fjall_recovery.proofs.Damage.{shows_alike}
 use Rattle.fjall_repair.specs.Making.{ComesBackUnfinished}
 use Rattle.fjall_repair.specs.Opened.{ComesBack, Opens}
-use Rattle.fjall_repair.proofs.Openings.{finished_is, held_up, holds_on, opened_from, run_on, stands_now, swept_on, unfinished_is, unopened}
+use Rattle.fjall_repair.proofs.Openings.{begun_from, finished_is, held_up, holds_on, opened_from, run_on, stands_now, swept_on, unfinished_is, unopened}
 use Rattle.fjall_files.specs.Tidy.{IsTidy}
 use Rattle.fjall_files.proofs.Tidying.{stays_both, stays_none as tidy_none}
 use Rattle.fjall_repair.proofs.Amid.{amid_now, amid_on}
@@ -34,9 +34,9 @@ returns-in-Some-clause-opened g c honest folder holds =
     let read : ReadsFolder image (Some c.in-Some.found) = subst (ReadsFolder image) c.in-Some.is (c.in_ok-found.ensures.found honest) in
     let same = c.in_ok-found.ensures.same honest in
     let is = finished_is image read.1.0 folder read.1.1 holds.now in
-    subst (λ (f : Option Contents). IfOk c.open_finished.result (Opens (state_in (m c.open_finished.new.disk)) f)) (sym is)
-    (c.open_finished.ensures.opened honest read.1.0 (subst (λ (s : State). IsFinished (standing s) c.in-Some.found) (sym same.state) read.0) read.1.2
-    (holds_on (m c.args.disk.now) (m c.read_folder.new.disk) same (Some read.1.0) (subst (λ (f : Option Contents). Holds (state_in (m c.args.disk.now)) f) is holds)))
+    subst (λ (f : Option Contents). IfOk c.open_finished.result (Opens (state_in (m c.open_finished.new.disk)) f)) (sym is.1)
+    (c.open_finished.ensures.opened honest is.0 (subst (λ (s : State). IsFinished (standing s) c.in-Some.found) (sym same.state) read.0) (shows_alike c.in-Some.found image read.1.0 is.0 read.1.1 is.2.openable read.1.2)
+    (holds_on (m c.args.disk.now) (m c.read_folder.new.disk) same (Some is.0) (subst (λ (f : Option Contents). Holds (state_in (m c.args.disk.now)) f) is.1 holds)))
 
 pub returns-in-Some-clause-found : goal.returns-in-Some-clause-found
 returns-in-Some-clause-found g c honest =
@@ -45,8 +45,8 @@ returns-in-Some-clause-found g c honest =
     let read : ReadsFolder image (Some c.in-Some.found) = subst (ReadsFolder image) c.in-Some.is (c.in_ok-found.ensures.found honest) in
     let same = c.in_ok-found.ensures.same honest in
     let finished = subst (λ (s : State). IsFinished (standing s) c.in-Some.found) (sym same.state) read.0 in
-    opened_from image (Some read.1.0) c.open_finished.result read.1.1
-    (c.open_finished.ensures.store honest read.1.0 finished read.1.2 (subst (λ (s : State). IsSound (standing s) read.1.0) (sym same.state) read.1.1))
+    opened_from image read.1.0 c.open_finished.result read.1.1
+    (c.open_finished.ensures.store honest read.1.0 finished read.1.2 (subst (λ (s : State). IsOpenable (standing s) read.1.0) (sym same.state) read.1.1))
     (c.open_finished.ensures.number honest read.1.0 finished read.1.2)
 
 pub returns-in-Some-clause-any_moment : goal.returns-in-Some-clause-any_moment
@@ -56,10 +56,10 @@ returns-in-Some-clause-any_moment g c honest folder holds back =
     let read : ReadsFolder image (Some c.in-Some.found) = subst (ReadsFolder image) c.in-Some.is (c.in_ok-found.ensures.found honest) in
     let same = c.in_ok-found.ensures.same honest in
     let is = finished_is image read.1.0 folder read.1.1 holds.now in
-    subst (λ (f : Option Contents). LeavesOnly (m c.args.disk.now) (m c.open_finished.new.disk) (λ image. StandsFor image (store_held f))) (sym is)
+    subst (λ (f : Option Contents). LeavesOnly (m c.args.disk.now) (m c.open_finished.new.disk) (λ image. StandsFor image (store_held f))) (sym is.1)
     (run_on (m c.args.disk.now) (m c.read_folder.new.disk) same (m c.open_finished.new.disk) _
-    (c.open_finished.ensures.any_moment honest read.1.0 (subst (λ (s : State). IsFinished (standing s) c.in-Some.found) (sym same.state) read.0) read.1.2
-    (holds_on (m c.args.disk.now) (m c.read_folder.new.disk) same (Some read.1.0) (subst (λ (f : Option Contents). Holds (state_in (m c.args.disk.now)) f) is holds))))
+    (c.open_finished.ensures.any_moment honest is.0 (subst (λ (s : State). IsFinished (standing s) c.in-Some.found) (sym same.state) read.0) (shows_alike c.in-Some.found image read.1.0 is.0 read.1.1 is.2.openable read.1.2)
+    (holds_on (m c.args.disk.now) (m c.read_folder.new.disk) same (Some is.0) (subst (λ (f : Option Contents). Holds (state_in (m c.args.disk.now)) f) is.1 holds))))
 
 pub returns-in-Some-clause-due : goal.returns-in-Some-clause-due
 returns-in-Some-clause-due g c honest =
@@ -67,7 +67,7 @@ returns-in-Some-clause-due g c honest =
     let image : Image = standing (state_in (m c.args.disk.now)) in
     let read : ReadsFolder image (Some c.in-Some.found) = subst (ReadsFolder image) c.in-Some.is (c.in_ok-found.ensures.found honest) in
     let same = c.in_ok-found.ensures.same honest in
-    held_up (m c.args.disk.now) (m c.read_folder.new.disk) (m c.open_finished.new.disk) c.open_finished.result (store_held (Some read.1.0), folder_stands image (Some read.1.0) read.1.1) same
+    held_up (m c.args.disk.now) (m c.read_folder.new.disk) (m c.open_finished.new.disk) c.open_finished.result (Some read.1.0, read.1.1) same
     (c.open_finished.ensures.due honest read.1.0 (subst (λ (s : State). IsFinished (standing s) c.in-Some.found) (sym same.state) read.0) read.1.2)
 
 pub returns-in-None-clause-opened : goal.returns-in-None-clause-opened
@@ -85,7 +85,7 @@ returns-in-None-clause-found g c honest =
     let m : _ → Meaning = g.D.Disk.meaning in
     let image : Image = standing (state_in (m c.args.disk.now)) in
     let read : ReadsFolder image None = subst (ReadsFolder image) c.in-None.is (c.in_ok-found.ensures.found honest) in
-    opened_from image None c.open_unfinished.result read c.open_unfinished.ensures.store c.open_unfinished.ensures.number
+    begun_from image c.open_unfinished.result read c.open_unfinished.ensures.whole c.open_unfinished.ensures.store c.open_unfinished.ensures.number
 
 pub returns-in-None-clause-any_moment : goal.returns-in-None-clause-any_moment
 returns-in-None-clause-any_moment g c honest folder holds back =
@@ -106,7 +106,7 @@ returns-in-None-clause-due g c honest =
     let image : Image = standing (state_in (m c.args.disk.now)) in
     let read : ReadsFolder image None = subst (ReadsFolder image) c.in-None.is (c.in_ok-found.ensures.found honest) in
     let same = c.in_ok-found.ensures.same honest in
-    held_up (m c.args.disk.now) (m c.read_folder.new.disk) (m c.open_unfinished.new.disk) c.open_unfinished.result (store_held None, folder_stands image None read) same
+    held_up (m c.args.disk.now) (m c.read_folder.new.disk) (m c.open_unfinished.new.disk) c.open_unfinished.result (None, read) same
     (c.open_unfinished.ensures.due honest (subst (λ (s : State). ReadsFolder (standing s) None) (sym same.state) read))
 
 pub returns-in-Some-clause-swept : goal.returns-in-Some-clause-swept
@@ -145,7 +145,7 @@ returns-in-Some-clause-served g c honest tidy =
     let read : ReadsFolder image (Some c.in-Some.found) = subst (ReadsFolder image) c.in-Some.is (c.in_ok-found.ensures.found honest) in
     let same = c.in_ok-found.ensures.same honest in
     c.open_finished.ensures.served honest (subst IsTidy (sym same.state) tidy) read.1.0 (subst (λ (s : State). IsFinished (standing s) c.in-Some.found) (sym same.state) read.0) read.1.2
-    (subst (λ (s : State). IsSound (standing s) read.1.0) (sym same.state) read.1.1)
+    (subst (λ (s : State). IsOpenable (standing s) read.1.0) (sym same.state) read.1.1)
     ∙ c.in_ok-found.ensures.served honest
 
 pub returns-in-None-clause-kinds : goal.returns-in-None-clause-kinds
@@ -170,7 +170,7 @@ returns-in-Some-clause-amid g c honest base pending holds =
     let same = c.in_ok-found.ensures.same honest in
     run_on (m c.args.disk.now) (m c.read_folder.new.disk) same (m c.open_finished.new.disk) _
     (c.open_finished.ensures.amid honest read.1.0 (subst (λ (s : State). IsFinished (standing s) c.in-Some.found) (sym same.state) read.0) read.1.2
-    (subst (λ (s : State). IsSound (standing s) read.1.0) (sym same.state) read.1.1) base pending (amid_on (m c.args.disk.now) (m c.read_folder.new.disk) same base pending holds))
+    (subst (λ (s : State). IsOpenable (standing s) read.1.0) (sym same.state) read.1.1) base pending (amid_on (m c.args.disk.now) (m c.read_folder.new.disk) same base pending holds))
 
 pub returns-in-Some-clause-opens : goal.returns-in-Some-clause-opens
 returns-in-Some-clause-opens g c honest folder stands base pending holds =
@@ -179,9 +179,9 @@ returns-in-Some-clause-opens g c honest folder stands base pending holds =
     let read : ReadsFolder image (Some c.in-Some.found) = subst (ReadsFolder image) c.in-Some.is (c.in_ok-found.ensures.found honest) in
     let same = c.in_ok-found.ensures.same honest in
     let is = finished_is image read.1.0 folder read.1.1 stands in
-    subst (λ (f : Option Contents). IfOk c.open_finished.result (Opens (state_in (m c.open_finished.new.disk)) f)) (sym is)
-    (c.open_finished.ensures.opens honest read.1.0 (subst (λ (s : State). IsFinished (standing s) c.in-Some.found) (sym same.state) read.0) read.1.2
-    (subst (λ (s : State). IsSound (standing s) read.1.0) (sym same.state) read.1.1) base pending (amid_on (m c.args.disk.now) (m c.read_folder.new.disk) same base pending holds))
+    subst (λ (f : Option Contents). IfOk c.open_finished.result (Opens (state_in (m c.open_finished.new.disk)) f)) (sym is.1)
+    (c.open_finished.ensures.opens honest is.0 (subst (λ (s : State). IsFinished (standing s) c.in-Some.found) (sym same.state) read.0) (shows_alike c.in-Some.found image read.1.0 is.0 read.1.1 is.2.openable read.1.2)
+    (subst (λ (s : State). IsSound (standing s) is.0) (sym same.state) is.2) base pending (amid_on (m c.args.disk.now) (m c.read_folder.new.disk) same base pending holds))
 
 pub returns-in-None-clause-amid : goal.returns-in-None-clause-amid
 returns-in-None-clause-amid g c honest base pending holds =
@@ -212,7 +212,7 @@ returns-in-Some-clause-held g c honest base pending holds =
     let read : ReadsFolder image (Some c.in-Some.found) = subst (ReadsFolder image) c.in-Some.is (c.in_ok-found.ensures.found honest) in
     let same = c.in_ok-found.ensures.same honest in
     c.open_finished.ensures.held honest read.1.0 (subst (λ (s : State). IsFinished (standing s) c.in-Some.found) (sym same.state) read.0) read.1.2
-    (subst (λ (s : State). IsSound (standing s) read.1.0) (sym same.state) read.1.1) base pending (amid_on (m c.args.disk.now) (m c.read_folder.new.disk) same base pending holds)
+    (subst (λ (s : State). IsOpenable (standing s) read.1.0) (sym same.state) read.1.1) base pending (amid_on (m c.args.disk.now) (m c.read_folder.new.disk) same base pending holds)
 
 pub returns-in-None-clause-held : goal.returns-in-None-clause-held
 returns-in-None-clause-held g c honest base pending holds =
@@ -232,10 +232,10 @@ pub returns-in-Some-clause-refuses : goal.returns-in-Some-clause-refuses
 returns-in-Some-clause-refuses g c honest error refused =
     let image : Image = standing (state_in (g.D.Disk.meaning c.args.disk.now)) in
     let read : ReadsFolder image (Some c.in-Some.found) = subst (ReadsFolder image) c.in-Some.is (c.in_ok-found.ensures.found honest) in
-    absurd (folder_is_kept image (store_held (Some read.1.0)) error (folder_stands image (Some read.1.0) read.1.1) refused)
+    absurd (open_folder_is_kept image (Some read.1.0) error read.1.1 refused)
 
 pub returns-in-None-clause-refuses : goal.returns-in-None-clause-refuses
 returns-in-None-clause-refuses g c honest error refused =
     let image : Image = standing (state_in (g.D.Disk.meaning c.args.disk.now)) in
     let read : ReadsFolder image None = subst (ReadsFolder image) c.in-None.is (c.in_ok-found.ensures.found honest) in
-    absurd (folder_is_kept image (store_held None) error (folder_stands image None read) refused)
+    absurd (open_folder_is_kept image None error read refused)

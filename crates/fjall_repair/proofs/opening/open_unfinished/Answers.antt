@@ -1,4 +1,5 @@
-use Rattle.std.proofs.Common.{◌≡◌, [], None, map, refl, sym, subst, All, ◌∙◌}
+use Rattle.std.proofs.Common.{◌≡◌, ℕ, [], None, map, refl, sym, subst, All, ◌∙◌, arith}
+use Rattle.std.specs.List.{Contains}
 use Rattle.std.specs.Prelude.{string_bytes}
 use Rattle.std.proofs.lemmas.Result.{err_from_is_err_and}
 use Rattle.fjall_base.specs.Disk.{Meaning, State, standing, state_in}
@@ -10,9 +11,9 @@ use Rattle.fjall_catalog.specs.Catalog.{first_catalog}
 use Rattle.fjall_repair.specs.Making.{ComesBackUnfinished}
 use Rattle.fjall_repair.specs.Plans.{IsPlan as IsMakingOf}
 use Rattle.fjall_repair.specs.Opened.{nothing}
-use Rattle.fjall_repair.specs.Sweeps.{BringsNoTable, FindsTables, IsSwept, HasAll}
+use Rattle.fjall_repair.specs.Sweeps.{BringsNoTable, FindsTables, IsSwept, HasAll, no_names}
 use Rattle.fjall_repair.proofs.Planned.{is_swept, lives_small}
-use Rattle.fjall_repair.proofs.Openings.{held_early, holds_on, makes_nothing, nothing_told, opens_of, run_on, stands_now}
+use Rattle.fjall_repair.proofs.Openings.{held_early, holds_on, makes_nothing, opens_of, run_on, stands_now}
 use Rattle.fjall_files.specs.Tidy.{IsTidy}
 use Rattle.fjall_files.proofs.Tidying.{stays_both, stays_none as tidy_none}
 use Rattle.fjall_repair.proofs.Amid.{amid_now, amid_on}
@@ -46,8 +47,13 @@ returns-clause-opened g c honest holds =
     let same = c.in_ok-opened.ensures.same honest in
     let repaired = c.in_ok-begin_and_sweep.ensures.ok honest (holds_on (m c.args.disk.now) (m c.ready_to_begin.new.disk) same None holds)
     (subst (λ (s : State). IsMakingOf (standing s) ready.making) (sym same.state) (c.in_ok-opened.ensures.making honest)) (c.in_ok-opened.ensures.sweep honest)
-    (subst (λ (s : State). FindsTables s None (map string_bytes ready.sweep.tables.items)) (sym same.state) (c.in_ok-opened.ensures.finds honest).2.tables) in
-    opens_of (state_in (m c.begin_and_sweep.new.disk)) nothing (journal_name ready.making.active) 0 repaired None [] ready.opened c.in_ok-opened.ensures.opened nothing_told refl c.in_ok-opened.ensures.number refl
+    (subst (λ (s : State). FindsTables s no_names (map string_bytes ready.sweep.tables.items)) (sym same.state) (c.in_ok-opened.ensures.finds honest).2.tables) in
+    opens_of (state_in (m c.begin_and_sweep.new.disk)) nothing (journal_name ready.making.active) 0 repaired None [] [] ready.opened c.in_ok-opened.ensures.opened c.in_ok-opened.ensures.whole
+    (makes_nothing (journal_name ready.making.active) ready.opened c.in_ok-opened.ensures.opened) refl c.in_ok-opened.ensures.number refl
+
+-- no table is named where none are
+none_has : (n : ℕ) → Contains [] n → ⊥
+none_has n has = let lt = has.1 in omega (arith, lt)
 
 pub returns-clause-swept : goal.returns-clause-swept
 returns-clause-swept g c honest =
@@ -64,7 +70,8 @@ returns-clause-swept g c honest =
     let are = subst AreKeyspaces keyspaces c.in_ok-opened.ensures.lawful.keyspaces in
     subst (λ (s : Keyspaces). IsSwept old new ready.opened.catalog s.living) (sym keyspaces)
     (subst (λ (last : Catalog). IsSwept old new last []) (sym c.in_ok-opened.ensures.opened.last_is)
-    (is_swept old new first_catalog [] finds.0 ready.sweep finds.2 finds.1 (c.in_ok-begin_and_sweep.ensures.gone honest) (lives_small no_keyspaces are) brings))
+    (is_swept old new first_catalog [] no_names finds.0 ready.sweep finds.2 finds.1 (c.in_ok-begin_and_sweep.ensures.gone honest) (lives_small no_keyspaces are) brings
+    (λ n has. absurd (none_has n has)) (λ id n lives has. absurd (none_has n has))))
 
 pub returns-clause-store : goal.returns-clause-store
 returns-clause-store g c = makes_nothing (journal_name c.in_ok-opened.field-0.making.active) c.in_ok-opened.field-0.opened c.in_ok-opened.ensures.opened
@@ -141,8 +148,9 @@ returns-clause-opens g c honest unfinished =
     let same = c.in_ok-opened.ensures.same honest in
     let repaired = c.in_ok-begin_and_sweep.ensures.repaired honest (subst (λ (s : State). IsUnfinished (standing s)) (sym same.state) unfinished)
     (subst (λ (s : State). IsMakingOf (standing s) ready.making) (sym same.state) (c.in_ok-opened.ensures.making honest)) (c.in_ok-opened.ensures.sweep honest)
-    (subst (λ (s : State). FindsTables s None (map string_bytes ready.sweep.tables.items)) (sym same.state) (c.in_ok-opened.ensures.finds honest).2.tables) in
-    opens_of (state_in (m c.begin_and_sweep.new.disk)) nothing (journal_name ready.making.active) 0 repaired None [] ready.opened c.in_ok-opened.ensures.opened nothing_told refl c.in_ok-opened.ensures.number refl
+    (subst (λ (s : State). FindsTables s no_names (map string_bytes ready.sweep.tables.items)) (sym same.state) (c.in_ok-opened.ensures.finds honest).2.tables) in
+    opens_of (state_in (m c.begin_and_sweep.new.disk)) nothing (journal_name ready.making.active) 0 repaired None [] [] ready.opened c.in_ok-opened.ensures.opened c.in_ok-opened.ensures.whole
+    (makes_nothing (journal_name ready.making.active) ready.opened c.in_ok-opened.ensures.opened) refl c.in_ok-opened.ensures.number refl
 
 pub returns-in_err-opened-clause-held : goal.returns-in_err-opened-clause-held
 returns-in_err-opened-clause-held g c honest unfinished base pending holds = amid_on _ _ (c.in_err-opened.ensures.same honest) base pending holds

@@ -66,16 +66,16 @@ returns-clause-kinds g c honest =
     stays_both (m c.args.disk.now) (m c.remove_all.new.disk) (m c.remove_homes.new.disk) (c.in_ok-remove_all.ensures.kinds honest) (c.remove_homes.ensures.kinds honest)
 
 pub returns-in_err-remove_all-clause-served : goal.returns-in_err-remove_all-clause-served
-returns-in_err-remove_all-clause-served g c honest tidy named living is all =
+returns-in_err-remove_all-clause-served g c honest tidy names living is all =
     let state = state_in (g.D.Disk.meaning c.args.disk.now) in
-    c.in_err-remove_all.ensures.served honest (subst (All (λ (name : String Global). IsNoFolder (state (string_bytes name)).now)) (sym c.deref.ensures.value) (λ k d lt. table_no_folder state tidy named living (string_bytes (get_or c.args.plan.now.tables.items k d)) (is.tables k d lt)))
+    c.in_err-remove_all.ensures.served honest (subst (All (λ (name : String Global). IsNoFolder (state (string_bytes name)).now)) (sym c.deref.ensures.value) (λ k d lt. table_no_folder state tidy names living (string_bytes (get_or c.args.plan.now.tables.items k d)) (is.tables k d lt)))
 
 pub returns-clause-served : goal.returns-clause-served
-returns-clause-served g c honest tidy named living is all =
+returns-clause-served g c honest tidy names living is all =
     let m : _ → Meaning = g.D.Disk.meaning in
     let state = state_in (m c.args.disk.now) in
     let mid = m c.remove_all.new.disk in
     let homes = c.args.plan.now.homes.items in
     c.remove_homes.ensures.served honest (tidy_on (m c.args.disk.now) mid (c.in_ok-remove_all.ensures.kinds honest) tidy) living (subst (All (IsUnnamedHome living)) (sym c.deref-2.ensures.value) is.homes)
     (subst (All (HasAll (state_in mid))) (sym c.deref-2.ensures.value) (have_all_still _ (m c.args.disk.now) mid (c.in_ok-remove_all.ensures.removes honest) homes all))
-    ∙ c.in_ok-remove_all.ensures.served honest (subst (All (λ (name : String Global). IsNoFolder (state (string_bytes name)).now)) (sym c.deref.ensures.value) (λ k d lt. table_no_folder state tidy named living (string_bytes (get_or c.args.plan.now.tables.items k d)) (is.tables k d lt)))
+    ∙ c.in_ok-remove_all.ensures.served honest (subst (All (λ (name : String Global). IsNoFolder (state (string_bytes name)).now)) (sym c.deref.ensures.value) (λ k d lt. table_no_folder state tidy names living (string_bytes (get_or c.args.plan.now.tables.items k d)) (is.tables k d lt)))

@@ -30,7 +30,7 @@ returns-in-Ok-clause-stands g c =
     let m : _ → Meaning = g.D.Disk.meaning in
     let o = c.in-Ok.opened in
     let new = opens_new (m c.open_folder.new.disk) o c.in-Ok.ensures.lawful in
-    (new.0, new.1, subst (λ (memory : Remembered). Opens (held_of (m c.open_folder.new.disk) o memory) new.0 new.1) (sym c.new.ensures) new.2)
+    (new.0, new.1, new.2, subst (λ (memory : Remembered). Opens (held_of (m c.open_folder.new.disk) o memory) new.0 new.1 new.2) (sym c.new.ensures) new.3)
 
 pub returns-in-Err-clause-any_moment_err : goal.returns-in-Err-clause-any_moment_err
 returns-in-Err-clause-any_moment_err g c honest = let m : _ → Meaning = g.D.Disk.meaning in keeps (m c.args.disk) (m c.open_folder.new.disk) (c.open_folder.ensures.any_moment honest)

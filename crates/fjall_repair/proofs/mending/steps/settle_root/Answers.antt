@@ -1,7 +1,7 @@
 use Rattle.std.proofs.Common.{ap, inl, inr, subst, sym, [], refl, ◌∙◌}
 use Rattle.fjall_base.specs.Disk.{Meaning, State, standing, File}
 use Rattle.fjall_files.proofs.Tidying.{stays_both, stays_making, stays_none, stays_settling}
-use Rattle.fjall_recovery.specs.Folders.{IsSound}
+use Rattle.fjall_recovery.specs.Folders.{IsOpenable}
 use Rattle.fjall_repair.proofs.MendOpened.{settle_moment, settle_sound, settle_opened, settle_settled, settle_elsewhere, still_stands}
 use Rattle.fjall_repair.proofs.Amidst.{settle_amid, settle_there, still_amid}
 use Rattle.fjall_repair.proofs.HeldAmid.{settle_stands}
@@ -68,7 +68,7 @@ returns-clause-there g c honest =
     inr (settle_there (m c.create.new.self) (m c.sync_folder.new.self) c.args.active.now (c.in_ok-create.ensures.file honest) c.sync_folder.result (c.sync_folder.ensures.ok honest) (c.sync_folder.ensures.err honest))
 
 pub returns-in_err-create-clause-stands : goal.returns-in_err-create-clause-stands
-returns-in_err-create-clause-stands g c honest contents sound named = inl (subst (λ (s : State). IsSound (standing s) contents) (sym (c.in_err-create.ensures.err honest).state) sound)
+returns-in_err-create-clause-stands g c honest contents sound named = inl (subst (λ (s : State). IsOpenable (standing s) contents) (sym (c.in_err-create.ensures.err honest).state) sound)
 
 pub returns-clause-stands : goal.returns-clause-stands
 returns-clause-stands g c honest contents sound named =

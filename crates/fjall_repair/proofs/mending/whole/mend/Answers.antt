@@ -37,7 +37,7 @@ returns-clause-homes g c honest image found finished is id some small dead =
     c.carry_out.ensures.elsewhere honest (current_name id) (home_active id small found is.0 p is.2) (home_whole id small found is.0 p is.2) (home_ends id small image found is.0 p some finished is.1.named is.2 dead)
 
 pub returns-clause-served : goal.returns-clause-served
-returns-clause-served g c honest tidy found contents finished shows is sound =
+returns-clause-served g c honest tidy found contents finished shows sound is =
     c.carry_out.ensures.served honest tidy contents sound (suits (standing (state_in (g.D.Disk.meaning c.args.disk.now))) found contents is.0 c.args.plan.now sound finished shows is.1 is.2)
 
 pub returns-clause-amid : goal.returns-clause-amid
@@ -52,7 +52,7 @@ returns-clause-mended g c honest found contents finished shows sound is base pen
     let stood = standing (state_in (m c.args.disk.now)) in
     on_ok_then c.carry_out.result (IsRested (state_in (m c.carry_out.new.disk)) (with_active contents)) (IsMended (state_in (m c.carry_out.new.disk)) found contents (string_bytes p.active))
     (mended_amid stood (state_in (m c.carry_out.new.disk)) found contents p sound finished shows is)
-    (c.carry_out.ensures.ended honest contents sound (suited_amid stood found contents p sound finished shows is) base pending holds)
+    (c.carry_out.ensures.ended honest contents sound.openable (suited_amid stood found contents p sound.openable finished shows is) base pending holds)
 
 pub returns-clause-held : goal.returns-clause-held
 returns-clause-held g c honest found contents finished shows sound is base pending holds =

@@ -13,5 +13,6 @@ returns c =
       poisoned = c.self.inside.poisoned;
       handles = c.count_less.ensures i;
       lasting = c.self.inside.lasting.items;
+      damaged = c.self.inside.damaged.items;
     })
     ∙ ap (λ (m : Remembered). record m { handles = one_less m.handles c.args.id }) c.self.view_is

@@ -25,5 +25,6 @@ returns c =
       poisoned = c.self.inside.poisoned;
       handles = map_of c.self.inside.handles;
       lasting = ids i;
+      damaged = c.self.inside.damaged.items;
     })
     ∙ ap (let_go c.args.id) c.self.view_is

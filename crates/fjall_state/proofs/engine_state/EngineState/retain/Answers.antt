@@ -21,5 +21,6 @@ returns-clause-ok c =
       poisoned = c.self.inside.poisoned;
       handles = more i;
       lasting = c.self.inside.lasting.items;
+      damaged = c.self.inside.damaged.items;
     })
     ∙ ap (retained id) c.self.view_is

@@ -1,0 +1,2 @@
+pub mod Loadings
+pub mod LoadedHomes

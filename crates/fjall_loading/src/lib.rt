@@ -1,0 +1,6 @@
+//! What the tables of a folder's keyspaces hold, taken into memory, and which keyspaces are damaged.
+#![tactic(auto)]
+
+mod loading;
+
+pub use loading::{Loaded, load_homes};
