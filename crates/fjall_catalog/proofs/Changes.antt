@@ -70,7 +70,7 @@ fits_new next after entries None (Some file) new = absurd new
 fits_new next after entries (Some t) None new = absurd new
 fits_new next after entries (Some t) (Some file) new =
     let low = new.1.below in
-    All-cons (λ (f : TableFile). FitsAt (string_bytes f.name) (File [] [])) file [] (subst (λ (n : Name). FitsAt n (File [] [])) (sym new.1.name) (fits_table next (omega (arith, low)) [] []))
+    All-cons (λ (f : TableFile). FitsAt (string_bytes f.name) (File [] [])) file [] (subst (λ (n : Name). FitsAt n (File [] [])) (sym new.1.name) (fits_table 0 next (omega arith) (omega (arith, low)) [] []))
     (All-nil (λ (f : TableFile). FitsAt (string_bytes f.name) (File [] [])))
 
 -- the files that are put, where one is prepared

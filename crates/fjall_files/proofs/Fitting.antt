@@ -1,5 +1,5 @@
 -- What may stand at the names of what is kept.
-use Rattle.std.proofs.Common.{◌≡◌, ◌≢◌, ℕ, ◌<◌, ◌^◌, Bool, false, ◌||◌, List, [], ◌∷◌, ◌++◌, get_or, codes, decimal, refl, sym, ◌∙◌, ap, subst, arith, append_assoc}
+use Rattle.std.proofs.Common.{◌≡◌, ◌≢◌, inl, inr, ℕ, ◌<◌, ◌^◌, Bool, false, ◌||◌, List, [], ◌∷◌, ◌++◌, get_or, codes, decimal, refl, sym, ◌∙◌, ap, subst, arith, append_assoc}
 use Rattle.std.specs.List.{list_any}
 use Rattle.std.proofs.lemmas.List.{get_or_default}
 use Rattle.std.proofs.lemmas.List.Folds.{list_any-append, list_any_none}
@@ -7,12 +7,11 @@ use Rattle.std.proofs.lemmas.Bool.Decides.{nat_tests}
 use Rattle.std.proofs.lemmas.Fmt.{digits_decimal}
 use Rattle.std.specs.Str.Parse.{AllDigits, digits_value}
 use Rattle.std.proofs.lemmas.Str.Parse.{IsNumeralModel, numerals_by_value, tells_digits, not_in_digits}
-use Rattle.std.proofs.lemmas.List.Elements.{All-cons, All-nil}
 use Rattle.fjall_base.specs.Disk.{Name, Entry, File, Folder, IsNoFile, IsNoFolder, State, folder_of}
 use Rattle.fjall_files.specs.Names.{HasIds, Kept, AllKeyspaces, Current, Journal, Keyspace, Table, Version, current_name, journal_name, keyspace_folder, name_of, table_name}
 use Rattle.fjall_files.specs.Tidy.{FitsAt, IsOfKind, IsTidy}
 use Rattle.fjall_files.proofs.Distinct.{kept}
-use Rattle.fjall_files.specs.Regions.{HoldsOnly, join}
+use Rattle.fjall_files.specs.Regions.{join}
 use Rattle.fjall_files.proofs.Under.{IsPlain, folder_of-join, folder_of-plain, slash}
 
 -- ---- folders
@@ -86,16 +85,16 @@ fits_current id small s u = record {
   kind = of_kept (Current id) (File s u) small tt;
   home = λ other some small' inside there.
       let both : Keyspace id ≡ Keyspace other = kept (Keyspace id) (Keyspace other) small small' (sym (folder_of-current id) ∙ inside) in
-      let is : id ≡ other = cc in ap current_name is;
+      let is : id ≡ other = cc in inl (ap current_name is);
 }
 
--- a table of tree 0 is a file
-pub fits_table : (n : ℕ) → n < 2 ^ 64 → (s u : List ℕ) → FitsAt (table_name 0 n) (File s u)
-fits_table n small s u = record {
-  kind = of_kept (Table 0 n) (File s u) (omega arith, small) tt;
+-- a table is a file
+pub fits_table : (id n : ℕ) → id < 2 ^ 64 → n < 2 ^ 64 → (s u : List ℕ) → FitsAt (table_name id n) (File s u)
+fits_table id n fits small s u = record {
+  kind = of_kept (Table id n) (File s u) (fits, small) tt;
   home = λ other some small' inside there.
-      let both : Keyspace 0 ≡ Keyspace other = kept (Keyspace 0) (Keyspace other) (omega arith) small' (sym (folder_of-table 0 n small) ∙ inside) in
-      let is : 0 ≡ other = cc in absurd (omega (arith, some, is));
+      let both : Keyspace id ≡ Keyspace other = kept (Keyspace id) (Keyspace other) fits small' (sym (folder_of-table id n small) ∙ inside) in
+      let is : id ≡ other = cc in inr (n, (small, ap (λ (i : ℕ). table_name i n) is));
 }
 
 -- ---- what stands where only what fits does

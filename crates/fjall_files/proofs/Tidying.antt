@@ -1,8 +1,7 @@
 -- A disk on which nothing stands in the way, before and after its steps and crashes.
-use Rattle.std.proofs.Common.{◌≡◌, ◌≢◌, ◌⊎◌, inl, inr, ⊎_elim, ℕ, Bool, true, false, List, [], ◌∷◌, ◌++◌, Result, Ok, Err, OnOk, OnErr, refl, sym, ◌∙◌, ap, subst, append_assoc}
+use Rattle.std.proofs.Common.{◌≡◌, ◌≢◌, ◌⊎◌, inl, inr, ⊎_elim, ℕ, List, [], ◌∷◌, ◌++◌, Result, Ok, Err, OnOk, OnErr, refl, sym, ◌∙◌, ap, subst, append_assoc}
 use Rattle.std.specs.List.{AllByRecursion}
 use Rattle.std.specs.Str.{bytes_eq}
-use Rattle.std.proofs.lemmas.Slice.Eq.{bytes_eq-Decides}
 use Rattle.fjall_base.specs.declared.error.Error.{Error}
 use Rattle.fjall_base.proofs.States.{alter-other, alter-same, put-other, put-same, settle-in, settle-out}
 use Rattle.fjall_base.specs.Disk.{Name, Entry, Missing, File, Folder, Place, State, Image, IsImage, IsThere, Leaves, Meaning, SomeSurvives, Step, Put, Append, Sync, Loosen, Cut, SyncFolder, Survives, Took, TookCut, TookOrNot, TookPart, IsNoFile, IsNoFolder, after, all_synced, alter, appended, change, cut_to, disk_of, folder_of, loosened, making, put, removing, settle, state_in}

@@ -2,7 +2,8 @@
 use Rattle.std.specs.Prelude.{◌≡◌, ◌≢◌, ℕ, ◌<◌, ◌^◌, List, ◌∷◌}
 use Rattle.std.specs.List.{AllByRecursion}
 use Rattle.fjall_base.specs.Disk.{Name, Entry, Missing, IsNoFile, IsNoFolder, State, Step, Put, Meaning, Took, folder_of}
-use Rattle.fjall_files.specs.Names.{HasIds, Kept, AllKeyspaces, Keyspace, current_name, keyspace_folder, name_of}
+use Rattle.fjall_files.specs.Names.{HasIds, Kept, AllKeyspaces, Keyspace, keyspace_folder, name_of}
+use Rattle.fjall_files.specs.Own.{IsOwn}
 
 -- what is kept is of its kind: the folder of all keyspaces and that of each are no files, and all else is no folder
 abbrev pub IsOfKind : Kept → Entry → Type 0
@@ -11,10 +12,10 @@ IsOfKind (Keyspace id) entry = IsNoFile entry
 IsOfKind kept entry = IsNoFolder entry
 
 -- The entry may stand at the name: what is kept there is of its kind, and in a keyspace's folder, but that of tree 0, nothing
--- else stands than the file of its records.
+-- else stands than files with the engine's own names, of its records and of tables.
 pub record FitsAt (name : Name) (entry : Entry) : Type 0 where
   pub kind : (kept : Kept) → HasIds kept → name ≡ name_of kept → IsOfKind kept entry
-  pub home : (id : ℕ) → 0 < id → id < 2 ^ 64 → folder_of name ≡ keyspace_folder id → entry ≢ Missing → name ≡ current_name id
+  pub home : (id : ℕ) → 0 < id → id < 2 ^ 64 → folder_of name ≡ keyspace_folder id → entry ≢ Missing → IsOwn id name
 
 -- Whatever stands at a name, and whatever a crash may bring back there, may stand there.
 abbrev pub IsTidy : State → Type 0

@@ -1,8 +1,8 @@
 -- What is taken of the keyspaces' homes into memory, one home after another.
-use Rattle.std.proofs.Common.{◌≡◌, ◌≢◌, ◌⊎◌, inl, inr, ℕ, zero, suc, ◌+◌, ◌<◌, ◌≤◌, ◌^◌, ◌==◌, ◌&&◌, ◌||◌, Bool, true, false, cond, List, [], ◌∷◌, ◌++◌, length, take, drop, get_or, map, All, AllPairs, Option, None, Some, is_some, add-one, refl, sym, ◌∙◌, ap, subst, arith}
+use Rattle.std.proofs.Common.{◌≡◌, ◌≢◌, inl, inr, ℕ, zero, suc, ◌+◌, ◌<◌, ◌≤◌, ◌^◌, ◌==◌, ◌&&◌, ◌||◌, Bool, true, false, cond, List, [], ◌∷◌, ◌++◌, length, take, drop, get_or, map, All, Option, None, Some, is_some, add-one, refl, sym, ◌∙◌, ap, subst, arith}
 use Rattle.std.specs.Prelude.{IfSome, MatchBool}
 use Rattle.std.proofs.lemmas.Bool.Decides.{nat_tests}
-use Rattle.std.proofs.lemmas.List.{get_or-map, get_or-take, get_or_default, length-map, take-append-drop, take_all}
+use Rattle.std.proofs.lemmas.List.{get_or-map, get_or-take, get_or_default, length-map, take-append-drop}
 use Rattle.std.proofs.lemmas.List.Elements.{All-append, All-head, All-nil, All-push, All-tail, All-weaker}
 use Rattle.std.proofs.lemmas.List.Folds.{find-append, list_any-append}
 use Rattle.std.proofs.Math.Seq.{take-suc}
@@ -13,8 +13,8 @@ use Rattle.std.specs.Str.{bytes_eq}
 use Rattle.std.specs.FinMap.{empty, get, insert, get-empty}
 use Rattle.fjall_base.specs.Disk.{Image}
 use Rattle.fjall_base.specs.Pairs.{Bytes}
-use Rattle.fjall_contents.specs.Contents.{IsWithin, is_beyond}
-use Rattle.fjall_contents.specs.Memory.{AreLoaded, MayLoad, stored_entry}
+use Rattle.fjall_contents.specs.Contents.{is_beyond}
+use Rattle.fjall_contents.specs.Memory.{MayLoad, stored_entry}
 use Rattle.fjall_home.specs.declared.reading.LoadedHome.{LoadedHome}
 use Rattle.fjall_home.specs.Homes.{Home}
 use Rattle.fjall_home.specs.Reading.{AreRight}
@@ -23,12 +23,12 @@ use Rattle.fjall_home.proofs.Resting.{last_has}
 use Rattle.fjall_meta.specs.declared.living.LivingKeyspace.{LivingKeyspace}
 use Rattle.fjall_meta.specs.Keyspaces.{AreKeyspaces, Keyspaces, keyspace_at}
 use Rattle.fjall_recovery.specs.Folders.{Contents, IsOpenable}
-use Rattle.fjall_recovery.specs.Homes.{AreHomesRead, ClearsAreWithin, HasHomeAt, HasVersions, HasVersionsAt, HaveHomes, HaveVersionsBut, Homes, IsDamaged, IsRead, LacksVersionsAt, Versions, stored_at, stored_in, stored_of}
+use Rattle.fjall_recovery.specs.Homes.{AreHomesRead, ClearsAreWithin, HasHomeAt, HasVersions, HasVersionsAt, HaveHomes, Homes, IsDamaged, IsRead, LacksVersionsAt, Versions, stored_at, stored_in}
 use Rattle.fjall_recovery.proofs.Housing.{is_housed}
 use Rattle.fjall_table.specs.declared.table_info.TableInfo.{TableInfo}
 use Rattle.fjall_table.specs.Blocks.{Entry}
 use Rattle.fjall_table.proofs.TableFiles.{one_list_of}
-use Rattle.fjall_tree.specs.Records.{Fields, IsRecord, view}
+use Rattle.fjall_tree.specs.Records.{Fields, IsRecord}
 use Rattle.fjall_versions.specs.declared.version.Version.{Version}
 use Rattle.fjall_versions.specs.Versions.{newest, newest_after}
 use Rattle.fjall_versions.proofs.Ids.{each_lives}

@@ -1,25 +1,18 @@
 -- What is taken of tables into memory.
-use Rattle.std.proofs.Common.{◌≡◌, ◌≢◌, ◌⊎◌, inl, inr, ℕ, zero, suc, ◌+◌, ◌<◌, ◌≤◌, ◌^◌, ◌==◌, ◌&&◌, Bool, true, false, List, [], ◌∷◌, ◌++◌, length, take, get_or, map, All, Option, None, Some, refl, sym, ◌∙◌, ap, subst, arith}
-use Rattle.std.specs.Prelude.{IfErr, IsTrue, MatchBool}
-use Rattle.std.proofs.lemmas.List.{append-nil, flat_map_more, get_or-map, length-map, take_all}
-use Rattle.std.specs.List.{flat_map}
+use Rattle.std.proofs.Common.{◌≡◌, ℕ, zero, suc, ◌+◌, ◌<◌, ◌≤◌, true, false, List, [], ◌∷◌, ◌++◌, length, take, get_or, refl, sym, ◌∙◌, ap, subst, arith}
+use Rattle.std.proofs.lemmas.List.{append-nil, flat_map_more, take_all}
 use Rattle.fjall_base.specs.Disk as disk
 use Rattle.fjall_base.specs.Disk.{Missing, File, Folder, Image, IsFile}
-use Rattle.fjall_base.specs.declared.error.Error.{Error}
-use Rattle.fjall_base.specs.declared.error.Error.TheVariants.{Io, OutOfMemory, Storage}
-use Rattle.fjall_base.specs.declared.error.StorageError.{StorageError}
 use Rattle.fjall_files.specs.Names.{table_name}
 use Rattle.fjall_files.specs.Texts.{text_in}
 use Rattle.fjall_home.specs.declared.reading.LoadedHome.{LoadedHome}
-use Rattle.fjall_home.specs.Homes.{HoldTables, Home}
+use Rattle.fjall_home.specs.Homes.{HoldTables}
 use Rattle.fjall_home.specs.Reading.{AreIndexed, AreOpened, AreRight, IsLoaded, IsNoTableOf}
-use Rattle.fjall_recovery.specs.Refusals.{HasRisen, IsDue}
 use Rattle.fjall_table.specs.declared.table_file.TableFile.{TableFile}
 use Rattle.fjall_table.specs.declared.table_info.TableInfo.{TableInfo}
 use Rattle.fjall_table.specs.Blocks.{Entry}
-use Rattle.fjall_table.specs.Files.{HoldsTable, IsIndexed, IsRefused, IsTableOf, bytes_in, handles_in, name_of}
+use Rattle.fjall_table.specs.Files.{HoldsTable, IsIndexed, IsTableOf, bytes_in, handles_in, name_of}
 use Rattle.fjall_table.specs.Tables.{Handle}
-use Rattle.fjall_table.proofs.TableFiles.{one_list_of}
 use Rattle.fjall_loading.specs.Loading.{AddsTable, AddsTables}
 
 -- ---- the tables of a home

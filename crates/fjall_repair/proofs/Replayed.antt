@@ -1,5 +1,5 @@
 -- What the batches of journals make beyond what is stored of keyspaces, as they are replayed at an opening.
-use Rattle.std.proofs.Common.{◌≡◌, ℕ, zero, suc, ◌<◌, ◌^◌, ◌==◌, Bool, true, false, cond, List, [], ◌∷◌, length, get_or, map, find, All, Option, None, Some, unwrap_or, is_some, refl, sym, ◌∙◌, ap, subst, arith}
+use Rattle.std.proofs.Common.{◌≡◌, ℕ, zero, suc, ◌<◌, ◌==◌, Bool, true, false, cond, List, [], ◌∷◌, length, get_or, map, find, All, Option, None, Some, unwrap_or, is_some, refl, sym, ◌∙◌, ap, subst, arith}
 use Rattle.std.proofs.lemmas.Bool.{and_parts, true≢false}
 use Rattle.std.proofs.lemmas.Bool.Decides.{nat_tests}
 use Rattle.std.proofs.lemmas.List.Elements.{All-weaker}
@@ -7,22 +7,18 @@ use Rattle.std.specs.Option.{option_map}
 use Rattle.std.specs.FinMap.{get}
 use Rattle.fjall_base.specs.Disk.{Image}
 use Rattle.fjall_journal.specs.Batches.{Shown}
-use Rattle.fjall_table.specs.Blocks.{Entry}
 use Rattle.fjall_tree.specs.Records.{Fields}
 use Rattle.fjall_tree.specs.Records as records
 use Rattle.fjall_meta.specs.declared.living.LivingKeyspace.{LivingKeyspace}
 use Rattle.fjall_meta.specs.Keyspaces.{AreKeyspaces, Keyspaces, keyspace_at}
-use Rattle.fjall_views.specs.Views.{value_at}
 use Rattle.fjall_versions.specs.declared.recovery.Persisted.{Persisted}
 use Rattle.fjall_versions.specs.declared.version.Version.{Version}
-use Rattle.fjall_versions.specs.Replays.{counts, first_fault, persisted_at}
-use Rattle.fjall_versions.specs.Versions.{store_of as store_behind}
+use Rattle.fjall_versions.specs.Replays.{counts, persisted_at}
 use Rattle.fjall_versions.proofs.Ids.{living_has}
 use Rattle.fjall_versions.proofs.Naming.{made_were_given}
 use Rattle.fjall_versions.proofs.Slots.{same_id}
-use Rattle.fjall_contents.specs.Contents.{Stored, counts_beyond, is_beyond, store_held}
-use Rattle.fjall_contents.specs.Memory.{AreLoaded, AreTold, versions_beyond}
-use Rattle.fjall_contents.proofs.Loaded.{memory_stands_for_the_store}
+use Rattle.fjall_contents.specs.Contents.{Stored, counts_beyond, is_beyond}
+use Rattle.fjall_contents.specs.Memory.{AreTold, versions_beyond}
 use Rattle.fjall_recovery.specs.declared.folder.RecoveredFolder.{RecoveredFolder}
 use Rattle.fjall_home.specs.declared.reading.LoadedHome.{LoadedHome}
 use Rattle.fjall_recovery.specs.Folders.{Contents, IsFinished, Shows}

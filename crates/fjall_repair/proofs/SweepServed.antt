@@ -13,7 +13,8 @@ use Rattle.fjall_files.specs.Tidy.{IsTidy}
 use Rattle.fjall_files.proofs.OfKinds.{kind_now}
 use Rattle.fjall_meta.specs.declared.living.LivingKeyspace.{LivingKeyspace}
 use Rattle.fjall_files.specs.declared.own.OwnFiles.{OwnFiles}
-use Rattle.fjall_files.specs.Own.{AreOwnFiles, HoldsOnlyOwn}
+use Rattle.fjall_files.specs.Own.{AreOwnFiles, HoldsOnlyOwn, IsOwn}
+use Rattle.fjall_repair.specs.Making.{KeepsTables}
 use Rattle.fjall_repair.specs.Sweeps.{AreGone, HasAll, IsOwnHome, IsUnnamedHome, IsUnnamedTable, Lives, Names, Removes, removals}
 use Rattle.fjall_repair.proofs.Removals.{after_missing, stays_missing}
 
@@ -50,8 +51,8 @@ gone_at state (name ∷ names) q gone (suc i, lt, at) = gone_at state names q go
 -- ---- a home where nothing stands in the way
 
 module _ (state : State) (tidy : IsTidy state) (id : ℕ) (some : 0 < id) (small : id < 2 ^ 64) (q : Name) (inside : folder_of q ≡ keyspace_folder id) where
-  pub current_alone : (state q).now ≢ Missing → q ≡ current_name id
-  current_alone there = (tidy q).0.home id some small inside there
+  pub own_alone : (state q).now ≢ Missing → IsOwn id q
+  own_alone there = (tidy q).0.home id some small inside there
 
   pub home_no_folder : IsNoFolder (state q).now
   home_no_folder = by (state q).now refl
@@ -60,8 +61,13 @@ module _ (state : State) (tidy : IsTidy state) (id : ℕ) (some : 0 < id) (small
       by Missing is = tt
       by (File synced unsynced) is = tt
       by Folder is =
-          let at = current_alone (λ none. let bad : Folder ≡ Missing = sym is ∙ none in let no : ⊥ = cc in no) in
-          subst IsNoFolder is ((tidy q).0.kind (Current id) small at)
+          let own = own_alone (λ none. let bad : Folder ≡ Missing = sym is ∙ none in let no : ⊥ = cc in no) in
+          subst IsNoFolder is (⊎_elim (λ at. (tidy q).0.kind (Current id) small at) (λ table. (tidy q).0.kind (Table id table.0) (small, table.1.0) table.1.1) own)
+
+-- the records of each keyspace that doesn't live, and all tables, stand as they stood
+pub record StayAt (living : List LivingKeyspace) (old mid : State) : Type 0 where
+  pub current : (id : ℕ) → 0 < id → id < 2 ^ 64 → (Lives living id → ⊥) → (mid (current_name id)).now ≡ (old (current_name id)).now
+  pub tables : KeepsTables old mid
 
 more_than_none : (id : ℕ) → id ≢ 0 → 0 < id
 more_than_none id some = omega (arith, some)
@@ -87,15 +93,18 @@ module _ (living : List LivingKeyspace) (home : OwnFiles) (unnamed : IsUnnamedHo
       by q inside (File synced unsynced) was = listed q inside (λ none. let bad : File synced unsynced ≡ Missing = sym was ∙ none in let no : ⊥ = cc in no)
       by q inside Folder was = listed q inside (λ none. let bad : Folder ≡ Missing = sym was ∙ none in let no : ⊥ = cc in no)
 
-  -- it has all that stands in it, where its records stayed as they were
-  pub has_all_on : (old mid : State) → IsTidy mid → ((id : ℕ) → 0 < id → id < 2 ^ 64 → (Lives living id → ⊥) → (mid (current_name id)).now ≡ (old (current_name id)).now) → HasAll old home → HasAll mid home
+  -- it has all that stands in it, where its records and tables stayed as they were
+  pub has_all_on : (old mid : State) → IsTidy mid → StayAt living old mid → HasAll old home → HasAll mid home
   has_all_on old mid tidy keeps all name inside there =
       let some = more_than_none unnamed.id unnamed.some in
-      let at = current_alone mid tidy unnamed.id some unnamed.fits name (inside ∙ unnamed.folder_is) there in
-      all name inside (λ none. there (ap (λ (n : Name). (mid n).now) at ∙ keeps unnamed.id some unnamed.fits unnamed.dead ∙ ap (λ (n : Name). (old n).now) (sym at) ∙ none))
+      let stay : (mid name).now ≡ (old name).now = ⊎_elim
+          (λ at. ap (λ (n : Name). (mid n).now) at ∙ keeps.current unnamed.id some unnamed.fits unnamed.dead ∙ ap (λ (n : Name). (old n).now) (sym at))
+          (λ table. ap (λ (n : Name). (mid n).now) table.1.1 ∙ keeps.tables unnamed.id table.0 unnamed.fits table.1.0 ∙ ap (λ (n : Name). (old n).now) (sym table.1.1))
+          (own_alone mid tidy unnamed.id some unnamed.fits name (inside ∙ unnamed.folder_is) there) in
+      all name inside (λ none. there (stay ∙ none))
 
 -- the same of all homes
-pub have_all_on : (living : List LivingKeyspace) (homes : List OwnFiles) (old mid : State) → IsTidy mid → ((id : ℕ) → 0 < id → id < 2 ^ 64 → (Lives living id → ⊥) → (mid (current_name id)).now ≡ (old (current_name id)).now)
+pub have_all_on : (living : List LivingKeyspace) (homes : List OwnFiles) (old mid : State) → IsTidy mid → StayAt living old mid
     → All (IsUnnamedHome living) homes → All (HasAll old) homes → All (HasAll mid) homes
 have_all_on living homes old mid tidy keeps unnamed all k d lt = has_all_on living (get_or homes k d) (unnamed k d lt) old mid tidy keeps (all k d lt)
 

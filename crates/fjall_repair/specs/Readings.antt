@@ -1,5 +1,5 @@
 -- What is so of a folder as it was read, and of the plans that were made of it.
-use Rattle.std.specs.Prelude.{ℕ, List, map, string_bytes}
+use Rattle.std.specs.Prelude.{List, map, string_bytes}
 use Rattle.fjall_base.specs.Disk.{Image, Meaning, Name, State}
 use Rattle.fjall_files.specs.Calls.{seen}
 use Rattle.fjall_journal.specs.Batches.{view}

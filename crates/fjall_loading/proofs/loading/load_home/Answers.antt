@@ -1,4 +1,4 @@
-use Rattle.std.proofs.Common.{◌≡◌, Option, Vec, Global, inl, refl, ap, map, subst}
+use Rattle.std.proofs.Common.{◌≡◌, Option, Vec, Global, inl, refl, map, subst}
 use Rattle.std.specs.Prelude.{IfSome, MatchOption, All}
 use Rattle.std.proofs.lemmas.Result.{on_ok_weaker}
 use Rattle.fjall_base.specs.Disk.{Image, standing, state_in}

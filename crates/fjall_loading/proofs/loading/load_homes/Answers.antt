@@ -1,13 +1,13 @@
-use Rattle.std.proofs.Common.{◌≡◌, ◌<◌, ◌≤◌, ◌+◌, ◌∙◌, [], ◌++◌, ◌∷◌, ℕ, List, All, Iter, ap, is_some, rules, true, arith, get_or, length, min, refl, subst, sym, take}
+use Rattle.std.proofs.Common.{◌≡◌, ◌≤◌, ◌+◌, ◌∙◌, [], ◌++◌, ◌∷◌, ℕ, List, Iter, ap, is_some, rules, true, arith, get_or, length, min, refl, subst, sym, take}
 use Rattle.std.proofs.lemmas.Grind.{length_at_push}
 use Rattle.std.proofs.lemmas.List.{take_all}
 use Rattle.std.proofs.lemmas.List.Elements.{All-nil}
 use Rattle.std.proofs.lemmas.Slice.Zip.{zip_end, zip_turn}
-use Rattle.fjall_base.specs.Disk.{Image, Meaning, State, standing, state_in}
+use Rattle.fjall_base.specs.Disk.{Image, Meaning, standing, state_in}
 use Rattle.fjall_files.proofs.Made.{took_both}
 use Rattle.fjall_meta.specs.declared.living.LivingKeyspace.{LivingKeyspace}
 use Rattle.fjall_meta.specs.Keyspaces.{Keyspaces, keyspace_at}
-use Rattle.fjall_recovery.specs.Homes.{HaveHomes, IsRead}
+use Rattle.fjall_recovery.specs.Homes.{IsRead}
 use Rattle.fjall_versions.specs.declared.version.Version.{Version}
 use Rattle.fjall_loading.specs.Loading.{LoadsHome}
 use Rattle.fjall_loading.proofs.LoadedHomes.{AreOf, LoadsUpTo, as_many, fresh_here, loads_all, loads_nothing, loads_turn, of_all, of_turn, read_here}

@@ -1,8 +1,7 @@
-use Rattle.std.proofs.Common.{◌≡◌, [], Bool, List, false, true, ap, map, subst, sym}
-use Rattle.fjall_base.specs.Disk.{Image, Meaning, standing, state_in}
+use Rattle.std.proofs.Common.{◌≡◌, [], Bool, List, false, map, subst, sym}
+use Rattle.fjall_base.specs.Disk.{Image, standing, state_in}
 use Rattle.fjall_contents.specs.Contents.{is_beyond}
 use Rattle.fjall_contents.specs.Memory.{stored_entry}
-use Rattle.fjall_table.specs.Blocks.{Entry}
 use Rattle.fjall_versions.specs.declared.version.Version.{Version}
 use Rattle.std.specs.List.{All}
 use Rattle.fjall_loading.specs.Loading.{AddsTables}

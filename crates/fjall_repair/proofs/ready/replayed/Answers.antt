@@ -1,8 +1,6 @@
-use Rattle.std.proofs.Common.{◌∙◌, ◌<◌, List, map, All, sym, ap, subst}
-use Rattle.std.proofs.lemmas.List.Elements.{All-nil}
+use Rattle.std.proofs.Common.{◌<◌, List, map, All, sym, subst}
 use Rattle.fjall_journal.specs.Batches.{view}
 use Rattle.fjall_versions.specs.declared.version.Version.{Version}
-use Rattle.fjall_contents.specs.Memory.{versions_beyond}
 use Rattle.fjall_repair.proofs.Replayed.{beyond_given, living_given, told_by, told_stored}
 use Rattle.fjall_repair.proofs.ready.replayed.Goals as goal
 

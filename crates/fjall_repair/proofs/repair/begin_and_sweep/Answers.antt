@@ -47,7 +47,10 @@ returns-clause-served g c honest tidy making is all =
     let m : _ → Meaning = g.D.Disk.meaning in
     let begun = c.in_ok-begin.ensures in
     let on = tidy_on (m c.args.disk.now) (m c.begin.new.disk) (begun.kinds honest making) tidy in
-    c.sweep.ensures.served honest on no_names [] is (have_all_on [] c.args.plan.now.homes.items (state_in (m c.args.disk.now)) (state_in (m c.begin.new.disk)) on (λ id some small dead. begun.homes honest making id some small) is.homes all)
+    c.sweep.ensures.served honest on no_names [] is (have_all_on [] c.args.plan.now.homes.items (state_in (m c.args.disk.now)) (state_in (m c.begin.new.disk)) on (record {
+      current = λ id some small dead. begun.homes honest making id some small;
+      tables = begun.tables honest making;
+    }) is.homes all)
     ∙ begun.served honest tidy making
 
 pub returns-in_err-begin-clause-amid : goal.returns-in_err-begin-clause-amid

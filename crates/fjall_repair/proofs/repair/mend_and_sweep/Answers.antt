@@ -53,7 +53,10 @@ returns-clause-served g c honest tidy found contents read shows sound mending is
     let mended = c.in_ok-mend.ensures in
     let living = found.catalog.keyspaces.living in
     let on = tidy_on (m c.args.disk.now) (m c.mend.new.disk) (mended.kinds honest found read mending) tidy in
-    c.sweep.ensures.served honest on _ living is (have_all_on living c.args.plan.now.homes.items (state_in (m c.args.disk.now)) (state_in (m c.mend.new.disk)) on (mended.homes honest (standing (state_in (m c.args.disk.now))) found read mending) is.homes all)
+    c.sweep.ensures.served honest on _ living is (have_all_on living c.args.plan.now.homes.items (state_in (m c.args.disk.now)) (state_in (m c.mend.new.disk)) on (record {
+      current = mended.homes honest (standing (state_in (m c.args.disk.now))) found read mending;
+      tables = λ id n fits small. mended.tables honest (standing (state_in (m c.args.disk.now))) found mending id n;
+    }) is.homes all)
     ∙ mended.served honest tidy found contents read shows sound mending
 
 pub returns-in_err-mend-clause-amid : goal.returns-in_err-mend-clause-amid
