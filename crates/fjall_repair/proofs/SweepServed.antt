@@ -98,9 +98,9 @@ module _ (living : List LivingKeyspace) (home : OwnFiles) (unnamed : IsUnnamedHo
   has_all_on old mid tidy keeps all name inside there =
       let some = more_than_none unnamed.id unnamed.some in
       let stay : (mid name).now ≡ (old name).now = ⊎_elim
-          (λ at. ap (λ (n : Name). (mid n).now) at ∙ keeps.current unnamed.id some unnamed.fits unnamed.dead ∙ ap (λ (n : Name). (old n).now) (sym at))
-          (λ table. ap (λ (n : Name). (mid n).now) table.1.1 ∙ keeps.tables unnamed.id table.0 unnamed.fits table.1.0 ∙ ap (λ (n : Name). (old n).now) (sym table.1.1))
-          (own_alone mid tidy unnamed.id some unnamed.fits name (inside ∙ unnamed.folder_is) there) in
+      (λ at. ap (λ (n : Name). (mid n).now) at ∙ keeps.current unnamed.id some unnamed.fits unnamed.dead ∙ ap (λ (n : Name). (old n).now) (sym at))
+      (λ table. ap (λ (n : Name). (mid n).now) table.1.1 ∙ keeps.tables unnamed.id table.0 unnamed.fits table.1.0 ∙ ap (λ (n : Name). (old n).now) (sym table.1.1))
+      (own_alone mid tidy unnamed.id some unnamed.fits name (inside ∙ unnamed.folder_is) there) in
       all name inside (λ none. there (stay ∙ none))
 
 -- the same of all homes
