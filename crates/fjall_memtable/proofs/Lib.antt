@@ -1,0 +1,9 @@
+pub mod Fronts
+pub mod Orders
+pub mod Texts
+pub mod Puts
+pub mod Finds
+pub mod Ranges
+pub mod Gathers
+pub mod Copies
+pub mod Newest

@@ -1,0 +1,52 @@
+use Rattle.std.proofs.Common.{ℕ, ap, ◌∙◌, length, List, ◌++◌, arith, refl, Some, None, if◌then◌else◌}
+use Rattle.fjall_memtable.specs.declared.place.Place.{Place}
+use Rattle.fjall_memtable.specs.Entries.{inserted, entries_of}
+use Rattle.fjall_memtable.proofs.Texts.{IsNext}
+use Rattle.fjall_memtable.proofs.Puts.{when_ok, apart_when, IsPut, put_all, put_entries, put_marks}
+use Rattle.fjall_memtable.proofs.memtable.Memtable.put.Goals as goal
+
+pub invariant_of-self-2 : goal.invariant_of-self-2
+invariant_of-self-2 c =
+    let m = c.args.self.now in
+    let t = m.text.items in
+    let es = m.map.entries in
+    let s = c.in_ok-version_key.version_key in
+    let p : Place = record { at = length c.as_slice.result.now; value_len = length c.args.bytes.now; key_len = length c.args.key.now; is_value = c.args.is_value } in
+    let kept = c.in_ok-reserve.ensures.items in
+    let number = c.in_ok-version_key.ensures.number in
+    let fits = c.ranges.number.fits in
+    let next : IsNext t c.args.key.now c.args.bytes.now s p = record { at = ap length (c.as_slice.ensures.value ∙ kept); key_len = refl; value_len = refl; key = c.in_ok-version_key.ensures.key; number = omega (arith, number, fits); some = c.requires.some; tombstone = c.requires.tombstone } in
+    let first = c.in_ok-extend_from_slice.ensures.items ∙ ap (λ (x : List ℕ). x ++ c.args.key.now) kept in
+    let put : IsPut t c.args.key.now c.args.bytes.now s p es c.extend_from_slice-2.new.self.items c.insert.new.self.entries = record { all = m.all; apart = apart_when t s c.args.key.now c.args.number es c.in_ok-version_key.ensures.key number c.requires.absent; next = next; text = c.extend_from_slice-2.ensures.items ∙ when_ok c.extend_from_slice-2.result (c.extend_from_slice.new.self.items ++ c.args.bytes.now) c.extend_from_slice.new.self.items (c.extend_from_slice-2.ensures.succeeds (let r = c.in_ok-reserve.ensures.ok in let l = c.in_ok-extend_from_slice.ensures.len in let k = c.in_ok-extend_from_slice.ensures.capacity in omega (arith, r, l, k))) ∙ ap (λ (x : List ℕ). x ++ c.args.bytes.now) first; entries = c.in-Ok.ensures.entries } in
+    record { all = put_all t c.args.key.now c.args.bytes.now s p es c.extend_from_slice-2.new.self.items c.insert.new.self.entries put }
+
+pub returns-clause-ok : goal.returns-clause-ok
+returns-clause-ok c =
+    let m = c.args.self.now in
+    let t = m.text.items in
+    let es = m.map.entries in
+    let s = c.in_ok-version_key.version_key in
+    let p : Place = record { at = length c.as_slice.result.now; value_len = length c.args.bytes.now; key_len = length c.args.key.now; is_value = c.args.is_value } in
+    let kept = c.in_ok-reserve.ensures.items in
+    let number = c.in_ok-version_key.ensures.number in
+    let fits = c.ranges.number.fits in
+    let next : IsNext t c.args.key.now c.args.bytes.now s p = record { at = ap length (c.as_slice.ensures.value ∙ kept); key_len = refl; value_len = refl; key = c.in_ok-version_key.ensures.key; number = omega (arith, number, fits); some = c.requires.some; tombstone = c.requires.tombstone } in
+    let first = c.in_ok-extend_from_slice.ensures.items ∙ ap (λ (x : List ℕ). x ++ c.args.key.now) kept in
+    let put : IsPut t c.args.key.now c.args.bytes.now s p es c.extend_from_slice-2.new.self.items c.insert.new.self.entries = record { all = m.all; apart = apart_when t s c.args.key.now c.args.number es c.in_ok-version_key.ensures.key number c.requires.absent; next = next; text = c.in_ok-extend_from_slice-2.ensures.items ∙ ap (λ (x : List ℕ). x ++ c.args.bytes.now) first; entries = c.in-Ok.ensures.entries } in
+    put_entries t c.args.key.now c.args.bytes.now s p es c.extend_from_slice-2.new.self.items c.insert.new.self.entries put
+    ∙ (λ i. inserted (record { key = c.in_ok-version_key.ensures.key i; number = number i; value = if c.args.is_value then Some c.args.bytes.now else None }) (entries_of m))
+
+pub returns-clause-marks : goal.returns-clause-marks
+returns-clause-marks c =
+    let m = c.args.self.now in
+    let t = m.text.items in
+    let es = m.map.entries in
+    let s = c.in_ok-version_key.version_key in
+    let p : Place = record { at = length c.as_slice.result.now; value_len = length c.args.bytes.now; key_len = length c.args.key.now; is_value = c.args.is_value } in
+    let kept = c.in_ok-reserve.ensures.items in
+    let number = c.in_ok-version_key.ensures.number in
+    let fits = c.ranges.number.fits in
+    let next : IsNext t c.args.key.now c.args.bytes.now s p = record { at = ap length (c.as_slice.ensures.value ∙ kept); key_len = refl; value_len = refl; key = c.in_ok-version_key.ensures.key; number = omega (arith, number, fits); some = c.requires.some; tombstone = c.requires.tombstone } in
+    let first = c.in_ok-extend_from_slice.ensures.items ∙ ap (λ (x : List ℕ). x ++ c.args.key.now) kept in
+    let put : IsPut t c.args.key.now c.args.bytes.now s p es c.extend_from_slice-2.new.self.items c.insert.new.self.entries = record { all = m.all; apart = apart_when t s c.args.key.now c.args.number es c.in_ok-version_key.ensures.key number c.requires.absent; next = next; text = c.in_ok-extend_from_slice-2.ensures.items ∙ ap (λ (x : List ℕ). x ++ c.args.bytes.now) first; entries = c.in-Ok.ensures.entries } in
+    put_marks t c.args.key.now c.args.bytes.now s p es c.extend_from_slice-2.new.self.items c.insert.new.self.entries put

@@ -1,0 +1,5 @@
+pub mod Stamps
+pub mod Places
+pub mod Ranges
+pub mod Entries
+pub mod Pages
