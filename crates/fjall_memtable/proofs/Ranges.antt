@@ -14,12 +14,13 @@ use Rattle.std.proofs.lemmas.Bool.{cases_Bool, cases_order}
 use Rattle.std.proofs.lemmas.Cmp.{nat_list_cmp_total, upto}
 use Rattle.std.proofs.lemmas.Map.Lookups.{exact_bytes}
 use Rattle.std.proofs.lemmas.Map.Views.{IsInRange-from_range_contains}
-use Rattle.fjall_base.specs.Pairs.{Bytes, KeyRange, byte_order}
+use Rattle.fjall_base.specs.Pairs.{Bytes, KeyRange, byte_order, is_within}
 use Rattle.fjall_table.specs.Blocks.{Entry, IsOrdered}
 use Rattle.fjall_memtable.specs.declared.place.Place.{Place}
 use Rattle.fjall_memtable.specs.Stamps.{Stamp, stamp_cmp}
 use Rattle.fjall_memtable.specs.Places.{entry_of, IsPlaced}
-use Rattle.fjall_memtable.specs.Ranges.{is_within, entries_within, is_reversed, stamp_bound, start_of, end_of}
+use Rattle.fjall_table.specs.Tables.{entries_within}
+use Rattle.fjall_memtable.specs.Ranges.{is_reversed, stamp_bound, start_of, end_of}
 use Rattle.fjall_memtable.specs.Entries.{stamp_of}
 use Rattle.fjall_memtable.proofs.Fronts.{less, greater, same}
 use Rattle.fjall_memtable.proofs.Orders.{ordered_is}

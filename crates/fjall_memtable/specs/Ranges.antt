@@ -1,26 +1,12 @@
--- Ranges of keys, and where their versions begin and end.
-use Rattle.std.specs.Prelude.{ℕ, ◌-◌, ◌^◌, Bool, false, List, filter}
-use Rattle.std.specs.Borrow.{Bor}
+-- Where the versions between two bounds begin and end.
+use Rattle.std.specs.Prelude.{ℕ, ◌-◌, ◌^◌, Bool, false}
 use Rattle.std.specs.Ordering.{is_ge, is_gt}
 use Rattle.std.specs.declared.ops.Bound.{Bound}
 use Rattle.std.specs.declared.ops.Bound.TheVariants.{Included, Excluded, Unbounded}
-use Rattle.std.specs.Range.Bound.{bound_map, IsForward}
-use Rattle.std.specs.BTreeMap.Range.{range_contains, IsLeBy, IsLtBy}
+use Rattle.std.specs.Range.Bound.{IsForward}
+use Rattle.std.specs.BTreeMap.Range.{IsLeBy, IsLtBy}
 use Rattle.fjall_base.specs.Pairs.{Bytes, KeyRange, byte_order}
-use Rattle.fjall_table.specs.Blocks.{Entry}
 use Rattle.fjall_memtable.specs.Stamps.{Stamp, stamp_cmp}
-
--- the range whose bounds are at the keys that these refer to
-abbrev pub key_range : Bound (Bor Bytes) × Bound (Bor Bytes) → KeyRange
-key_range bounds = (bound_map (λ key. key.now) bounds.0, bound_map (λ key. key.now) bounds.1)
-
--- whether a key lies between the bounds
-abbrev pub is_within : KeyRange → Bytes → Bool
-is_within range key = range_contains byte_order range.0 range.1 key
-
--- the entries whose keys lie between the bounds
-abbrev pub entries_within : KeyRange → List Entry → List Entry
-entries_within range entries = filter (λ e. is_within range e.key) entries
 
 -- whether the end stands before the start, or at it where not both are included
 abbrev pub is_reversed : KeyRange → Bool

@@ -2,15 +2,13 @@
 
 ghost use Rattle.std.specs.Prelude.{◌≡◌, IfOk};
 ghost use Rattle.std.specs.Range.Bound.{bound_map};
-ghost use Rattle.fjall_base.specs.Pairs.{Bytes};
-ghost use Rattle.fjall_memtable.specs.Ranges.{key_range, is_reversed, is_within, stamp_bound, start_of, end_of, IsForwardBy};
+ghost use Rattle.fjall_base.specs.Pairs.{Bytes, key_range, is_within};
+ghost use Rattle.fjall_memtable.specs.Ranges.{is_reversed, stamp_bound, start_of, end_of, IsForwardBy};
 
 use crate::version_key::VersionKey;
+use fjall_base::KeyBounds;
 use std::alloc::{AllocError, Global};
 use std::ops::Bound;
-
-/// Where a range of keys begins and where it ends. Between reversed bounds lies no key.
-pub type KeyBounds<'a> = (Bound<&'a [u8]>, Bound<&'a [u8]>);
 
 fn are_reversed(range: KeyBounds<'_>) -> bool
     ensures { result ≡ is_reversed (key_range range.entry) }

@@ -9,7 +9,6 @@ mod place;
 mod version_key;
 mod versions;
 
-pub use bounds::KeyBounds;
 pub use laws::{newest_stands_first, other_versions_stay};
 pub use memtable::Memtable;
 pub use pages::{Copied, copy_page};

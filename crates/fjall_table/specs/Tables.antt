@@ -4,7 +4,7 @@ use Rattle.std.specs.List.{flat_map, AllByRecursion}
 use Rattle.std.specs.Str.{bytes_eq}
 use Rattle.std.specs.declared.cmp.Ordering.TheVariants.{Greater}
 use Rattle.byteorder.specs.Endian.{little_bytes}
-use Rattle.fjall_base.specs.Pairs.{byte_order}
+use Rattle.fjall_base.specs.Pairs.{KeyRange, byte_order, is_within}
 use Rattle.fjall_table.specs.Frame.{framed, with_check}
 use Rattle.fjall_table.specs.Blocks.{Entry, payload_of, block_text, IsOrdered, IsBlock}
 
@@ -107,3 +107,7 @@ pub record HasIndex (bytes : List ℕ) (handles : List Handle) (count : ℕ) : T
 -- the versions of a key that a view at an instant is made of: those numbered below it, the newest first
 abbrev pub versions_at : List ℕ → ℕ → List Entry → List Entry
 versions_at key instant entries = filter (λ e. bytes_eq e.key key && nat_lt e.number instant) entries
+
+-- the entries whose keys lie between the bounds
+abbrev pub entries_within : KeyRange → List Entry → List Entry
+entries_within range entries = filter (λ e. is_within range e.key) entries

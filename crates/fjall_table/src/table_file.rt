@@ -1,15 +1,16 @@
 //! A table in a file of a disk, opened from the file's end.
 
-ghost use Rattle.std.specs.Prelude.{◌≡◌, ⊤, ◌+◌, ◌-◌, ◌<◌, ◌≤◌, [], length, map, slice_get, IfOk, IfErr, IfSome, IsTrue};
+ghost use Rattle.std.specs.Prelude.{◌≡◌, ⊤, ◌+◌, ◌-◌, ◌<◌, ◌≤◌, [], length, map, slice_get, IfOk, IfErr, IfSome, IsTrue, Some};
 ghost use Rattle.fjall_base.specs.declared.error.StorageError.TheVariants.{TableDamaged};
 ghost use Rattle.fjall_base.specs.Disk.{Took};
 ghost use Rattle.fjall_table.specs.Reading.{DamagedWhere};
 ghost use Rattle.fjall_table.specs.Tables.{footer_text};
-ghost use Rattle.fjall_table.specs.TableReading.{blocks_below, blocks_up_to};
+ghost use Rattle.fjall_table.specs.TableReading.{blocks_below, blocks_up_to, handle_of};
 ghost use Rattle.fjall_table.specs.Files.{AllServed, EndsNoTable, HasFooter, HasNoPart, HasPart, HoldsBlock, HoldsNoBlock, HoldsNoTable, HoldsTable, IsRefused, bytes_in, entry_at, file_of, handles_in, name_of};
 ghost use Rattle.fjall_table.specs.Owned.{owned_handle};
 
 use crate::footer::{FOOTER_LEN, Footer};
+use crate::index::BlockHandle;
 use crate::owned_block::OwnedBlock;
 use crate::owned_index::OwnedIndex;
 use crate::span::span_of;
@@ -178,6 +179,31 @@ impl TableFile {
         ensures end { result.end ≡ blocks_up_to key.now (handles_in self.now) }
     {
         span_of(&self.index.handles, key)
+    }
+
+    /// Where a block stands, counted from 0 on.
+    pub fn handle(&self, at: usize) -> BlockHandle<'_>
+        requires { at < length (handles_in self.now) }
+        ensures { slice_get (handles_in self.now) at ≡ Some (handle_of result) }
+    {
+        self.index.handles[at].borrowed()
+    }
+
+    /// The bytes of a block, counted from 0 on, as they stand in the file; they aren't checked. Where the file ends before
+    /// them, it is `Storage(TableDamaged)`.
+    pub fn read_framed<D: Disk>(&self, alloc: Global, disk: &mut D, at: usize) -> Result<Vec<u8>>
+        requires { at < length (handles_in self.now) }
+        ensures part { IsTrue D.honest → IfOk result (λ part. IfSome (slice_get (handles_in self.now) at) (λ h. HasPart (file_of (D.meaning disk.old) self.now) h.offset h.len part.items)) }
+        ensures refused { IsTrue D.honest
+            → IfErr result (IsRefused (IfSome (slice_get (handles_in self.now) at) (λ h. HasNoPart (file_of (D.meaning disk.old) self.now) h.offset h.len))
+            (D.meaning disk.old).faults (D.meaning disk.new).faults) }
+        ensures same { IsTrue D.honest → Took (D.meaning disk.old) (D.meaning disk.new) [] }
+        ensures served { IsTrue D.honest → AllServed (D.meaning disk.old) (D.meaning disk.new) }
+        ensures later { (D.meaning disk.old).faults ≤ (D.meaning disk.new).faults }
+        ensures listed { IfErr result (IsRefused ⊤ (D.meaning disk.old).faults (D.meaning disk.new).faults) }
+    {
+        let handle = &self.index.handles[at];
+        read_part(alloc, disk, self.name.as_str(), handle.offset, handle.len)
     }
 
     /// Reads and checks a block, counted from 0 on. One that is damaged or doesn't begin with the key that the index says

@@ -1,5 +1,5 @@
 use Rattle.std.proofs.Common.{[], sym, ◌∙◌}
-use Rattle.fjall_memtable.specs.Ranges.{key_range}
+use Rattle.fjall_base.specs.Pairs.{key_range}
 use Rattle.fjall_memtable.proofs.Ranges.{nothing_within, none_at}
 use Rattle.fjall_memtable.proofs.bounds.run_forward.Goals as goal
 

@@ -1,7 +1,7 @@
 use Rattle.std.proofs.Common.{◌∙◌, filter}
 use Rattle.std.specs.BTreeMap.Range.{range_contains}
 use Rattle.fjall_memtable.specs.Stamps.{stamp_cmp}
-use Rattle.fjall_memtable.specs.Ranges.{key_range, is_within}
+use Rattle.fjall_base.specs.Pairs.{key_range, is_within}
 use Rattle.fjall_memtable.specs.Entries.{entries_of, stamp_of}
 use Rattle.fjall_memtable.proofs.Ranges.{range_is, same_within}
 use Rattle.fjall_memtable.proofs.memtable.Memtable.range.Goals as goal
