@@ -1,0 +1,3 @@
+pub mod Sorted
+pub mod Pages
+pub mod Kept
