@@ -23,9 +23,11 @@ use Rattle.fjall_sorted.specs.Sorted.{sorted}
 abbrev pub order : Entry → Entry → Ordering
 order v w = stamp_cmp (stamp_of v) (stamp_of w)
 
+-- this orders all versions but those of one key and number
 pub order_total : IsTotalOrder order
 order_total = on_total stamp_of stamp_total
 
+-- by what the keys compare as
 from_less : (o : Ordering) (n m : ℕ) → ordering_then o (nat_cmp m n) ≡ Less → StandsBefore o n m
 from_less Less n m e = tt
 from_less Equal n m e = ranked m n Less (sym e)
@@ -44,6 +46,7 @@ before_from v w e = from_less (byte_order v.key w.key) v.number w.number e
 pub less_from : (v w : Entry) → IsBefore v w → order v w ≡ Less
 less_from v w h = to_less (byte_order v.key w.key) v.number w.number h
 
+-- and from the other side as greater
 pub greater_from : (v w : Entry) → IsBefore v w → order w v ≡ Greater
 greater_from v w h = order_total.antisymm w v ∙ ap ordering_reverse (less_from v w h)
 
@@ -62,6 +65,7 @@ tied v w e =
 
 -- ---- lists in order
 
+-- what each has, and what follows from it
 pub all_weaker : {X : Type 0} (P Q : X → Type 0) (xs : List X) → ((x : X) → P x → Q x) → AllByRecursion P xs → AllByRecursion Q xs
 all_weaker P Q [] f each = tt
 all_weaker P Q (x ∷ xs) f each = (f x each.0, all_weaker P Q xs f each.1)
@@ -79,6 +83,7 @@ chain_of (v ∷ w ∷ vs) up =
     let more = chain_of (w ∷ vs) up.1 in
     ((up.0, all_weaker (IsBefore w) (IsBefore v) vs (λ u h. before_trans v w u up.0 h) more.0), more)
 
+-- and back
 pub ordered_of : (versions : List Entry) → IsChain versions → IsOrdered versions
 ordered_of [] up = tt
 ordered_of (v ∷ []) up = tt
@@ -86,6 +91,7 @@ ordered_of (v ∷ w ∷ vs) up = (up.0.0, ordered_of (w ∷ vs) up.1)
 
 -- ---- one more version
 
+-- what it and all others have, all have with it
 pub all_inserted : (P : Entry → Type 0) (v : Entry) (vs : List Entry) → P v → AllByRecursion P vs → AllByRecursion P (inserted v vs)
 all_inserted P v [] h each = (h, tt)
 all_inserted P v (w ∷ vs) h each = by (order v w) (all_inserted P v vs h each.1)
@@ -104,6 +110,7 @@ inserted_first v (w ∷ vs) each = ap (λ (o : Ordering). match_ordering o (v �
 pub inserted_behind : (u v : Entry) (vs : List Entry) → IsBefore v u → inserted u (v ∷ vs) ≡ v ∷ inserted u vs
 inserted_behind u v vs h = ap (λ (o : Ordering). match_ordering o (u ∷ v ∷ vs) (u ∷ vs) (v ∷ inserted u vs)) (greater_from v u h)
 
+-- the order stays
 pub inserted_chain : (v : Entry) (vs : List Entry) → IsChain vs → IsChain (inserted v vs)
 inserted_chain v [] up = (tt, tt)
 inserted_chain v (w ∷ vs) up = by (order v w) refl (inserted_chain v vs up.1)
@@ -113,6 +120,7 @@ inserted_chain v (w ∷ vs) up = by (order v w) refl (inserted_chain v vs up.1)
     by Equal e more = (all_weaker (IsBefore w) (IsBefore v) vs (λ u k. before_from v u (order_total.congr v w u e ∙ less_from w u k)) up.0, up.1)
     by Greater e more = (all_inserted (IsBefore w) v vs (behind_from v w e) up.0, more)
 
+-- where none has its key and number, no other is lost
 pub inserted_same : (v : Entry) (vs : List Entry) (test : Entry → Bool) → list_any (is_at v) vs ≡ false → list_any test (inserted v vs) ≡ (test v || list_any test vs)
 inserted_same v [] test apart = refl
 inserted_same v (w ∷ vs) test apart = by (order v w) refl (inserted_same v vs test (or_parts (is_at v w) (list_any (is_at v) vs) apart).1)
@@ -131,10 +139,12 @@ inserted_same v (w ∷ vs) test apart = by (order v w) refl (inserted_same v vs 
 
 -- ---- all of them
 
+-- what each has, each has in order
 pub all_sorted : (P : Entry → Type 0) (vs : List Entry) → AllByRecursion P vs → AllByRecursion P (sorted vs)
 all_sorted P [] each = tt
 all_sorted P (v ∷ vs) each = all_inserted P v (sorted vs) each.0 (all_sorted P vs each.1)
 
+-- sorting puts them in order
 pub sorted_chain : (versions : List Entry) → IsChain (sorted versions)
 sorted_chain [] = tt
 sorted_chain (v ∷ versions) = inserted_chain v (sorted versions) (sorted_chain versions)
@@ -142,11 +152,13 @@ sorted_chain (v ∷ versions) = inserted_chain v (sorted versions) (sorted_chain
 pub sorted_ordered : (versions : List Entry) → IsOrdered (sorted versions)
 sorted_ordered versions = ordered_of (sorted versions) (sorted_chain versions)
 
+-- and keeps them, where no key and number stands twice
 pub sorted_same : (versions : List Entry) → OnceEach versions → Same (sorted versions) versions
 sorted_same [] once test = refl
 sorted_same (v ∷ versions) once test =
     inserted_same v (sorted versions) test (sorted_same versions once.1 (is_at v) ∙ once.0) ∙ ap (λ b. test v || b) (sorted_same versions once.1 test)
 
+-- what is in order already stays as it is
 chain_already : (versions : List Entry) → IsChain versions → sorted versions ≡ versions
 chain_already [] up = refl
 chain_already (v ∷ versions) up = ap (inserted v) (chain_already versions up.1) ∙ inserted_first v versions up.0
