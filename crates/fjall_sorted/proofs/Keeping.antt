@@ -2,13 +2,12 @@
 use Rattle.std.proofs.Common.{◌≡◌, ℕ, ◌+◌, ◌<◌, Bool, true, false, cond, not, ltb, leb, ◌||◌, ◌&&◌, List, [], ◌∷◌, ◌++◌, Option, Some, None, refl, sym, ap, subst, ◌∙◌, inl, inr, ◌⊎◌, arith, append_assoc}
 use Rattle.std.specs.List.{AllByRecursion, filter, list_any}
 use Rattle.std.specs.Str.{bytes_eq}
-use Rattle.std.specs.declared.cmp.Ordering.TheVariants.{Less}
-use Rattle.std.proofs.lemmas.Bool.{cases_Bool, cond-true, cond-false, and_parts, and_from, and_left, and_right, true≢false, ltb-true, lt-ltb, le-ltb, leb-true, le-leb, or_from, false_from_ne_true}
+use Rattle.std.proofs.Math.Bool.{and-true, or-false}
+use Rattle.std.proofs.lemmas.Bool.{cases_Bool, and_parts, and_from, and_left, and_right, ltb-true, lt-ltb, le-ltb, leb-true, le-leb, or_from, false_from_ne_true}
 use Rattle.std.proofs.lemmas.Bool.Decides.{nat_tests}
 use Rattle.std.proofs.lemmas.Cmp.{nat_list_cmp_total}
 use Rattle.std.proofs.lemmas.List.Folds.{list_any-append}
 use Rattle.fjall_base.specs.Lists.{last_of}
-use Rattle.fjall_base.specs.Pairs.{byte_order}
 use Rattle.fjall_table.specs.Blocks.{Entry, IsBefore, IsOrdered}
 use Rattle.fjall_views.specs.Jobs.{is_hidden, is_later, is_old_removal, is_spent, flushed, merged, OnceEach, Same}
 use Rattle.fjall_views.proofs.Sameness.{same_key, keys_tie}
@@ -53,6 +52,7 @@ one_later p v h = by (bytes_eq p.key v.key) refl
     by true e = lt-ltb v.number p.number (later_number p v h e)
     by false e = refl
 
+-- so it hides that one where its number passes
 one_hides : (test : ℕ → Bool) (p v : Entry) → IsBefore p v → hides test v p ≡ (bytes_eq p.key v.key && test p.number)
 one_hides test p v h = ap (λ b. b && test p.number) (one_later p v h)
 
@@ -66,18 +66,10 @@ between p q v h k e = elim (before_parts p q h) [
   | inr s ↦ subst (λ (x : List ℕ). bytes_eq x v.key ≡ true) (equal_keys p.key q.key s.0) e
 ]
 
-or_nothing : (b : Bool) → (b || false) ≡ b
-or_nothing true = refl
-or_nothing false = refl
-
-and_true : (b : Bool) → (b && true) ≡ b
-and_true true = refl
-and_true false = refl
-
 -- among those that stand before it one hides it exactly where the last does
 front_hides : (test : ℕ → Bool) → Falls test → (front vs : List Entry) (v : Entry) → IsChain (front ++ (v ∷ vs)) → list_any (hides test v) front ≡ followed test (last_of front) v
 front_hides test falls [] vs v up = refl
-front_hides test falls (p ∷ []) vs v up = or_nothing (hides test v p) ∙ one_hides test p v up.0.0
+front_hides test falls (p ∷ []) vs v up = or-false (hides test v p) ∙ one_hides test p v up.0.0
 front_hides test falls (p ∷ q ∷ front) vs v up = by (front_hides test falls (q ∷ front) vs v up.1) (cases_Bool (hides test v p))
   where
     by : list_any (hides test v) (q ∷ front) ≡ followed test (last_of (q ∷ front)) v → (hides test v p ≡ true) ⊎ (hides test v p ≡ false)
@@ -106,10 +98,12 @@ behind_hides test v (w ∷ vs) each =
         let n = older v w each.0 (sym (same_key w.key v.key a.0)) in
         absurd (omega arith)
 
+-- none hides itself
 itself_hides : (test : ℕ → Bool) (v : Entry) → hides test v v ≡ false
 itself_hides test v =
     and_left (is_later v v) (test v.number) (and_right (bytes_eq v.key v.key) (ltb v.number v.number) (le-ltb v.number v.number (omega arith)))
 
+-- what stands behind others in order is in order
 chain_behind : (front vs : List Entry) → IsChain (front ++ vs) → IsChain vs
 chain_behind [] vs up = up
 chain_behind (p ∷ front) vs up = chain_behind front vs up.1
@@ -119,7 +113,7 @@ all_hide : (test : ℕ → Bool) → Falls test → (front vs : List Entry) (v :
 all_hide test falls front vs v up =
     list_any-append (hides test v) front (v ∷ vs)
     ∙ (λ i. front_hides test falls front vs v up i || (itself_hides test v i || behind_hides test v vs (chain_behind front (v ∷ vs) up).0 i))
-    ∙ or_nothing (followed test (last_of front) v)
+    ∙ or-false (followed test (last_of front) v)
 
 -- ---- what is hidden and spent
 
@@ -127,9 +121,11 @@ all_hide test falls front vs v up =
 abbrev pub reached : ℕ → ℕ → Bool
 reached watermark n = leb n watermark
 
+-- where the watermark reaches a number, it reaches lesser ones
 reached_falls : (watermark : ℕ) → Falls (reached watermark)
 reached_falls watermark n m h e = let l = leb-true m watermark e in le-leb n watermark (omega arith)
 
+-- the version before is reached where the job says so
 followed_is : (watermark : ℕ) (o : Option Entry) (v : Entry) → followed (reached watermark) o v ≡ is_followed watermark o v
 followed_is watermark None v = refl
 followed_is watermark (Some w) v = refl
@@ -137,17 +133,18 @@ followed_is watermark (Some w) v = refl
 -- a version has a later one exactly where the one before it is of its key
 all_later : (front vs : List Entry) (v : Entry) → IsChain (front ++ (v ∷ vs)) → list_any (is_later v) (front ++ (v ∷ vs)) ≡ is_behind (last_of front) v
 all_later front vs v up =
-    (λ i. list_any (λ w. sym (and_true (is_later v w)) i) (front ++ (v ∷ vs))) ∙ all_hide (λ n. true) (λ n m h e. refl) front vs v up ∙ plain (last_of front)
+    (λ i. list_any (λ w. sym (and-true (is_later v w)) i) (front ++ (v ∷ vs))) ∙ all_hide (λ n. true) (λ n m h e. refl) front vs v up ∙ plain (last_of front)
   where
     plain : (o : Option Entry) → followed (λ n. true) o v ≡ is_behind o v
     plain None = refl
-    plain (Some w) = and_true (bytes_eq w.key v.key)
+    plain (Some w) = and-true (bytes_eq w.key v.key)
 
 -- what a job keeps of its input, by the input alone
 abbrev pub remains : Bool → ℕ → ℕ → List Entry → Entry → Bool
 remains spends watermark bound versions v =
     not (ltb v.number bound || list_any (hides (reached watermark) v) versions) && not (spends && is_spent watermark versions v)
 
+-- one more version is the last one
 last_more : (front : List Entry) (v : Entry) → last_of (front ++ (v ∷ [])) ≡ Some v
 last_more [] v = refl
 last_more (p ∷ []) v = refl
@@ -175,6 +172,7 @@ kept_filter spends watermark bound all front (v ∷ vs) e up =
     same : is_kept spends watermark bound (last_of front) v ≡ remains spends watermark bound all v
     same = sym (λ i. not (ltb v.number bound || hidden i) && not (spends && (is_old_removal watermark v && not (later i))))
 
+-- from the first version on
 pub kept_is : (spends : Bool) (watermark bound : ℕ) (versions : List Entry) → IsChain versions
     → kept_of spends watermark bound None versions ≡ filter (remains spends watermark bound versions) versions
 kept_is spends watermark bound versions up = kept_filter spends watermark bound versions [] versions refl up
@@ -198,8 +196,9 @@ flush_kept watermark clears versions once test =
   where
     each : (v : Entry) → remains false watermark (barrier (watermark + 1) clears) (sorted versions) v ≡ not (is_hidden watermark clears versions v)
     each v = (λ i. not (emptied watermark clears v.number i || sorted_same versions once (hides (reached watermark) v) i) && true)
-        ∙ and_true (not (is_hidden watermark clears versions v))
+        ∙ and-true (not (is_hidden watermark clears versions v))
 
+-- For a merge they are those that aren't spent either.
 pub merge_kept : (watermark : ℕ) (clears : List ℕ) (versions : List Entry) → OnceEach versions
     → Same (kept_of true watermark (barrier (watermark + 1) clears) None (sorted versions)) (merged watermark clears versions)
 merge_kept watermark clears versions once test =

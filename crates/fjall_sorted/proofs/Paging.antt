@@ -44,6 +44,7 @@ IsStep instant bound settled v vs =
     (((is_settled settled v ≡ true) ⊎ (instant ≤ v.number)) × (pairs_of instant bound settled (v ∷ vs) ≡ pairs_of instant bound settled vs))
     ⊎ ((is_settled settled v ≡ false) × (v.number < instant) × (pairs_of instant bound settled (v ∷ vs) ≡ pair_of bound v ++ pairs_of instant bound (Some v.key) vs))
 
+-- either of the two, by two tests
 pub cases_page : (instant bound : ℕ) (settled : Option Bytes) (v : Entry) (vs : List Entry) → IsStep instant bound settled v vs
 cases_page instant bound settled v vs = by (cases_Bool (is_settled settled v)) (cases_lt v.number instant)
   where

@@ -83,6 +83,7 @@ behind_up v vs each = all_weaker (IsBefore v) (λ w. (v.key ≡ w.key) ⊎ (byte
   | inr s ↦ inl (equal_keys v.key w.key s.0)
 ]) each
 
+-- the others are behind the settled key too
 rest_up : (settled : Option Bytes) (v : Entry) (vs : List Entry) → IsUpToAll settled (v ∷ vs) → IsUpToAll settled vs
 rest_up None v vs up = tt
 rest_up (Some key) v vs up = up.1
@@ -129,29 +130,27 @@ settled_other None v f s e = refl
 settled_other (Some key) v f s e = false_from_ne_true (bytes_eq f.key key)
     (λ t. true≢false (sym (keys_tie v.key f.key (same_key v.key key s ∙ sym (same_key f.key key t))) ∙ e))
 
+-- a version from the instant on isn't below it
+late : (instant : ℕ) (settled : Option Bytes) (v : Entry) → (is_settled settled v ≡ true) ⊎ (instant ≤ v.number)
+    → (is_settled settled v ≡ true) ⊎ (ltb v.number instant ≡ false)
+late instant settled v (inl s) = inl s
+late instant settled v (inr l) = inr (le-ltb v.number instant l)
+
 -- a version that is passed over from the start changes nothing from behind
 passed_back : (instant bound : ℕ) (settled : Option Bytes) (v : Entry) (found : Option Entry) → (is_settled settled v ≡ true) ⊎ (instant ≤ v.number)
     → ((f : Entry) → found ≡ Some f → is_settled settled v ≡ false → is_settled settled f ≡ false)
     → pair_open bound settled found ≡ pair_after bound found v ++ pair_open bound settled (found_after instant found v)
-passed_back instant bound settled v None h stays = by (ltb v.number instant) (late h)
+passed_back instant bound settled v None h stays = by (ltb v.number instant) (late instant settled v h)
   where
-    late : (is_settled settled v ≡ true) ⊎ (instant ≤ v.number) → (is_settled settled v ≡ true) ⊎ (ltb v.number instant ≡ false)
-    late (inl s) = inl s
-    late (inr l) = inr (le-ltb v.number instant l)
-
     by : (a : Bool) → (is_settled settled v ≡ true) ⊎ (a ≡ false) → ◌≡◌ {A = List (Bytes × Bytes)} [] (pair_open bound settled (cond a (Some v) None))
     by true (inl s) = sym (ap (λ b. cond b [] (pair_of bound v)) s)
     by true (inr l) = absurd (true≢false l)
     by false k = refl
 passed_back instant bound settled v (Some f) h stays =
     tests_say (is_settled settled v) (is_settled settled f) (ltb v.number instant) (bytes_eq v.key f.key) (pair_of bound f) (pair_of bound v)
-    (late h) (settled_alike settled v f) (other (cases_Bool (is_settled settled v)))
+    (late instant settled v h) (settled_alike settled v f) (other (cases_Bool (is_settled settled v)))
     ∙ ap (λ ps. pair_after bound (Some f) v ++ ps) (sym (open_after bound settled v f (ltb v.number instant) (bytes_eq v.key f.key)))
   where
-    late : (is_settled settled v ≡ true) ⊎ (instant ≤ v.number) → (is_settled settled v ≡ true) ⊎ (ltb v.number instant ≡ false)
-    late (inl s) = inl s
-    late (inr l) = inr (le-ltb v.number instant l)
-
     other : (is_settled settled v ≡ true) ⊎ (is_settled settled v ≡ false) → bytes_eq v.key f.key ≡ false → is_settled settled f ≡ false
     other (inl s) e = settled_other settled v f s e
     other (inr s) e = stays f refl s

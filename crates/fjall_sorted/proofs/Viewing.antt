@@ -63,6 +63,7 @@ newest_within test key instant (v ∷ vs) = by (is_seen key instant v) refl (tes
 
 -- ---- all keys
 
+-- From the start.
 pub forward : (instant : ℕ) (clears : List ℕ) (range : KeyRange) (versions : List Entry) (pairs : Pairs) → OnceEach versions
     → IsView instant clears versions pairs
     → pairs_of instant (barrier instant clears) None (entries_within range (sorted versions)) ≡ pairs_between range pairs
@@ -99,6 +100,7 @@ forward instant clears range versions pairs once view =
         ∙ inside key (is_within range key)
         ∙ sym (get-retain_keys pairs (is_within range) key (λ x e. ap (is_within range) (sym (tied key x e))))
 
+-- From behind.
 pub back : (instant : ℕ) (clears : List ℕ) (range : KeyRange) (versions : List Entry) (pairs : Pairs) → OnceEach versions
     → IsView instant clears versions pairs
     → pairs_back instant (barrier instant clears) None (reverse (entries_within range (sorted versions))) ≡ reverse (pairs_between range pairs)
