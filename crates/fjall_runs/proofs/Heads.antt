@@ -14,7 +14,7 @@ use Rattle.fjall_table.specs.declared.table_entry.TableEntry.{TableEntry}
 use Rattle.fjall_memtable.specs.Stamps.{stamp_cmp, stamp_total}
 use Rattle.fjall_memtable.specs.Entries.{stamp_of}
 use Rattle.fjall_memtable.proofs.Fronts.{less}
-use Rattle.fjall_sorted.specs.Sorted.{IsFirst, IsFirstOf, IsUpTo, IsUpToFirst}
+use Rattle.fjall_sorted.specs.Sorted.{IsFirst, IsUpTo, IsUpToFirst}
 use Rattle.fjall_runs.specs.Heads.{ComesBefore, HasFirst}
 
 -- ---- the order
@@ -93,17 +93,23 @@ none_before back v runs h = All-weaker-here
 -- one that has no version
 pub empty_more : (back : Bool) (runs : List (List Entry)) (run : List Entry) (best : Option (ℕ × TableEntry)) → None ≡ slice_get run 0 → HasFirst back runs best → HasFirst back (runs ++ run ∷ []) best
 empty_more back runs run None e has = All-push (λ r. r ≡ []) runs run has (nothing_headed run e)
-empty_more back runs run (Some first) e has = (has.0, record {
-  here = get_before runs (run ∷ []) first.0 (seen first.1 ∷ has.0) has.1.here;
-  first = All-push (IsUpToFirst back (seen first.1)) runs run has.1.first (subst (IsUpToFirst back (seen first.1)) (sym (nothing_headed run e)) tt);
-})
+empty_more back runs run (Some first) e has = (
+  has.0,
+  record {
+    here = get_before runs (run ∷ []) first.0 (seen first.1 ∷ has.0) has.1.here;
+    first = All-push (IsUpToFirst back (seen first.1)) runs run has.1.first (subst (IsUpToFirst back (seen first.1)) (sym (nothing_headed run e)) tt);
+  },
+)
 
 begins : (back : Bool) (runs : List (List Entry)) (run : List Entry) (at : ℕ) (w : TableEntry) → at ≡ length runs → Some (seen w) ≡ slice_get run 0 → All (IsUpToFirst back (seen w)) runs → HasFirst back (runs ++ run ∷ []) (Some (at, w))
 begins back runs run at w is e each =
-    let h = headed run (seen w) e in (h.0, record {
-      here = ap (λ (i : ℕ). slice_get (runs ++ run ∷ []) i) is ∙ get_last runs run ∙ ap Some h.1;
-      first = All-push (IsUpToFirst back (seen w)) runs run each (subst (IsUpToFirst back (seen w)) (sym h.1) (up_to_itself back (seen w)));
-    })
+    let h = headed run (seen w) e in (
+      h.0,
+      record {
+        here = ap (λ (i : ℕ). slice_get (runs ++ run ∷ []) i) is ∙ get_last runs run ∙ ap Some h.1;
+        first = All-push (IsUpToFirst back (seen w)) runs run each (subst (IsUpToFirst back (seen w)) (sym h.1) (up_to_itself back (seen w)));
+      },
+    )
 
 -- one that has the first version
 pub first_found : (back : Bool) (runs : List (List Entry)) (run : List Entry) (at : ℕ) (w : TableEntry) → at ≡ length runs → Some (seen w) ≡ slice_get run 0 → HasFirst back runs None → HasFirst back (runs ++ run ∷ []) (Some (at, w))
@@ -119,10 +125,13 @@ nearer_found back runs run at w first is e before has =
 pub farther_found : (back : Bool) (runs : List (List Entry)) (run : List Entry) (w : TableEntry) (first : ℕ × TableEntry) → Some (seen w) ≡ slice_get run 0 → (ComesBefore back (seen w) (seen first.1) → ⊥) → HasFirst back runs (Some first)
     → HasFirst back (runs ++ run ∷ []) (Some first)
 farther_found back runs run w first e behind has =
-    let h = headed run (seen w) e in (has.0, record {
-      here = get_before runs (run ∷ []) first.0 (seen first.1 ∷ has.0) has.1.here;
-      first = All-push (IsUpToFirst back (seen first.1)) runs run has.1.first (subst (IsUpToFirst back (seen first.1)) (sym h.1) (not_before back (seen w) (seen first.1) behind));
-    })
+    let h = headed run (seen w) e in (
+      has.0,
+      record {
+        here = get_before runs (run ∷ []) first.0 (seen first.1 ∷ has.0) has.1.here;
+        first = All-push (IsUpToFirst back (seen first.1)) runs run has.1.first (subst (IsUpToFirst back (seen first.1)) (sym h.1) (not_before back (seen w) (seen first.1) behind));
+      },
+    )
 
 -- ---- all runs
 

@@ -1,6 +1,5 @@
 -- Pairs in one text.
-use Rattle.std.proofs.Common.{◌≡◌, ℕ, zero, suc, ◌+◌, ◌<◌, ◌≤◌, List, [], ◌∷◌, ◌++◌, length, take, drop, get_or, refl, sym, ap, subst, ◌∙◌, arith, append_assoc, length-append, length-drop, drop-cons}
-use Rattle.std.specs.List.{sum_by}
+use Rattle.std.proofs.Common.{◌≡◌, ℕ, zero, suc, ◌+◌, ◌<◌, ◌≤◌, List, [], ◌∷◌, ◌++◌, length, take, drop, get_or, refl, sym, ap, subst, ◌∙◌, arith, append_assoc, length-drop, drop-cons}
 use Rattle.std.proofs.lemmas.List.{append-nil, take-append-le, drop-append-le, take_at, drop_at}
 use Rattle.std.proofs.lemmas.List.Sums.{sum_by-cons}
 use Rattle.fjall_base.specs.Pairs.{Bytes}
@@ -68,8 +67,8 @@ cut_more lens text at made rest d cut lt =
     record {
       all = subst (λ (k : ℕ). AreAllOf (drop k lens) (drop len.1 (drop len.0 rest))) next (behind len (drop (suc at) lens) rest (subst (λ (ls : List (ℕ × ℕ)). AreAllOf ls rest) split cut.all));
       told = append_assoc made ((take len.0 rest, take len.1 (drop len.0 rest)) ∷ []) (pairs_in (drop (at + 1) lens) (drop len.1 (drop len.0 rest)))
-        ∙ ap (λ (k : ℕ). made ++ (take len.0 rest, take len.1 (drop len.0 rest)) ∷ pairs_in (drop k lens) (drop len.1 (drop len.0 rest))) (sym next)
-        ∙ ap (λ (ls : List (ℕ × ℕ)). made ++ pairs_in ls rest) (sym split) ∙ cut.told;
+          ∙ ap (λ (k : ℕ). made ++ (take len.0 rest, take len.1 (drop len.0 rest)) ∷ pairs_in (drop k lens) (drop len.1 (drop len.0 rest))) (sym next)
+          ∙ ap (λ (ls : List (ℕ × ℕ)). made ++ pairs_in ls rest) (sym split) ∙ cut.told;
     }
 
 none_left : (lens : List (ℕ × ℕ)) (at : ℕ) → length lens ≤ at → drop at lens ≡ []

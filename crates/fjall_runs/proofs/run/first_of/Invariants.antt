@@ -1,4 +1,4 @@
-use Rattle.std.proofs.Common.{◌≤◌, ◌<◌, IfSome, length, map, take}
+use Rattle.std.proofs.Common.{◌<◌, IfSome, map, take}
 use Rattle.fjall_runs.specs.Heads.{HasFirst}
 use Rattle.fjall_runs.proofs.run.first_of.Given as goal
 

@@ -1,4 +1,4 @@
-use Rattle.std.proofs.Common.{List, ℕ, sym, ap, ◌∙◌, length, ◌++◌, ◌∷◌, []}
+use Rattle.std.proofs.Common.{List, ap, ◌∙◌, ◌++◌, ◌∷◌, []}
 use Rattle.fjall_base.specs.Pairs.{Bytes}
 use Rattle.fjall_runs.specs.Texts.{pairs_in}
 use Rattle.fjall_runs.proofs.Texts.{pairs_pushed}
