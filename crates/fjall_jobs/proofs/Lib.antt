@@ -1,0 +1,6 @@
+pub mod Adding
+pub mod Closing
+pub mod Dues
+pub mod Finishing
+pub mod Parting
+pub mod Rooms

@@ -1,0 +1,7 @@
+//! Flushes and merges: what they are begun with, and what they make of it.
+#![tactic(auto)]
+
+mod made_table;
+mod sequence;
+
+pub use made_table::MadeTable;
