@@ -1,0 +1,4 @@
+pub mod Barriers
+pub mod Ranges
+pub mod Sorting
+pub mod Taking

@@ -1,5 +1,5 @@
 -- Several runs of versions, each in a table's order, gone through as one from either end.
-use Rattle.std.specs.Prelude.{◌≡◌, ℕ, Bool, if◌then◌else◌, List, [], ◌∷◌, reverse, Option, Some, None, slice_get}
+use Rattle.std.specs.Prelude.{◌≡◌, ℕ, Bool, true, false, if◌then◌else◌, List, [], ◌∷◌, reverse, Option, Some, None, slice_get}
 use Rattle.std.specs.List.{flat_map, All}
 use Rattle.fjall_table.specs.Blocks.{Entry, IsBefore, IsOrdered}
 use Rattle.fjall_memtable.specs.Entries.{inserted}
@@ -23,7 +23,8 @@ IsInTurn back run = IsOrdered (in_turn back run)
 
 -- The first doesn't come behind the second as they are gone through.
 abbrev pub IsUpTo : Bool → Entry → Entry → Type 0
-IsUpTo back v w = (if back then IsBefore v w else IsBefore w v) → ⊥
+IsUpTo false v w = IsBefore w v → ⊥
+IsUpTo true v w = IsBefore v w → ⊥
 
 -- the version doesn't come behind the first of a run
 abbrev pub IsUpToFirst : Bool → Entry → List Entry → Type 0
