@@ -1,5 +1,5 @@
 -- What a job keeps of versions in order, by one look back at each; and how it parts them into tables.
-use Rattle.std.specs.Prelude.{◌≡◌, ◌≢◌, ℕ, ◌<◌, ◌≤◌, Bool, false, not, nat_lt, nat_le, ◌&&◌, ◌||◌, if◌then◌else◌, List, [], ◌∷◌, ◌++◌, length, Option, Some, None, IfSome}
+use Rattle.std.specs.Prelude.{◌≡◌, ◌≢◌, ℕ, ◌<◌, ◌≤◌, Bool, false, not, nat_lt, nat_le, ◌&&◌, ◌||◌, if◌then◌else◌, List, [], ◌∷◌, ◌++◌, length, Option, Some, None, IsSomeAnd}
 use Rattle.std.specs.List.{sum_by, All}
 use Rattle.std.specs.Str.{bytes_eq}
 use Rattle.fjall_base.specs.Lists.{last_of}
@@ -36,9 +36,9 @@ kept_of spends watermark bound before (v ∷ versions) =
 abbrev pub size_of_all : List Entry → ℕ
 size_of_all versions = sum_by size_of versions
 
--- The last version's key isn't this one.
+-- There is a last version, and its key isn't this one.
 abbrev pub EndsBefore : List Entry → List ℕ → Type 0
-EndsBefore versions key = IfSome (last_of versions) (λ v. v.key ≢ key)
+EndsBefore versions key = IsSomeAnd (last_of versions) (λ v. v.key ≢ key)
 
 -- A table isn't closed late: where a front of it had reached the target, all behind it is of the front's last key.
 abbrev pub IsClosedInTime : ℕ → List Entry → Type 0

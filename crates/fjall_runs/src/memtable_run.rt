@@ -1,0 +1,70 @@
+//! The versions of a memtable, as a run.
+
+ghost use Rattle.std.specs.Prelude.{◌≡◌, drop, slice_get};
+ghost use Rattle.std.specs.Option.{option_map};
+ghost use Rattle.fjall_table.specs.Blocks.{seen};
+ghost use Rattle.fjall_sorted.specs.Sorted.{in_turn};
+ghost use Rattle.fjall_runs.specs.Heads.{with_head};
+
+use crate::run::Run;
+use fjall_memtable::Versions;
+use fjall_table::TableEntry;
+use std::marker::Model;
+
+/// The versions of a memtable in order, from the start or from behind. Contracts see what is left, the next one first.
+#[derive(Drop)]
+pub struct MemtableRun<'a> {
+    head: Option<TableEntry<'a>>,
+    rest: Versions<'a>,
+    back: bool,
+}
+
+impl<'a> Model for MemtableRun<'a> {
+    ghost use Rattle.std.specs.Prelude.{List};
+    ghost use Rattle.fjall_table.specs.Blocks.{Entry};
+    ghost use Rattle.fjall_sorted.specs.Sorted.{in_turn};
+    ghost use Rattle.fjall_runs.specs.Heads.{with_head};
+
+    ghost Value = { List Entry };
+
+    ghost view = { λ run. with_head run.head (in_turn run.back run.rest) };
+}
+
+// Takes the next version off.
+fn take_next<'a>(versions: &mut Versions<'a>, back: bool) -> Option<TableEntry<'a>>
+    ensures { in_turn back versions.old ≡ with_head result (in_turn back versions.new) }
+{
+    if back {
+        return versions.next_back();
+    }
+    versions.next()
+}
+
+impl<'a> MemtableRun<'a> {
+    /// A run over these versions, from behind where `back` holds.
+    pub fn new(versions: Versions<'a>, back: bool) -> MemtableRun<'a>
+        ensures { result ≡ in_turn back versions.entry }
+    {
+        let mut rest = versions;
+        let head = take_next(&mut rest, back);
+        MemtableRun { head, rest, back }
+    }
+}
+
+impl<'a> Run for MemtableRun<'a> {
+    ghost left = { λ run. run };
+
+    fn first(&self) -> Option<TableEntry<'_>>
+        ensures { option_map seen result ≡ slice_get self.now 0 }
+    {
+        self.head
+    }
+
+    fn pass(&mut self)
+        ensures { self.new ≡ drop 1 self.old }
+    {
+        if self.head.is_some() {
+            self.head = take_next(&mut self.rest, self.back);
+        }
+    }
+}
