@@ -2,5 +2,6 @@ pub mod Adding
 pub mod Closing
 pub mod Dues
 pub mod Finishing
+pub mod Keeping
 pub mod Parting
 pub mod Rooms

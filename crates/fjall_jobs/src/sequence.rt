@@ -111,12 +111,11 @@ impl TableSequence {
 
     /// Adds an entry to the open table.
     fn add(&mut self, entry: &TableEntry<'_>) -> Result<()>
-        requires entry { IsEntry (seen entry.now) }
-        requires order { Follows self.old.writer (seen entry.now) }
+        requires { IsEntry (seen entry.now) }
         ensures ok { (closed : List (List Entry)) → HasRoom self.old closed entry.now.key.now → OnOk result (IsSequence self.new closed) }
         ensures writer { OnOk result (self.new.writer ≡ self.old.writer ++ seen entry.now ∷ []) }
         ensures target { self.new.target ≡ self.old.target }
-        ensures only { IsOkUnless result Error.OutOfMemory }
+        ensures only { Follows self.old.writer (seen entry.now) → IsOkUnless result Error.OutOfMemory }
     {
         self.writer.write(entry)?;
         self.size = self.size.saturating_add(size_of(entry));
@@ -125,15 +124,13 @@ impl TableSequence {
         Ok(())
     }
 
-    /// Adds an entry, which stands behind all before. After an `Err`, which is for want of memory, the sequence is of no more
-    /// use.
+    /// Adds an entry. It stands behind those before it, or is `KeyOrder`. After an `Err` the sequence is of no more use.
     pub(crate) fn write(&mut self, entry: &TableEntry<'_>) -> Result<()>
-        requires entry { IsEntry (seen entry.now) }
-        requires order { Follows self.old.writer (seen entry.now) }
+        requires { IsEntry (seen entry.now) }
         ensures ok { (closed : List (List Entry)) → IsSequence self.old closed
             → OnOk result ((more : List (List Entry)) × IsSequence self.new more × (flat more ++ self.new.writer ≡ (flat closed ++ self.old.writer) ++ seen entry.now ∷ [])) }
         ensures target { self.new.target ≡ self.old.target }
-        ensures only { IsOkUnless result Error.OutOfMemory }
+        ensures only { Follows self.old.writer (seen entry.now) → IsOkUnless result Error.OutOfMemory }
     {
         self.make_room(entry.key)?;
         self.add(entry)
