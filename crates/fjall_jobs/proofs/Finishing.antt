@@ -4,12 +4,8 @@ use Rattle.std.proofs.lemmas.List.{append-nil}
 use Rattle.fjall_table.specs.Blocks.{Entry}
 use Rattle.fjall_sorted.specs.Sorted.{flat}
 use Rattle.fjall_jobs.specs.declared.made_table.MadeTable.{MadeTable}
-use Rattle.fjall_jobs.specs.Sequences.{AreMadeTables, AreParted, with_open}
+use Rattle.fjall_jobs.specs.Sequences.{AreMadeTables, AreParted, Makes, with_open}
 use Rattle.fjall_jobs.proofs.Parting.{flat_more, with_some}
-
--- these tables were made, as they are parted, of all entries
-abbrev pub Makes : Option ℕ → List MadeTable → List Entry → Type 0
-Makes target tables entries = (lists : List (List Entry)) × AreMadeTables tables lists × AreParted target lists × (flat lists ≡ entries)
 
 pub some_apart : (vs : List Entry) → 0 < length vs → vs ≢ []
 some_apart [] some e = omega arith

@@ -3,6 +3,7 @@ use Rattle.std.specs.Prelude.{◌≡◌, ℕ, ◌≤◌, ◌^◌, ◌-◌, List,
 use Rattle.fjall_base.specs.Lists.{last_of}
 use Rattle.fjall_table.specs.Blocks.{Entry}
 use Rattle.fjall_table.specs.Tables.{IsTable}
+use Rattle.fjall_sorted.specs.Sorted.{flat}
 use Rattle.fjall_sorted.specs.Kept.{AreClosedAt, EndsBefore, size_of_all}
 use Rattle.fjall_jobs.specs.declared.sequence.TableSequence.{TableSequence}
 use Rattle.fjall_jobs.specs.declared.made_table.MadeTable.{MadeTable}
@@ -60,3 +61,7 @@ pub record HasRoom (s : TableSequence) (closed : List (List Entry)) (key : List 
   pub made : AreMadeTables s.closed.items closed
   pub size_is : s.size ≡ min (size_of_all s.writer) (2 ^ 64 - 1)
   pub extends : (e : Entry) → e.key ≡ key → AreParted s.target (with_open closed (s.writer ++ e ∷ []))
+
+-- these tables were made, parted as they must be, of these entries
+abbrev pub Makes : Option ℕ → List MadeTable → List Entry → Type 0
+Makes target tables entries = (lists : List (List Entry)) × AreMadeTables tables lists × AreParted target lists × (flat lists ≡ entries)

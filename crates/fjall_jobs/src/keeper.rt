@@ -1,13 +1,18 @@
 //! What a job keeps of its input, one version after another.
 
-ghost use Rattle.std.specs.Prelude.{◌≡◌, ◌∷◌, List, None, OnOk, IsOkUnless};
+ghost use Rattle.std.specs.Prelude.{◌≡◌, ◌∷◌, List, None, IfOk, OnOk, IsOkUnless, false, map};
+ghost use Rattle.std.specs.List.{All, AllByRecursion};
 ghost use Rattle.fjall_table.specs.Blocks.{Entry, IsEntry, IsOrdered, seen};
-ghost use Rattle.fjall_views.specs.Jobs.{is_old_removal};
+ghost use Rattle.fjall_views.specs.Jobs.{OnceEach, is_old_removal};
 ghost use Rattle.fjall_sorted.specs.Kept.{is_behind, is_followed, is_kept};
+ghost use Rattle.fjall_sorted.specs.Sorted.{IsInTurn, flat, sorted};
+ghost use Rattle.fjall_jobs.specs.Sequences.{Makes};
 ghost use Rattle.fjall_jobs.specs.Keeping.{HasLooked, Keeps, before_of, kept_by};
 
+use crate::made_table::MadeTable;
 use crate::sequence::TableSequence;
 use fjall_base::{Error, Result};
+use fjall_runs::{Run, first_of};
 use fjall_table::TableEntry;
 use std::alloc::Global;
 
@@ -112,4 +117,39 @@ impl Keeper {
         self.last_number = Some(version.number);
         Ok(())
     }
+
+    /// Takes the first version off a run.
+    fn take_from<R: Run>(&mut self, run: &mut R) -> Result<()>
+        requires { AllByRecursion IsEntry (R.left run.old) }
+        ensures ok { (v : Entry) (left rest whole : List Entry) → R.left run.old ≡ v ∷ left → Keeps self.old (v ∷ rest) whole → OnOk result (Keeps self.new rest whole × (R.left run.new ≡ left)) }
+        ensures target { self.new.tables.target ≡ self.old.tables.target }
+        ensures only { (v : Entry) (left rest whole : List Entry) → R.left run.old ≡ v ∷ left → Keeps self.old (v ∷ rest) whole → IsOkUnless result Error.OutOfMemory }
+    {
+        let Some(version) = run.first() else {
+            return Ok(());
+        };
+        self.take(&version)?;
+        run.pass();
+        Ok(())
+    }
+}
+
+/// What a rule keeps of the versions of several runs, as tables. It is refused for want of memory alone.
+pub(crate) fn keep<R: Run>(
+    alloc: Global,
+    runs: &mut [R],
+    rule: Rule,
+    target: Option<u64>,
+) -> Result<Vec<MadeTable>>
+    requires ordered { All (IsInTurn false) (map R.left runs.old) }
+    requires once { OnceEach (flat (map R.left runs.old)) }
+    requires entries { AllByRecursion IsEntry (flat (map R.left runs.old)) }
+    ensures made { IfOk result (λ tables. Makes target tables.items (kept_by rule None (sorted (flat (map R.left runs.old))))) }
+    ensures only { IsOkUnless result Error.OutOfMemory }
+{
+    let mut keeper = Keeper::new(alloc, rule, target);
+    'versions: while let Some(at) = first_of(runs, false) {
+        keeper.take_from(&mut runs[at])?;
+    }
+    keeper.tables.finish()
 }
