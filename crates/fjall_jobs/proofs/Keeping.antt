@@ -1,9 +1,11 @@
 -- What is kept of versions that come one by one.
-use Rattle.std.proofs.Common.{◌≡◌, ◌≢◌, ◌∙◌, ◌⊎◌, inl, inr, ℕ, Bool, true, false, List, [], ◌∷◌, ◌++◌, Option, Some, None, IfSome, refl, ap, subst, sym}
+use Rattle.std.proofs.Common.{◌≡◌, ◌≢◌, ◌∙◌, ◌⊎◌, inl, inr, ℕ, Bool, true, false, List, [], ◌∷◌, ◌++◌, Option, Some, None, IfSome, refl, ap, slice_get, subst, sym}
 use Rattle.std.proofs.lemmas.List.{append-nil, append_assoc}
 use Rattle.fjall_base.specs.Lists.{last_of}
 use Rattle.fjall_base.proofs.Lists.{last_behind}
-use Rattle.fjall_table.specs.Blocks.{Entry, IsBefore, IsOrdered}
+use Rattle.std.specs.Option.{option_map}
+use Rattle.fjall_table.specs.declared.table_entry.TableEntry.{TableEntry}
+use Rattle.fjall_table.specs.Blocks.{Entry, IsBefore, IsOrdered, seen}
 use Rattle.fjall_table.specs.Writing.{Follows}
 use Rattle.fjall_table.proofs.BlockParts.{ordered_at}
 use Rattle.fjall_sorted.specs.Kept.{is_kept, kept_of}
@@ -40,3 +42,7 @@ kept_follows rule before written writer rest whole v kept all ordered =
 pub by_stamp : (rule : Rule) (v : Entry) (rest : List Entry) → kept_by rule (Some v) rest ≡ kept_by rule (before_of v.key (Some v.number)) rest
 by_stamp rule v [] = refl
 by_stamp rule v (w ∷ rest) = refl
+
+-- the first version of a run, as it was looked at
+pub first_is : (run : List Entry) (v : Entry) (left : List Entry) (found : Option TableEntry) (e : TableEntry) → option_map seen found ≡ slice_get run 0 → found ≡ Some e → run ≡ v ∷ left → seen e ≡ v
+first_is run v left found e shown is begins = cc (ap (λ (l : List Entry). slice_get l 0) begins, ap (λ (o : Option TableEntry). option_map seen o) is)

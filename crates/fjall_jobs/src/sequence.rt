@@ -37,7 +37,7 @@ pub(crate) struct TableSequence {
 }
 
 impl TableSequence {
-    ghost use Rattle.fjall_jobs.specs.Sequences.{AreMadeTables, AreParted, HasRoom, IsDue, IsSequence};
+    ghost use Rattle.fjall_jobs.specs.Sequences.{AreMadeTables, HasRoom, IsDue, IsSequence, Makes};
 
     pub(crate) fn new(alloc: Global, target: Option<u64>) -> TableSequence
         ensures begun { IsSequence result [] }
@@ -139,7 +139,7 @@ impl TableSequence {
     /// The tables, the open one closed too.
     pub(crate) fn finish(mut self) -> Result<Vec<MadeTable>>
         ensures tables { (closed : List (List Entry)) → IsSequence self closed
-            → IfOk result (λ tables. (lists : List (List Entry)) × AreMadeTables tables.items lists × AreParted self.target lists × (flat lists ≡ flat closed ++ self.writer)) }
+            → IfOk result (λ tables. Makes self.target tables.items (flat closed ++ self.writer)) }
         ensures only { IsOkUnless result Error.OutOfMemory }
     {
         if self.writer.entry_count() > 0 {

@@ -167,14 +167,14 @@ sorted_without true before behind v each =
 -- ---- taking it from its run
 
 -- The version stands among those of some runs, and those of the others are the rest.
-record IsTaken (runs others : List (List Entry)) (v : Entry) : Type 0 where
+pub record IsTaken (runs others : List (List Entry)) (v : Entry) : Type 0 where
   pub before : List Entry
   pub behind : List Entry
   pub were : flat runs ≡ before ++ (v ∷ behind)
   pub are : flat others ≡ before ++ behind
 
 -- where its run begins with it
-taken : (runs : List (List Entry)) (at : ℕ) (v : Entry) (rest : List Entry) → slice_get runs at ≡ Some (v ∷ rest) → IsTaken runs (slice_set runs at rest) v
+pub taken : (runs : List (List Entry)) (at : ℕ) (v : Entry) (rest : List Entry) → slice_get runs at ≡ Some (v ∷ rest) → IsTaken runs (slice_set runs at rest) v
 taken [] at v rest e = absurd cc
 taken (run ∷ runs) zero v rest e =
     let is : run ≡ v ∷ rest = cc in
