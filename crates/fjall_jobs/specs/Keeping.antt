@@ -1,0 +1,31 @@
+-- What a job keeps of its input.
+use Rattle.std.specs.Prelude.{◌≡◌, ℕ, List, ◌++◌, Option, Some, None}
+use Rattle.fjall_table.specs.Blocks.{Entry, IsOrdered}
+use Rattle.fjall_sorted.specs.Kept.{kept_of}
+use Rattle.fjall_sorted.specs.Sorted.{flat}
+use Rattle.fjall_jobs.specs.declared.keeper.Keeper.{Keeper}
+use Rattle.fjall_jobs.specs.declared.keeper.Rule.{Rule}
+use Rattle.fjall_jobs.specs.Sequences.{IsSequence}
+
+-- the version before, of which the key and the number are known; none where there is no number
+abbrev pub before_of : List ℕ → Option ℕ → Option Entry
+before_of key None = None
+before_of key (Some number) = Some (record { key = key; number = number; value = None })
+
+-- what a rule keeps of versions in order, behind that one
+abbrev pub kept_by : Rule → Option Entry → List Entry → List Entry
+kept_by rule before versions = kept_of rule.spends rule.watermark rule.bound before versions
+
+-- What was written, and what is kept of the versions that are still to come, are all of these in order.
+pub record Keeps (k : Keeper) (rest whole : List Entry) : Type 0 where
+  pub closed : List (List Entry)
+  pub sequence : IsSequence k.tables closed
+  pub all : (flat closed ++ k.tables.writer) ++ kept_by k.rule (before_of k.last_key.items k.last_number) rest ≡ whole
+  pub ordered : IsOrdered whole
+
+-- The same, once a version was looked at that isn't yet the one before.
+pub record HasLooked (k : Keeper) (v : Entry) (rest whole : List Entry) : Type 0 where
+  pub closed : List (List Entry)
+  pub sequence : IsSequence k.tables closed
+  pub all : (flat closed ++ k.tables.writer) ++ kept_by k.rule (Some v) rest ≡ whole
+  pub ordered : IsOrdered whole
