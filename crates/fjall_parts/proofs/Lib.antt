@@ -1,0 +1,5 @@
+pub mod Apart
+pub mod Barriers
+pub mod Changes
+pub mod Finds
+pub mod Onces
