@@ -1,5 +1,5 @@
 -- Entries and their places in a text.
-use Rattle.std.proofs.Common.{◌≡◌, ℕ, ◌+◌, ◌<◌, ◌≤◌, ◌^◌, Bool, true, false, List, [], ◌∷◌, ◌++◌, length, take, drop, map, is_some, cond, Option, Some, None, refl, sym, ap, subst, ◌∙◌, append_assoc, add-one, slice_get, arith}
+use Rattle.std.proofs.Common.{◌≡◌, ℕ, zero, suc, get_or, ◌+◌, ◌<◌, ◌≤◌, ◌^◌, Bool, true, false, Result, Ok, Err, IfOk, Vec, Global, List, [], ◌∷◌, ◌++◌, length, take, drop, map, is_some, cond, Option, Some, None, refl, sym, ap, subst, ◌∙◌, append_assoc, add-one, slice_get, arith}
 use Rattle.std.specs.List.{flat_map, AllByRecursion}
 use Rattle.std.proofs.lemmas.List.{length-append, take_at, drop_at, append-nil, drop_all}
 use Rattle.std.proofs.lemmas.List.Concat.{flat_map-cons}
@@ -8,6 +8,8 @@ use Rattle.fjall_base.proofs.Codecs.{length-little}
 use Rattle.fjall_table.specs.Blocks.{Entry, IsEntry, IsBlock, IsOrdered, entry_header, entry_text, payload_of, block_text, type_byte, value_bytes}
 use Rattle.fjall_table.specs.Frame.{framed, headed}
 use Rattle.fjall_base.specs.Check.{check}
+use Rattle.fjall_base.specs.declared.error.Error.{Error}
+use Rattle.fjall_table.specs.TableReading.{IsBlockFrom}
 use Rattle.fjall_table.proofs.TableBlocks.{drop_got}
 use Rattle.fjall_blocks.specs.declared.place.EntryPlace.{EntryPlace}
 use Rattle.fjall_blocks.specs.Places.{ArePlaced, end_of, entries_in, entry_in, key_at, place_of, places_from, value_at}
@@ -144,3 +146,20 @@ placing_more from es places next n e p h = record {
 
 pub placing_done : (from : ℕ) (es : List Entry) (places : List EntryPlace) (next n : ℕ) → Placing from es places next n → length es ≤ n → places ≡ places_from from es
 placing_done from es places next n p le = sym (append-nil places) ∙ ap (λ (v : List Entry). places ++ places_from next v) (sym (drop_all n es le)) ∙ p.all
+
+pub got_or : {A B : Type 0} (f : A → B) (xs : List A) (i : ℕ) (d : A) → i < length xs → slice_get (map f xs) i ≡ Some (f (get_or xs i d))
+got_or f [] i d lt = absurd (omega arith)
+got_or f (x ∷ xs) zero d lt = refl
+got_or f (x ∷ xs) (suc i) d lt = got_or f xs i d (omega arith)
+
+pub room_less : (from : ℕ) (es : List Entry) (places : List EntryPlace) (next n : ℕ) (e : Entry) → Placing from es places next n → slice_get es n ≡ Some e → from + length (payload_of es) < 2 ^ 64 → end_of (place_of next e) < 2 ^ 64
+room_less from es places next n e p h lt = omega (arith, room_for from es places next n e p h, lt)
+
+-- what was decoded is the block that the text is of
+pub places_block : (key text : List ℕ) (vs : List Entry) (r : Result (Vec EntryPlace Global) Error) → IsBlockFrom key text vs → IfOk r (λ ps. ps.items ≡ places_from 8 vs) → IfOk r (λ ps. IsBlockFrom key text (entries_in text ps.items))
+places_block key text vs (Ok ps) is at = subst (λ (ws : List Entry). IsBlockFrom key text ws) (sym (ap (entries_in text) at ∙ block_entries text vs is.text)) is
+places_block key text vs (Err e) is at = tt
+
+pub places_placed : (key text : List ℕ) (vs : List Entry) (r : Result (Vec EntryPlace Global) Error) → IsBlockFrom key text vs → IfOk r (λ ps. ps.items ≡ places_from 8 vs) → IfOk r (λ ps. ArePlaced text ps.items)
+places_placed key text vs (Ok ps) is at = subst (λ (qs : List EntryPlace). ArePlaced text qs) (sym at) (block_placed text vs is.is is.text)
+places_placed key text vs (Err e) is at = tt

@@ -203,3 +203,8 @@ span_within range hs from to blocks are same up low high le =
   where
     back : (from to : ℕ) → from ≤ to → from + (to - from) ≡ to
     back from to le = omega arith
+
+pub last_within : (end : Bound Bytes) (hs : List Handle) → last_block end hs ≤ length hs
+last_within (Included key) hs = filter_len (λ (h : Handle). is_le (byte_order h.first_key key)) hs
+last_within (Excluded key) hs = filter_len (λ (h : Handle). is_le (byte_order h.first_key key)) hs
+last_within Unbounded hs = omega arith
