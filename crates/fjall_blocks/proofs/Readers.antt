@@ -1,5 +1,5 @@
 -- Readers of tables: what they keep, and what they find.
-use Rattle.std.proofs.Common.{◌≡◌, ℕ, zero, suc, ◌+◌, ◌-◌, ◌<◌, ◌≤◌, Bool, IsTrue, List, [], ◌∷◌, ◌++◌, length, take, drop, map, set, slice_get, Option, Some, None, IfSome, Result, Ok, Err, IfOk, IfErr, refl, sym, ap, subst, ◌∙◌, arith, ◌⊎◌, inl, inr}
+use Rattle.std.proofs.Common.{◌≡◌, ℕ, zero, suc, ◌+◌, ◌-◌, ◌<◌, ◌≤◌, Bool, IsTrue, List, [], ◌∷◌, ◌++◌, length, take, drop, map, set, slice_get, Option, Some, None, IfSome, Result, Ok, Err, IfOk, IfErr, refl, sym, ap, subst, ◌∙◌, arith, ◌⊎◌, inl, inr, ◌&&◌, true, false, get_or, replicate, nat_lt}
 use Rattle.std.proofs.lemmas.List.{append-nil, take_all}
 use Rattle.std.proofs.lemmas.List.Elements.{filter-append}
 use Rattle.fjall_base.specs.Disk as disk
@@ -10,9 +10,15 @@ use Rattle.fjall_table.specs.Blocks.{Entry}
 use Rattle.fjall_table.specs.Tables.{Handle, Ascend, HasIndex, entries_of, handles_of, versions_at}
 use Rattle.fjall_table.specs.TableReading.{blocks_below, blocks_up_to}
 use Rattle.fjall_table.specs.Files.{AllServed, HoldsBlock, HoldsNoBlock, HoldsTable, IsTableOf, bytes_in, entry_at}
-use Rattle.fjall_table.proofs.Lookups.{wanted}
-use Rattle.fjall_table.proofs.TableBlocks.{blocks_in, entries_joined, more_taken, parts_of, read_is, some_at, stands_at, table_has}
-use Rattle.fjall_blocks.specs.Readers.{HoldsAWrongBlock, IsSameTable, IsTableBut, LooksOn, Reader, Reads, ReadsBlocks, keeping}
+use Rattle.std.specs.Option.{option_map}
+use Rattle.std.specs.Str.{bytes_eq}
+use Rattle.std.proofs.lemmas.Bool.{cases_Bool}
+use Rattle.std.proofs.lemmas.List.{length-map}
+use Rattle.std.proofs.lemmas.Slice.Eq.{bytes_eq-Decides}
+use Rattle.fjall_table.proofs.TableReading.{got, got_map}
+use Rattle.fjall_table.proofs.Lookups.{fails, wanted}
+use Rattle.fjall_table.proofs.TableBlocks.{blocks_in, entries_joined, more_taken, one_index, parts_of, read_is, some_at, stands_at, table_has}
+use Rattle.fjall_blocks.specs.Readers.{HoldsAWrongBlock, IsReader, IsSameTable, IsTableBut, LooksOn, Reader, Reads, ReadsBlocks, keeping, none_kept, unread}
 use Rattle.fjall_blocks.proofs.Spans.{BlockOf, block_of, versions_before, versions_behind}
 
 -- ---- a table all of whose blocks are right
@@ -35,7 +41,7 @@ but_none entry info entries file is =
 
 -- ---- a call that only looks at a disk
 
-still : (honest : Bool) (old new : Meaning) → LooksOn honest old new → IsTrue honest → state_in new ≡ state_in old
+pub still : (honest : Bool) (old new : Meaning) → LooksOn honest old new → IsTrue honest → state_in new ≡ state_in old
 still honest old new looks t = (looks.same t).state
 
 took_none : (old mid new : Meaning) → Took old mid [] → Took mid new [] → Took old new []
@@ -166,3 +172,57 @@ wrong_at old mid before after at same table lt none =
     let holds = subst (λ (o : Option Handle). IfSome o (HoldsNoBlock (entry_at mid after.name))) g.1 none in
     let there : entry_at mid after.name ≡ entry_at old before.name = ap (λ (s : State). (s after.name).now) same ∙ ap (λ (n : disk.Name). entry_at old n) table.name in
     (at, g.0, ap (λ (hs : List Handle). slice_get hs at) (sym table.handles) ∙ g.1, subst (λ (e : disk.Entry). HoldsNoBlock e g.0) there holds)
+
+-- ---- what is kept at a place
+
+pub kept_here : {A : Type 0} (f : A → List Entry) (t : Reader) (items : List (Option A)) (at : ℕ) (o : Option A) (x : A) → map (option_map f) items ≡ t.kept → length t.kept ≡ length t.handles → at < length t.handles → o ≡ get_or items at o → o ≡ Some x → slice_get t.kept at ≡ Some (Some (f x))
+kept_here f t items at o x view count lt here is =
+    ap (λ (k : List (Option (List Entry))). slice_get k at) (sym view)
+    ∙ got_map (option_map f) items at o (got items at o (omega (arith, lt, count, ap length view, length-map items (option_map f))) here)
+    ∙ ap (λ (p : Option _). just (option_map f p)) is
+
+pub none_is : {A : Type 0} (f : A → List Entry) (hs : List Handle) (n : ℕ) → n ≡ length hs → map (option_map f) (replicate n None) ≡ none_kept hs
+none_is f hs n e = ap (λ (k : ℕ). map (option_map f) (replicate k None)) e ∙ go hs
+  where
+    go : (hs : List Handle) → map (option_map f) (replicate (length hs) None) ≡ none_kept hs
+    go [] = refl
+    go (h ∷ hs) = ap (λ (k : List (Option (List Entry))). None ∷ k) (go hs)
+
+none_got : (hs : List Handle) (at : ℕ) (vs : List Entry) → slice_get (none_kept hs) at ≡ Some (Some vs) → ⊥
+none_got [] at vs e = absurd cc
+none_got (h ∷ hs) zero vs e = absurd cc
+none_got (h ∷ hs) (suc at) vs e = none_got hs at vs e
+
+-- a table that was opened is read
+pub reads_new : (disk : Meaning) (t : Reader) (entries : List Entry) → t ≡ unread t.name t.info t.handles → HoldsTable (entry_at disk t.name) t.info t.handles → IsTableOf t.info (bytes_in (entry_at disk t.name)) entries → Reads disk t entries
+reads_new disk t entries is holds table =
+    let b = but_none (entry_at disk t.name) t.info entries holds.file table in
+    record {
+      blocks = b.0;
+      all = b.1;
+      reads = record {
+        table = b.2;
+        index = (one_index (bytes_in (entry_at disk t.name)) t.handles (handles_of 0 b.0) t.info.entry_count t.info.entry_count holds.is.index b.2.index).0;
+        kept = λ at vs e. absurd (none_got t.handles at vs (ap (λ (u : Reader). slice_get u.kept at) (sym is) ∙ e));
+      };
+    }
+
+-- the first version of a key has that key
+pub key_found : (key : List ℕ) (instant : ℕ) (es : List Entry) (e : Entry) → slice_get (versions_at key instant es) 0 ≡ Some e → e.key ≡ key
+key_found key instant [] e h = absurd cc
+key_found key instant (x ∷ xs) e h =
+    elim (cases_Bool (wanted key instant x)) [
+      | inr f ↦ key_found key instant xs e (ap (λ (v : List Entry). slice_get v 0) (sym (fails (wanted key instant) x xs f)) ∙ h)
+      | inl t ↦
+          let head : versions_at key instant (x ∷ xs) ≡ x ∷ versions_at key instant xs = rw t refl in
+          let same : x ≡ e = some_is x e (ap (λ (v : List Entry). slice_get v 0) (sym head) ∙ h) in
+          ap (λ (y : Entry). y.key) (sym same) ∙ (bytes_eq-Decides x.key key).0 (left (bytes_eq x.key key) (nat_lt x.number instant) t)
+    ]
+  where
+    left : (b c : Bool) → (b && c) ≡ true → b ≡ true
+    left true c t = refl
+    left false c t = absurd cc
+
+-- a reader that keeps nothing is one
+pub is_unread : (name : disk.Name) (info : TableInfo) (handles : List Handle) → Ascend handles → IsReader (unread name info handles)
+is_unread name info handles up = record { count = length-map handles (λ h. let o : Option (List Entry) = None in o); ascend = up }
