@@ -55,8 +55,8 @@ fn no_blocks(alloc: Global, count: usize) -> Result<Vec<Option<Arc<Block, Global
 }
 
 /// Keeps none of these.
-fn clear(blocks: &mut [Option<Arc<Block, Global>>])
-    ensures { blocks.new ≡ replicate (length blocks.old) None }
+fn clear(blocks: &mut Vec<Option<Arc<Block, Global>>>)
+    ensures { blocks.new.items ≡ replicate (length blocks.old.items) None }
 {
     for at in 0..blocks.len() {
         blocks[at] = None;

@@ -10,6 +10,6 @@ use Rattle.fjall_blocks.proofs.table_reader.TableReader.drop_blocks.Goals as goa
 pub returns : goal.returns
 returns c =
     let f = c.self.inside.file in
-    let count : length c.deref_mut.result.now ≡ length (handles_in f) = omega (arith, c.self.invariant.count, length-map c.self.inside.blocks.items (option_map (λ b. b.value)), ap length c.deref_mut.ensures.value) in
-    ap (λ (k : List (Option (List Entry))). let t : Reader = record { name = name_of f; info = f.info; handles = handles_in f; kept = k } in t) (ap (map (option_map (λ b. b.value))) c.clear.ensures ∙ none_is (λ b. b.value) (handles_in f) (length c.deref_mut.result.now) count)
+    let count : length c.self.inside.blocks.items ≡ length (handles_in f) = omega (arith, c.self.invariant.count, length-map c.self.inside.blocks.items (option_map (λ b. b.value))) in
+    ap (λ (k : List (Option (List Entry))). let t : Reader = record { name = name_of f; info = f.info; handles = handles_in f; kept = k } in t) (ap (map (option_map (λ b. b.value))) c.clear.ensures ∙ none_is (λ b. b.value) (handles_in f) (length c.self.inside.blocks.items) count)
     ∙ ap (λ (t : Reader). unread t.name t.info t.handles) c.self.view_is

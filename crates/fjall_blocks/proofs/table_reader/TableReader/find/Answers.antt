@@ -29,7 +29,7 @@ returns-in_err-block-clause-refused g c honest entries r =
     let f = c.loop-at.invariant in
     let l = last_within (Included c.args.key.now) (handles_in c.self.inside.file) in
     let lt : c.loop-at.at < length c.loop-at.self.handles = omega (arith, l, c.loop-at-test.true, c.span-span.ensures.end, ap (λ (t : Reader). length t.handles) c.self.view_is, ap length f.table.handles) in
-    rw is (refused_later _ _ _ _ _ c.in_err-block.field-0.0 f.disk.later c.in_err-block.ensures.disk.later (wrong_at _ _ c.args.self.now c.loop-at.self c.loop-at.at (still _ _ _ f.disk honest) f.table lt) (c.in_err-block.ensures.refused honest r.blocks (f.reads honest r.blocks r.reads)))
+    rw is (refused_later _ _ _ _ _ c.in_err-block.field-0.0 f.disk.later c.in_err-block.ensures.disk.later (wrong_at (g.D.Disk.meaning c.args.disk.now) (g.D.Disk.meaning c.loop-at.disk) c.args.self.now c.loop-at.self c.loop-at.at (still g.D.Disk.honest (g.D.Disk.meaning c.args.disk.now) (g.D.Disk.meaning c.loop-at.disk) f.disk honest) f.table lt) (c.in_err-block.ensures.refused honest r.blocks (f.reads honest r.blocks r.reads)))
 
 pub returns-in-Some-clause-found : goal.returns-in-Some-clause-found
 returns-in-Some-clause-found g c honest entries r =
