@@ -1,18 +1,18 @@
 -- Entries and their places in a text.
-use Rattle.std.proofs.Common.{◌≡◌, ℕ, zero, suc, get_or, ◌+◌, ◌<◌, ◌≤◌, ◌^◌, Bool, true, false, Result, Ok, Err, IfOk, Vec, Global, List, [], ◌∷◌, ◌++◌, length, take, drop, map, is_some, cond, Option, Some, None, refl, sym, ap, subst, ◌∙◌, append_assoc, add-one, slice_get, arith}
-use Rattle.std.specs.List.{flat_map, AllByRecursion}
+use Rattle.std.proofs.Common.{◌≡◌, ℕ, zero, suc, get_or, ◌+◌, ◌<◌, ◌≤◌, ◌^◌, Result, Ok, Err, IfOk, Vec, Global, List, [], ◌∷◌, ◌++◌, length, take, drop, map, is_some, cond, Option, Some, None, refl, sym, ap, subst, ◌∙◌, append_assoc, add-one, slice_get, arith}
+use Rattle.std.specs.List.{AllByRecursion}
 use Rattle.std.proofs.lemmas.List.{length-append, take_at, drop_at, append-nil, drop_all}
 use Rattle.std.proofs.lemmas.List.Concat.{flat_map-cons}
 use Rattle.byteorder.specs.Endian.{little_bytes}
 use Rattle.fjall_base.proofs.Codecs.{length-little}
-use Rattle.fjall_table.specs.Blocks.{Entry, IsEntry, IsBlock, IsOrdered, entry_header, entry_text, payload_of, block_text, type_byte, value_bytes}
-use Rattle.fjall_table.specs.Frame.{framed, headed}
+use Rattle.fjall_table.specs.Blocks.{Entry, IsBlock, IsOrdered, entry_header, entry_text, payload_of, block_text, type_byte, value_bytes}
+use Rattle.fjall_table.specs.Frame.{headed}
 use Rattle.fjall_base.specs.Check.{check}
 use Rattle.fjall_base.specs.declared.error.Error.{Error}
 use Rattle.fjall_table.specs.TableReading.{IsBlockFrom}
 use Rattle.fjall_table.proofs.TableBlocks.{drop_got}
 use Rattle.fjall_blocks.specs.declared.place.EntryPlace.{EntryPlace}
-use Rattle.fjall_blocks.specs.Places.{ArePlaced, end_of, entries_in, entry_in, key_at, place_of, places_from, value_at}
+use Rattle.fjall_blocks.specs.Places.{ArePlaced, end_of, entries_in, entry_in, key_at, place_of, places_from}
 
 -- fifteen bytes stand before a key
 header_len : (a b c d : ℕ) → length (entry_header a b c d) ≡ 15

@@ -1,6 +1,6 @@
 -- Readers of tables: what they keep, and what they find.
-use Rattle.std.proofs.Common.{◌≡◌, ℕ, zero, suc, ◌+◌, ◌-◌, ◌<◌, ◌≤◌, Bool, IsTrue, List, [], ◌∷◌, ◌++◌, length, take, drop, map, set, slice_get, Option, Some, None, IfSome, Result, Ok, Err, IfOk, IfErr, refl, sym, ap, subst, ◌∙◌, arith, ◌⊎◌, inl, inr, ◌&&◌, true, false, get_or, replicate, nat_lt}
-use Rattle.std.proofs.lemmas.List.{append-nil, take_all}
+use Rattle.std.proofs.Common.{◌≡◌, ℕ, zero, suc, ◌+◌, ◌-◌, ◌<◌, ◌≤◌, Bool, IsTrue, List, [], ◌∷◌, ◌++◌, length, take, drop, map, set, slice_get, Option, Some, None, IfSome, refl, sym, ap, subst, ◌∙◌, arith, ◌⊎◌, inl, inr, ◌&&◌, true, false, get_or, replicate, nat_lt}
+use Rattle.std.proofs.lemmas.List.{append-nil}
 use Rattle.std.proofs.lemmas.List.Elements.{filter-append}
 use Rattle.fjall_base.specs.Disk as disk
 use Rattle.fjall_base.specs.Disk.{IsFile, Meaning, State, Took, state_in}
@@ -9,7 +9,7 @@ use Rattle.fjall_table.specs.declared.table_info.TableInfo.{TableInfo}
 use Rattle.fjall_table.specs.Blocks.{Entry}
 use Rattle.fjall_table.specs.Tables.{Handle, Ascend, HasIndex, entries_of, handles_of, versions_at}
 use Rattle.fjall_table.specs.TableReading.{blocks_below, blocks_up_to}
-use Rattle.fjall_table.specs.Files.{AllServed, HoldsBlock, HoldsNoBlock, HoldsTable, IsTableOf, bytes_in, entry_at}
+use Rattle.fjall_table.specs.Files.{HoldsBlock, HoldsNoBlock, HoldsTable, IsTableOf, bytes_in, entry_at}
 use Rattle.std.specs.Option.{option_map}
 use Rattle.std.specs.Str.{bytes_eq}
 use Rattle.std.proofs.lemmas.Bool.{cases_Bool}
@@ -19,7 +19,7 @@ use Rattle.fjall_table.proofs.TableReading.{got, got_map}
 use Rattle.fjall_table.proofs.Lookups.{fails, wanted}
 use Rattle.fjall_table.proofs.TableBlocks.{blocks_in, entries_joined, more_taken, one_index, parts_of, read_is, some_at, stands_at, table_has}
 use Rattle.fjall_blocks.specs.Readers.{HoldsAWrongBlock, IsReader, IsSameTable, IsTableBut, LooksOn, Reader, Reads, ReadsBlocks, keeping, none_kept, unread}
-use Rattle.fjall_blocks.proofs.Spans.{BlockOf, block_of, versions_before, versions_behind}
+use Rattle.fjall_blocks.proofs.Spans.{block_of, versions_before, versions_behind}
 
 -- ---- a table all of whose blocks are right
 
@@ -29,15 +29,18 @@ but_none entry info entries file is =
     let bytes = bytes_in entry in
     let o = blocks_in bytes entries t in
     let count : info.entry_count ≡ length (entries_of t.blocks) = is.count ∙ ap length t.all in
-    let index = table_has bytes t.blocks t.are t.text t.fits in
-    (t.blocks, t.all, record {
-      file = file;
-      len = is.len;
-      are = t.are;
-      count = count;
-      index = subst (λ (n : ℕ). HasIndex bytes (handles_of 0 t.blocks) n) (sym count) index;
-      right = λ at h block vs hh hb holds. some_is vs block (sym (read_is bytes t.blocks at h vs o (stands_at bytes (handles_of 0 t.blocks) (length (entries_of t.blocks)) t.blocks at h index o hh) holds) ∙ hb);
-    })
+    let index = table_has bytes t.blocks t.are t.text t.fits in (
+      t.blocks,
+      t.all,
+      record {
+        file = file;
+        len = is.len;
+        are = t.are;
+        count = count;
+        index = subst (λ (n : ℕ). HasIndex bytes (handles_of 0 t.blocks) n) (sym count) index;
+        right = λ at h block vs hh hb holds. some_is vs block (sym (read_is bytes t.blocks at h vs o (stands_at bytes (handles_of 0 t.blocks) (length (entries_of t.blocks)) t.blocks at h index o hh) holds) ∙ hb);
+      },
+    )
 
 -- ---- a call that only looks at a disk
 

@@ -1,6 +1,5 @@
 -- Which blocks of a table may hold some keys.
-use Rattle.std.proofs.Common.{◌≡◌, ◌≢◌, ℕ, zero, suc, ◌+◌, ◌-◌, ◌<◌, ◌≤◌, Bool, true, false, not, ◌&&◌, nat_lt, min, List, [], ◌∷◌, ◌++◌, length, take, drop, filter, slice_get, Option, Some, refl, sym, ap, subst, ◌∙◌, arith, inl, inr}
-use Rattle.std.specs.List.{AllByRecursion}
+use Rattle.std.proofs.Common.{◌≡◌, ◌≢◌, ℕ, zero, suc, ◌+◌, ◌-◌, ◌≤◌, Bool, true, false, not, ◌&&◌, nat_lt, List, [], ◌∷◌, ◌++◌, length, take, drop, filter, slice_get, Some, refl, sym, ap, subst, ◌∙◌, arith, inl, inr}
 use Rattle.std.specs.Str.{bytes_eq}
 use Rattle.std.specs.Ordering.{is_lt, is_le, ordering_reverse}
 use Rattle.std.specs.declared.cmp.Ordering.{Ordering}
@@ -15,7 +14,7 @@ use Rattle.std.proofs.lemmas.List.Concat.{flat_map-cons}
 use Rattle.std.proofs.lemmas.List.Elements.{filter-append}
 use Rattle.std.proofs.lemmas.Slice.Eq.{bytes_eq-Decides}
 use Rattle.fjall_base.specs.Pairs.{Bytes, KeyRange, byte_order, is_within}
-use Rattle.fjall_base.proofs.Codecs.{just, some_is}
+use Rattle.fjall_base.proofs.Codecs.{some_is}
 use Rattle.fjall_table.specs.Blocks.{Entry, block_text, IsBlock, IsOrdered}
 use Rattle.fjall_table.specs.Tables.{Handle, AreBlocks, Ascend, entries_of, entries_within, first_key, handles_of, versions_at}
 use Rattle.fjall_table.specs.TableReading.{blocks_below, blocks_up_to}

@@ -1,7 +1,5 @@
-use Rattle.std.proofs.Common.{◌≡◌, ◌∙◌, sym, ap, subst, filter, length, arith, Option, IfSome, Bool}
-use Rattle.fjall_table.specs.Blocks.{Entry}
+use Rattle.std.proofs.Common.{arith}
 use Rattle.fjall_table.proofs.Lookups.{filter_len}
-use Rattle.fjall_table.proofs.TableBlocks.{some_at}
 use Rattle.fjall_blocks.specs.Ahead.{stands_ahead}
 use Rattle.fjall_blocks.proofs.Searches.{search_up, search_down}
 use Rattle.fjall_blocks.proofs.block.Block.count_ahead.Goals as goal

@@ -1,4 +1,4 @@
-use Rattle.std.proofs.Common.{◌-◌, ◌≤◌, filter, length}
+use Rattle.std.proofs.Common.{◌-◌, filter, length}
 use Rattle.fjall_blocks.specs.Ahead.{stands_ahead}
 use Rattle.fjall_blocks.proofs.Searches.{Searching}
 use Rattle.fjall_blocks.proofs.block.Block.count_ahead.Given as goal

@@ -1,4 +1,4 @@
-use Rattle.std.proofs.Common.{◌≡◌, ◌∙◌, arith, rules, sym}
+use Rattle.std.proofs.Common.{◌≡◌, arith, rules, sym}
 use Rattle.fjall_table.specs.Blocks.{seen}
 use Rattle.fjall_blocks.proofs.Searches.{newest_here, newest_not, newest_none}
 use Rattle.fjall_blocks.proofs.block.Block.newest.Goals as goal

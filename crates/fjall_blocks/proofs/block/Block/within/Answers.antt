@@ -1,4 +1,4 @@
-use Rattle.std.proofs.Common.{◌≡◌, ◌∙◌, ◌-◌, ap, arith, drop, length, max, ℕ, take}
+use Rattle.std.proofs.Common.{◌≡◌, ◌∙◌, ◌-◌, ap, arith, drop, max, ℕ, take}
 use Rattle.fjall_base.specs.Pairs.{key_range}
 use Rattle.fjall_table.proofs.Lookups.{filter_len}
 use Rattle.fjall_blocks.specs.Ahead.{before_start, up_to_end}

@@ -1,8 +1,8 @@
-use Rattle.std.proofs.Common.{Some, ap, arith, length, subst, sym, ◌∙◌, ◌≡◌, ◌<◌, List}
+use Rattle.std.proofs.Common.{ap, arith, length, subst, sym, ◌∙◌, ◌<◌, List}
 use Rattle.fjall_base.proofs.Codecs.{just}
 use Rattle.fjall_table.specs.Blocks.{Entry}
 use Rattle.fjall_table.specs.Files.{handles_in}
-use Rattle.fjall_blocks.specs.Readers.{IsReader, Reader, ReadsBlocks, keeping}
+use Rattle.fjall_blocks.specs.Readers.{IsReader, Reader, ReadsBlocks}
 use Rattle.fjall_blocks.proofs.Readers.{kept_here, kept_too, read_right, reads_on}
 use Rattle.fjall_blocks.proofs.table_reader.TableReader.block.Goals as goal
 

@@ -1,4 +1,4 @@
-use Rattle.std.proofs.Common.{Err, List, None, Option, Some, ap, arith, length, rules, slice_get, subst, sym, ◌∙◌, ◌≡◌, ◌<◌, ◌-◌}
+use Rattle.std.proofs.Common.{Err, List, None, ap, arith, length, rules, slice_get, subst, sym, ◌∙◌, ◌≡◌, ◌<◌, ◌-◌}
 use Rattle.std.specs.Option.{option_map}
 use Rattle.std.specs.declared.ops.Bound.TheVariants.{Included}
 use Rattle.fjall_base.proofs.Codecs.{just}

@@ -1,10 +1,9 @@
-use Rattle.std.proofs.Common.{List, Option, ap, arith, length, map, subst, sym, ◌∙◌, ◌≡◌}
+use Rattle.std.proofs.Common.{List, Option, ap, map, subst, sym, ◌∙◌}
 use Rattle.std.specs.Option.{option_map}
-use Rattle.std.proofs.lemmas.List.{length-map}
 use Rattle.fjall_table.specs.Blocks.{Entry}
 use Rattle.fjall_table.specs.Files.{handles_in, name_of}
 use Rattle.fjall_table.proofs.Indexes.{is_index}
-use Rattle.fjall_blocks.specs.Readers.{IsReader, Reader, none_kept, unread}
+use Rattle.fjall_blocks.specs.Readers.{IsReader, Reader}
 use Rattle.fjall_blocks.proofs.Readers.{is_unread, none_is, reads_new}
 use Rattle.fjall_blocks.proofs.table_reader.TableReader.new.Goals as goal
 
