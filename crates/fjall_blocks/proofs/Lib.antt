@@ -1,0 +1,4 @@
+pub mod Places
+pub mod Searches
+pub mod Spans
+pub mod Readers

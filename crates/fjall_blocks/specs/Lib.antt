@@ -1,0 +1,5 @@
+pub mod Places
+pub mod Ahead
+pub mod Readers
+pub mod Spans
+pub mod Finds
