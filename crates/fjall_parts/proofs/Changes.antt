@@ -5,7 +5,7 @@ use Rattle.std.specs.Ordering.{match_ordering}
 use Rattle.std.specs.declared.cmp.Ordering.{Ordering}
 use Rattle.std.specs.declared.cmp.Ordering.TheVariants.{Less, Equal, Greater}
 use Rattle.std.proofs.lemmas.List.Elements.{All-nil, All-cons, All-head, All-tail, All-push, All-weaker}
-use Rattle.fjall_table.specs.Blocks.{Entry}
+use Rattle.fjall_table.specs.Blocks.{Entry, IsEntry}
 use Rattle.fjall_memtable.specs.Stamps.{stamp_cmp}
 use Rattle.fjall_memtable.specs.Entries.{inserted, stamp_of}
 use Rattle.fjall_sorted.proofs.Sorting.{chain_of, inserted_chain, ordered_of}
@@ -28,8 +28,9 @@ ascends_push (x ∷ numbers) n low up = (
   ascends_push numbers n (All-tail (λ (m : ℕ). m < n) x numbers low) up.1,
 )
 
-pub version_held : (e : Entry) (h : Held) → IsHeld h → h.from ≤ e.number → e.number < 2 ^ 63 → IsHeld (with_version e h)
-version_held e h held from small = record {
+pub version_held : (e : Entry) (h : Held) → IsEntry e → IsHeld h → h.from ≤ e.number → e.number < 2 ^ 63 → IsHeld (with_version e h)
+version_held e h is held from small = record {
+  each = all_inserted IsEntry e h.versions is held.each;
   ordered = ordered_of (inserted e h.versions) (inserted_chain e h.versions (chain_of h.versions held.ordered));
   bounds = omega arith;
   small = omega arith;
@@ -43,6 +44,7 @@ version_held e h held from small = record {
 
 pub clear_held : (number : ℕ) (h : Held) → IsHeld h → h.from ≤ number → number < 2 ^ 63 → All (λ n. n < number) h.clears → IsHeld (with_clear number h)
 clear_held number h held from small last = record {
+  each = held.each;
   ordered = held.ordered;
   bounds = omega arith;
   small = omega arith;
@@ -56,11 +58,11 @@ clear_held number h held from small last = record {
 
 -- the same of the number where it ends and of the list
 pub version_put : (e : Entry) (h : Held) (until : ℕ) (versions : List Entry) → until ≡ max h.until (e.number + 1) → versions ≡ inserted e h.versions
-    → IsHeld h → h.from ≤ e.number → e.number < 2 ^ 63 → IsHeld (record { from = h.from; until = until; versions = versions; clears = h.clears })
-version_put e h until versions u v held from small =
+    → IsEntry e → IsHeld h → h.from ≤ e.number → e.number < 2 ^ 63 → IsHeld (record { from = h.from; until = until; versions = versions; clears = h.clears })
+version_put e h until versions u v is held from small =
     subst (λ (n : ℕ). IsHeld (record { from = h.from; until = n; versions = versions; clears = h.clears })) (sym u)
     (subst (λ (vs : List Entry). IsHeld (record { from = h.from; until = max h.until (e.number + 1); versions = vs; clears = h.clears })) (sym v)
-    (version_held e h held from small))
+    (version_held e h is held from small))
 
 pub clear_put : (number : ℕ) (h : Held) (until : ℕ) (clears : List ℕ) → until ≡ max h.until (number + 1) → clears ≡ h.clears ++ number ∷ []
     → IsHeld h → h.from ≤ number → number < 2 ^ 63 → All (λ n. n < number) h.clears → IsHeld (record { from = h.from; until = until; versions = h.versions; clears = clears })

@@ -6,7 +6,7 @@ use Rattle.std.proofs.Props.{props}
 use Rattle.std.specs.declared.cmp.Ordering.{Ordering}
 use Rattle.std.specs.declared.cmp.Ordering.TheVariants.{Less, Equal, Greater}
 use Rattle.fjall_base.specs.Pairs.{byte_order}
-use Rattle.fjall_table.specs.Blocks.{Entry, IsOrdered, StandsBefore}
+use Rattle.fjall_table.specs.Blocks.{Entry, IsEntry, IsOrdered, StandsBefore}
 use Rattle.fjall_memtable.specs.Entries.{inserted}
 
 -- What a memtable and its clears hold. All its numbers are at least `from` and below `until`.
@@ -21,8 +21,9 @@ abbrev pub Ascends : List ℕ → Type 0
 Ascends [] = Unit {0}
 Ascends (n ∷ numbers) = All (λ m. n < m) numbers × Ascends numbers
 
--- The versions are in a table's order, the clears ascend, and all numbers lie within the bounds.
+-- The versions are such as tables hold, in their order, the clears ascend, and all numbers lie within the bounds.
 pub record IsHeld (h : Held) : Type 0 where
+  pub each : All IsEntry h.versions
   pub ordered : IsOrdered h.versions
   pub bounds : h.from ≤ h.until
   pub small : h.until ≤ 2 ^ 63
