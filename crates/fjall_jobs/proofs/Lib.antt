@@ -2,6 +2,7 @@ pub mod Adding
 pub mod Closing
 pub mod Dues
 pub mod Finishing
+pub mod Flushing
 pub mod Keeping
 pub mod Looping
 pub mod Parting

@@ -1,2 +1,5 @@
+pub mod Flushes
+pub mod Inputs
 pub mod Keeping
 pub mod Sequences
+pub mod Tasks

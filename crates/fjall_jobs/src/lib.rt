@@ -1,8 +1,11 @@
 //! Flushes and merges: what they are begun with, and what they make of it.
 #![tactic(auto)]
 
+mod bound;
+mod flush_job;
 mod keeper;
 mod made_table;
 mod sequence;
 
+pub use flush_job::FlushJob;
 pub use made_table::MadeTable;

@@ -1,0 +1,6 @@
+use Rattle.std.proofs.Common.{◌≡◌, take}
+use Rattle.fjall_sorted.specs.Pages.{barrier}
+use Rattle.fjall_jobs.proofs.bound.bound_of.Given as goal
+
+abbrev pub invariant-clears : goal.invariant-clears
+invariant-clears l = l.bound ≡ barrier l.instant (take l.number-index l.clears)
