@@ -8,6 +8,7 @@ ghost use Rattle.fjall_parts.specs.Shares.{shared};
 ghost use Rattle.fjall_jobs.specs.Inputs.{runs_of};
 
 use crate::bound::bound_of;
+use crate::flush_made::FlushMade;
 use crate::keeper::{Rule, keep};
 use crate::made_table::MadeTable;
 use fjall_base::{Error, Refused, Result};
@@ -99,5 +100,23 @@ impl FlushJob {
         let mut runs = memtable_runs(alloc, self.parts.as_slice())?;
         let tables = keep(alloc, runs.as_mut_slice(), rule, None)?;
         Ok((tables, clears))
+    }
+
+    /// Makes what stands in its input's place. It takes no disk and no lock. It is refused for want of memory alone, and
+    /// hands the job back then.
+    pub fn run(self, alloc: Global) -> std::result::Result<FlushMade, Refused<FlushJob>>
+        ensures job { IfOk result (λ made. flush_task made.job ≡ flush_task self) }
+        ensures made { IfOk result (λ made. IsFlushed (flush_task self) made.tables.items made.clears.items) }
+        ensures error { IfErr result (λ refused. refused.error ≡ OutOfMemory) }
+        ensures value { IfErr result (λ refused. flush_task refused.value ≡ flush_task self) }
+    {
+        match self.make(alloc) {
+            Ok((tables, clears)) => Ok(FlushMade {
+                job: self,
+                tables,
+                clears,
+            }),
+            Err(error) => Err(Refused { error, value: self }),
+        }
     }
 }

@@ -3,9 +3,11 @@
 
 mod bound;
 mod flush_job;
+mod flush_made;
 mod keeper;
 mod made_table;
 mod sequence;
 
 pub use flush_job::FlushJob;
+pub use flush_made::FlushMade;
 pub use made_table::MadeTable;
