@@ -11,7 +11,7 @@ use Rattle.fjall_jobs.proofs.Parting.{last_key_behind}
 sizes_more : (vs : List Entry) (e : Entry) → size_of_all (vs ++ e ∷ []) ≡ size_of_all vs + size_of e
 sizes_more vs e = omega (arith, sum_by-append size_of vs (e ∷ []))
 
-pub size_grows : (old more new : ℕ) (vs : List Entry) (e : Entry) (ws : List Entry) → old ≡ min (size_of_all vs) (2 ^ 64 - 1) → more ≡ size_of e
+pub size_grows : (old more new : ℕ) (vs : List Entry) (e : Entry) (ws : List Entry) → old ≡ min (size_of_all vs) (2 ^ 64 - 1) → more ≡ min (size_of e) (2 ^ 64 - 1)
     → new ≡ min (old + more) (2 ^ 64 - 1) → ws ≡ vs ++ e ∷ [] → new ≡ min (size_of_all ws) (2 ^ 64 - 1)
 size_grows old more new vs e ws old_is more_is new_is grown =
     let h : size_of_all ws ≡ size_of_all vs + size_of e = ap size_of_all grown ∙ sizes_more vs e in omega arith

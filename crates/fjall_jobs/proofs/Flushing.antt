@@ -19,8 +19,9 @@ use Rattle.fjall_parts.proofs.Apart.{all_held}
 use Rattle.fjall_parts.proofs.Onces.{once_in}
 use Rattle.fjall_jobs.specs.declared.keeper.Rule.{Rule}
 use Rattle.fjall_jobs.specs.declared.made_table.MadeTable.{MadeTable}
+use Rattle.fjall_jobs.proofs.Keeping.{same_runs}
 use Rattle.fjall_jobs.specs.Inputs.{runs_of}
-use Rattle.fjall_jobs.specs.Keeping.{kept_by}
+use Rattle.fjall_jobs.specs.Keeping.{AreSorted, kept_by}
 use Rattle.fjall_jobs.specs.Sequences.{Makes}
 use Rattle.fjall_jobs.specs.Tasks.{IsFlushed, Task}
 
@@ -80,14 +81,14 @@ both : (xs ys : List Entry) → AllByRecursion IsEntry xs → AllByRecursion IsE
 both [] ys a b = b
 both (x ∷ xs) ys a b = (a.0, both xs ys a.1 b)
 
-pub input_entries : (parts : List (Arc Part Global)) → AllByRecursion IsEntry (flat (runs_of parts))
+input_entries : (parts : List (Arc Part Global)) → AllByRecursion IsEntry (flat (runs_of parts))
 input_entries parts = by (shared parts) (recursion_from_All IsHeld (shared parts) (all_held parts))
   where
     by : (hs : List Held) → AllByRecursion IsHeld hs → AllByRecursion IsEntry (flat (map (λ (h : Held). h.versions) hs))
     by [] held = tt
     by (h ∷ hs) held = both h.versions (flat (map (λ (h : Held). h.versions) hs)) (recursion_from_All IsEntry h.versions held.0.each) (by hs held.1)
 
-pub input_ordered : (parts : List (Arc Part Global)) → All (IsInTurn false) (runs_of parts)
+input_ordered : (parts : List (Arc Part Global)) → All (IsInTurn false) (runs_of parts)
 input_ordered parts = by (shared parts) (recursion_from_All IsHeld (shared parts) (all_held parts))
   where
     by : (hs : List Held) → AllByRecursion IsHeld hs → All (IsInTurn false) (map (λ (h : Held). h.versions) hs)
@@ -96,11 +97,12 @@ input_ordered parts = by (shared parts) (recursion_from_All IsHeld (shared parts
 
 -- runs that are seen as what they have left
 pub runs_are : (runs : List (List Entry)) (parts : List (Arc Part Global)) → runs ≡ runs_of parts → map (λ (run : List Entry). run) runs ≡ runs_of parts
-runs_are runs parts is = same runs ∙ is
-  where
-    same : (xs : List (List Entry)) → map (λ (run : List Entry). run) xs ≡ xs
-    same [] = refl
-    same (x ∷ xs) = ap (λ (l : List (List Entry)). x ∷ l) (same xs)
+runs_are runs parts is = same_runs runs ∙ is
+
+-- so a job can go through them
+pub input_sorted : (runs : List (List Entry)) (parts : List (Arc Part Global)) → runs ≡ runs_of parts → AreApart (shared parts) → AreSorted (map (λ (run : List Entry). run) runs)
+input_sorted runs parts is apart =
+    subst AreSorted (sym (runs_are runs parts is)) (record { ordered = input_ordered parts; once = input_once parts apart; entries = input_entries parts })
 
 -- ---- what was made of it
 

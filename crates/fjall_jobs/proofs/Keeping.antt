@@ -1,5 +1,5 @@
 -- What is kept of versions that come one by one.
-use Rattle.std.proofs.Common.{◌≡◌, ◌≢◌, ◌∙◌, ◌⊎◌, inl, inr, ℕ, Bool, true, false, List, [], ◌∷◌, ◌++◌, Option, Some, None, IfSome, refl, ap, slice_get, subst, sym}
+use Rattle.std.proofs.Common.{◌≡◌, ◌≢◌, ◌∙◌, ◌⊎◌, inl, inr, ℕ, Bool, true, false, List, [], ◌∷◌, ◌++◌, Option, Some, None, IfSome, refl, ap, map, slice_get, subst, sym}
 use Rattle.std.proofs.lemmas.List.{append-nil, append_assoc}
 use Rattle.fjall_base.specs.Lists.{last_of}
 use Rattle.fjall_base.proofs.Lists.{last_behind}
@@ -46,3 +46,8 @@ by_stamp rule v (w ∷ rest) = refl
 -- the first version of a run, as it was looked at
 pub first_is : (run : List Entry) (v : Entry) (left : List Entry) (found : Option TableEntry) (e : TableEntry) → option_map seen found ≡ slice_get run 0 → found ≡ Some e → run ≡ v ∷ left → seen e ≡ v
 first_is run v left found e shown is begins = cc (ap (λ (l : List Entry). slice_get l 0) begins, ap (λ (o : Option TableEntry). option_map seen o) is)
+
+-- runs that are seen as what they have left
+pub same_runs : (runs : List (List Entry)) → map (λ (run : List Entry). run) runs ≡ runs
+same_runs [] = refl
+same_runs (run ∷ runs) = ap (λ (l : List (List Entry)). run ∷ l) (same_runs runs)

@@ -1,9 +1,11 @@
 pub mod Adding
+pub mod Blocks
 pub mod Closing
 pub mod Dues
 pub mod Finishing
 pub mod Flushing
 pub mod Keeping
 pub mod Looping
+pub mod Merging
 pub mod Parting
 pub mod Rooms

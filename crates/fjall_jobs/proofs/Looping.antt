@@ -1,22 +1,19 @@
 -- The loop of a job.
 use Rattle.std.proofs.Common.{◌≡◌, ◌∙◌, ℕ, zero, suc, ◌<◌, Bool, false, List, [], ◌∷◌, ◌++◌, Option, Some, Result, Ok, Err, IfOk, Vec, Global, map, length, get_or, slice_get, slice_set, ap, subst, sym, arith}
 use Rattle.std.proofs.lemmas.List.{append-nil, length-append, map-set}
-use Rattle.std.specs.List.{All, AllByRecursion}
+use Rattle.std.specs.List.{AllByRecursion}
 use Rattle.fjall_base.specs.declared.error.Error.{Error}
 use Rattle.fjall_table.specs.Blocks.{Entry, IsEntry}
-use Rattle.fjall_views.specs.Jobs.{OnceEach}
 use Rattle.fjall_sorted.proofs.Taking.{first_taken, others_once, runs_in_turn, taken}
-use Rattle.fjall_sorted.specs.Sorted.{IsFirst, IsFirstOf, IsInTurn, flat, sorted}
+use Rattle.fjall_sorted.specs.Sorted.{IsFirstOf, flat, sorted}
 use Rattle.fjall_jobs.specs.declared.keeper.Keeper.{Keeper}
 use Rattle.fjall_jobs.specs.declared.made_table.MadeTable.{MadeTable}
-use Rattle.fjall_jobs.specs.Keeping.{Keeps}
+use Rattle.fjall_jobs.specs.Keeping.{AreSorted, Keeps}
 use Rattle.fjall_jobs.specs.Sequences.{IsSequence, Makes}
 
 -- between two versions: what is left of the runs is in order, and is what is still to come
 pub record IsInLoop (runs : List (List Entry)) (k : Keeper) (target : Option ℕ) (whole : List Entry) : Type 0 where
-  pub ordered : All (IsInTurn false) runs
-  pub once : OnceEach (flat runs)
-  pub entries : AllByRecursion IsEntry (flat runs)
+  pub are : AreSorted runs
   pub keeps : Keeps k (sorted (flat runs)) whole
   pub target_is : k.tables.target ≡ target
 
@@ -43,19 +40,16 @@ all_here [] at run e all = absurd cc
 all_here (r ∷ runs) zero run e all = let is : r ≡ run = cc in subst (AllByRecursion IsEntry) is (parted r (flat runs) all).0
 all_here (r ∷ runs) (suc at) run e all = all_here runs at run e (parted r (flat runs) all).1
 
--- the versions of the run that comes first are entries
-pub run_of_entries : {X : Type 0} (f : X → List Entry) (xs : List X) (at : ℕ) (d : X) → IsFirst false (map f xs) (Some at) → AllByRecursion IsEntry (flat (map f xs))
-    → AllByRecursion IsEntry (f (get_or xs at d))
-run_of_entries f xs at d first all =
-    let here = first.2.here in
-    subst (AllByRecursion IsEntry) (sym (looked_up f xs at d _ here)) (all_here (map f xs) at _ here all)
+-- the version that comes first is an entry
+pub first_entry : (runs : List (List Entry)) (at : ℕ) (v : Entry) (rest : List Entry) → slice_get runs at ≡ Some (v ∷ rest) → AllByRecursion IsEntry (flat runs) → IsEntry v
+first_entry runs at v rest here all = (all_here runs at (v ∷ rest) here all).0
 
 -- ---- one version less
 
 -- it is the next one to be looked at
 pub now_keeps : (runs : List (List Entry)) (at : ℕ) (v : Entry) (rest whole : List Entry) (target : Option ℕ) (k : Keeper) → IsInLoop runs k target whole → IsFirstOf false runs at v rest
     → Keeps k (v ∷ sorted (flat (slice_set runs at rest))) whole
-now_keeps runs at v rest whole target k loop first = subst (λ (vs : List Entry). Keeps k vs whole) (first_taken false runs at v rest loop.ordered loop.once first) loop.keeps
+now_keeps runs at v rest whole target k loop first = subst (λ (vs : List Entry). Keeps k vs whole) (first_taken false runs at v rest loop.are.ordered loop.are.once first) loop.keeps
 
 -- what was made of the first version, and what is left
 pub next_in_loop : {X : Type 0} (f : X → List Entry) (xs : List X) (at : ℕ) (x : X) (v : Entry) (rest whole : List Entry) (target : Option ℕ) (old new : Keeper)
@@ -66,9 +60,11 @@ next_in_loop f xs at x v rest whole target old new loop first left keeps target_
     let t = taken runs at v rest first.here in
     let shown : map f (slice_set xs at x) ≡ slice_set runs at rest = map-set f xs at x ∙ ap (λ (r : List Entry). slice_set runs at r) left in
     subst (λ (rs : List (List Entry)). IsInLoop rs new target whole) (sym shown) (record {
-      ordered = runs_in_turn false runs at v rest loop.ordered first;
-      once = others_once false runs at v rest loop.once first;
-      entries = subst (AllByRecursion IsEntry) (sym t.are) (all_but t.before t.behind v (subst (AllByRecursion IsEntry) t.were loop.entries));
+      are = record {
+        ordered = runs_in_turn false runs at v rest loop.are.ordered first;
+        once = others_once false runs at v rest loop.are.once first;
+        entries = subst (AllByRecursion IsEntry) (sym t.are) (all_but t.before t.behind v (subst (AllByRecursion IsEntry) t.were loop.are.entries));
+      };
       keeps = keeps;
       target_is = target_is ∙ loop.target_is;
     })

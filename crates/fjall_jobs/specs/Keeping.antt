@@ -1,8 +1,10 @@
 -- What a job keeps of its input.
-use Rattle.std.specs.Prelude.{◌≡◌, ℕ, List, ◌++◌, Option, Some, None}
-use Rattle.fjall_table.specs.Blocks.{Entry, IsOrdered}
+use Rattle.std.specs.Prelude.{◌≡◌, ℕ, false, List, ◌++◌, Option, Some, None}
+use Rattle.std.specs.List.{All, AllByRecursion}
+use Rattle.fjall_table.specs.Blocks.{Entry, IsEntry, IsOrdered}
+use Rattle.fjall_views.specs.Jobs.{OnceEach}
 use Rattle.fjall_sorted.specs.Kept.{kept_of}
-use Rattle.fjall_sorted.specs.Sorted.{flat}
+use Rattle.fjall_sorted.specs.Sorted.{IsInTurn, flat}
 use Rattle.fjall_jobs.specs.declared.keeper.Keeper.{Keeper}
 use Rattle.fjall_jobs.specs.declared.keeper.Rule.{Rule}
 use Rattle.fjall_jobs.specs.Sequences.{IsSequence}
@@ -29,3 +31,10 @@ pub record HasLooked (k : Keeper) (v : Entry) (rest whole : List Entry) : Type 0
   pub sequence : IsSequence k.tables closed
   pub all : (flat closed ++ k.tables.writer) ++ kept_by k.rule (Some v) rest ≡ whole
   pub ordered : IsOrdered whole
+
+-- Runs that a job can go through: each is in order, no key has two versions of one number in them, and each version is one that
+-- a table can hold.
+pub record AreSorted (runs : List (List Entry)) : Type 0 where
+  pub ordered : All (IsInTurn false) runs
+  pub once : OnceEach (flat runs)
+  pub entries : AllByRecursion IsEntry (flat runs)

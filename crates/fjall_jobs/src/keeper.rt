@@ -1,13 +1,12 @@
 //! What a job keeps of its input, one version after another.
 
-ghost use Rattle.std.specs.Prelude.{◌≡◌, ◌∷◌, List, None, IfOk, OnOk, IsOkUnless, false, map};
-ghost use Rattle.std.specs.List.{All, AllByRecursion};
+ghost use Rattle.std.specs.Prelude.{◌≡◌, ◌∷◌, List, None, IfOk, OnOk, IsOkUnless, drop, map};
 ghost use Rattle.fjall_table.specs.Blocks.{Entry, IsEntry, IsOrdered, seen};
-ghost use Rattle.fjall_views.specs.Jobs.{OnceEach, is_old_removal};
+ghost use Rattle.fjall_views.specs.Jobs.{is_old_removal};
 ghost use Rattle.fjall_sorted.specs.Kept.{is_behind, is_followed, is_kept};
-ghost use Rattle.fjall_sorted.specs.Sorted.{IsInTurn, flat, sorted};
+ghost use Rattle.fjall_sorted.specs.Sorted.{flat, sorted};
 ghost use Rattle.fjall_jobs.specs.Sequences.{Makes};
-ghost use Rattle.fjall_jobs.specs.Keeping.{HasLooked, Keeps, before_of, kept_by};
+ghost use Rattle.fjall_jobs.specs.Keeping.{AreSorted, HasLooked, Keeps, before_of, kept_by};
 
 use crate::made_table::MadeTable;
 use crate::sequence::TableSequence;
@@ -92,10 +91,9 @@ impl Keeper {
 
     // Writes the version where it is kept.
     fn write(&mut self, version: &TableEntry<'_>) -> Result<()>
-        requires { IsEntry (seen version.now) }
         ensures ok { (rest whole : List Entry) → Keeps self.old (seen version.now ∷ rest) whole → OnOk result (HasLooked self.new (seen version.now) rest whole) }
         ensures target { self.new.tables.target ≡ self.old.tables.target }
-        ensures only { (rest whole : List Entry) → Keeps self.old (seen version.now ∷ rest) whole → IsOkUnless result Error.OutOfMemory }
+        ensures only { (rest whole : List Entry) → IsEntry (seen version.now) → Keeps self.old (seen version.now ∷ rest) whole → IsOkUnless result Error.OutOfMemory }
     {
         let key = self.last_key.as_slice();
         if self.rule.keeps(key, self.last_number, version) {
@@ -106,10 +104,9 @@ impl Keeper {
 
     /// Looks at the next version.
     fn take(&mut self, version: &TableEntry<'_>) -> Result<()>
-        requires { IsEntry (seen version.now) }
         ensures ok { (rest whole : List Entry) → Keeps self.old (seen version.now ∷ rest) whole → OnOk result (Keeps self.new rest whole) }
         ensures target { self.new.tables.target ≡ self.old.tables.target }
-        ensures only { (rest whole : List Entry) → Keeps self.old (seen version.now ∷ rest) whole → IsOkUnless result Error.OutOfMemory }
+        ensures only { (rest whole : List Entry) → IsEntry (seen version.now) → Keeps self.old (seen version.now ∷ rest) whole → IsOkUnless result Error.OutOfMemory }
     {
         self.write(version)?;
         self.last_key.clear();
@@ -120,10 +117,10 @@ impl Keeper {
 
     /// Takes the first version off a run.
     fn take_from<R: Run>(&mut self, run: &mut R) -> Result<()>
-        requires { AllByRecursion IsEntry (R.left run.old) }
-        ensures ok { (v : Entry) (left rest whole : List Entry) → R.left run.old ≡ v ∷ left → Keeps self.old (v ∷ rest) whole → OnOk result (Keeps self.new rest whole × (R.left run.new ≡ left)) }
+        ensures ok { (v : Entry) (left rest whole : List Entry) → R.left run.old ≡ v ∷ left → Keeps self.old (v ∷ rest) whole → OnOk result (Keeps self.new rest whole) }
+        ensures passed { OnOk result (R.left run.new ≡ drop 1 (R.left run.old)) }
         ensures target { self.new.tables.target ≡ self.old.tables.target }
-        ensures only { (v : Entry) (left rest whole : List Entry) → R.left run.old ≡ v ∷ left → Keeps self.old (v ∷ rest) whole → IsOkUnless result Error.OutOfMemory }
+        ensures only { (v : Entry) (left rest whole : List Entry) → R.left run.old ≡ v ∷ left → IsEntry v → Keeps self.old (v ∷ rest) whole → IsOkUnless result Error.OutOfMemory }
     {
         let Some(version) = run.first() else {
             return Ok(());
@@ -134,18 +131,16 @@ impl Keeper {
     }
 }
 
-/// What a rule keeps of the versions of several runs, as tables. It is refused for want of memory alone.
+/// What a rule keeps of the versions of several runs, as tables. Where the runs are in order, no key has two versions of one
+/// number in them, and each version is one that a table can hold, it is refused for want of memory alone.
 pub(crate) fn keep<R: Run>(
     alloc: Global,
     runs: &mut [R],
     rule: Rule,
     target: Option<u64>,
 ) -> Result<Vec<MadeTable>>
-    requires ordered { All (IsInTurn false) (map R.left runs.old) }
-    requires once { OnceEach (flat (map R.left runs.old)) }
-    requires entries { AllByRecursion IsEntry (flat (map R.left runs.old)) }
-    ensures made { IfOk result (λ tables. Makes target tables.items (kept_by rule None (sorted (flat (map R.left runs.old))))) }
-    ensures only { IsOkUnless result Error.OutOfMemory }
+    ensures made { AreSorted (map R.left runs.old) → IfOk result (λ tables. Makes target tables.items (kept_by rule None (sorted (flat (map R.left runs.old))))) }
+    ensures only { AreSorted (map R.left runs.old) → IsOkUnless result Error.OutOfMemory }
 {
     let mut keeper = Keeper::new(alloc, rule, target);
     'versions: while let Some(at) = first_of(runs, false) {

@@ -1,6 +1,6 @@
 //! Tables, one behind another, of entries that come in order.
 
-ghost use Rattle.std.specs.Prelude.{◌≡◌, ◌≢◌, ◌⊎◌, ◌↔◌, ◌++◌, ◌∷◌, [], List, IfOk, OnOk, IsTrue, IsOkUnless, Some};
+ghost use Rattle.std.specs.Prelude.{◌-◌, ◌^◌, min, ◌≡◌, ◌≢◌, ◌⊎◌, ◌↔◌, ◌++◌, ◌∷◌, [], List, IfOk, OnOk, IsTrue, IsOkUnless, Some};
 ghost use Rattle.fjall_table.specs.Blocks.{Entry, IsEntry, seen};
 ghost use Rattle.fjall_table.specs.Writing.{Follows};
 ghost use Rattle.fjall_memtable.specs.Entries.{size_of};
@@ -12,16 +12,17 @@ use fjall_table::{TableEntry, TableWriter};
 use std::alloc::Global;
 use std::mem::replace;
 
-/// How many bytes an entry counts for: its key, its value and 16 more.
+/// How many bytes an entry counts for: its key, its value and 16 more; the greatest u64 where that is too small.
 fn size_of(entry: &TableEntry<'_>) -> u64
-    requires { IsEntry (seen entry.now) }
-    ensures { result ≡ size_of (seen entry.now) }
+    ensures { result ≡ min (size_of (seen entry.now)) (2 ^ 64 - 1) }
 {
     let value_len = match entry.value {
-        Some(value) => value.len(),
+        Some(value) => value.len() as u64,
         None => 0,
     };
-    (entry.key.len() + value_len + 16) as u64
+    (entry.key.len() as u64)
+        .saturating_add(value_len)
+        .saturating_add(16)
 }
 
 /// Tables in the making: those that are closed, and the one that is open. With a target one is closed where the key changes,
@@ -111,11 +112,10 @@ impl TableSequence {
 
     /// Adds an entry to the open table.
     fn add(&mut self, entry: &TableEntry<'_>) -> Result<()>
-        requires { IsEntry (seen entry.now) }
         ensures ok { (closed : List (List Entry)) → HasRoom self.old closed entry.now.key.now → OnOk result (IsSequence self.new closed) }
         ensures writer { OnOk result (self.new.writer ≡ self.old.writer ++ seen entry.now ∷ []) }
         ensures target { self.new.target ≡ self.old.target }
-        ensures only { Follows self.old.writer (seen entry.now) → IsOkUnless result Error.OutOfMemory }
+        ensures only { IsEntry (seen entry.now) → Follows self.old.writer (seen entry.now) → IsOkUnless result Error.OutOfMemory }
     {
         self.writer.write(entry)?;
         self.size = self.size.saturating_add(size_of(entry));
@@ -124,13 +124,13 @@ impl TableSequence {
         Ok(())
     }
 
-    /// Adds an entry. It stands behind those before it, or is `KeyOrder`. After an `Err` the sequence is of no more use.
+    /// Adds an entry, as `TableWriter::write`: what has no text is refused, and what doesn't stand behind those before it is
+    /// `KeyOrder`. After an `Err` the sequence is of no more use.
     pub(crate) fn write(&mut self, entry: &TableEntry<'_>) -> Result<()>
-        requires { IsEntry (seen entry.now) }
         ensures ok { (closed : List (List Entry)) → IsSequence self.old closed
             → OnOk result ((more : List (List Entry)) × IsSequence self.new more × (flat more ++ self.new.writer ≡ (flat closed ++ self.old.writer) ++ seen entry.now ∷ [])) }
         ensures target { self.new.target ≡ self.old.target }
-        ensures only { Follows self.old.writer (seen entry.now) → IsOkUnless result Error.OutOfMemory }
+        ensures only { IsEntry (seen entry.now) → Follows self.old.writer (seen entry.now) → IsOkUnless result Error.OutOfMemory }
     {
         self.make_room(entry.key)?;
         self.add(entry)

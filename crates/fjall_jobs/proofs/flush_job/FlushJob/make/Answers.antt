@@ -1,4 +1,4 @@
-use Rattle.std.proofs.Common.{◌≡◌, ◌∙◌, ◌+◌, ℕ, List, Bool, None, false, All, map, refl, ap, subst, sym}
+use Rattle.std.proofs.Common.{◌≡◌, ◌∙◌, ◌+◌, ℕ, List, Bool, Err, None, false, refl, ap, subst, sym, rules}
 use Rattle.std.specs.List.{AllByRecursion}
 use Rattle.std.specs.declared.alloc.Global.{Global}
 use Rattle.std.specs.declared.sync.Arc.{Arc}
@@ -13,33 +13,24 @@ use Rattle.fjall_jobs.specs.Flushes.{flush_task}
 use Rattle.fjall_jobs.specs.Inputs.{runs_of}
 use Rattle.fjall_jobs.specs.Keeping.{kept_by}
 use Rattle.fjall_jobs.specs.Sequences.{Makes}
-use Rattle.fjall_jobs.proofs.Flushing.{flushed_is, input_entries, input_once, input_ordered, runs_are}
+use Rattle.fjall_jobs.proofs.Flushing.{flushed_is, input_once, input_sorted, runs_are}
 use Rattle.fjall_jobs.proofs.flush_job.FlushJob.make.Goals as goal
 
-pub keep-requires-clause-ordered : goal.keep-requires-clause-ordered
-keep-requires-clause-ordered c =
-    let parts = c.args.self.now.parts.items in
-    let is = runs_are c.as_mut_slice.result.now parts (c.as_mut_slice.ensures.value ∙ c.in_ok-runs.ensures.runs ∙ ap runs_of c.as_slice-3.ensures.value) in
-    subst (λ (rs : List (List Entry)). All (IsInTurn false) rs) (sym is) (input_ordered parts)
-
-pub keep-requires-clause-once : goal.keep-requires-clause-once
-keep-requires-clause-once c =
-    let parts = c.args.self.now.parts.items in
-    let is = runs_are c.as_mut_slice.result.now parts (c.as_mut_slice.ensures.value ∙ c.in_ok-runs.ensures.runs ∙ ap runs_of c.as_slice-3.ensures.value) in
-    subst (λ (rs : List (List Entry)). OnceEach (flat rs)) (sym is) (input_once parts c.args.self.now.apart)
-
-pub keep-requires-clause-entries : goal.keep-requires-clause-entries
-keep-requires-clause-entries c =
-    let parts = c.args.self.now.parts.items in
-    let is = runs_are c.as_mut_slice.result.now parts (c.as_mut_slice.ensures.value ∙ c.in_ok-runs.ensures.runs ∙ ap runs_of c.as_slice-3.ensures.value) in
-    subst (λ (rs : List (List Entry)). AllByRecursion IsEntry (flat rs)) (sym is) (input_entries parts)
+pub returns-in_err-tables-clause-only : goal.returns-in_err-tables-clause-only
+returns-in_err-tables-clause-only c =
+    let job = c.args.self.now in
+    let parts = job.parts.items in
+    let runs : c.as_mut_slice.result.now ≡ runs_of parts = c.as_mut_slice.ensures.value ∙ c.in_ok-runs.ensures.runs ∙ ap runs_of c.as_slice-3.ensures.value in
+    let e : c.from_residual-in_err-tables.result ≡ Err c.in_err-tables.field-0.0 = search rules in
+    rw e (c.in_err-tables.ensures.only (input_sorted c.as_mut_slice.result.now parts runs job.apart))
 
 pub returns-clause-made : goal.returns-clause-made
 returns-clause-made c =
     let job = c.args.self.now in
     let parts = job.parts.items in
-    let is = runs_are c.as_mut_slice.result.now parts (c.as_mut_slice.ensures.value ∙ c.in_ok-runs.ensures.runs ∙ ap runs_of c.as_slice-3.ensures.value) in
+    let runs : c.as_mut_slice.result.now ≡ runs_of parts = c.as_mut_slice.ensures.value ∙ c.in_ok-runs.ensures.runs ∙ ap runs_of c.as_slice-3.ensures.value in
+    let is = runs_are c.as_mut_slice.result.now parts runs in
     let clears : c.in_ok-clears.clears.items ≡ clears_in (shared parts) = c.in_ok-clears.ensures.clears ∙ ap (λ (ps : List (Arc Part Global)). clears_in (shared ps)) c.as_slice.ensures.value in
     flushed_is (flush_task job) (record { watermark = job.watermark; bound = c.bound_of-bound.result; spends = false }) c.in_ok-tables.tables.items c.in_ok-clears.clears.items (input_once parts job.apart) refl refl
     (c.bound_of-bound.ensures ∙ ap (barrier (job.watermark + 1)) c.as_slice-2.ensures.value) clears
-    (subst (λ (rs : List (List Entry)). Makes None c.in_ok-tables.tables.items (kept_by (record { watermark = job.watermark; bound = c.bound_of-bound.result; spends = false }) None (sorted (flat rs)))) is c.in_ok-tables.ensures.made)
+    (subst (λ (rs : List (List Entry)). Makes None c.in_ok-tables.tables.items (kept_by (record { watermark = job.watermark; bound = c.bound_of-bound.result; spends = false }) None (sorted (flat rs)))) is (c.in_ok-tables.ensures.made (input_sorted c.as_mut_slice.result.now parts runs job.apart)))

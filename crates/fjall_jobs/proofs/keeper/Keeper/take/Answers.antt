@@ -6,9 +6,9 @@ use Rattle.fjall_jobs.proofs.Keeping.{by_stamp}
 use Rattle.fjall_jobs.proofs.keeper.Keeper.take.Goals as goal
 
 pub returns-in_err-write-clause-only : goal.returns-in_err-write-clause-only
-returns-in_err-write-clause-only c rest whole k =
+returns-in_err-write-clause-only c rest whole entry k =
     let is : c.from_residual.result ≡ Err c.in_err-write.field-0.0 = search rules in
-    rw is (c.in_err-write.ensures.only rest whole k)
+    rw is (c.in_err-write.ensures.only rest whole entry k)
 
 pub returns-clause-ok : goal.returns-clause-ok
 returns-clause-ok c rest whole k =
