@@ -1,7 +1,6 @@
 -- When the open table is to be closed.
-use Rattle.std.proofs.Common.{◌≡◌, ◌≢◌, ◌∙◌, ◌⊎◌, inl, inr, ℕ, ◌<◌, ◌≤◌, ◌-◌, ◌^◌, ◌++◌, Bool, true, false, not, IsTrue, List, [], ◌∷◌, Option, Some, length, min, refl, sym, ap, subst, arith}
+use Rattle.std.proofs.Common.{◌≡◌, ◌≢◌, ◌∙◌, ◌⊎◌, inl, inr, ℕ, ◌<◌, ◌≤◌, ◌-◌, ◌^◌, ◌++◌, Bool, true, false, not, IsTrue, List, [], ◌∷◌, Some, length, min, refl, sym, subst, arith}
 use Rattle.std.specs.Str.{bytes_eq}
-use Rattle.fjall_base.specs.Lists.{last_of}
 use Rattle.fjall_base.proofs.Lists.{last_behind}
 use Rattle.fjall_table.specs.Blocks.{Entry}
 use Rattle.fjall_sorted.specs.Kept.{EndsBefore, size_of_all}

@@ -1,15 +1,13 @@
 -- What is kept of versions that come one by one.
-use Rattle.std.proofs.Common.{◌≡◌, ◌≢◌, ◌∙◌, ◌⊎◌, inl, inr, ℕ, Bool, true, false, List, [], ◌∷◌, ◌++◌, Option, Some, None, IfSome, refl, ap, map, slice_get, subst, sym}
-use Rattle.std.proofs.lemmas.List.{append-nil, append_assoc}
-use Rattle.fjall_base.specs.Lists.{last_of}
+use Rattle.std.proofs.Common.{◌≡◌, ◌∙◌, ◌⊎◌, inl, inr, Bool, true, false, List, [], ◌∷◌, ◌++◌, Option, Some, IfSome, refl, ap, map, slice_get, subst, sym}
+use Rattle.std.proofs.lemmas.List.{append_assoc}
 use Rattle.fjall_base.proofs.Lists.{last_behind}
 use Rattle.std.specs.Option.{option_map}
 use Rattle.fjall_table.specs.declared.table_entry.TableEntry.{TableEntry}
 use Rattle.fjall_table.specs.Blocks.{Entry, IsBefore, IsOrdered, seen}
 use Rattle.fjall_table.specs.Writing.{Follows}
 use Rattle.fjall_table.proofs.BlockParts.{ordered_at}
-use Rattle.fjall_sorted.specs.Kept.{is_kept, kept_of}
-use Rattle.fjall_sorted.specs.Sorted.{flat}
+use Rattle.fjall_sorted.specs.Kept.{is_kept}
 use Rattle.fjall_jobs.specs.declared.keeper.Rule.{Rule}
 use Rattle.fjall_jobs.specs.Keeping.{before_of, kept_by}
 use Rattle.fjall_jobs.proofs.Parting.{HasLast, ended}

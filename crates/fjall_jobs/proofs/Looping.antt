@@ -1,5 +1,5 @@
 -- The loop of a job.
-use Rattle.std.proofs.Common.{◌≡◌, ◌∙◌, ℕ, zero, suc, ◌<◌, Bool, false, List, [], ◌∷◌, ◌++◌, Option, Some, Result, Ok, Err, IfOk, Vec, Global, map, length, get_or, slice_get, slice_set, ap, subst, sym, arith}
+use Rattle.std.proofs.Common.{◌≡◌, ◌∙◌, ℕ, zero, suc, ◌<◌, false, List, [], ◌∷◌, ◌++◌, Option, Some, Result, Ok, Err, IfOk, Vec, Global, map, length, get_or, slice_get, slice_set, ap, subst, sym, arith}
 use Rattle.std.proofs.lemmas.List.{append-nil, length-append, map-set}
 use Rattle.std.specs.List.{AllByRecursion}
 use Rattle.fjall_base.specs.declared.error.Error.{Error}

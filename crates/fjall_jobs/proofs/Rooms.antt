@@ -1,5 +1,5 @@
 -- The open table has room for an entry.
-use Rattle.std.proofs.Common.{◌≡◌, ◌≢◌, ◌∙◌, ◌-◌, ◌^◌, ℕ, List, [], ◌∷◌, ◌++◌, Option, Some, None, Result, Ok, Err, OnOk, min, refl, ap, subst, sym}
+use Rattle.std.proofs.Common.{◌≡◌, ◌≢◌, ◌∙◌, ◌-◌, ◌^◌, ℕ, List, [], ◌∷◌, ◌++◌, Option, Some, None, Result, Ok, Err, OnOk, min, ap, subst, sym}
 use Rattle.std.proofs.lemmas.List.{append-nil}
 use Rattle.fjall_base.specs.declared.error.Error.{Error}
 use Rattle.fjall_table.specs.Blocks.{Entry}

@@ -1,9 +1,4 @@
 -- Flushes.
-use Rattle.std.specs.Prelude.{List, map}
-use Rattle.std.specs.declared.alloc.Global.{Global}
-use Rattle.std.specs.declared.sync.Arc.{Arc}
-use Rattle.fjall_table.specs.Blocks.{Entry}
-use Rattle.fjall_parts.specs.declared.part.Part.{Part}
 use Rattle.fjall_parts.specs.Parts.{clears_in}
 use Rattle.fjall_parts.specs.Shares.{shared}
 use Rattle.fjall_jobs.specs.declared.flush_job.FlushJob.{FlushJob}

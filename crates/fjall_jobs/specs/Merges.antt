@@ -1,7 +1,5 @@
 -- Merges.
-use Rattle.std.specs.Prelude.{◌≡◌, ℕ, List, map, Some, Vec}
-use Rattle.std.specs.declared.alloc.Global.{Global}
-use Rattle.std.specs.declared.sync.Arc.{Arc}
+use Rattle.std.specs.Prelude.{◌≡◌, ℕ, List, Some}
 use Rattle.fjall_table.specs.Blocks.{Entry, IsOrdered}
 use Rattle.fjall_views.specs.Jobs.{Same, merged, merged_clears}
 use Rattle.fjall_sorted.specs.Sorted.{flat}

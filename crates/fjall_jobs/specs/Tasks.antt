@@ -1,5 +1,5 @@
 -- What a job is begun with, and what it makes of it.
-use Rattle.std.specs.Prelude.{◌≡◌, ℕ, List, map, Option, None}
+use Rattle.std.specs.Prelude.{◌≡◌, ℕ, List, None}
 use Rattle.fjall_table.specs.Blocks.{Entry, IsOrdered}
 use Rattle.fjall_views.specs.Jobs.{Same, flushed}
 use Rattle.fjall_sorted.specs.Sorted.{flat}

@@ -6,6 +6,7 @@ mod bound;
 mod flush_job;
 mod flush_made;
 mod keeper;
+mod laws;
 mod made_table;
 mod merge_job;
 mod merge_made;
@@ -13,6 +14,7 @@ mod sequence;
 
 pub use flush_job::FlushJob;
 pub use flush_made::FlushMade;
+pub use laws::{what_a_flush_made_keeps_views, what_a_merge_made_keeps_views};
 pub use made_table::MadeTable;
 pub use merge_job::MergeJob;
 pub use merge_made::MergeMade;

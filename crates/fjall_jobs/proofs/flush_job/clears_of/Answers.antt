@@ -1,4 +1,4 @@
-use Rattle.std.proofs.Common.{◌≡◌, ◌∙◌, ap, sym}
+use Rattle.std.proofs.Common.{◌∙◌, ap}
 use Rattle.fjall_parts.specs.Held.{held_of}
 use Rattle.fjall_parts.specs.declared.part.Part.{Part}
 use Rattle.fjall_jobs.proofs.Flushing.{clears_more}

@@ -1,5 +1,4 @@
-use Rattle.std.proofs.Common.{◌≡◌, ◌∙◌, ap, sym}
-use Rattle.fjall_memtable.specs.Entries.{entries_of}
+use Rattle.std.proofs.Common.{◌∙◌, ap}
 use Rattle.fjall_parts.specs.Held.{held_of}
 use Rattle.fjall_parts.specs.declared.part.Part.{Part}
 use Rattle.fjall_jobs.proofs.Flushing.{run_more}

@@ -1,4 +1,4 @@
-use Rattle.std.proofs.Common.{◌≡◌, ◌∙◌, List, ◌∷◌, Err, Some, None, drop, false, map, slice_set, ap, subst, sym, rules}
+use Rattle.std.proofs.Common.{◌≡◌, ◌∙◌, List, Err, drop, false, map, ap, subst, rules}
 use Rattle.fjall_table.specs.Blocks.{Entry}
 use Rattle.fjall_sorted.specs.Sorted.{IsFirst, flat, sorted}
 use Rattle.fjall_sorted.proofs.Barriers.{used_up}

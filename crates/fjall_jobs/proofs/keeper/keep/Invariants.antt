@@ -1,4 +1,4 @@
-use Rattle.std.proofs.Common.{ℕ, List, map, length, None, false}
+use Rattle.std.proofs.Common.{map, length, None}
 use Rattle.fjall_sorted.specs.Sorted.{flat, sorted}
 use Rattle.fjall_jobs.specs.Keeping.{AreSorted, kept_by}
 use Rattle.fjall_jobs.proofs.Looping.{IsInLoop}

@@ -1,4 +1,4 @@
-use Rattle.std.proofs.Common.{◌≡◌, ◌∙◌, ap}
+use Rattle.std.proofs.Common.{◌∙◌, ap}
 use Rattle.fjall_sorted.specs.Sorted.{flat}
 use Rattle.fjall_jobs.specs.Blocks.{entries_in}
 use Rattle.fjall_jobs.proofs.Merging.{table_more}

@@ -1,4 +1,4 @@
-use Rattle.std.proofs.Common.{◌≡◌, ◌∙◌, ◌≤◌, ◌<◌, List, ap, drop, sym, arith}
+use Rattle.std.proofs.Common.{◌∙◌, List, ap, drop, arith}
 use Rattle.fjall_table.specs.Blocks.{Entry}
 use Rattle.fjall_jobs.specs.Blocks.{entries_in}
 use Rattle.fjall_jobs.proofs.Blocks.{passed_on, passed_within}

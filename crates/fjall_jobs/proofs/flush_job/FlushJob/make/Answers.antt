@@ -1,11 +1,9 @@
-use Rattle.std.proofs.Common.{◌≡◌, ◌∙◌, ◌+◌, ℕ, List, Bool, Err, None, false, refl, ap, subst, sym, rules}
-use Rattle.std.specs.List.{AllByRecursion}
+use Rattle.std.proofs.Common.{◌≡◌, ◌∙◌, ◌+◌, List, Err, None, false, refl, ap, subst, rules}
 use Rattle.std.specs.declared.alloc.Global.{Global}
 use Rattle.std.specs.declared.sync.Arc.{Arc}
-use Rattle.fjall_table.specs.Blocks.{Entry, IsEntry}
-use Rattle.fjall_views.specs.Jobs.{OnceEach}
+use Rattle.fjall_table.specs.Blocks.{Entry}
 use Rattle.fjall_sorted.specs.Pages.{barrier}
-use Rattle.fjall_sorted.specs.Sorted.{IsInTurn, flat, sorted}
+use Rattle.fjall_sorted.specs.Sorted.{flat, sorted}
 use Rattle.fjall_parts.specs.declared.part.Part.{Part}
 use Rattle.fjall_parts.specs.Parts.{clears_in}
 use Rattle.fjall_parts.specs.Shares.{shared}

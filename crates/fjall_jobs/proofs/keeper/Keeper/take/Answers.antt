@@ -1,4 +1,4 @@
-use Rattle.std.proofs.Common.{◌≡◌, ◌∙◌, ◌++◌, ℕ, List, Some, Err, Option, ap, subst, sym, rules}
+use Rattle.std.proofs.Common.{◌≡◌, ◌∙◌, ◌++◌, ℕ, List, Some, Err, ap, sym, rules}
 use Rattle.fjall_table.specs.Blocks.{Entry, seen}
 use Rattle.fjall_sorted.specs.Sorted.{flat}
 use Rattle.fjall_jobs.specs.Keeping.{before_of, kept_by}

@@ -1,4 +1,4 @@
-use Rattle.std.proofs.Common.{◌≡◌, ◌∙◌, ◌+◌, ℕ, List, Err, None, Some, true, refl, ap, subst, sym, rules}
+use Rattle.std.proofs.Common.{◌≡◌, ◌∙◌, ◌+◌, List, Err, None, Some, true, refl, ap, subst, sym, rules}
 use Rattle.fjall_table.specs.Blocks.{Entry}
 use Rattle.fjall_views.specs.Jobs.{merged_clears}
 use Rattle.fjall_sorted.specs.Pages.{barrier}

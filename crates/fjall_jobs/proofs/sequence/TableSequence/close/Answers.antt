@@ -1,4 +1,4 @@
-use Rattle.std.proofs.Common.{◌≡◌, ◌∙◌, List, ap, subst, sym, length}
+use Rattle.std.proofs.Common.{◌≡◌, ◌∙◌, List, ap, subst, length}
 use Rattle.fjall_table.specs.Blocks.{Entry}
 use Rattle.fjall_jobs.specs.declared.sequence.TableSequence.{TableSequence}
 use Rattle.fjall_jobs.proofs.Closing.{closes, one_closed}

@@ -1,8 +1,6 @@
-use Rattle.std.proofs.Common.{◌≡◌, ◌∙◌, ℕ, ◌<◌, ◌≤◌, List, [], ◌∷◌, ◌++◌, ap, arith, subst, sym, length}
-use Rattle.fjall_table.specs.Blocks.{Entry}
-use Rattle.fjall_jobs.specs.declared.made_table.MadeTable.{MadeTable}
+use Rattle.std.proofs.Common.{◌<◌, ◌≤◌, [], ◌∷◌, ◌++◌, arith, subst, sym, length}
 use Rattle.fjall_jobs.specs.declared.sequence.TableSequence.{TableSequence}
-use Rattle.fjall_jobs.specs.Sequences.{AreMadeTables, AreParted, with_open}
+use Rattle.fjall_jobs.specs.Sequences.{AreMadeTables}
 use Rattle.fjall_jobs.proofs.Finishing.{all_closed, none_open}
 use Rattle.fjall_jobs.proofs.sequence.TableSequence.finish.Goals as goal
 use Rattle.fjall_jobs.proofs.sequence.TableSequence.finish.Goals.{then-entry_count-gt0+in_ok-close, else-entry_count-gt0}

@@ -1,4 +1,4 @@
-use Rattle.std.proofs.Common.{◌≡◌, ◌∙◌, ◌<◌, ◌≤◌, ◌^◌, length, arith}
+use Rattle.std.proofs.Common.{◌∙◌, ◌<◌, length, arith}
 use Rattle.fjall_jobs.proofs.Dues.{due_told, not_due}
 use Rattle.fjall_jobs.proofs.sequence.TableSequence.has_reached.Goals as goal
 

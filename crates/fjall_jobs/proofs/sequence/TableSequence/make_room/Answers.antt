@@ -1,4 +1,4 @@
-use Rattle.std.proofs.Common.{◌≡◌, ◌≢◌, ◌∙◌, ℕ, List, [], ◌∷◌, ◌++◌, Ok, Err, true, false, refl, ap, subst, sym}
+use Rattle.std.proofs.Common.{refl}
 use Rattle.fjall_jobs.proofs.Rooms.{room_kept, room_made}
 use Rattle.fjall_jobs.proofs.sequence.TableSequence.make_room.Goals as goal
 
