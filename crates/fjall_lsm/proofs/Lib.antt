@@ -1,0 +1,3 @@
+pub mod Readers
+pub mod Searches
+pub mod Shows
