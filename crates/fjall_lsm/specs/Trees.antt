@@ -11,7 +11,7 @@ use Rattle.fjall_table.specs.Files.{entry_at}
 use Rattle.fjall_views.specs.Jobs.{AreBelow, OnceEach}
 use Rattle.fjall_sorted.specs.Sorted.{flat}
 use Rattle.fjall_blocks.specs.Readers.{HoldsAWrongBlock, IsSameTable, Reader, Reads, unread}
-use Rattle.fjall_parts.specs.Parts.{Ascends, Held, Memory, clears_in, parts_of, versions_in}
+use Rattle.fjall_parts.specs.Parts.{Ascends, Held, Memory, clears_in, parts_of, rotated, versions_in, with_active, with_clear, with_version}
 
 -- the tables, the oldest first, the clears of the record, ascending, and what is in memory
 pub record Shape : Type 0 where
@@ -44,6 +44,18 @@ pub record IsShape (clears : List ℕ) (memory : Memory) : Type 0 where
 -- the shape with another memory
 abbrev pub with_memory : Memory → Shape → Shape
 with_memory memory shape = record shape { memory = memory }
+
+-- the shape with one version more in the active part
+abbrev pub written : Entry → Shape → Shape
+written v shape = with_memory (with_active (with_version v shape.memory.active) shape.memory) shape
+
+-- the shape with one clear more in the active part
+abbrev pub emptied : ℕ → Shape → Shape
+emptied number shape = with_memory (with_active (with_clear number shape.memory.active) shape.memory) shape
+
+-- the shape with the active part sealed
+abbrev pub sealed_off : Shape → Shape
+sealed_off shape = with_memory (rotated shape.memory) shape
 
 -- what is left of the value that a version gave, where all that is numbered below a bound is cleared
 abbrev pub value_from : ℕ → Option Entry → Option (List ℕ)

@@ -2,7 +2,12 @@
 #![tactic(auto)]
 
 mod counts;
+mod laws;
 mod search;
 mod tree;
 
+pub use laws::{
+    a_rotated_tree_holds_the_same, a_written_tree_has_one_version_more,
+    an_emptied_tree_has_one_clear_more,
+};
 pub use tree::Tree;

@@ -9,9 +9,9 @@ ghost use Rattle.fjall_views.specs.Views.{value_at};
 ghost use Rattle.fjall_sorted.specs.Pages.{barrier};
 ghost use Rattle.fjall_blocks.specs.Readers.{LooksOn};
 ghost use Rattle.fjall_memtable.specs.Entries.{size_of, version, IsAbsent};
-ghost use Rattle.fjall_parts.specs.Parts.{AreApart, Ascends, IsHeld, empty_from, holds_nothing, parts_of, rotated, versions_in, with_active, with_clear, with_version};
+ghost use Rattle.fjall_parts.specs.Parts.{AreApart, Ascends, IsHeld, empty_from, holds_nothing, parts_of, versions_in};
 ghost use Rattle.fjall_parts.specs.Memories.{memory_of};
-ghost use Rattle.fjall_lsm.specs.Trees.{IsSameShape, IsShape, ReadsAll, Shape, SomeTableIsWrong, all_unread, clears_of, is_l0, shape_prop, versions_of, with_memory};
+ghost use Rattle.fjall_lsm.specs.Trees.{IsSameShape, IsShape, ReadsAll, Shape, SomeTableIsWrong, all_unread, clears_of, emptied, is_l0, sealed_off, shape_prop, versions_of, written};
 
 use crate::counts::{bytes_kept, bytes_on_disk, count_of_l0, drop_all_blocks, entries_in};
 use crate::search::{greatest_below, newest_in, value_found, value_of};
@@ -60,7 +60,7 @@ impl Tree {
         requires absent { IsAbsent key.now number (shape_of self.old).memory.active.versions }
         requires from { (shape_of self.old).memory.active.from ≤ number }
         requires small { number < 2 ^ 63 }
-        ensures ok { OnOk result (shape_of self.new ≡ with_memory (with_active (with_version (version key.now number (Some value.now)) (shape_of self.old).memory.active) (shape_of self.old).memory) (shape_of self.old)) }
+        ensures ok { OnOk result (shape_of self.new ≡ written (version key.now number (Some value.now)) (shape_of self.old)) }
         ensures err { OnErr result (shape_of self.new ≡ shape_of self.old) }
         ensures marks { KeepsMarks self.old self.new }
     {
@@ -76,7 +76,7 @@ impl Tree {
         requires absent { IsAbsent key.now number (shape_of self.old).memory.active.versions }
         requires from { (shape_of self.old).memory.active.from ≤ number }
         requires small { number < 2 ^ 63 }
-        ensures ok { OnOk result (shape_of self.new ≡ with_memory (with_active (with_version (version key.now number None) (shape_of self.old).memory.active) (shape_of self.old).memory) (shape_of self.old)) }
+        ensures ok { OnOk result (shape_of self.new ≡ written (version key.now number None) (shape_of self.old)) }
         ensures err { OnErr result (shape_of self.new ≡ shape_of self.old) }
         ensures marks { KeepsMarks self.old self.new }
     {
@@ -89,7 +89,7 @@ impl Tree {
         requires from { (shape_of self.old).memory.active.from ≤ number }
         requires small { number < 2 ^ 63 }
         requires last { All (λ n. n < number) (shape_of self.old).memory.active.clears }
-        ensures ok { OnOk result (shape_of self.new ≡ with_memory (with_active (with_clear number (shape_of self.old).memory.active) (shape_of self.old).memory) (shape_of self.old)) }
+        ensures ok { OnOk result (shape_of self.new ≡ emptied number (shape_of self.old)) }
         ensures err { OnErr result (shape_of self.new ≡ shape_of self.old) }
         ensures marks { KeepsMarks self.old self.new }
     {
@@ -117,7 +117,7 @@ impl Tree {
     /// nothing changes. It is refused for want of memory alone, and an `Err` leaves all as it was.
     pub fn rotate_memtable(&mut self) -> Result<bool, AllocError>
         ensures ok { IfOk result (λ is_sealed. is_sealed ≡ not (holds_nothing (shape_of self.old).memory.active)) }
-        ensures sealed { result ≡ Ok true → shape_of self.new ≡ with_memory (rotated (shape_of self.old).memory) (shape_of self.old) }
+        ensures sealed { result ≡ Ok true → shape_of self.new ≡ sealed_off (shape_of self.old) }
         ensures empty { result ≡ Ok false → shape_of self.new ≡ shape_of self.old }
         ensures err { OnErr result (shape_of self.new ≡ shape_of self.old) }
     {
