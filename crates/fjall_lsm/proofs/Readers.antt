@@ -1,5 +1,5 @@
 -- Lists of readers, one of which changes.
-use Rattle.std.proofs.Common.{◌≡◌, ℕ, zero, suc, ◌+◌, ◌<◌, ◌≤◌, Bool, IsTrue, List, [], ◌∷◌, length, take, set, slice_get, get_or, Option, Some, None, refl, sym, ap, subst, ◌∙◌, add-one, arith}
+use Rattle.std.proofs.Common.{◌≡◌, ℕ, zero, suc, ◌+◌, ◌<◌, ◌≤◌, Bool, IsTrue, List, [], ◌∷◌, length, set, slice_get, get_or, Some, refl, sym, ap, subst, ◌∙◌, add-one, arith}
 use Rattle.fjall_base.specs.Disk.{Meaning}
 use Rattle.fjall_base.proofs.Codecs.{some_is}
 use Rattle.fjall_table.specs.Blocks.{Entry, IsOrdered}

@@ -1,6 +1,5 @@
 -- Look-ups in several tables.
-use Rattle.std.proofs.Common.{◌≡◌, ℕ, ◌+◌, ◌<◌, ◌≤◌, Bool, IsTrue, List, [], ◌∷◌, ◌++◌, length, take, set, slice_get, Option, Some, None, refl, sym, ap, subst, ◌∙◌, arith}
-use Rattle.std.specs.List.{flat_map}
+use Rattle.std.proofs.Common.{◌≡◌, ℕ, ◌+◌, ◌≤◌, Bool, IsTrue, List, [], ◌∷◌, ◌++◌, length, take, set, slice_get, Option, Some, None, refl, sym, ap, subst, ◌∙◌, arith}
 use Rattle.std.specs.Option.{option_map}
 use Rattle.std.proofs.lemmas.List.{append-nil, take_all}
 use Rattle.std.proofs.lemmas.List.Concat.{flat_map-append}
@@ -17,7 +16,7 @@ use Rattle.fjall_sorted.proofs.Ranges.{newest_first}
 use Rattle.fjall_blocks.specs.declared.found.Found.{Found}
 use Rattle.fjall_blocks.specs.Finds.{IsFound, entry_found}
 use Rattle.fjall_blocks.specs.Readers.{HoldsAWrongBlock, IsSameTable, LooksOn, Reader, Reads}
-use Rattle.fjall_blocks.proofs.Readers.{looks_again, looks_none, still}
+use Rattle.fjall_blocks.proofs.Readers.{looks_again, looks_none}
 use Rattle.fjall_lsm.specs.Trees.{AreRead, AreSameTables, SomeTableIsWrong}
 use Rattle.fjall_lsm.proofs.Readers.{all_read_on, all_same_none, length_read, read_at, read_ordered, read_set, same_at, same_set}
 

@@ -1,7 +1,6 @@
 -- What a tree shows of a key.
-use Rattle.std.proofs.Common.{◌≡◌, ℕ, ◌+◌, ◌<◌, ◌≤◌, max, Bool, true, false, cond, ltb, List, [], ◌∷◌, ◌++◌, Option, Some, None, refl, sym, ap, subst, ◌∙◌, arith}
+use Rattle.std.proofs.Common.{◌≡◌, ℕ, ◌+◌, max, Bool, true, false, cond, ltb, List, [], ◌∷◌, ◌++◌, Option, Some, None, refl, sym, ap, ◌∙◌, arith}
 use Rattle.std.specs.List.{All}
-use Rattle.fjall_base.specs.Disk.{Meaning}
 use Rattle.fjall_base.specs.Pairs.{Bytes}
 use Rattle.fjall_table.specs.Blocks.{Entry}
 use Rattle.fjall_views.specs.Jobs.{AreBelow, AreFrom}
@@ -13,7 +12,7 @@ use Rattle.fjall_sorted.specs.Sorted.{flat}
 use Rattle.fjall_sorted.proofs.Barriers.{barrier_stands}
 use Rattle.fjall_parts.specs.Parts.{AreApart, Held, IsHeld, parts_of, versions_in}
 use Rattle.fjall_parts.proofs.Apart.{from_first, versions_numbered}
-use Rattle.fjall_lsm.specs.Trees.{ReadsAll, Shape, clears_of, first_from, floor_of, value_from, versions_of}
+use Rattle.fjall_lsm.specs.Trees.{Shape, first_from, floor_of, value_from, versions_of}
 
 -- no number in memory is below the floor
 memory_from : (sealed : List Held) (active : Held) → All IsHeld (sealed ++ active ∷ []) → AreApart (sealed ++ active ∷ []) → AreFrom (first_from sealed active) (versions_in (sealed ++ active ∷ []))

@@ -1,7 +1,7 @@
 -- What a keyspace holds: tables on a disk, the clears of its record, and parts in memory.
 use Rattle.std.specs.Prelude.{◌≡◌, ℕ, ◌<◌, Bool, true, false, List, [], ◌∷◌, ◌++◌, Option, Some, None, if◌then◌else◌, nat_lt, map, slice_get}
 use Rattle.std.specs.List.{All}
-use Rattle.std.specs.Coded.{×_prop, Unit-prop, le_prop}
+use Rattle.std.specs.Coded.{×_prop, Unit-prop}
 use Rattle.std.proofs.Props.{props}
 use Rattle.fjall_base.specs.Disk.{Meaning}
 use Rattle.fjall_table.specs.declared.level.Level.{Level}

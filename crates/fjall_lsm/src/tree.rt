@@ -1,6 +1,6 @@
 //! The tree of one keyspace.
 
-ghost use Rattle.std.specs.Prelude.{◌≡◌, ◌+◌, ◌-◌, ◌<◌, ◌≤◌, ◌^◌, ℕ, [], List, length, min, not, count_by, ⊤, IsTrue, IfOk, IfErr, OnOk, OnErr, Ok, Some, None, true, false};
+ghost use Rattle.std.specs.Prelude.{◌≡◌, ◌+◌, ◌-◌, ◌<◌, ◌≤◌, ◌^◌, [], List, length, min, not, count_by, ⊤, IsTrue, IfOk, IfErr, OnOk, OnErr, Ok, Some, None, true, false};
 ghost use Rattle.std.specs.List.{All, sum_by};
 ghost use Rattle.fjall_base.specs.Disk.{Meaning};
 ghost use Rattle.fjall_table.specs.Blocks.{Entry};
@@ -11,7 +11,7 @@ ghost use Rattle.fjall_blocks.specs.Readers.{LooksOn};
 ghost use Rattle.fjall_memtable.specs.Entries.{size_of, version, IsAbsent};
 ghost use Rattle.fjall_parts.specs.Parts.{AreApart, Ascends, IsHeld, empty_from, holds_nothing, parts_of, versions_in};
 ghost use Rattle.fjall_parts.specs.Memories.{memory_of};
-ghost use Rattle.fjall_lsm.specs.Trees.{IsSameShape, IsShape, ReadsAll, Shape, SomeTableIsWrong, all_unread, clears_of, emptied, is_l0, sealed_off, shape_prop, versions_of, written};
+ghost use Rattle.fjall_lsm.specs.Trees.{IsSameShape, IsShape, ReadsAll, SomeTableIsWrong, all_unread, clears_of, emptied, is_l0, sealed_off, shape_prop, versions_of, written};
 
 use crate::counts::{bytes_kept, bytes_on_disk, count_of_l0, drop_all_blocks, entries_in};
 use crate::search::{greatest_below, newest_in, value_found, value_of};
