@@ -1,0 +1,4 @@
+pub mod Changes
+pub mod Readers
+pub mod Searches
+pub mod Shows

@@ -1,0 +1,17 @@
+use Rattle.std.proofs.Common.{◌≡◌, List, length, ap, arith, sym, subst, ◌∙◌}
+use Rattle.std.proofs.lemmas.List.{with_items_is}
+use Rattle.fjall_blocks.specs.Readers.{Reader}
+use Rattle.fjall_lsm.specs.Trees.{AreRead, all_unread}
+use Rattle.fjall_lsm.proofs.Readers.{all_unread_read}
+use Rattle.fjall_lsm.proofs.tree.Tree.drop_blocks.Goals as goal
+
+pub returns-clause-reads : goal.returns-clause-reads
+returns-clause-reads c disk entries r =
+    let v = c.args.self.now.tables in
+    let len : length c.drop_all_blocks.new.tables ≡ v.len = omega (arith, c.drop_all_blocks.auto.tables, c.as_mut_slice.ensures.len, ap length c.as_mut_slice.ensures.value, v.ok.0) in
+    let kept = with_items_is v c.drop_all_blocks.new.tables len ∙ c.drop_all_blocks.ensures ∙ ap all_unread c.as_mut_slice.ensures.value in
+    record {
+      tables = subst (λ (ts : List Reader). AreRead disk ts entries) (sym kept) (all_unread_read disk v.items entries r.tables);
+      below = r.below;
+      once = r.once;
+    }
