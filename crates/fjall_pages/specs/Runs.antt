@@ -44,7 +44,7 @@ all_behind range (blocks ∷ tables) (a ∷ more) = behind_of range blocks a ∷
 -- lists with what is behind each
 abbrev pub joined : List (List Entry) → List (List Entry) → List (List Entry)
 joined [] more = []
-joined (run ∷ runs) [] = run ∷ runs
+joined (run ∷ runs) [] = (run ++ []) ∷ joined runs []
 joined (run ∷ runs) (rest ∷ more) = (run ++ rest) ∷ joined runs more
 
 -- all that the runs stand for, one by one, as they are gone through

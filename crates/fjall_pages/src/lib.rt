@@ -1,6 +1,7 @@
 //! Pages of pairs, made of versions that stand in memory and in tables on a disk.
 #![tactic(auto)]
 
+mod page_maker;
 mod page_run;
 mod table_run;
 
