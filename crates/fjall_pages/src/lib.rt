@@ -3,6 +3,7 @@
 
 mod page_maker;
 mod page_run;
+mod starts;
 mod table_run;
 
 pub use page_run::PageRun;
