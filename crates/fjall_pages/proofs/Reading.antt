@@ -1,7 +1,7 @@
 -- Pages over several tables on a disk.
 use Rattle.std.proofs.Common.{◌≡◌, ℕ, zero, suc, ◌+◌, ◌-◌, ◌<◌, ◌≤◌, Bool, IsTrue, true, false, List, [], ◌∷◌, ◌++◌, length, map, get_or, slice_get, slice_set, take, append_assoc, Option, Some, None, IfSome, refl, sym, ap, subst, ◌∙◌, ◌⊎◌, inl, inr, arith, sum}
 use Rattle.std.specs.List.{All, AllByRecursion}
-use Rattle.std.proofs.lemmas.List.{append-nil}
+use Rattle.std.proofs.lemmas.List.{append-nil, reverse-reverse}
 use Rattle.std.proofs.lemmas.List.Elements.{All-from_recursion, recursion_from_All, filter-append}
 use Rattle.fjall_base.specs.Disk.{Meaning}
 use Rattle.fjall_base.specs.Pairs.{KeyRange, is_within}
@@ -17,7 +17,11 @@ use Rattle.fjall_pages.specs.declared.page_run.PageRun.TheVariants.{Memory, Tabl
 use Rattle.fjall_pages.specs.Parts.{Ahead}
 use Rattle.fjall_pages.specs.Runs.{ahead_of, all_behind, all_of, behind_of, joined, left_in, to_come}
 use Rattle.fjall_pages.specs.Tables.{AllBegin, AreRead, AreSameTables, Begins, EndsBy, SomeWrong, StartsAt, all_in}
-use Rattle.fjall_pages.proofs.Orders.{IsShuffled, flat_shuffled}
+use Rattle.fjall_sorted.proofs.Orders.{filter_chain}
+use Rattle.fjall_sorted.proofs.Sorting.{chain_of, ordered_of}
+use Rattle.fjall_pages.specs.declared.page_maker.PageMaker.{PageMaker}
+use Rattle.fjall_pages.specs.Pages.{IsMade, goes_back, made, made_with, page_of}
+use Rattle.fjall_pages.proofs.Orders.{IsShuffled, flat_shuffled, in_turn_shuffled, once_shuffled, once_within, sorted_shuffled}
 
 -- ---- several tables
 
@@ -202,3 +206,76 @@ starts_more range back tables memory runs run s =
     map_last : (ms : List (List Entry)) → map (λ r. Memory r) (ms ++ run ∷ []) ≡ map (λ r. Memory r) ms ++ Memory run ∷ []
     map_last [] = refl
     map_last (m ∷ ms) = ap (λ (rs : List PageRun). Memory m ∷ rs) (map_last ms)
+
+-- ---- the loop of a page
+
+-- all versions of these tables between the bounds, and behind them those in memory
+abbrev pub versions_of : KeyRange → Bool → List (List (List Entry)) → List (List Entry) → List Entry
+versions_of range back blocks memory = entries_within range (flat (map entries_of blocks)) ++ flat (map (in_turn back) memory)
+
+-- as all those came
+abbrev pub came_once : Bool → List (List (List Entry)) → List (List Entry) → Type 0
+came_once back blocks memory = OnceEach (flat (map entries_of blocks) ++ flat (map (in_turn back) memory))
+
+-- What the loop of a page keeps.
+pub record Looping (honest : Bool) (old new : Meaning) (before after : List Reader) (range : KeyRange) (back : Bool) (instant bound max : ℕ) (memory : List (List Entry)) (runs : List PageRun) (page : PageMaker) : Type 0 where
+  pub table : AreSameTables before after
+  pub disk : LooksOn honest old new
+  pub fits : Fit before (map ahead_of runs)
+  pub end : goes_back page ≡ back
+  pub few : length (made page) ≤ max
+  pub reads : IsTrue honest → (blocks : List (List (List Entry))) → AreReadBlocks old before blocks → AreReadBlocks new after blocks
+  pub whole : IsTrue honest → (blocks : List (List (List Entry))) → AreReadBlocks old before blocks → All (IsInTurn back) memory → came_once back blocks memory
+      → IsMade back (all_of range blocks runs) (page_of back instant bound (in_turn back (sorted (versions_of range back blocks memory)))) (made_with page) (made page) max
+
+turned_twice : (back : Bool) (run : List Entry) → in_turn back (in_turn back run) ≡ run
+turned_twice false run = refl
+turned_twice true run = reverse-reverse run
+
+all_turned_twice : (back : Bool) (runs : List (List Entry)) → map (in_turn back) (map (in_turn back) runs) ≡ runs
+all_turned_twice back [] = refl
+all_turned_twice back (run ∷ runs) = λ i. turned_twice back run i ∷ all_turned_twice back runs i
+
+memory_shuffled : (back : Bool) (memory : List (List Entry)) → IsShuffled (flat memory) (flat (map (in_turn back) memory))
+memory_shuffled back memory = subst (λ (ms : List (List Entry)). IsShuffled (flat ms) (flat (map (in_turn back) memory))) (all_turned_twice back memory) (flat_shuffled back (map (in_turn back) memory))
+
+parts_shuffled : (range : KeyRange) (back : Bool) (blocks : List (List (List Entry))) (memory : List (List Entry)) → IsShuffled (flat (parts_of range back blocks ++ memory)) (versions_of range back blocks memory)
+parts_shuffled range back [] memory = memory_shuffled back memory
+parts_shuffled range back (b ∷ blocks) memory =
+    let here = entries_within range (entries_of b) in
+    let rest = entries_within range (flat (map entries_of blocks)) in
+    let e = ap (λ (vs : List Entry). vs ++ flat (map (in_turn back) memory)) (filter-append (λ e. is_within range e.key) (entries_of b) (flat (map entries_of blocks))) ∙ append_assoc here rest (flat (map (in_turn back) memory)) in
+    subst (λ (vs : List Entry). IsShuffled (flat (parts_of range back (b ∷ blocks) ++ memory)) vs) (sym e)
+    (in_turn_shuffled back here (flat (parts_of range back blocks ++ memory)) (versions_of range back blocks memory) (parts_shuffled range back blocks memory))
+
+parts_in_turn : (disk : Meaning) (range : KeyRange) (back : Bool) (tables : List Reader) (blocks : List (List (List Entry))) (memory : List (List Entry)) → AreReadBlocks disk tables blocks → AllByRecursion (IsInTurn back) memory → AllByRecursion (IsInTurn back) (parts_of range back blocks ++ memory)
+parts_in_turn disk range back [] [] memory r each = each
+parts_in_turn disk range back (t ∷ tables) (b ∷ blocks) memory r each =
+    let up = ordered_of (entries_within range (entries_of b)) (filter_chain (λ e. is_within range e.key) (entries_of b) (chain_of (entries_of b) r.0.table.are.ordered)) in
+    (subst IsOrdered (sym (turned_twice back (entries_within range (entries_of b)))) up, parts_in_turn disk range back tables blocks memory r.1 each)
+parts_in_turn disk range back [] (b ∷ blocks) memory r each = absurd r
+parts_in_turn disk range back (t ∷ tables) [] memory r each = absurd r
+
+-- a page that has nothing yet, over runs of which nothing was looked at
+pub looping_none : (honest : Bool) (old : Meaning) (before : List Reader) (range : KeyRange) (back : Bool) (instant bound max : ℕ) (memory : List (List Entry)) (runs : List PageRun) (page : PageMaker) → StartsAt range back before memory runs
+    → goes_back page ≡ back → made page ≡ [] → ((versions : List Entry) → made_with page versions ≡ page_of back instant bound versions)
+    → Looping honest old old before before range back instant bound max memory runs page
+looping_none honest old before range back instant bound max memory runs page starts ends none all = record {
+  table = same_all before;
+  disk = looks_none honest old;
+  fits = subst (λ (rs : List PageRun). Fit before (map ahead_of rs)) (sym starts.2) (fit_at_first range back before starts.0 memory starts.1);
+  end = ends;
+  few = let n = ap length none in omega (arith, n);
+  reads = λ h blocks r. r;
+  whole = λ h blocks r up once.
+      let is = parts_shuffled range back blocks memory in
+      let once_here = once_within range (flat (map entries_of blocks)) (flat (map (in_turn back) memory)) once in
+      let first : all_of range blocks runs ≡ parts_of range back blocks ++ memory = ap (all_of range blocks) starts.2 ∙ all_at_first old range back before blocks starts.0 memory r starts.1 in
+      let n = ap length none in
+      subst (λ (rs : List (List Entry)). IsMade back rs (page_of back instant bound (in_turn back (sorted (versions_of range back blocks memory)))) (made_with page) (made page) max) (sym first) (record {
+        ordered = All-from_recursion (IsInTurn back) (parts_of range back blocks ++ memory) (parts_in_turn old range back before blocks memory r (recursion_from_All (IsInTurn back) memory up));
+        once = once_shuffled (flat (parts_of range back blocks ++ memory)) (versions_of range back blocks memory) is once_here;
+        told = all (in_turn back (sorted (flat (parts_of range back blocks ++ memory)))) ∙ ap (λ (vs : List Entry). page_of back instant bound (in_turn back vs)) (sorted_shuffled (flat (parts_of range back blocks ++ memory)) (versions_of range back blocks memory) is once_here);
+        few = omega (arith, n);
+      });
+}
