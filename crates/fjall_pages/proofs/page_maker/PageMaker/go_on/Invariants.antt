@@ -1,0 +1,11 @@
+use Rattle.std.proofs.Common.{length, map}
+use Rattle.fjall_sorted.specs.Sorted.{flat}
+use Rattle.fjall_pages.specs.Runs.{left_in}
+use Rattle.fjall_pages.proofs.Paging.{Going}
+use Rattle.fjall_pages.proofs.page_maker.PageMaker.go_on.Given as goal
+
+abbrev pub invariant-versions : goal.invariant-versions
+invariant-versions l = Going l.back l.max l.fn.self l.self l.fn.runs l.runs
+
+abbrev pub decreases-versions : goal.decreases-versions
+decreases-versions l = length (flat (map left_in l.runs))

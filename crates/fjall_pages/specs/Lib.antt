@@ -1,0 +1,4 @@
+pub mod Parts
+pub mod Runs
+pub mod Pages
+pub mod Tables

@@ -1,0 +1,10 @@
+//! Pages of pairs, made of versions that stand in memory and in tables on a disk.
+#![tactic(auto)]
+
+mod page_maker;
+mod page_run;
+mod starts;
+mod table_run;
+
+pub use page_run::PageRun;
+pub use table_run::TableRun;
