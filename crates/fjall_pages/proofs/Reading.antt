@@ -4,7 +4,7 @@ use Rattle.std.specs.List.{All, AllByRecursion}
 use Rattle.std.proofs.lemmas.List.{append-nil, reverse-reverse}
 use Rattle.std.proofs.lemmas.List.Elements.{All-from_recursion, recursion_from_All, filter-append}
 use Rattle.fjall_base.specs.Disk.{Meaning}
-use Rattle.fjall_base.specs.Pairs.{KeyRange, is_within}
+use Rattle.fjall_base.specs.Pairs.{Bytes, KeyRange, is_within}
 use Rattle.fjall_table.specs.Blocks.{Entry, IsOrdered}
 use Rattle.fjall_table.specs.Files.{entry_at}
 use Rattle.fjall_table.specs.Tables.{entries_of, entries_within}
@@ -278,4 +278,44 @@ looping_none honest old before range back instant bound max memory runs page sta
         told = all (in_turn back (sorted (flat (parts_of range back blocks ++ memory)))) ∙ ap (λ (vs : List Entry). page_of back instant bound (in_turn back vs)) (sorted_shuffled (flat (parts_of range back blocks ++ memory)) (versions_of range back blocks memory) is once_here);
         few = omega (arith, n);
       });
+}
+
+-- versions were looked at
+pub looping_on : (honest : Bool) (old new : Meaning) (before after : List Reader) (range : KeyRange) (back : Bool) (instant bound max : ℕ) (memory : List (List Entry)) (runs runs_new : List PageRun) (page page_new : PageMaker)
+    → Looping honest old new before after range back instant bound max memory runs page
+    → map ahead_of runs_new ≡ map ahead_of runs → goes_back page_new ≡ back → length (made page_new) ≤ max
+    → ((tables : List (List (List Entry))) (whole : List (Bytes × Bytes)) → IsMade back (all_of range tables runs) whole (made_with page) (made page) max → IsMade back (all_of range tables runs_new) whole (made_with page_new) (made page_new) max)
+    → Looping honest old new before after range back instant bound max memory runs_new page_new
+looping_on honest old new before after range back instant bound max memory runs runs_new page page_new l ahead ends few all = record {
+  table = l.table;
+  disk = l.disk;
+  fits = subst (Fit before) (sym ahead) l.fits;
+  end = ends;
+  few = few;
+  reads = l.reads;
+  whole = λ h blocks r up once. all blocks _ (l.whole h blocks r up once);
+}
+
+-- a run was filled
+pub looping_filled : (honest : Bool) (old mid new : Meaning) (before after : List Reader) (range : KeyRange) (back : Bool) (instant bound max : ℕ) (memory : List (List Entry)) (runs : List PageRun) (page : PageMaker) (at : ℕ) (run filled : PageRun) (t u : Reader)
+    → Looping honest old mid before after range back instant bound max memory runs page
+    → slice_get runs at ≡ Some run → slice_get after at ≡ Some t → IsSameTable t u → LooksOn honest mid new
+    → (IsTrue honest → (blocks : List (List Entry)) → ReadsBlocks mid t blocks → ReadsBlocks new u blocks)
+    → (IsTrue honest → (blocks : List (List Entry)) → ReadsBlocks mid t blocks → all_in range blocks filled ≡ all_in range blocks run)
+    → Fit before (map ahead_of (slice_set runs at filled))
+    → Looping honest old new before (slice_set after at u) range back instant bound max memory (slice_set runs at filled) page
+looping_filled honest old mid new before after range back instant bound max memory runs page at run filled t u l here there same looks reads all fits = record {
+  table = same_set before after at t u l.table there same;
+  disk = looks_again honest old mid new l.disk looks;
+  fits = fits;
+  end = l.end;
+  few = l.few;
+  reads = λ h blocks r.
+      let now = l.reads h blocks r in
+      let b = read_at mid after blocks at t now there in
+      read_set new after blocks at u b.0 (all_on honest mid new after blocks looks h now) b.1 (reads h b.0 b.2);
+  whole = λ h blocks r up once.
+      let now = l.reads h blocks r in
+      let b = read_at mid after blocks at t now there in
+      subst (λ (rs : List (List Entry)). IsMade back rs (page_of back instant bound (in_turn back (sorted (versions_of range back blocks memory)))) (made_with page) (made page) max) (sym (all_filled range blocks runs at b.0 run filled b.1 here (all h b.0 b.2))) (l.whole h blocks r up once);
 }
