@@ -1,7 +1,8 @@
 -- Pages over several tables on a disk.
-use Rattle.std.proofs.Common.{◌≡◌, ℕ, zero, suc, ◌+◌, ◌-◌, ◌<◌, ◌≤◌, Bool, IsTrue, true, false, List, [], ◌∷◌, ◌++◌, length, map, get_or, slice_get, slice_set, take, append_assoc, Option, Some, None, IfSome, refl, sym, ap, subst, ◌∙◌, ◌⊎◌, inl, inr, arith, sum}
+use Rattle.std.proofs.Common.{◌≡◌, ℕ, zero, suc, ◌+◌, ◌-◌, ◌<◌, ◌≤◌, Bool, IsTrue, true, false, List, [], ◌∷◌, ◌++◌, length, map, get_or, slice_get, slice_set, take, append_assoc, Option, Some, None, IfSome, refl, sym, ap, subst, ◌∙◌, ◌⊎◌, inl, inr, arith, sum, position}
 use Rattle.std.specs.List.{All, AllByRecursion}
 use Rattle.std.proofs.lemmas.List.{append-nil, reverse-reverse}
+use Rattle.std.proofs.lemmas.List.Quantifiers.{position-Some}
 use Rattle.std.proofs.lemmas.List.Elements.{All-from_recursion, recursion_from_All, filter-append}
 use Rattle.fjall_base.specs.Disk.{Meaning}
 use Rattle.fjall_base.specs.Pairs.{Bytes, KeyRange, is_within}
@@ -15,7 +16,7 @@ use Rattle.fjall_sorted.specs.Sorted.{IsInTurn, flat, in_turn, sorted}
 use Rattle.fjall_pages.specs.declared.page_run.PageRun.{PageRun}
 use Rattle.fjall_pages.specs.declared.page_run.PageRun.TheVariants.{Memory, Table}
 use Rattle.fjall_pages.specs.Parts.{Ahead}
-use Rattle.fjall_pages.specs.Runs.{ahead_of, all_behind, all_of, behind_of, joined, left_in, to_come}
+use Rattle.fjall_pages.specs.Runs.{ahead_of, all_behind, all_of, behind_of, is_dry, joined, left_in, to_come}
 use Rattle.fjall_pages.specs.Tables.{AllBegin, AreRead, AreSameTables, Begins, EndsBy, SomeWrong, StartsAt, all_in}
 use Rattle.fjall_sorted.proofs.Orders.{filter_chain}
 use Rattle.fjall_sorted.proofs.Sorting.{chain_of, ordered_of}
@@ -319,3 +320,58 @@ looping_filled honest old mid new before after range back instant bound max memo
       let b = read_at mid after blocks at t now there in
       subst (λ (rs : List (List Entry)). IsMade back rs (page_of back instant bound (in_turn back (sorted (versions_of range back blocks memory)))) (made_with page) (made page) max) (sym (all_filled range blocks runs at b.0 run filled b.1 here (all h b.0 b.2))) (l.whole h blocks r up once);
 }
+
+-- ---- where the loop stands
+
+-- the same entries are read as at first
+pub entries_read : (honest : Bool) (old new : Meaning) (before after : List Reader) → (IsTrue honest → (blocks : List (List (List Entry))) → AreReadBlocks old before blocks → AreReadBlocks new after blocks)
+    → IsTrue honest → (entries : List (List Entry)) → AreRead old before entries → AreRead new after entries
+entries_read honest old new before after reads h entries read =
+    let b = blocks_read old before entries read in
+    subst (AreRead new after) (sym b.2) (are_read new after b.0 (reads h b.0 b.1))
+
+-- a dry run is a table's with a block to come
+dry_ahead : (run : PageRun) → is_dry run ≡ true → (a : Ahead) × (ahead_of run ≡ Some a)
+dry_ahead (Memory run) dry = absurd (cc dry)
+dry_ahead (Table part) dry = (part.ahead, refl)
+
+-- The run at a place is dry, and this is its table.
+pub record IsDryAt (before after : List Reader) (runs : List PageRun) (at : ℕ) : Type 0 where
+  pub run : PageRun
+  pub here : slice_get runs at ≡ Some run
+  pub dry : is_dry run ≡ true
+  pub first : Reader
+  pub was : slice_get before at ≡ Some first
+  pub ends : EndsBy (length first.handles) (ahead_of run)
+  pub table : Reader
+  pub is : slice_get after at ≡ Some table
+  pub same : IsSameTable first table
+
+same_at : (before after : List Reader) (at : ℕ) (t : Reader) → AreSameTables before after → slice_get before at ≡ Some t → (u : Reader) × (slice_get after at ≡ Some u) × IsSameTable t u
+same_at [] [] at t s e = absurd (cc e)
+same_at (v ∷ before) (w ∷ after) zero t s e = let is : v ≡ t = cc e in (w, refl, subst (λ (r : Reader). IsSameTable r w) is s.0)
+same_at (v ∷ before) (w ∷ after) (suc at) t s e = same_at before after at t s.1 e
+same_at [] (w ∷ after) at t s e = absurd s
+same_at (v ∷ before) [] at t s e = absurd s
+
+map_at : (runs : List PageRun) (at : ℕ) (run : PageRun) → slice_get runs at ≡ Some run → slice_get (map ahead_of runs) at ≡ Some (ahead_of run)
+map_at [] at run e = absurd (cc e)
+map_at (r ∷ runs) zero run e = let is : r ≡ run = cc e in ap (λ (x : PageRun). Some (ahead_of x)) is
+map_at (r ∷ runs) (suc at) run e = map_at runs at run e
+
+stands_at : (runs : List PageRun) (at : ℕ) (d : PageRun) → at < length runs → slice_get runs at ≡ Some (get_or runs at d)
+stands_at [] at d lt = absurd (omega (arith, lt))
+stands_at (r ∷ runs) zero d lt = refl
+stands_at (r ∷ runs) (suc at) d lt = stands_at runs at d (omega (arith, lt))
+
+dry_found : (runs : List PageRun) (at : ℕ) → position is_dry runs ≡ Some at → (run : PageRun) × (slice_get runs at ≡ Some run) × (is_dry run ≡ true)
+dry_found [] at found = absurd (cc found)
+dry_found (r ∷ runs) at found = let p = position-Some is_dry (r ∷ runs) at r found in (get_or (r ∷ runs) at r, stands_at (r ∷ runs) at r p.0, p.1)
+
+pub dry_at : (before after : List Reader) (runs : List PageRun) (at : ℕ) → AreSameTables before after → Fit before (map ahead_of runs) → position is_dry runs ≡ Some at → IsDryAt before after runs at
+dry_at before after runs at same fits found =
+    let d = dry_found runs at found in
+    let a = dry_ahead d.0 d.2 in
+    let f = fit_at before (map ahead_of runs) at a.0 fits (map_at runs at d.0 d.1 ∙ ap (λ (o : Option Ahead). Some o) a.1) in
+    let t = same_at before after at f.0 same f.1 in
+    record { run = d.0; here = d.1; dry = d.2; first = f.0; was = f.1; ends = subst (EndsBy (length f.0.handles)) (sym a.1) f.2; table = t.0; is = t.1; same = t.2 }
