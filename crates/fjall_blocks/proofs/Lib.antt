@@ -2,3 +2,4 @@ pub mod Places
 pub mod Searches
 pub mod Spans
 pub mod Readers
+pub mod Several

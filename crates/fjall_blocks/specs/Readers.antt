@@ -1,5 +1,5 @@
 -- Opened tables some of whose blocks are kept in memory, and what they read on a disk.
-use Rattle.std.specs.Prelude.{◌≡◌, ℕ, ◌≤◌, Bool, IsTrue, List, [], Option, Some, None, length, map, set, slice_get}
+use Rattle.std.specs.Prelude.{◌≡◌, ℕ, ◌≤◌, Bool, IsTrue, List, [], ◌∷◌, Option, Some, None, length, map, set, slice_get}
 use Rattle.fjall_base.specs.Disk as disk
 use Rattle.fjall_base.specs.Disk.{IsFile, Name, Meaning, Took}
 use Rattle.fjall_table.specs.declared.table_info.TableInfo.{TableInfo}
@@ -69,3 +69,27 @@ pub record IsSameTable (old new : Reader) : Type 0 where
 -- where some block of these should stand, none stands that begins with the handle's key
 abbrev pub HoldsAWrongBlock : disk.Entry → List Handle → Type 0
 HoldsAWrongBlock entry handles = (at : ℕ) × (h : Handle) × (slice_get handles at ≡ Some h) × HoldsNoBlock entry h
+
+-- ---- several tables
+
+-- On this disk each reader reads the table of the entries at its place.
+abbrev pub AreRead : Meaning → List Reader → List (List Entry) → Type 0
+AreRead disk [] [] = Unit {0}
+AreRead disk [] (es ∷ entries) = ⊥
+AreRead disk (t ∷ tables) [] = ⊥
+AreRead disk (t ∷ tables) (es ∷ entries) = Reads disk t es × AreRead disk tables entries
+
+-- The same tables, whatever is kept of them.
+abbrev pub AreSameTables : List Reader → List Reader → Type 0
+AreSameTables [] [] = Unit {0}
+AreSameTables [] (t ∷ new) = ⊥
+AreSameTables (t ∷ old) [] = ⊥
+AreSameTables (t ∷ old) (u ∷ new) = IsSameTable t u × AreSameTables old new
+
+-- some table has a wrong block, or none, where one of its blocks should stand
+abbrev pub SomeTableIsWrong : Meaning → List Reader → Type 0
+SomeTableIsWrong disk tables = (at : ℕ) × (t : Reader) × (slice_get tables at ≡ Some t) × HoldsAWrongBlock (entry_at disk t.name) t.handles
+
+-- the tables with no block kept
+abbrev pub all_unread : List Reader → List Reader
+all_unread tables = map (λ t. unread t.name t.info t.handles) tables

@@ -9,3 +9,4 @@ pub mod Looping
 pub mod Merging
 pub mod Parting
 pub mod Rooms
+pub mod Reading

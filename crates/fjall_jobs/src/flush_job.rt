@@ -85,6 +85,14 @@ impl FlushJob {
         self.keyspace_id
     }
 
+    /// The clears of its input, ascending. It is refused for want of memory alone.
+    pub fn clears(&self, alloc: Global) -> Result<Vec<u64>>
+        ensures clears { IfOk result (λ clears. clears.items ≡ (flush_task self.now).clears) }
+        ensures only { IsOkUnless result Error.OutOfMemory }
+    {
+        clears_of(alloc, self.parts.as_slice())
+    }
+
     /// What is made of its input: tables, and clears.
     fn make(&self, alloc: Global) -> Result<(Vec<MadeTable>, Vec<u64>)>
         ensures made { IfOk result (λ made. IsFlushed (flush_task self.now) made.0.items made.1.items) }

@@ -18,11 +18,11 @@ use Rattle.fjall_views.proofs.Shown.{value_shown}
 use Rattle.fjall_views.proofs.Writing.{write_keeps, write_shows}
 use Rattle.fjall_sorted.specs.Sorted.{flat}
 use Rattle.fjall_sorted.proofs.Sorting.{inserted_same}
-use Rattle.fjall_blocks.specs.Readers.{Reader}
+use Rattle.fjall_blocks.specs.Readers.{AreRead, Reader}
 use Rattle.fjall_parts.specs.Parts.{Held, IsHeld, clears_in, empty_from, parts_of, versions_in, with_clear, with_version}
 use Rattle.fjall_parts.proofs.Finds.{last_versions}
 use Rattle.fjall_parts.proofs.Onces.{once_in}
-use Rattle.fjall_lsm.specs.Trees.{AreRead, ReadsAll, Shape, clears_of, emptied, first_from, floor_of, sealed_off, versions_of, written}
+use Rattle.fjall_lsm.specs.Trees.{ReadsAll, Shape, clears_of, emptied, first_from, floor_of, sealed_off, versions_of, written}
 
 -- ---- one version more in a part
 
@@ -138,11 +138,11 @@ sealed_versions shape entries =
 
 -- ---- what is on the disk stays
 
-first_same : (sealed : List Held) (h g : Held) → g.from ≡ h.from → first_from sealed g ≡ first_from sealed h
+pub first_same : (sealed : List Held) (h g : Held) → g.from ≡ h.from → first_from sealed g ≡ first_from sealed h
 first_same [] h g same = same
 first_same (k ∷ sealed) h g same = refl
 
-first_sealed : (sealed : List Held) (h g : Held) → first_from (sealed ++ h ∷ []) g ≡ first_from sealed h
+pub first_sealed : (sealed : List Held) (h g : Held) → first_from (sealed ++ h ∷ []) g ≡ first_from sealed h
 first_sealed [] h g = refl
 first_sealed (k ∷ sealed) h g = refl
 

@@ -1,4 +1,10 @@
 pub mod Changes
-pub mod Readers
+pub mod Flushed
+pub mod Inputs
+pub mod Merged
+pub mod Outstanding
+pub mod Paging
 pub mod Searches
+pub mod Several
 pub mod Shows
+pub mod Staying

@@ -15,10 +15,9 @@ use Rattle.fjall_sorted.specs.Sorted.{flat}
 use Rattle.fjall_sorted.proofs.Ranges.{newest_first}
 use Rattle.fjall_blocks.specs.declared.found.Found.{Found}
 use Rattle.fjall_blocks.specs.Finds.{IsFound, entry_found}
-use Rattle.fjall_blocks.specs.Readers.{HoldsAWrongBlock, IsSameTable, LooksOn, Reader, Reads}
+use Rattle.fjall_blocks.specs.Readers.{AreRead, AreSameTables, HoldsAWrongBlock, IsSameTable, LooksOn, Reader, Reads, SomeTableIsWrong}
 use Rattle.fjall_blocks.proofs.Readers.{looks_again, looks_none}
-use Rattle.fjall_lsm.specs.Trees.{AreRead, AreSameTables, SomeTableIsWrong}
-use Rattle.fjall_lsm.proofs.Readers.{all_read_on, all_same_none, length_read, read_at, read_ordered, read_set, same_at, same_set}
+use Rattle.fjall_blocks.proofs.Several.{all_read_on, all_same_none, length_read, read_at, read_ordered, read_set, same_at, same_set}
 
 -- The tables before some place were asked: the readers read what they read at first, and what was found is the newest of these.
 pub record Searching (honest : Bool) (old new : Meaning) (before after : List Reader) (key : List ℕ) (instant at : ℕ) (found : Option Found) : Type 0 where

@@ -1,2 +1,5 @@
 pub mod Trees
+pub mod Out
 pub mod Shapes
+pub mod Jobs
+pub mod Pages

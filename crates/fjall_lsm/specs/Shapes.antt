@@ -1,17 +1,19 @@
 -- What a tree holds, now and at a mark.
 use Rattle.std.specs.Prelude.{◌≡◌}
+use Rattle.std.specs.Option.{option_map}
 use Rattle.fjall_parts.specs.declared.mark.Mark.{Mark}
 use Rattle.fjall_parts.specs.Memories.{IsMark as IsMarkThere, memory_at, memory_of}
 use Rattle.fjall_lsm.specs.declared.tree.Tree.{Tree}
+use Rattle.fjall_lsm.specs.Out.{flushing, merging}
 use Rattle.fjall_lsm.specs.Trees.{Shape}
 
 -- what it holds
 abbrev pub shape_of : Tree → Shape
-shape_of tree = record { tables = tree.tables.items; clears = tree.clears.items; memory = memory_of tree.parts }
+shape_of tree = record { tables = tree.tables.items; clears = tree.clears.items; memory = memory_of tree.parts; flush = option_map flushing tree.flush; merge = option_map merging tree.merge }
 
 -- what it held at a mark
 abbrev pub shape_at : Mark → Tree → Shape
-shape_at mark tree = record { tables = tree.tables.items; clears = tree.clears.items; memory = memory_at mark tree.parts }
+shape_at mark tree = record { tables = tree.tables.items; clears = tree.clears.items; memory = memory_at mark tree.parts; flush = option_map flushing tree.flush; merge = option_map merging tree.merge }
 
 -- It once held that, and nothing was sealed since.
 abbrev pub IsMark : Tree → Mark → Type 0

@@ -1,5 +1,5 @@
 -- What a keyspace holds: tables on a disk, the clears of its record, and parts in memory.
-use Rattle.std.specs.Prelude.{◌≡◌, ℕ, ◌<◌, Bool, true, false, List, [], ◌∷◌, ◌++◌, Option, Some, None, if◌then◌else◌, nat_lt, map, slice_get}
+use Rattle.std.specs.Prelude.{◌≡◌, ℕ, ◌<◌, Bool, true, false, List, [], ◌∷◌, ◌++◌, Option, Some, None, if◌then◌else◌, nat_lt}
 use Rattle.std.specs.List.{All}
 use Rattle.std.specs.Coded.{×_prop, Unit-prop}
 use Rattle.std.proofs.Props.{props}
@@ -7,17 +7,33 @@ use Rattle.fjall_base.specs.Disk.{Meaning}
 use Rattle.fjall_table.specs.declared.level.Level.{Level}
 use Rattle.fjall_table.specs.declared.level.Level.TheVariants.{L0, L1}
 use Rattle.fjall_table.specs.Blocks.{Entry}
-use Rattle.fjall_table.specs.Files.{entry_at}
 use Rattle.fjall_views.specs.Jobs.{AreBelow, OnceEach}
 use Rattle.fjall_sorted.specs.Sorted.{flat}
-use Rattle.fjall_blocks.specs.Readers.{HoldsAWrongBlock, IsSameTable, Reader, Reads, unread}
+use Rattle.fjall_blocks.specs.Readers.{AreRead, AreSameTables, Reader}
 use Rattle.fjall_parts.specs.Parts.{Ascends, Held, Memory, clears_in, parts_of, rotated, versions_in, with_active, with_clear, with_version}
 
--- the tables, the oldest first, the clears of the record, ascending, and what is in memory
+-- A flush that is out: its number, its watermark, and how many sealed parts it was begun with, the oldest ones.
+pub record Flushing : Type 0 where
+  pub id : ℕ
+  pub watermark : ℕ
+  pub count : ℕ
+
+-- A merge that is out: its number, its watermark, and how many tables and how many of the record's clears it was begun with,
+-- the first ones. These are numbered below its bound, and what came since from it on.
+pub record Merging : Type 0 where
+  pub id : ℕ
+  pub watermark : ℕ
+  pub tables : ℕ
+  pub clears : ℕ
+  pub bound : ℕ
+
+-- the tables, the oldest first, the clears of the record, ascending, what is in memory, and which jobs are out
 pub record Shape : Type 0 where
   pub tables : List Reader
   pub clears : List ℕ
   pub memory : Memory
+  pub flush : Option Flushing
+  pub merge : Option Merging
 
 -- all versions, where these are the tables' entries
 abbrev pub versions_of : Shape → List (List Entry) → List Entry
@@ -64,39 +80,19 @@ value_from bound (Some v) = if nat_lt v.number bound then None else v.value
 
 -- ---- tables on a disk
 
--- Each reader reads the table of the entries at its place.
-abbrev pub AreRead : Meaning → List Reader → List (List Entry) → Type 0
-AreRead disk [] [] = Unit {0}
-AreRead disk [] (es ∷ entries) = ⊥
-AreRead disk (t ∷ tables) [] = ⊥
-AreRead disk (t ∷ tables) (es ∷ entries) = Reads disk t es × AreRead disk tables entries
-
 -- On this disk the tables have these entries, all numbered below the floor, and no version twice.
 pub record ReadsAll (disk : Meaning) (shape : Shape) (entries : List (List Entry)) : Type 0 where
   pub tables : AreRead disk shape.tables entries
   pub below : AreBelow (floor_of shape.memory) (flat entries)
   pub once : OnceEach (flat entries)
 
--- The same tables, whatever is kept of them.
-abbrev pub AreSameTables : List Reader → List Reader → Type 0
-AreSameTables [] [] = Unit {0}
-AreSameTables [] (t ∷ new) = ⊥
-AreSameTables (t ∷ old) [] = ⊥
-AreSameTables (t ∷ old) (u ∷ new) = IsSameTable t u × AreSameTables old new
-
 -- The same but for what is kept of the tables.
 pub record IsSameShape (old new : Shape) : Type 0 where
   pub tables : AreSameTables old.tables new.tables
   pub clears : new.clears ≡ old.clears
   pub memory : new.memory ≡ old.memory
-
--- some table has a wrong block, or none, where one of its blocks should stand
-abbrev pub SomeTableIsWrong : Meaning → List Reader → Type 0
-SomeTableIsWrong disk tables = (at : ℕ) × (t : Reader) × (slice_get tables at ≡ Some t) × HoldsAWrongBlock (entry_at disk t.name) t.handles
-
--- the tables with no block kept
-abbrev pub all_unread : List Reader → List Reader
-all_unread tables = map (λ t. unread t.name t.info t.handles) tables
+  pub flush : new.flush ≡ old.flush
+  pub merge : new.merge ≡ old.merge
 
 -- whether a flush made it
 abbrev pub is_l0 : Level → Bool

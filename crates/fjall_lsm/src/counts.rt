@@ -2,7 +2,8 @@
 
 ghost use Rattle.std.specs.Prelude.{◌≡◌, ◌-◌, ◌^◌, min, count_by};
 ghost use Rattle.std.specs.List.{sum_by};
-ghost use Rattle.fjall_lsm.specs.Trees.{all_unread, is_l0};
+ghost use Rattle.fjall_blocks.specs.Readers.{all_unread};
+ghost use Rattle.fjall_lsm.specs.Trees.{is_l0};
 
 use fjall_blocks::TableReader;
 use fjall_table::Level;

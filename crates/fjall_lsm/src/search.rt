@@ -9,9 +9,9 @@ ghost use Rattle.fjall_views.specs.Views.{later, newest};
 ghost use Rattle.fjall_sorted.specs.Pages.{barrier};
 ghost use Rattle.fjall_sorted.specs.Sorted.{flat};
 ghost use Rattle.fjall_blocks.specs.Finds.{IsFound, entry_found};
-ghost use Rattle.fjall_blocks.specs.Readers.{LooksOn};
+ghost use Rattle.fjall_blocks.specs.Readers.{AreRead, AreSameTables, LooksOn, SomeTableIsWrong};
 ghost use Rattle.fjall_parts.specs.Parts.{Ascends};
-ghost use Rattle.fjall_lsm.specs.Trees.{AreRead, AreSameTables, SomeTableIsWrong, value_from};
+ghost use Rattle.fjall_lsm.specs.Trees.{value_from};
 
 use fjall_base::{Disk, Error, Result, Slice, UserValue};
 use fjall_blocks::{Found, TableReader};

@@ -7,13 +7,15 @@ ghost use Rattle.fjall_table.specs.Blocks.{Entry};
 ghost use Rattle.fjall_table.specs.Files.{IsRefused};
 ghost use Rattle.fjall_views.specs.Views.{value_at};
 ghost use Rattle.fjall_sorted.specs.Pages.{barrier};
-ghost use Rattle.fjall_blocks.specs.Readers.{LooksOn};
+ghost use Rattle.fjall_blocks.specs.Readers.{LooksOn, SomeTableIsWrong, all_unread};
 ghost use Rattle.fjall_memtable.specs.Entries.{size_of, version, IsAbsent};
 ghost use Rattle.fjall_parts.specs.Parts.{AreApart, Ascends, IsHeld, empty_from, holds_nothing, parts_of, versions_in};
 ghost use Rattle.fjall_parts.specs.Memories.{memory_of};
-ghost use Rattle.fjall_lsm.specs.Trees.{IsSameShape, IsShape, ReadsAll, SomeTableIsWrong, all_unread, clears_of, emptied, is_l0, sealed_off, shape_prop, versions_of, written};
+ghost use Rattle.fjall_lsm.specs.Out.{IsFlushOf, IsMergeOf};
+ghost use Rattle.fjall_lsm.specs.Trees.{IsSameShape, IsShape, ReadsAll, clears_of, emptied, is_l0, sealed_off, shape_prop, versions_of, written};
 
 use crate::counts::{bytes_kept, bytes_on_disk, count_of_l0, drop_all_blocks, entries_in};
+use crate::out::{FlushOut, MergeOut};
 use crate::search::{greatest_below, newest_in, value_found, value_of};
 use fjall_base::{Disk, UserValue};
 use fjall_blocks::TableReader;
@@ -21,14 +23,18 @@ use fjall_parts::{Mark, Parts};
 use std::alloc::{AllocError, Global};
 
 /// What a keyspace holds: tables on a disk, the oldest first, the clears that its record tells, ascending, and what is newer
-/// than these, in memory.
+/// than these, in memory. One flush and one merge of it can be out at a time.
 #[derive(Drop)]
 pub struct Tree {
     pub(crate) alloc: Global,
     pub(crate) tables: Vec<TableReader>,
     pub(crate) clears: Vec<u64>,
     pub(crate) parts: Parts,
+    pub(crate) flush: Option<FlushOut>,
+    pub(crate) merge: Option<MergeOut>,
     ghost shape: { IsShape clears.items (memory_of parts) } by { shape_prop clears.items (memory_of parts) },
+    ghost flushing: { ∥ IsFlushOf (memory_of parts).sealed flush ∥₁ },
+    ghost merging: { ∥ IsMergeOf tables.items clears.items merge ∥₁ },
 }
 
 impl Tree {
@@ -40,13 +46,15 @@ impl Tree {
         requires from { from ≤ 2 ^ 63 }
         requires low { All (λ n. n < from) clears.items }
         requires ascend { Ascends clears.items }
-        ensures { shape_of result ≡ record { tables = tables.items; clears = clears.items; memory = record { sealed = []; active = empty_from from } } }
+        ensures { shape_of result ≡ record { tables = tables.items; clears = clears.items; memory = record { sealed = []; active = empty_from from }; flush = None; merge = None } }
     {
         Tree {
             alloc,
             tables,
             clears,
             parts: Parts::new(alloc, from),
+            flush: None,
+            merge: None,
         }
     }
 
@@ -135,7 +143,7 @@ impl Tree {
     }
 
     /// The greatest clear below an instant, of the record and in memory, or 0 where there is none.
-    fn barrier(&self, instant: u64) -> u64
+    pub(crate) fn barrier(&self, instant: u64) -> u64
         ensures { result ≡ barrier instant (clears_of (shape_of self.now)) }
     {
         greatest_below(self.clears.as_slice(), instant).max(self.parts.barrier(instant))
@@ -226,9 +234,19 @@ impl Tree {
 
     /// Keeps no block of any table any longer.
     pub fn drop_blocks(&mut self)
-        ensures shape { shape_of self.new ≡ record { tables = all_unread (shape_of self.old).tables; clears = (shape_of self.old).clears; memory = (shape_of self.old).memory } }
+        ensures shape { shape_of self.new ≡ record (shape_of self.old) { tables = all_unread (shape_of self.old).tables } }
         ensures reads { (disk : Meaning) (entries : List (List Entry)) → ReadsAll disk (shape_of self.old) entries → ReadsAll disk (shape_of self.new) entries }
     {
         drop_all_blocks(self.tables.as_mut_slice());
+    }
+
+    /// Keeps no block any longer where the kept blocks count for more than so many bytes.
+    pub fn keep_at_most(&mut self, bytes: u64)
+        ensures shape { IsSameShape (shape_of self.old) (shape_of self.new) }
+        ensures reads { (disk : Meaning) (entries : List (List Entry)) → ReadsAll disk (shape_of self.old) entries → ReadsAll disk (shape_of self.new) entries }
+    {
+        if self.kept_bytes() > bytes {
+            self.drop_blocks();
+        }
     }
 }

@@ -1,20 +1,20 @@
 -- Pages over runs some of which stand only partly in memory.
-use Rattle.std.proofs.Common.{◌≡◌, ℕ, zero, suc, ◌+◌, ◌-◌, ◌<◌, ◌≤◌, Bool, true, false, cond, List, [], ◌∷◌, ◌++◌, length, map, take, drop, reverse, get_or, slice_get, slice_set, position, Option, Some, None, refl, sym, ap, subst, ◌∙◌, append_assoc, arith, ◌&&◌, ltb, inl, inr}
-use Rattle.std.specs.List.{All, AllByRecursion, position_or_len}
+use Rattle.std.proofs.Common.{◌≡◌, ℕ, zero, suc, ◌+◌, ◌-◌, ◌<◌, ◌≤◌, Bool, true, false, cond, List, [], ◌∷◌, ◌++◌, length, map, take, drop, reverse, get_or, slice_get, slice_set, position, Option, Some, None, refl, sym, ap, subst, ◌∙◌, arith, ◌&&◌, ltb, inl, inr}
+use Rattle.std.specs.List.{AllByRecursion, position_or_len}
 use Rattle.std.proofs.lemmas.Bool.{cases_Bool, ltb-false}
 use Rattle.std.proofs.lemmas.List.{append-nil, reverse-reverse, take-append-le}
 use Rattle.std.proofs.lemmas.List.Elements.{All-from_recursion, recursion_from_All}
-use Rattle.fjall_base.specs.Pairs.{Bytes, KeyRange, is_within}
+use Rattle.fjall_base.specs.Pairs.{Bytes, KeyRange}
 use Rattle.fjall_table.specs.Blocks.{Entry}
 use Rattle.fjall_table.specs.Tables.{entries_of, entries_within}
-use Rattle.fjall_sorted.specs.Sorted.{IsFirst, IsFirstOf, IsUpToFirst, flat, in_turn, sorted}
+use Rattle.fjall_sorted.specs.Sorted.{IsFirst, IsUpToFirst, in_turn}
 use Rattle.fjall_runs.proofs.Paging as runs
 use Rattle.fjall_runs.proofs.Paging.{made_more, made_all, set_run, got_run}
 use Rattle.fjall_pages.specs.declared.page_run.PageRun.{PageRun}
 use Rattle.fjall_pages.specs.declared.page_run.PageRun.TheVariants.{Memory, Table}
 use Rattle.fjall_pages.specs.declared.page_maker.PageMaker.{PageMaker}
 use Rattle.fjall_pages.specs.declared.page_maker.PageMaker.TheVariants.{Front, Back}
-use Rattle.fjall_pages.specs.Parts.{Ahead, TablePart, behind, left_of}
+use Rattle.fjall_pages.specs.Parts.{Ahead}
 use Rattle.fjall_pages.specs.Runs.{ahead_of, all_behind, all_of, behind_of, is_dry, is_empty, joined, left_in}
 use Rattle.fjall_pages.specs.Pages.{IsMade, goes_back, made, made_with}
 
@@ -194,6 +194,3 @@ going_more back max first_page page after first_runs runs at d new g lt dry firs
           (g.all range tables whole is) (none_dry range tables runs dry) first (got_run left_in runs at d within) (set_run left_in runs at new) passed looked few lt);
       few = λ le. omega (arith, few, lt);
     }
-
-pub going_none : (back : Bool) (max : ℕ) (page : PageMaker) (runs : List PageRun) → goes_back page ≡ back → Going back max page page runs runs
-going_none back max page runs e = record { end = e; ahead = refl; all = λ range tables whole is. is; few = λ le. le }

@@ -1,6 +1,6 @@
 -- Parts of tables that are gone through block by block.
 use Rattle.std.proofs.Common.{◌≡◌, ℕ, zero, suc, ◌+◌, ◌-◌, ◌<◌, ◌≤◌, Bool, IsTrue, true, false, List, [], ◌∷◌, ◌++◌, length, take, drop, reverse, slice_get, Some, refl, sym, ap, subst, ◌∙◌, ◌⊎◌, inl, inr, arith}
-use Rattle.std.proofs.lemmas.List.{append-nil, append_assoc, reverse-append}
+use Rattle.std.proofs.lemmas.List.{reverse-append}
 use Rattle.std.proofs.lemmas.Option.{slice_get_past}
 use Rattle.std.proofs.lemmas.List.Elements.{filter-append}
 use Rattle.std.proofs.lemmas.List.Concat.{flat_map-cons}
@@ -10,9 +10,9 @@ use Rattle.fjall_table.specs.Blocks.{Entry}
 use Rattle.fjall_table.specs.Tables.{entries_of, entries_within}
 use Rattle.fjall_table.proofs.TableBlocks.{entries_joined}
 use Rattle.fjall_blocks.specs.Readers.{IsSameTable, LooksOn, Reader, ReadsBlocks}
-use Rattle.fjall_blocks.proofs.Readers.{looks_again, looks_none, same_again, same_none}
+use Rattle.fjall_blocks.proofs.Readers.{looks_again, same_again}
 use Rattle.fjall_sorted.specs.Sorted.{in_turn}
-use Rattle.fjall_pages.specs.Parts.{Ahead, IsDryPart, TablePart, behind, blocks_ahead, held_in, left_of, next_block, still_to_come, without_next}
+use Rattle.fjall_pages.specs.Parts.{Ahead, IsDryPart, TablePart, behind, blocks_ahead, held_in, next_block, still_to_come, without_next}
 
 -- ---- one entry less
 
@@ -129,17 +129,6 @@ pub record Filling (honest : Bool) (old new : Meaning) (before after : Reader) (
   pub back : now.ahead.back ≡ first.ahead.back
   pub end : now.ahead.last ≤ first.ahead.last
   pub moved : (now ≡ first) ⊎ (blocks_ahead now.ahead < blocks_ahead first.ahead)
-
-pub filling_none : (honest : Bool) (old : Meaning) (t : Reader) (range : KeyRange) (first : TablePart) → Filling honest old old t t range first first
-filling_none honest old t range first = record {
-  table = same_none t;
-  disk = looks_none honest old;
-  reads = λ h blocks r. r;
-  stands = λ h blocks r. refl;
-  back = refl;
-  end = omega arith;
-  moved = inl refl;
-}
 
 -- with one block less to come there are fewer
 fewer_by : (a : Ahead) → a.next < a.last → (blocks_ahead (without_next a) < blocks_ahead a) × ((without_next a).last ≤ a.last)

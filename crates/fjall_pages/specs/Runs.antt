@@ -1,10 +1,10 @@
 -- The runs of a page, some of which stand only partly in memory.
-use Rattle.std.specs.Prelude.{◌≡◌, ℕ, ◌<◌, ◌≤◌, Bool, false, true, nat_lt, ◌&&◌, List, [], ◌∷◌, ◌++◌, Option, Some, None, length, map}
+use Rattle.std.specs.Prelude.{ℕ, Bool, false, true, nat_lt, ◌&&◌, List, [], ◌∷◌, ◌++◌, Option, Some, None, map}
 use Rattle.fjall_base.specs.Pairs.{KeyRange}
 use Rattle.fjall_table.specs.Blocks.{Entry}
 use Rattle.fjall_pages.specs.declared.page_run.PageRun.{PageRun}
 use Rattle.fjall_pages.specs.declared.page_run.PageRun.TheVariants.{Memory, Table}
-use Rattle.fjall_pages.specs.Parts.{Ahead, TablePart, behind, blocks_ahead, left_of}
+use Rattle.fjall_pages.specs.Parts.{Ahead, behind, blocks_ahead, left_of}
 
 -- the versions of a run that are in memory
 abbrev pub left_in : PageRun → List Entry

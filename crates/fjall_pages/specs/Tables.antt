@@ -1,33 +1,14 @@
--- Several tables, and the runs over them.
-use Rattle.std.specs.Prelude.{◌≡◌, ℕ, ◌≤◌, ◌⊎◌, Bool, List, [], ◌∷◌, ◌++◌, Option, Some, None, IfSome, length, map}
-use Rattle.fjall_base.specs.Disk.{Meaning}
+-- Runs over several tables.
+use Rattle.std.specs.Prelude.{◌≡◌, ℕ, ◌≤◌, Bool, List, [], ◌∷◌, ◌++◌, Option, IfSome, length, map}
 use Rattle.fjall_base.specs.Pairs.{KeyRange}
 use Rattle.fjall_table.specs.Blocks.{Entry}
-use Rattle.fjall_table.specs.Files.{entry_at}
 use Rattle.fjall_table.specs.Tables.{AreBlocks, entries_of, entries_within, handles_of}
-use Rattle.fjall_blocks.specs.Readers.{HoldsAWrongBlock, IsSameTable, Reader, Reads, ReadsBlocks}
+use Rattle.fjall_blocks.specs.Readers.{Reader}
 use Rattle.fjall_sorted.specs.Sorted.{in_turn}
 use Rattle.fjall_pages.specs.declared.page_run.PageRun.{PageRun}
 use Rattle.fjall_pages.specs.declared.page_run.PageRun.TheVariants.{Memory}
 use Rattle.fjall_pages.specs.Parts.{Ahead}
 use Rattle.fjall_pages.specs.Runs.{ahead_of, behind_of, left_in}
-
--- on this disk the readers read the tables of these entries, one by one
-abbrev pub AreRead : Meaning → List Reader → List (List Entry) → Type 0
-AreRead disk [] [] = Unit {0}
-AreRead disk (t ∷ tables) (entries ∷ more) = Reads disk t entries × AreRead disk tables more
-AreRead disk tables entries = ⊥
-
--- the same tables, whatever is kept of each
-abbrev pub AreSameTables : List Reader → List Reader → Type 0
-AreSameTables [] [] = Unit {0}
-AreSameTables (t ∷ tables) (u ∷ more) = IsSameTable t u × AreSameTables tables more
-AreSameTables tables more = ⊥
-
--- a block of some of these tables is wrong
-abbrev pub SomeWrong : Meaning → List Reader → Type 0
-SomeWrong disk [] = ⊥
-SomeWrong disk (t ∷ tables) = HoldsAWrongBlock (entry_at disk t.name) t.handles ⊎ SomeWrong disk tables
 
 -- ---- runs
 

@@ -3,8 +3,10 @@
 
 mod page_maker;
 mod page_run;
+mod pages;
 mod starts;
 mod table_run;
 
 pub use page_run::PageRun;
+pub use pages::{PageQuery, page};
 pub use table_run::TableRun;

@@ -26,7 +26,7 @@ not_at v w before = elim (cases_Bool (is_at v w)) [
   | inr e ↦ e
 ]
 
-chain_once : (versions : List Entry) → IsChain versions → OnceEach versions
+pub chain_once : (versions : List Entry) → IsChain versions → OnceEach versions
 chain_once [] up = tt
 chain_once (v ∷ versions) up = (
   list_any_none (is_at v) versions (All-from_recursion (λ (w : Entry). is_at v w ≡ false) versions (all_weaker (IsBefore v) (λ (w : Entry). is_at v w ≡ false) versions (not_at v) up.0)),

@@ -66,6 +66,18 @@ pub struct OwnedIndex {
 }
 
 impl OwnedIndex {
+    /// A copy of an index.
+    pub(crate) fn copy(alloc: Global, index: &Index<'_>) -> Result<OwnedIndex>
+        ensures index { IfOk result (λ i. map owned_handle i.handles.items ≡ map handle_of index.now.handles.items) }
+        ensures over { IfOk result (λ i. i.data_len ≡ index.now.data_len) }
+        ensures only { IsOkUnless result Error.OutOfMemory }
+    {
+        Ok(OwnedIndex {
+            handles: copy_handles(alloc, index.handles())?,
+            data_len: index.data_len,
+        })
+    }
+
     /// Reads a framed index over so many bytes of blocks, as `Index::read`.
     pub fn read(alloc: Global, framed: &[u8], data_len: u64) -> Result<OwnedIndex>
         ensures index { IfOk result (λ i. IsIndex (map owned_handle i.handles.items) data_len × (framed.now ≡ index_text (map owned_handle i.handles.items))) }
@@ -73,7 +85,6 @@ impl OwnedIndex {
         ensures damaged { IfErr result (DamagedWhere TableDamaged (IsNoIndex framed.now data_len)) }
     {
         let index = Index::read(alloc, framed, data_len)?;
-        let handles = copy_handles(alloc, index.handles())?;
-        Ok(OwnedIndex { handles, data_len })
+        OwnedIndex::copy(alloc, &index)
     }
 }

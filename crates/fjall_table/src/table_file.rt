@@ -5,8 +5,8 @@ ghost use Rattle.fjall_base.specs.declared.error.StorageError.TheVariants.{Table
 ghost use Rattle.fjall_base.specs.Disk.{Took};
 ghost use Rattle.fjall_table.specs.Reading.{DamagedWhere};
 ghost use Rattle.fjall_table.specs.Tables.{footer_text};
-ghost use Rattle.fjall_table.specs.TableReading.{blocks_below, blocks_up_to, handle_of};
-ghost use Rattle.fjall_table.specs.Files.{AllServed, EndsNoTable, HasFooter, HasNoPart, HasPart, HoldsBlock, HoldsNoBlock, HoldsNoTable, HoldsTable, IsRefused, bytes_in, entry_at, file_of, handles_in, name_of};
+ghost use Rattle.fjall_table.specs.TableReading.{HasNoIndex, blocks_below, blocks_up_to, handle_of};
+ghost use Rattle.fjall_table.specs.Files.{AllServed, EndsNoTable, HasFooter, HasNoPart, HasPart, HoldsBlock, HoldsNoBlock, HoldsNoTable, HoldsTable, IsIndexed, IsRefused, bytes_in, entry_at, file_of, handles_in, name_of};
 ghost use Rattle.fjall_table.specs.Owned.{owned_handle};
 
 use crate::footer::{FOOTER_LEN, Footer};
@@ -14,6 +14,7 @@ use crate::index::BlockHandle;
 use crate::owned_block::OwnedBlock;
 use crate::owned_index::OwnedIndex;
 use crate::span::span_of;
+use crate::table::Table;
 use crate::table_info::TableInfo;
 use fjall_base::{Disk, Error, Result, StorageError};
 use std::alloc::Global;
@@ -147,6 +148,22 @@ impl TableFile {
             name: name.to_owned(alloc)?,
             info,
             index,
+        })
+    }
+
+    /// The table of this name whose file has these bytes, or is to have them. It takes no disk, and no block is looked at.
+    /// Bytes of another length, or with a wrong footer or index, are `Storage(TableDamaged)`.
+    pub fn from_bytes(alloc: Global, name: &str, info: TableInfo, bytes: &[u8]) -> Result<TableFile>
+        ensures table { IfOk result (λ t. IsIndexed info bytes.now (handles_in t)) }
+        ensures name { IfOk result (λ t. name_of t ≡ name.now) }
+        ensures info { IfOk result (λ t. t.info ≡ info) }
+        ensures damaged { IfErr result (DamagedWhere TableDamaged (HasNoIndex bytes.now info)) }
+    {
+        let table = Table::open(alloc, bytes, info)?;
+        Ok(TableFile {
+            name: name.to_owned(alloc)?,
+            info,
+            index: OwnedIndex::copy(alloc, &table.index)?,
         })
     }
 

@@ -1,6 +1,6 @@
 use Rattle.std.proofs.Common.{List, get_or, set, ap, ◌∙◌}
 use Rattle.fjall_blocks.specs.Readers.{Reader}
-use Rattle.fjall_lsm.proofs.Readers.{unread_all, unread_more}
+use Rattle.fjall_blocks.proofs.Several.{unread_all, unread_more}
 use Rattle.fjall_lsm.proofs.counts.drop_all_blocks.Goals as goal
 
 pub loop-at-preserved : goal.loop-at-preserved

@@ -1,7 +1,7 @@
 use Rattle.std.proofs.Common.{◌≡◌, ◌<◌, Err, arith, get_or, length, refl, rules}
 use Rattle.fjall_table.proofs.TableFiles.{refused_later}
 use Rattle.fjall_blocks.proofs.Readers.{still}
-use Rattle.fjall_lsm.proofs.Readers.{got, read_at, same_set}
+use Rattle.fjall_blocks.proofs.Several.{got, read_at, same_set}
 use Rattle.fjall_lsm.proofs.Searches.{found_in_all, searching_more, searching_none, stopped, wrong_table}
 use Rattle.fjall_lsm.proofs.search.newest_in.Goals as goal
 

@@ -1,9 +1,19 @@
 use Rattle.std.proofs.Common.{◌≡◌, List, length, ap, arith, sym, subst, ◌∙◌}
 use Rattle.std.proofs.lemmas.List.{with_items_is}
-use Rattle.fjall_blocks.specs.Readers.{Reader}
-use Rattle.fjall_lsm.specs.Trees.{AreRead, all_unread}
-use Rattle.fjall_lsm.proofs.Readers.{all_unread_read}
+use Rattle.fjall_blocks.specs.Readers.{AreRead, Reader, all_unread}
+use Rattle.fjall_blocks.proofs.Several.{all_unread_read}
+use Rattle.std.specs.Vec.{with_items}
+use Rattle.fjall_lsm.proofs.Outstanding.{merge_read}
 use Rattle.fjall_lsm.proofs.tree.Tree.drop_blocks.Goals as goal
+
+pub invariant_of-self : goal.invariant_of-self
+invariant_of-self c =
+    let m = c.args.self.now in
+    let v = m.tables in
+    let len : length c.drop_all_blocks.new.tables ≡ v.len = omega (arith, c.drop_all_blocks.auto.tables, c.as_mut_slice.ensures.len, ap length c.as_mut_slice.ensures.value, v.ok.0) in
+    let kept = with_items_is v c.drop_all_blocks.new.tables len in
+    let count : length (with_items v c.drop_all_blocks.new.tables).items ≡ length v.items = ap length kept ∙ len ∙ v.ok.0 in
+    record { shape = m.shape; flushing = m.flushing; merging = merge_read v.items (with_items v c.drop_all_blocks.new.tables).items m.clears.items m.merge count m.merging }
 
 pub returns-clause-reads : goal.returns-clause-reads
 returns-clause-reads c disk entries r =

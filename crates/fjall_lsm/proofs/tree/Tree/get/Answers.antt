@@ -1,25 +1,38 @@
-use Rattle.std.proofs.Common.{◌≡◌, ℕ, List, Option, Some, ap, refl, sym, subst, ◌∙◌}
+use Rattle.std.proofs.Common.{◌≡◌, ℕ, List, Option, Some, length, arith, ap, refl, sym, subst, ◌∙◌}
 use Rattle.std.specs.Option.{option_map}
 use Rattle.std.specs.Result.{IfOk}
 use Rattle.std.proofs.lemmas.List.Elements.{All-push}
 use Rattle.fjall_table.specs.Blocks.{seen}
 use Rattle.fjall_blocks.specs.Finds.{entry_found}
-use Rattle.fjall_blocks.specs.Readers.{Reader}
+use Rattle.fjall_blocks.specs.Readers.{AreRead, Reader}
 use Rattle.fjall_parts.specs.Parts.{IsHeld}
 use Rattle.fjall_parts.specs.Held.{held_of}
 use Rattle.fjall_parts.specs.Shares.{shared}
 use Rattle.fjall_parts.proofs.Apart.{all_held}
-use Rattle.fjall_lsm.specs.Trees.{AreRead, clears_of, versions_of}
+use Rattle.fjall_lsm.specs.Trees.{clears_of, versions_of}
 use Rattle.fjall_lsm.specs.Shapes.{shape_of}
-use Rattle.fjall_lsm.proofs.Readers.{all_same_none}
+use Rattle.fjall_blocks.proofs.Several.{all_same_none}
+use Rattle.std.specs.Vec.{with_items}
+use Rattle.std.proofs.lemmas.List.{with_items_is}
+use Rattle.fjall_lsm.proofs.Outstanding.{merge_read, same_count}
 use Rattle.fjall_lsm.proofs.Shows.{newest_in_memory, newest_in_tables, value_told}
 use Rattle.fjall_lsm.proofs.tree.Tree.get.Goals as goal
 
+pub invariant_of-self : goal.invariant_of-self
+invariant_of-self g c =
+    let m = c.args.self.now in
+    let v = m.tables in
+    let new = c.newest_in.new.tables in
+    let same = same_count c.as_mut_slice-tables.result.now new c.newest_in.ensures.tables in
+    let len : length new ≡ v.len = omega (arith, same, ap length c.as_mut_slice-tables.ensures.value, v.ok.0) in
+    let count : length (with_items v new).items ≡ length v.items = ap length (with_items_is v new len) ∙ len ∙ v.ok.0 in
+    record { shape = m.shape; flushing = m.flushing; merging = merge_read v.items (with_items v new).items m.clears.items m.merge count m.merging }
+
 pub returns-in_err-version-clause-shape : goal.returns-in_err-version-clause-shape
-returns-in_err-version-clause-shape g c = record { tables = all_same_none c.args.self.now.tables.items; clears = refl; memory = refl }
+returns-in_err-version-clause-shape g c = record { tables = all_same_none c.args.self.now.tables.items; clears = refl; memory = refl; flush = refl; merge = refl }
 
 pub returns-in-Some-clause-shape : goal.returns-in-Some-clause-shape
-returns-in-Some-clause-shape g c = record { tables = all_same_none c.args.self.now.tables.items; clears = refl; memory = refl }
+returns-in-Some-clause-shape g c = record { tables = all_same_none c.args.self.now.tables.items; clears = refl; memory = refl; flush = refl; merge = refl }
 
 pub returns-in-Some-clause-found : goal.returns-in-Some-clause-found
 returns-in-Some-clause-found g c honest entries r =

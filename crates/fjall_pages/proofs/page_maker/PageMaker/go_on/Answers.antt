@@ -1,4 +1,4 @@
-use Rattle.std.proofs.Common.{◌≡◌, List, None, ap, arith, get_or, length, map, rules, slice_set, sym, take, ◌∙◌, ◌<◌, ◌≤◌}
+use Rattle.std.proofs.Common.{◌≡◌, None, ap, arith, get_or, length, map, rules, slice_set, sym, take, ◌∙◌, ◌<◌, ◌≤◌}
 use Rattle.fjall_sorted.specs.Sorted.{flat, in_turn, sorted}
 use Rattle.fjall_runs.proofs.Paging.{fewer_left, got_run, set_run}
 use Rattle.fjall_pages.specs.Pages.{made, made_with}

@@ -4,9 +4,8 @@ use Rattle.fjall_base.specs.Disk.{Meaning}
 use Rattle.fjall_base.proofs.Codecs.{some_is}
 use Rattle.fjall_table.specs.Blocks.{Entry, IsOrdered}
 use Rattle.fjall_table.specs.Tables.{Handle}
-use Rattle.fjall_blocks.specs.Readers.{IsSameTable, LooksOn, Reader, Reads, none_kept, unread}
+use Rattle.fjall_blocks.specs.Readers.{AreRead, AreSameTables, IsSameTable, LooksOn, Reader, Reads, all_unread, none_kept, unread}
 use Rattle.fjall_blocks.proofs.Readers.{reads_on, same_again, same_none}
-use Rattle.fjall_lsm.specs.Trees.{AreRead, AreSameTables, all_unread}
 
 -- ---- the first ones with no block kept
 
