@@ -70,23 +70,23 @@ clears_more parts i part clears more lt is so_far here =
 
 -- ---- all of them
 
-flat_runs : (hs : List Held) → flat (map (λ (h : Held). h.versions) hs) ≡ versions_in hs
+pub flat_runs : (hs : List Held) → flat (map (λ (h : Held). h.versions) hs) ≡ versions_in hs
 flat_runs [] = refl
 flat_runs (h ∷ hs) = ap (λ (l : List Entry). h.versions ++ l) (flat_runs hs)
 
 pub input_once : (parts : List (Arc Part Global)) → AreApart (shared parts) → OnceEach (flat (runs_of parts))
 input_once parts apart = subst OnceEach (sym (flat_runs (shared parts))) (once_in (shared parts) (all_held parts) apart)
 
-both : (xs ys : List Entry) → AllByRecursion IsEntry xs → AllByRecursion IsEntry ys → AllByRecursion IsEntry (xs ++ ys)
-both [] ys a b = b
-both (x ∷ xs) ys a b = (a.0, both xs ys a.1 b)
+pub both_entries : (xs ys : List Entry) → AllByRecursion IsEntry xs → AllByRecursion IsEntry ys → AllByRecursion IsEntry (xs ++ ys)
+both_entries [] ys a b = b
+both_entries (x ∷ xs) ys a b = (a.0, both_entries xs ys a.1 b)
 
 input_entries : (parts : List (Arc Part Global)) → AllByRecursion IsEntry (flat (runs_of parts))
 input_entries parts = by (shared parts) (recursion_from_All IsHeld (shared parts) (all_held parts))
   where
     by : (hs : List Held) → AllByRecursion IsHeld hs → AllByRecursion IsEntry (flat (map (λ (h : Held). h.versions) hs))
     by [] held = tt
-    by (h ∷ hs) held = both h.versions (flat (map (λ (h : Held). h.versions) hs)) (recursion_from_All IsEntry h.versions held.0.each) (by hs held.1)
+    by (h ∷ hs) held = both_entries h.versions (flat (map (λ (h : Held). h.versions) hs)) (recursion_from_All IsEntry h.versions held.0.each) (by hs held.1)
 
 input_ordered : (parts : List (Arc Part Global)) → All (IsInTurn false) (runs_of parts)
 input_ordered parts = by (shared parts) (recursion_from_All IsHeld (shared parts) (all_held parts))

@@ -1,9 +1,9 @@
 -- A tree whose flush is finished.
-use Rattle.std.proofs.Common.{◌≡◌, ℕ, zero, suc, ◌<◌, ◌≤◌, List, [], ◌∷◌, ◌++◌, length, map, take, drop, refl, sym, ap, subst, ◌∙◌, append_assoc, arith}
+use Rattle.std.proofs.Common.{◌≡◌, ℕ, zero, suc, ◌<◌, ◌≤◌, List, [], ◌∷◌, ◌++◌, length, take, drop, sym, ap, subst, ◌∙◌, append_assoc, arith}
 use Rattle.std.proofs.Math.Logic.{∥∥₁_elim}
 use Rattle.std.proofs.Props.{props}
 use Rattle.std.specs.List.{All, flat_map}
-use Rattle.std.proofs.lemmas.List.{append-nil, drop-append-le, length-append, take-append-le}
+use Rattle.std.proofs.lemmas.List.{append-nil, drop-append-le, length-append, take-append-drop, take-append-le}
 use Rattle.std.proofs.lemmas.List.Concat.{flat_map-append}
 use Rattle.std.proofs.lemmas.List.Elements.{All-append, All-cons, All-head, All-nil, All-filter, All-tail, All-weaker}
 use Rattle.fjall_base.specs.Disk.{Meaning}
@@ -18,6 +18,7 @@ use Rattle.fjall_blocks.specs.Readers.{AreRead, Reader}
 use Rattle.fjall_parts.specs.Parts.{AreApart, Ascends, Held, IsHeld, Memory, clears_in, parts_of, versions_in}
 use Rattle.fjall_parts.proofs.Apart.{apart_front, apart_tail, from_first, numbers_below, versions_numbered}
 use Rattle.fjall_parts.proofs.Onces.{once_in}
+use Rattle.fjall_jobs.proofs.Flushing.{flat_runs}
 use Rattle.fjall_jobs.specs.declared.made_table.MadeTable.{MadeTable}
 use Rattle.fjall_jobs.specs.Tasks.{IsFlushed, Task}
 use Rattle.fjall_lsm.specs.Trees.{IsShape, ReadsAll, Shape, clears_of, first_from, floor_of, versions_of}
@@ -65,13 +66,8 @@ shape_flushed (suc count) clears (h ∷ hs) active held apart is =
 
 -- ---- what is in memory
 
-parted : {X : Type 0} (n : ℕ) (xs : List X) → xs ≡ take n xs ++ drop n xs
-parted zero xs = refl
-parted (suc n) [] = refl
-parted (suc n) (x ∷ xs) = ap (λ (l : List _). x ∷ l) (parted n xs)
-
 parts_parted : (count : ℕ) (sealed : List Held) (active : Held) → sealed ++ active ∷ [] ≡ take count sealed ++ (drop count sealed ++ active ∷ [])
-parts_parted count sealed active = ap (λ (l : List Held). l ++ active ∷ []) (parted count sealed) ∙ append_assoc (take count sealed) (drop count sealed) (active ∷ [])
+parts_parted count sealed active = ap (λ (l : List Held). l ++ active ∷ []) (sym (take-append-drop count sealed)) ∙ append_assoc (take count sealed) (drop count sealed) (active ∷ [])
 
 listed_parted : {X : Type 0} (list : Held → List X) (count : ℕ) (sealed : List Held) (active : Held)
     → flat_map list (sealed ++ active ∷ []) ≡ flat_map list (take count sealed) ++ flat_map list (drop count sealed ++ active ∷ [])
@@ -100,10 +96,6 @@ from_floor [] active held apart = from_first (λ (h : Held). h.versions) (λ (v 
 from_floor (h ∷ sealed) active held apart = from_first (λ (h : Held). h.versions) (λ (v : Entry). v.number) versions_numbered h (sealed ++ active ∷ []) held apart
 
 -- ---- what the task was
-
-flat_runs : (hs : List Held) → flat (map (λ (h : Held). h.versions) hs) ≡ versions_in hs
-flat_runs [] = refl
-flat_runs (h ∷ hs) = ap (λ (l : List Entry). h.versions ++ l) (flat_runs hs)
 
 pub front_of : {X : Type 0} (P : X → Type 0) (xs ys : List X) → All P (xs ++ ys) → All P xs
 front_of P [] ys all = All-nil P

@@ -15,6 +15,7 @@ use Rattle.fjall_views.proofs.Once.{parts_once}
 use Rattle.fjall_sorted.specs.Sorted.{flat}
 use Rattle.fjall_blocks.specs.Readers.{AreRead, Reader}
 use Rattle.fjall_parts.specs.Parts.{AreApart, Ascends, IsHeld, Memory, clears_in, parts_of, versions_in}
+use Rattle.fjall_parts.proofs.Barriers.{ascends_at}
 use Rattle.fjall_jobs.specs.declared.made_table.MadeTable.{MadeTable}
 use Rattle.fjall_jobs.specs.Merges.{IsMerged}
 use Rattle.fjall_jobs.specs.Tasks.{Task}
@@ -39,12 +40,6 @@ first_reached w [] (suc k) low high le = refl
 first_reached w (x ∷ xs) (suc k) low high le =
     let below = leb-true x w (low 0 x (omega arith) (omega arith)) in
     rw (le-ltb w x below) (first_reached w xs k (λ j d from to. low (suc j) d (omega arith) (omega arith)) (λ j d from to. high (suc j) d (omega arith) (omega arith)) (omega (arith, le)))
-
-ascends_at : (xs : List ℕ) (i j d : ℕ) → Ascends xs → i < j → j < length xs → get_or xs i d < get_or xs j d
-ascends_at [] i j d up lt le = absurd (omega arith)
-ascends_at (x ∷ xs) i zero d up lt le = absurd (omega arith)
-ascends_at (x ∷ xs) zero (suc j) d up lt le = up.0 j d (omega arith)
-ascends_at (x ∷ xs) (suc i) (suc j) d up lt le = ascends_at xs i j d up.1 (omega arith) (omega arith)
 
 -- where they ascend, those that it reaches stand first
 pub reached_first : (w : ℕ) (xs : List ℕ) → Ascends xs → IsPartitionedBy (λ y. leb y w) xs

@@ -25,6 +25,7 @@ use Rattle.fjall_parts.specs.Parts.{AreApart, Held, IsHeld, parts_of, versions_i
 use Rattle.fjall_parts.specs.Shares.{shared}
 use Rattle.fjall_parts.proofs.Onces.{once_in}
 use Rattle.fjall_pages.specs.Pages.{page_of}
+use Rattle.fjall_pages.proofs.Looping.{turned_twice}
 use Rattle.fjall_lsm.specs.Pages.{run_of}
 use Rattle.fjall_lsm.specs.Trees.{Shape, clears_of, floor_of, versions_of}
 use Rattle.fjall_lsm.proofs.Flushed.{from_floor}
@@ -60,10 +61,6 @@ runs_of_all range back parts active i runs all run le so_far here told =
     map_behind (h ∷ hs) = ap (λ (l : List (List Entry)). run_of range back h ∷ l) (map_behind hs)
 
 -- ---- what they hold
-
-turned_twice : (back : Bool) (run : List Entry) → in_turn back (in_turn back run) ≡ run
-turned_twice false run = refl
-turned_twice true run = reverse-reverse run
 
 -- between bounds, all versions of these parts
 pub memory_is : (range : KeyRange) (back : Bool) (hs : List Held) → flat (map (in_turn back) (map (run_of range back) hs)) ≡ entries_within range (versions_in hs)

@@ -1,5 +1,5 @@
 -- Jobs that are out, while the tree is written, and what they read.
-use Rattle.std.proofs.Common.{◌≡◌, ℕ, zero, suc, false, List, [], ◌∷◌, ◌++◌, length, map, take, refl, sym, ap, subst, ◌∙◌, arith}
+use Rattle.std.proofs.Common.{◌≡◌, ℕ, zero, suc, false, List, [], ◌∷◌, length, map, take, refl, sym, ap, subst, ◌∙◌, arith}
 use Rattle.std.specs.List.{All, AllByRecursion}
 use Rattle.std.proofs.lemmas.List.{length-append, take-append-le}
 use Rattle.std.proofs.lemmas.List.Elements.{All-cons, All-nil}
@@ -11,6 +11,7 @@ use Rattle.fjall_blocks.specs.Readers.{AreRead, Reader}
 use Rattle.fjall_parts.specs.Parts.{Held, clears_in, empty_from, with_clear, with_version}
 use Rattle.fjall_jobs.specs.Keeping.{AreSorted}
 use Rattle.fjall_jobs.specs.Tasks.{Task}
+use Rattle.fjall_jobs.proofs.Flushing.{both_entries}
 use Rattle.fjall_lsm.specs.Jobs.{IsFlushing, IsMerging}
 use Rattle.fjall_lsm.specs.Trees.{ReadsAll, Shape, emptied, floor_of, sealed_off, written}
 use Rattle.fjall_lsm.proofs.Changes.{first_same, first_sealed}
@@ -74,13 +75,9 @@ merge_rotated shape entries task = floor_same shape (sealed_off shape) entries t
 
 -- ---- what a merge reads
 
-both : (xs ys : List Entry) → AllByRecursion IsEntry xs → AllByRecursion IsEntry ys → AllByRecursion IsEntry (xs ++ ys)
-both [] ys a b = b
-both (x ∷ xs) ys a b = (a.0, both xs ys a.1 b)
-
 block_entries : (blocks : List (List Entry)) → AllByRecursion IsBlock blocks → AllByRecursion IsEntry (entries_of blocks)
 block_entries [] each = tt
-block_entries (b ∷ blocks) each = both b (entries_of blocks) each.0.each (block_entries blocks each.1)
+block_entries (b ∷ blocks) each = both_entries b (entries_of blocks) each.0.each (block_entries blocks each.1)
 
 taken_entries : (disk : Meaning) (n : ℕ) (ts : List Reader) (ess : List (List Entry)) → AreRead disk ts ess → AllByRecursion IsEntry (flat (take n ess))
 taken_entries disk zero ts ess r = tt
@@ -88,7 +85,7 @@ taken_entries disk (suc n) [] [] r = tt
 taken_entries disk (suc n) [] (es ∷ ess) r = absurd r
 taken_entries disk (suc n) (t ∷ ts) [] r = tt
 taken_entries disk (suc n) (t ∷ ts) (es ∷ ess) r =
-    both es (flat (take n ess)) (subst (AllByRecursion IsEntry) (sym r.0.all) (block_entries r.0.blocks r.0.reads.table.are.each)) (taken_entries disk n ts ess r.1)
+    both_entries es (flat (take n ess)) (subst (AllByRecursion IsEntry) (sym r.0.all) (block_entries r.0.blocks r.0.reads.table.are.each)) (taken_entries disk n ts ess r.1)
 
 taken_ordered : (disk : Meaning) (n : ℕ) (ts : List Reader) (ess : List (List Entry)) → AreRead disk ts ess → All (IsInTurn false) (take n ess)
 taken_ordered disk zero ts ess r = All-nil (IsInTurn false)

@@ -70,7 +70,7 @@ pub record Looping (honest : Bool) (old new : Meaning) (before after : List Read
       → IsMade back (all_of range blocks runs) (page_of back instant bound (in_turn back (sorted (versions_of range back blocks memory)))) (made_with page) (made page) max
 
 -- what is turned twice stands as at first
-turned_twice : (back : Bool) (run : List Entry) → in_turn back (in_turn back run) ≡ run
+pub turned_twice : (back : Bool) (run : List Entry) → in_turn back (in_turn back run) ≡ run
 turned_twice false run = refl
 turned_twice true run = reverse-reverse run
 

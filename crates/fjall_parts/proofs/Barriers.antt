@@ -41,7 +41,7 @@ pub point_some : (t : ℕ) (xs : List ℕ) (count : ℕ) → Ascends xs → 0 < 
 point_some t xs zero up some le h k = absurd (omega arith)
 point_some t xs (suc i) up some le h k = let e : suc i - 1 ≡ i = omega arith in ap (λ (n : ℕ). get_or xs n 0) e ∙ sym (greatest t xs i up le h k)
 
-ascends_at : (xs : List ℕ) (i j d : ℕ) → Ascends xs → i < j → j < length xs → get_or xs i d < get_or xs j d
+pub ascends_at : (xs : List ℕ) (i j d : ℕ) → Ascends xs → i < j → j < length xs → get_or xs i d < get_or xs j d
 ascends_at [] i j d up lt le = absurd (omega arith)
 ascends_at (x ∷ xs) i zero d up lt le = absurd (omega arith)
 ascends_at (x ∷ xs) zero (suc j) d up lt le = up.0 j d (omega arith)
