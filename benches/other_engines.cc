@@ -1,5 +1,6 @@
-// The workloads of fjall-bench over other engines: keys of 16 bytes, values of 100, one write a key. Prints a line a workload
-// on standard error: engine, workload, count, wall seconds, processor seconds, operations a second, parted by tabs.
+// The workloads of fjall-bench over other engines: keys of 16 bytes, values of 100, one write a key; and reads of LevelDB.
+// Prints a line a workload on standard error: engine, workload, count, wall seconds, processor seconds, operations a second,
+// processor seconds of the calling thread alone, parted by tabs.
 #include <leveldb/db.h>
 #include <leveldb/write_batch.h>
 #include <lmdb.h>
@@ -13,6 +14,7 @@
 #include <ctime>
 #include <filesystem>
 #include <functional>
+#include <memory>
 #include <numeric>
 #include <random>
 #include <string>
@@ -34,13 +36,21 @@ static std::string big_endian(uint64_t number) {
 static std::string key_of(uint64_t number) { return std::string(8, '\0') + big_endian(number); }
 static std::string value_of(uint64_t number) { return big_endian(number) + std::string(92, 'v'); }
 
+static double thread_seconds() {
+    timespec spent;
+    check(clock_gettime(CLOCK_THREAD_CPUTIME_ID, &spent) == 0, "clock");
+    return static_cast<double>(spent.tv_sec) + static_cast<double>(spent.tv_nsec) / 1e9;
+}
+
 static void measure(const char* engine, const char* workload, size_t count, const std::function<void()>& work) {
     auto wall = std::chrono::steady_clock::now();
     std::clock_t processor = std::clock();
+    double thread = thread_seconds();
     work();
     double seconds = std::chrono::duration<double>(std::chrono::steady_clock::now() - wall).count();
     double spent = static_cast<double>(std::clock() - processor) / CLOCKS_PER_SEC;
-    std::fprintf(stderr, "%s\t%s\t%zu\t%.6f\t%.6f\t%.0f\n", engine, workload, count, seconds, spent, count / seconds);
+    double alone = thread_seconds() - thread;
+    std::fprintf(stderr, "%s\t%s\t%zu\t%.6f\t%.6f\t%.0f\t%.6f\n", engine, workload, count, seconds, spent, count / seconds, alone);
 }
 
 // What an engine is asked to do: open a folder, write a pair with a sync or without one, close.
@@ -67,6 +77,14 @@ struct LevelDb : Engine {
     void close() override {
         delete db;
         db = nullptr;
+    }
+    void get(const std::string& key, std::string* value) { check(db->Get(leveldb::ReadOptions(), key, value).ok(), "leveldb get"); }
+    // How many pairs there are, each looked at in the order of the keys.
+    size_t scan() {
+        std::unique_ptr<leveldb::Iterator> pairs(db->NewIterator(leveldb::ReadOptions()));
+        size_t found = 0;
+        for (pairs->SeekToFirst(); pairs->Valid(); pairs->Next()) found += pairs->value().size() == 100;
+        return found;
     }
 };
 
@@ -147,12 +165,32 @@ static void run(Engine& engine, const char* name, const std::string& folder, siz
     engine.close();
 }
 
+// Reads each pair that was filled at random, in another order, twice; and then all of them in the order of their keys.
+static void read(LevelDb& engine, const std::string& folder, size_t count) {
+    std::vector<uint64_t> numbers(count);
+    std::iota(numbers.begin(), numbers.end(), 0);
+    std::shuffle(numbers.begin(), numbers.end(), std::mt19937_64(2));
+    engine.open(folder + "/leveldb_random");
+    for (const char* workload : {"first read hit", "read hit"}) {
+        measure("leveldb", workload, count, [&] {
+            std::string value;
+            for (uint64_t number : numbers) {
+                engine.get(key_of(number), &value);
+                check(value.compare(0, 8, big_endian(number)) == 0, "leveldb value");
+            }
+        });
+    }
+    measure("leveldb", "scan", count, [&] { check(engine.scan() == count, "leveldb scan"); });
+    engine.close();
+}
+
 int main(int argc, char** argv) {
     check(argc == 3, "usage: other-engines FOLDER N");
     size_t count = std::strtoull(argv[2], nullptr, 10);
     std::filesystem::create_directories(argv[1]);
     LevelDb leveldb;
     run(leveldb, "leveldb", argv[1], count);
+    read(leveldb, argv[1], count);
     Sqlite sqlite;
     run(sqlite, "sqlite", argv[1], count);
     Lmdb lmdb;
