@@ -1,5 +1,5 @@
 -- Binary search in an ordered list, and the versions of a key that it finds.
-use Rattle.std.proofs.Common.{◌≡◌, ◌≢◌, ℕ, zero, suc, ◌-◌, ◌<◌, ◌≤◌, Bool, true, false, not, ◌&&◌, nat_le, nat_lt, List, [], ◌∷◌, length, get_or, take, drop, map, filter, IsTrue, refl, sym, ap, subst, ◌∙◌, arith, ◌⊎◌, inl, inr}
+use Rattle.std.proofs.Common.{if◌then◌else◌, ◌≡◌, ◌≢◌, ℕ, zero, suc, ◌-◌, ◌<◌, ◌≤◌, Bool, true, false, not, ◌&&◌, nat_le, nat_lt, List, [], ◌∷◌, length, get_or, take, drop, map, filter, IsTrue, refl, sym, ap, subst, ◌∙◌, arith, ◌⊎◌, inl, inr}
 use Rattle.std.specs.List.Sorted.{IsPartitionedBy, IsPartitionPoint}
 use Rattle.std.specs.Str.{bytes_eq}
 use Rattle.std.specs.Ordering.{is_lt, is_le, is_gt}
@@ -66,6 +66,14 @@ point_is p (x ∷ xs) (suc i) le h =
 pub filter_len : {A : Type 0} (p : A → Bool) (xs : List A) → length (filter p xs) ≤ length xs
 filter_len p [] = omega arith
 filter_len p (x ∷ xs) = let l = filter_len p xs in elim (cases_Bool (p x)) [ inl pass ↦ rw pass (omega arith) | inr miss ↦ rw miss (omega arith) ]
+
+-- where the test fails, no more than those before pass
+pub none_more : {A : Type 0} (p : A → Bool) (xs : List A) (i : ℕ) (d : A) → Falls p xs → i < length xs → p (get_or xs i d) ≡ false → length (filter p xs) ≤ i
+none_more p [] i d f lt miss = absurd (omega arith)
+none_more p (x ∷ xs) zero d f lt miss = let none = ap length (none_passes p (x ∷ xs) (miss, f.0 miss)) in omega (arith, none)
+none_more p (x ∷ xs) (suc i) d f lt miss =
+    let more = none_more p xs i d f.1 (omega arith) miss in
+    elim (cases_Bool (p x)) [ inl pass ↦ rw pass (omega (arith, more)) | inr here ↦ rw here (omega (arith, more)) ]
 
 -- a test of what is seen of each
 pub filter_seen : {A B : Type 0} (f : A → B) (p : B → Bool) (xs : List A) → length (filter (λ x. p (f x)) xs) ≡ length (filter p (map f xs))
@@ -290,3 +298,15 @@ part_found key instant vs start end up s e =
     ∙ ap (λ (n : ℕ). take (end - n) (drop n (map seen vs))) s
     ∙ ap (λ (m : ℕ). take (m - length (filter (ahead_of key instant) (map seen vs))) (drop (length (filter (ahead_of key instant) (map seen vs))) (map seen vs))) e
     ∙ wanted_between key instant (map seen vs) up
+
+-- blocks that begin below a key begin with one at most it
+pub all_up_to : (key : List ℕ) (hs : List Handle) → length (filter (λ h. is_lt (byte_order h.first_key key)) hs) ≤ length (filter (λ h. is_le (byte_order h.first_key key)) hs)
+all_up_to key [] = omega arith
+all_up_to key (h ∷ hs) = by (byte_order h.first_key key) (all_up_to key hs)
+  where
+    by : (o : Ordering) → length (filter (λ h. is_lt (byte_order h.first_key key)) hs) ≤ length (filter (λ h. is_le (byte_order h.first_key key)) hs)
+        → length (if is_lt o then h ∷ filter (λ h. is_lt (byte_order h.first_key key)) hs else filter (λ h. is_lt (byte_order h.first_key key)) hs)
+        ≤ length (if is_le o then h ∷ filter (λ h. is_le (byte_order h.first_key key)) hs else filter (λ h. is_le (byte_order h.first_key key)) hs)
+    by Less more = omega (arith, more)
+    by Equal more = omega (arith, more)
+    by Greater more = more

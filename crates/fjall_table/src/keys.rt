@@ -7,11 +7,11 @@ ghost use Rattle.fjall_base.specs.Pairs.{byte_order};
 pub(crate) fn is_below(key: &[u8], other: &[u8]) -> bool
     ensures { result ≡ is_lt (byte_order key.now other.now) }
 {
-    key < other
+    key.cmp(other).is_lt()
 }
 
 pub(crate) fn is_at_most(key: &[u8], other: &[u8]) -> bool
     ensures { result ≡ is_le (byte_order key.now other.now) }
 {
-    key <= other
+    key.cmp(other).is_le()
 }

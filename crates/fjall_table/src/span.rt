@@ -34,6 +34,29 @@ impl Keyed for OwnedHandle {
     }
 }
 
+// How many blocks begin with a key below this one, by binary search.
+fn count_below<H: Keyed>(handles: &[H], key: &[u8]) -> usize
+    requires { Ascend (map H.handle handles.now) }
+    ensures { result ≡ blocks_below key.now (map H.handle handles.now) }
+{
+    handles.partition_point(|h| is_below(h.key(), key))
+}
+
+// How many begin with one at most this one, where so many begin with one below it. Mostly these are all.
+fn count_up_to<H: Keyed>(handles: &[H], key: &[u8], below: usize) -> usize
+    requires ascend { Ascend (map H.handle handles.now) }
+    requires below { below ≡ blocks_below key.now (map H.handle handles.now) }
+    ensures { result ≡ blocks_up_to key.now (map H.handle handles.now) }
+{
+    if below >= handles.len() {
+        return below;
+    }
+    if !is_at_most(handles[below].key(), key) {
+        return below;
+    }
+    handles.partition_point(|h| is_at_most(h.key(), key))
+}
+
 /// The numbers of the blocks that may hold a key: from the last one that begins with a key below it, if there is one, to
 /// the last one that begins with a key at most it.
 pub(crate) fn span_of<H: Keyed>(handles: &[H], key: &[u8]) -> Range<usize>
@@ -41,7 +64,6 @@ pub(crate) fn span_of<H: Keyed>(handles: &[H], key: &[u8]) -> Range<usize>
     ensures start { result.start ≡ blocks_below key.now (map H.handle handles.now) - 1 }
     ensures end { result.end ≡ blocks_up_to key.now (map H.handle handles.now) }
 {
-    let below = handles.partition_point(|h| is_below(h.key(), key));
-    let up_to = handles.partition_point(|h| is_at_most(h.key(), key));
-    below.saturating_sub(1)..up_to
+    let below = count_below(handles, key);
+    below.saturating_sub(1)..count_up_to(handles, key, below)
 }

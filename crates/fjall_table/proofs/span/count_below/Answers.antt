@@ -1,0 +1,16 @@
+use Rattle.std.proofs.Common.{map, rules, tests, ◌∙◌}
+use Rattle.std.specs.Ordering.{is_lt}
+use Rattle.std.proofs.lemmas.List.Sorted.{IsPartitionPoint-from_clause}
+use Rattle.fjall_base.specs.Pairs.{byte_order}
+use Rattle.fjall_table.specs.Tables.{Handle}
+use Rattle.fjall_table.proofs.Lookups.{point_is, filter_seen, falls_seen, falls_below, partitioned}
+use Rattle.fjall_table.proofs.span.count_below.Goals as goal
+
+pub returns : goal.returns
+returns g c =
+    let hs = c.args.handles.now in
+    let seen = g.H.Keyed.handle in
+    let falls = partitioned (λ h. is_lt (byte_order (seen h).first_key c.args.key.now)) hs (falls_seen seen (λ (h : Handle). is_lt (byte_order h.first_key c.args.key.now)) hs (falls_below c.args.key.now (map seen hs) c.requires)) in
+    let p = IsPartitionPoint-from_clause (λ h. is_lt (byte_order (seen h).first_key c.args.key.now)) _ _ c.partition_point.ensures.partitioned falls (λ a r f h. search (rules, tests)) in
+    let at = point_is (λ h. is_lt (byte_order (seen h).first_key c.args.key.now)) hs c.partition_point.result c.partition_point.ensures.bound p in
+    at ∙ filter_seen seen (λ (h : Handle). is_lt (byte_order h.first_key c.args.key.now)) hs
