@@ -1,14 +1,13 @@
 -- What a writer's calls took of the disk, put together.
-use Rattle.std.proofs.Common.{◌≡◌, ◌≢◌, inl, inr, ℕ, ◌+◌, ◌^◌, ◌<◌, false, List, [], ◌∷◌, ◌++◌, length, Result, OnErr, refl, sym, ap, subst, ◌∙◌, append_assoc, arith}
+use Rattle.std.proofs.Common.{◌≡◌, ◌≢◌, inl, inr, ℕ, ◌+◌, ◌^◌, ◌<◌, false, List, [], ◌∷◌, ◌++◌, length, take, drop, Result, OnErr, refl, sym, ap, subst, ◌∙◌, append_assoc, arith}
 use Rattle.std.proofs.lemmas.List.{append-nil}
+use Rattle.std.proofs.Math.ListN.{take-append-drop}
+use Rattle.std.proofs.Math.Seq.{take-append_seam}
 use Rattle.fjall_base.specs.Disk.{Name, State, Meaning, Step, Sync, IsFile, after, state_in, Took, TookOrNot, TookPart}
 use Rattle.fjall_base.proofs.Moments.{after-append}
 use Rattle.fjall_base.proofs.Results.{on_err}
 use Rattle.fjall_base.proofs.Served.{file_as_was, file_stays}
-use Rattle.fjall_journal.specs.Writer.{Journal, counted, written_out, appending, syncing, persist_steps, WriteTook, PersistTook, making_file, MakingTook}
-use Rattle.fjall_base.specs.Errors.{IsFault}
-use Rattle.fjall_base.specs.declared.error.Error.{Error}
-use Rattle.fjall_base.specs.declared.error.Error.TheVariants.{Io}
+use Rattle.fjall_journal.specs.Writer.{Journal, counted, written_out, appending, syncing, persist_steps, PersistTook, making_file, MakingTook}
 use Rattle.fjall_journal.specs.declared.persist_mode.PersistMode.{PersistMode}
 use Rattle.fjall_journal.specs.declared.persist_mode.PersistMode.TheVariants.{Buffer, SyncData, SyncAll}
 use Rattle.fjall_journal.specs.contracts.persist_mode.PersistMode.{the_type}
@@ -59,11 +58,6 @@ pub persist_left : (j now : Journal) (mode : PersistMode) (old mid new : Meaning
 persist_left j now mode old mid new name out other n p (inl q) = inr (out, other, inl (took_none old mid new (appending j.name j.buffer) p q))
 persist_left j now mode old mid new name out other n p (inr q) = inr (out, other, inr (persist_done j mode old mid new name other n p q))
 
--- a write is refused by the disk for a fault
-pub write_left : (e : Error) (old new : Meaning) (n name : Name) (b bytes : List ℕ) (x y : ℕ) → n ≡ name → b ≡ bytes → IsFault x y e → TookPart old new n b → WriteTook e old new name bytes
-write_left (Io kind) old new n name b bytes x y n-is b-is fault took = rw (← n-is, ← b-is) took
-write_left error old new n name b bytes x y n-is b-is fault took = absurd fault
-
 pub not_buffer : (mode : PersistMode) → sameb the_type mode Buffer ≡ false → mode ≢ Buffer
 not_buffer mode told same = let bad = sym told ∙ ap (λ (m : PersistMode). sameb the_type m Buffer) same in absurd cc
 
@@ -71,3 +65,9 @@ not_buffer mode told same = let bad = sym told ∙ ap (λ (m : PersistMode). sam
 pub out_stays : (old mid : Meaning) (name bytes : List ℕ) → Took old mid (appending name bytes) → IsFile (state_in old name).now → IsFile (state_in mid name).now
 out_stays old mid name [] took is = file_as_was old mid name took is
 out_stays old mid name (b ∷ bytes) took is = file_stays old mid name (b ∷ bytes) took is
+
+-- what stands in front stays there
+pub kept_on : (old text mid new : List ℕ) → mid ≡ old ++ text → take (length mid) new ≡ mid → take (length old) new ≡ old
+kept_on old text mid new is kept =
+    let behind = drop (length mid) new in
+    ap (take (length old)) (sym (take-append-drop (length mid) new) ∙ ap (λ (l : List ℕ). l ++ behind) (kept ∙ is) ∙ append_assoc old text behind) ∙ take-append_seam old (text ++ behind)

@@ -1,6 +1,7 @@
 pub mod Spelling
 pub mod Reading
 pub mod Batches
+pub mod Ops
 pub mod Steps
 pub mod Reader
 pub mod Writer

@@ -1,5 +1,5 @@
 -- The append side of a journal: what a writer holds, and what its calls make of it and of the disk.
-use Rattle.std.specs.Prelude.{◌≡◌, ◌≢◌, ◌⊎◌, ℕ, ◌+◌, ◌-◌, ◌^◌, ◌<◌, min, Bool, not, ◌||◌, List, [], ◌∷◌, ◌++◌, length, nat_le, if◌then◌else◌, Result, Err, MatchOption}
+use Rattle.std.specs.Prelude.{◌≡◌, ◌≢◌, ◌⊎◌, ℕ, ◌+◌, ◌-◌, ◌^◌, ◌<◌, min, Bool, not, ◌||◌, List, [], ◌∷◌, ◌++◌, length, nat_le, if◌then◌else◌, Result, Err, MatchOption, Option, None, Some, is_none}
 use Rattle.fjall_base.specs.Disk.{Name, Meaning, File, IsFile, Step, Append, Sync, Took, TookPart, HasCause, making, state_in}
 use Rattle.fjall_base.specs.declared.error.Error.{Error}
 use Rattle.fjall_base.specs.declared.error.Error.TheVariants.{Io}
@@ -30,13 +30,21 @@ abbrev pub appending : Name → List ℕ → List Step
 appending name [] = []
 appending name (b ∷ bytes) = Append name (b ∷ bytes) ∷ []
 
+-- the journal whose buffer is in the file once it has 8,192 bytes
+abbrev pub full_out : Journal → Journal
+full_out j = if nat_le 8192 (length j.buffer) then written_out j else j
+
+-- what that does to the disk
+abbrev pub full_steps : Journal → List Step
+full_steps j = if nat_le 8192 (length j.buffer) then Append j.name j.buffer ∷ [] else []
+
 -- the journal after a text was written: its buffer goes out once it has 8,192 bytes
 abbrev pub after_write : Journal → List ℕ → Journal
-after_write j text = if nat_le 8192 (length (j.buffer ++ text)) then written_out (filled j text) else filled j text
+after_write j text = full_out (filled j text)
 
 -- what a write of this text does to the disk
 abbrev pub write_steps : Journal → List ℕ → List Step
-write_steps j text = if nat_le 8192 (length (j.buffer ++ text)) then Append j.name (j.buffer ++ text) ∷ [] else []
+write_steps j text = full_steps (filled j text)
 
 -- whether a command that leaves so many bytes in the buffer writes it out: where it is persisted by hand, from 8,192 bytes
 -- on, and else always
@@ -56,6 +64,16 @@ abbrev pub syncing : Name → PersistMode → List Step
 syncing name Buffer = []
 syncing name SyncData = Sync name ∷ []
 syncing name SyncAll = Sync name ∷ []
+
+-- the same, where there is a mode
+abbrev pub syncing_mode : Name → Option PersistMode → List Step
+syncing_mode name None = []
+syncing_mode name (Some mode) = syncing name mode
+
+-- what a batch of this text does to the disk: without a mode it waits in the buffer while that has less than 8,192 bytes,
+-- and with one all goes out, and is synced where the mode asks for it
+abbrev pub batch_steps : Option PersistMode → Journal → List ℕ → List Step
+batch_steps mode j text = command_steps (is_none mode) j text ++ syncing_mode j.name mode
 
 -- the text waits in the buffer, which has less than 8,192 bytes with it
 abbrev pub Waits : Journal → List ℕ → Type 0
@@ -82,6 +100,11 @@ WroteNone old new j text error = WriteTook error old new j.name (j.buffer ++ tex
 abbrev pub HasWriteCause : {T : Type 0} → List ℕ → List ℕ → Meaning → Meaning → Result T Error → Type 0
 HasWriteCause key value old new result = MatchOption (item_refusal key value) (HasCause old new result) (λ e. (result ≡ Err e) × (new ≡ old))
 
+-- the disk failed
+abbrev pub IsIo : Error → Type 0
+IsIo (Io kind) = Unit {0}
+IsIo error = ⊥
+
 -- a call on a file that is there is no misuse
 abbrev pub ServesFile : Meaning → Meaning → Name → Type 0
 ServesFile old new name = IsFile (state_in old name).now → new.misuses ≡ old.misuses
@@ -89,6 +112,10 @@ ServesFile old new name = IsFile (state_in old name).now → new.misuses ≡ old
 -- A refused persist stopped at the append, and the journal is as it was, or at the sync behind a whole append.
 abbrev pub PersistTook : Journal → Journal → PersistMode → Meaning → Meaning → Type 0
 PersistTook j now mode old new = ((now ≡ j) × TookPart old new j.name j.buffer) ⊎ ((now ≡ written_out j) × (mode ≢ Buffer) × (Took old new (appending j.name j.buffer) ⊎ Took old new (persist_steps j mode)))
+
+-- What a refused batch took: some beginning of the bytes or, where the mode asks for a sync, all of them and the sync.
+abbrev pub BatchTook : Option PersistMode → Meaning → Meaning → Journal → List ℕ → Type 0
+BatchTook mode old new j text = TookPart old new j.name (j.buffer ++ text) ⊎ ((syncing_mode j.name mode ≢ []) × Took old new (batch_steps mode j text))
 
 -- what makes an empty file of this name, where none is there
 abbrev pub making_file : Meaning → Name → List Step

@@ -3,11 +3,13 @@
 
 mod batch;
 mod batch_reader;
+mod batch_text;
 mod contents;
 mod decoding;
 mod encoding;
 mod entry;
 mod laws;
+mod op;
 mod parsing;
 mod persist_mode;
 mod recovery_mode;
@@ -21,6 +23,7 @@ pub use entry::{Entry, Tag, ValueType};
 pub use laws::{
     cut_reads, one_reading, one_spelling, one_tail, texts_are_whole, whole_behind, whole_grows,
 };
+pub use op::{BatchItem, Op, check_items, has_empty_key, has_key_too_long, has_value_too_long};
 pub use persist_mode::PersistMode;
 pub use recovery_mode::RecoveryMode;
 pub use writer::{JOURNAL_BUFFER_BYTES, Writer};

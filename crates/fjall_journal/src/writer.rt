@@ -1,15 +1,17 @@
 //! The append side of a journal: batches go into a buffer, and the buffer to the end of a file.
 
-ghost use Rattle.std.specs.Prelude.{◌≡◌, ◌⊎◌, ◌+◌, ◌<◌, ◌++◌, [], length, take, OnOk, OnErr, IfOk, IfErr, IsOk, IsErrOf, IsOkUnless, IsTrue, MatchOption, None, Err};
-ghost use Rattle.fjall_base.specs.Disk.{CanCreate, Took, TookPart, HasCause, OnlyFaults, state_in};
+ghost use Rattle.std.specs.Prelude.{◌≡◌, ◌⊎◌, ◌+◌, ◌<◌, [], length, take, OnOk, OnErr, IfOk, IfErr, IsOk, IsErrOf, IsOkUnless, IsTrue, None, Ok};
+ghost use Rattle.fjall_base.specs.Disk.{CanCreate, Took, TookOrNot, TookPart, HasCause, OnlyFaults, state_in};
 ghost use Rattle.fjall_base.specs.Limits.{item_refusal};
 ghost use Rattle.fjall_journal.specs.Batches.{of_item, item_text, IsWritten};
-ghost use Rattle.fjall_journal.specs.Writer.{counted, written_out, appending, after_write, persist_steps, Waits, WroteText, WroteNone, HasWriteCause, ServesFile, PersistTook, making_synced, MakingTook};
+ghost use Rattle.fjall_journal.specs.Ops.{HasBatchCause, items_refusal, items_text, of_items};
+ghost use Rattle.fjall_journal.specs.Writer.{counted, full_out, full_steps, syncing, written_out, appending, after_write, persist_steps, Waits, WroteText, WroteNone, HasWriteCause, IsIo, ServesFile, PersistTook, making_synced, MakingTook};
 
-use crate::encoding::{put_end, put_start, serialize_marker_item};
+use crate::batch_text::{put_batch, put_items};
 use crate::entry::ValueType;
+use crate::op::{BatchItem, check_items};
 use crate::persist_mode::PersistMode;
-use fjall_base::{CompressionType, Disk, Error, Result, check_item, checksum};
+use fjall_base::{Disk, Error, Result};
 use std::alloc::Global;
 use std::marker::Model;
 
@@ -34,57 +36,6 @@ impl Model for Writer {
     ghost view = { λ w. record { name = string_bytes w.name; buffer = w.buffer.items; len = w.len } };
 
     ghost invariant = { λ w. w.len < 2 ^ 64 };
-}
-
-fn put_item_batch(
-    out: &mut Vec<u8>,
-    keyspace_id: u64,
-    key: &[u8],
-    value: &[u8],
-    value_type: ValueType,
-    seqno: u64,
-) -> Result<()>
-    ensures ok { OnOk result (out.new.items ≡ out.old.items ++ item_text keyspace_id key.now value.now value_type seqno) }
-    ensures fits { OnOk result (IsWritten (of_item keyspace_id key.now value.now value_type seqno)) }
-    ensures kept { take (length out.old.items) out.new.items ≡ out.old.items }
-    ensures only { MatchOption (item_refusal key.now value.now) (IsOkUnless result Error.OutOfMemory) (λ e. result ≡ Err e) }
-{
-    check_item(key, value)?;
-    let before = out.len();
-    put_start(out, 1, seqno)?;
-    serialize_marker_item(
-        out,
-        keyspace_id,
-        key,
-        value,
-        value_type,
-        CompressionType::None,
-    )?;
-    let sum = checksum(&out[before..]);
-    put_end(out, &sum)
-}
-
-/// Adds the text of a batch of one item, and answers its length. An `Err` adds nothing.
-fn put_batch(
-    out: &mut Vec<u8>,
-    keyspace_id: u64,
-    key: &[u8],
-    value: &[u8],
-    value_type: ValueType,
-    seqno: u64,
-) -> Result<usize>
-    ensures ok { OnOk result (out.new.items ≡ out.old.items ++ item_text keyspace_id key.now value.now value_type seqno) }
-    ensures fits { OnOk result (IsWritten (of_item keyspace_id key.now value.now value_type seqno)) }
-    ensures count { IfOk result (λ n. n ≡ length (item_text keyspace_id key.now value.now value_type seqno)) }
-    ensures err { OnErr result (out.new.items ≡ out.old.items) }
-    ensures only { MatchOption (item_refusal key.now value.now) (IsOkUnless result Error.OutOfMemory) (λ e. result ≡ Err e) }
-{
-    let before = out.len();
-    if let Err(error) = put_item_batch(out, keyspace_id, key, value, value_type, seqno) {
-        out.truncate(before);
-        return Err(error);
-    }
-    Ok(out.len() - before)
 }
 
 impl Writer {
@@ -147,6 +98,26 @@ impl Writer {
         Ok(())
     }
 
+    /// Appends the buffer to the file once it has 8,192 bytes. Where the disk fails, the buffer keeps its first `before`
+    /// bytes alone.
+    fn write_out_full<D: Disk>(&mut self, disk: &mut D, before: usize) -> Result<()>
+        ensures ok { OnOk result (self.new ≡ full_out self.old) }
+        ensures err { OnErr result (self.new ≡ record self.old { buffer = take before self.old.buffer }) }
+        ensures took { IsTrue D.honest → OnOk result (Took (D.meaning disk.old) (D.meaning disk.new) (full_steps self.old)) }
+        ensures part { IsTrue D.honest → OnErr result (TookPart (D.meaning disk.old) (D.meaning disk.new) self.old.name self.old.buffer) }
+        ensures served { IsTrue D.honest → ServesFile (D.meaning disk.old) (D.meaning disk.new) self.old.name }
+        ensures cause { OnlyFaults (D.meaning disk.old) (D.meaning disk.new) result }
+        ensures waits { length self.old.buffer < 8192 → IsOk result × (D.meaning disk.new ≡ D.meaning disk.old) }
+    {
+        if self.buffer.len() >= JOURNAL_BUFFER_BYTES
+            && let Err(error) = self.write_out(disk)
+        {
+            self.buffer.truncate(before);
+            return Err(error);
+        }
+        Ok(())
+    }
+
     /// Writes one item as a batch of its own, and answers the length of its text. The buffer goes to the file once it
     /// has 8,192 bytes. A key or a value that no item can have is refused before all else.
     pub fn write_raw<D: Disk>(
@@ -176,12 +147,45 @@ impl Writer {
     {
         let before = self.buffer.len();
         let count = put_batch(&mut self.buffer, keyspace_id, key, value, value_type, seqno)?;
-        if self.buffer.len() >= JOURNAL_BUFFER_BYTES
-            && let Err(error) = self.write_out(disk)
-        {
-            self.buffer.truncate(before);
-            return Err(error);
+        self.write_out_full(disk, before)?;
+        Ok(count)
+    }
+
+    /// Writes these items as one batch, and answers the length of its text. The buffer goes to the file once it has
+    /// 8,192 bytes. No items are no batch: nothing is written, and the answer is 0. Items that no batch can have are
+    /// refused before all else, as [`check_items`] does; an `Err` leaves the writer as it was.
+    pub fn write_batch<D: Disk>(
+        &mut self,
+        disk: &mut D,
+        items: &[BatchItem],
+        seqno: u64,
+    ) -> Result<usize>
+        ensures ok { 0 < length items.now → OnOk result (self.new ≡ after_write self.old (items_text items.now seqno)) }
+        ensures empty { items.now ≡ [] → (result ≡ Ok 0) × (self.new ≡ self.old) × (D.meaning disk.new ≡ D.meaning disk.old) }
+        ensures fits { OnOk result (IsWritten (of_items items.now seqno)) }
+        // So it has a text also where the disk fails.
+        ensures tried { IfErr result (λ e. IsIo e → IsWritten (of_items items.now seqno)) }
+        ensures count { 0 < length items.now → IfOk result (λ n. n ≡ length (items_text items.now seqno)) }
+        ensures unchanged { OnErr result (self.new ≡ self.old) }
+        ensures took { IsTrue D.honest → 0 < length items.now
+            → OnOk result (WroteText (D.meaning disk.old) (D.meaning disk.new) self.old (items_text items.now seqno)) }
+        ensures part { IsTrue D.honest
+            → IfErr result (WroteNone (D.meaning disk.old) (D.meaning disk.new) self.old (items_text items.now seqno)) }
+        ensures untouched { IsErrOf result Error.OutOfMemory → D.meaning disk.new ≡ D.meaning disk.old }
+        ensures served { IsTrue D.honest → ServesFile (D.meaning disk.old) (D.meaning disk.new) self.old.name }
+        ensures cause { HasBatchCause items.now (D.meaning disk.old) (D.meaning disk.new) result }
+        // Below 8,192 bytes nothing goes to the disk, and no fault can come.
+        ensures waits { Waits self.old (items_text items.now seqno) → D.meaning disk.new ≡ D.meaning disk.old }
+        ensures faultless { Waits self.old (items_text items.now seqno)
+            → items_refusal items.now ≡ None → IsOkUnless result Error.OutOfMemory }
+    {
+        check_items(items)?;
+        if items.is_empty() {
+            return Ok(0);
         }
+        let before = self.buffer.len();
+        let count = put_items(&mut self.buffer, items, seqno)?;
+        self.write_out_full(disk, before)?;
         Ok(count)
     }
 
@@ -190,6 +194,9 @@ impl Writer {
         ensures ok { OnOk result (self.new ≡ written_out self.old) }
         ensures part { OnErr result ((self.new ≡ self.old) ⊎ (self.new ≡ written_out self.old)) }
         ensures took { IsTrue D.honest → OnOk result (Took (D.meaning disk.old) (D.meaning disk.new) (persist_steps self.old mode)) }
+        // With nothing in the buffer no more is taken than the sync.
+        ensures nothing { IsTrue D.honest → self.old.buffer ≡ []
+            → OnErr result (TookOrNot (D.meaning disk.old) (D.meaning disk.new) (syncing self.old.name mode)) }
         ensures left { IsTrue D.honest → OnErr result (PersistTook self.old self.new mode (D.meaning disk.old) (D.meaning disk.new)) }
         ensures succeeds { mode ≡ PersistMode.Buffer → self.old.buffer ≡ [] → IsOk result }
         ensures served { IsTrue D.honest → ServesFile (D.meaning disk.old) (D.meaning disk.new) self.old.name }
