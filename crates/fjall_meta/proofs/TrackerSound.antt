@@ -135,3 +135,14 @@ sound-after_raise n t sound = record {
   countable = sound.countable;
   counted = sound.counted;
 }
+
+-- the visible number is taken back where nothing reads there
+pub sound-retracted : (t : Tracker) → IsSoundTracker t → 0 < t.visible → All (λ i. i < t.visible) t.instants → (0 < t.watermark → t.watermark + 1 < t.visible) → IsSoundTracker (record t { visible = t.visible - 1 })
+sound-retracted t sound some unread spared = record {
+  ascending = sound.ascending;
+  reached = All-weaker (λ i. i < t.visible) (λ i. i ≤ t.visible - 1) (λ i h. omega arith) t.instants unread;
+  spared = sound.spared;
+  behind = λ p. let h = spared p in omega (arith, h);
+  countable = sound.countable;
+  counted = sound.counted;
+}

@@ -12,7 +12,10 @@ mod reading;
 mod snapshot_tracker;
 
 pub use entry::MetaEntry;
-pub use laws::one_list_of_keyspaces;
+pub use laws::{
+    closings_are_counted, instants_are_counted, one_list_of_keyspaces, open_instants_are_bounded,
+    the_watermark_follows_the_oldest, trackers_stay_sound,
+};
 pub use living::LivingKeyspace;
 pub use meta_keyspace::MetaKeyspace;
 pub use name::is_valid_keyspace_name;

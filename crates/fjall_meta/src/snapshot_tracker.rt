@@ -1,6 +1,6 @@
 //! Which snapshots are open, and below which number no snapshot reads.
 
-ghost use Rattle.std.specs.Prelude.{◌≡◌, ◌+◌, ◌-◌, ◌<◌, ◌^◌, [], true, length, IfOk, OnOk, OnErr, IfErr};
+ghost use Rattle.std.specs.Prelude.{◌≡◌, ◌+◌, ◌-◌, ◌<◌, ◌^◌, [], true, length, All, IfOk, OnOk, OnErr, IfErr};
 ghost use Rattle.fjall_meta.specs.Trackers.{fresh_tracker, is_open, instant_count, after_opening, after_closing, after_gc, after_raise, IsSoundTracker, IsOpeningRefusal, IsCloningRefusal};
 
 use crate::instants::Instants;
@@ -109,6 +109,18 @@ impl SnapshotTracker {
         ensures sound { IsSoundTracker self.new }
     {
         self.set(number + 1);
+    }
+
+    /// Takes the visible number back by one, where no snapshot has read there yet: the write that was made visible last was
+    /// not done after all.
+    pub fn retract(&mut self)
+        requires raised { 0 < self.old.visible }
+        requires unread { All (λ i. i < self.old.visible) self.old.instants }
+        requires spared { 0 < self.old.watermark → self.old.watermark + 1 < self.old.visible }
+        ensures retracted { self.new ≡ record self.old { visible = self.old.visible - 1 } }
+        ensures sound { IsSoundTracker self.new }
+    {
+        self.visible -= 1;
     }
 
     /// Raises the visible number to at least `number`.
