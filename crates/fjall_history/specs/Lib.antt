@@ -1,0 +1,4 @@
+pub mod Histories
+pub mod Tickets
+pub mod Moves
+pub mod Queries
