@@ -1,0 +1,6 @@
+pub mod Rests
+pub mod Cursors
+pub mod ReadIters
+pub mod Prefixes
+pub mod Guards
+pub mod Readers

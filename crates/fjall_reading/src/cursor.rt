@@ -1,0 +1,227 @@
+//! Pairs from both ends of a range, page by page.
+
+ghost use Rattle.std.specs.Prelude.{◌≡◌, ◌++◌, [], ◌∷◌, ℕ, List, IfOk, IsOkUnless, OnOk, None, MatchOption, IfNone, take, drop, length, ◌-◌};
+ghost use Rattle.std.specs.Result.{result_err};
+ghost use Rattle.fjall_base.specs.Pairs.{Bytes, Pairs, page, pairs_between};
+ghost use Rattle.fjall_base.specs.declared.error.Error.TheVariants.{OutOfMemory};
+ghost use Rattle.fjall_reading.specs.Rests.{TakesFirst, TakesLast, error_in, middle};
+ghost use Rattle.fjall_reading.specs.Cursors.{left};
+
+use crate::pages::{KeyRange, PAGE, Pages};
+use fjall_base::{KvPair, Result};
+use std::alloc::Global;
+use std::mem;
+use std::ops::Bound;
+
+/// What is left of a range of a keyspace: pairs that were fetched from its front, the last of them first; a range that
+/// wasn't fetched; and pairs that were fetched from its back.
+pub struct Cursor {
+    id: u64,
+    middle: Option<KeyRange>,
+    front: Vec<KvPair>,
+    back: Vec<KvPair>,
+}
+
+impl Drop for Cursor {
+    fn drop(self) {
+        let Cursor {
+            id: _,
+            middle: _middle,
+            front: _front,
+            back: _back,
+        } = self;
+    }
+}
+
+impl Cursor {
+    /// All of a range.
+    pub fn new(alloc: Global, id: u64, range: KeyRange) -> Cursor
+        ensures left { (pairs : Pairs) → left result pairs ≡ pairs_between range pairs }
+        ensures id { result.id ≡ id }
+    {
+        Cursor {
+            id,
+            middle: Some(range),
+            front: Vec::new(alloc),
+            back: Vec::new(alloc),
+        }
+    }
+
+    // Nothing of a keyspace.
+    pub(crate) fn ended(alloc: Global, id: u64) -> Cursor
+        ensures left { (pairs : Pairs) → left result pairs ≡ [] }
+        ensures id { result.id ≡ id }
+    {
+        Cursor {
+            id,
+            middle: None,
+            front: Vec::new(alloc),
+            back: Vec::new(alloc),
+        }
+    }
+
+    // Nothing is left.
+    pub(crate) fn end(&mut self)
+        ensures left { (pairs : Pairs) → left self.new pairs ≡ [] }
+        ensures id { self.new.id ≡ self.old.id }
+    {
+        self.middle = None;
+        self.front.clear();
+        self.back.clear();
+    }
+
+    // Fetches a page from the front, where none of the last one is left.
+    fn fetch<P: Pages>(&mut self, pages: &mut P) -> Result<()>
+        requires { self.old.front.items ≡ [] }
+        ensures left { OnOk result (left self.new (P.shows pages.old self.old.id) ≡ left self.old (P.shows pages.old self.old.id)) }
+        ensures fetched { OnOk result (self.new.front.items ≡ [] → self.new.middle ≡ None) }
+        ensures same { (i : ℕ) → P.shows pages.new i ≡ P.shows pages.old i }
+        ensures reads { P.reads pages.old (result_err result) pages.new }
+        ensures id { self.new.id ≡ self.old.id }
+    {
+        let Some(range) = self.middle.take() else {
+            return Ok(());
+        };
+        let mut found = pages.page(self.id, &range, false, PAGE)?;
+        self.middle = behind_page(&found, range)?;
+        found.reverse();
+        self.front = found;
+        Ok(())
+    }
+
+    // Goes on with what was fetched from the back, where that alone is left.
+    fn turn(&mut self)
+        requires { self.old.front.items ≡ [] → self.old.middle ≡ None }
+        ensures left { (pairs : Pairs) → left self.new pairs ≡ left self.old pairs }
+        ensures ended { self.new.front.items ≡ [] → (pairs : Pairs) → left self.new pairs ≡ [] }
+        ensures id { self.new.id ≡ self.old.id }
+    {
+        if self.front.is_empty() {
+            mem::swap(&mut self.front, &mut self.back);
+            self.front.reverse();
+        }
+    }
+
+    // Takes the first of what was fetched.
+    fn take_first(&mut self) -> Option<KvPair>
+        requires { self.old.front.items ≡ [] → (pairs : Pairs) → left self.old pairs ≡ [] }
+        ensures taken { MatchOption result ((pairs : Pairs) → left self.old pairs ≡ []) (λ pair. (pairs : Pairs) → left self.old pairs ≡ pair ∷ left self.new pairs) }
+        ensures none { IfNone result ((pairs : Pairs) → left self.new pairs ≡ []) }
+        ensures id { self.new.id ≡ self.old.id }
+    {
+        self.front.pop()
+    }
+
+    /// The first pair that is left. After the last one, and after a fault, there is none.
+    pub fn next<P: Pages>(&mut self, pages: &mut P) -> Option<Result<KvPair>>
+        ensures taken { TakesFirst (left self.old (P.shows pages.old self.old.id)) result (left self.new (P.shows pages.old self.old.id)) }
+        ensures same { (i : ℕ) → P.shows pages.new i ≡ P.shows pages.old i }
+        ensures reads { P.reads pages.old (error_in result) pages.new }
+        ensures id { self.new.id ≡ self.old.id }
+    {
+        if self.front.is_empty() {
+            if let Err(error) = self.fetch(pages) {
+                self.end();
+                return Some(Err(error));
+            }
+        }
+        self.turn();
+        match self.take_first() {
+            Some(pair) => Some(Ok(pair)),
+            None => None,
+        }
+    }
+}
+
+impl Cursor {
+    // Fetches a page from the back, where none of the last one is left.
+    fn fetch_back<P: Pages>(&mut self, pages: &mut P) -> Result<()>
+        requires { self.old.back.items ≡ [] }
+        ensures left { OnOk result (left self.new (P.shows pages.old self.old.id) ≡ left self.old (P.shows pages.old self.old.id)) }
+        ensures fetched { OnOk result (self.new.back.items ≡ [] → self.new.middle ≡ None) }
+        ensures same { (i : ℕ) → P.shows pages.new i ≡ P.shows pages.old i }
+        ensures reads { P.reads pages.old (result_err result) pages.new }
+        ensures id { self.new.id ≡ self.old.id }
+    {
+        let Some(range) = self.middle.take() else {
+            return Ok(());
+        };
+        let found = pages.page(self.id, &range, true, PAGE)?;
+        self.middle = ahead_of_page(&found, range)?;
+        self.back = found;
+        Ok(())
+    }
+
+    // Goes on with what was fetched from the front, where that alone is left.
+    fn turn_back(&mut self)
+        requires { self.old.back.items ≡ [] → self.old.middle ≡ None }
+        ensures left { (pairs : Pairs) → left self.new pairs ≡ left self.old pairs }
+        ensures ended { self.new.back.items ≡ [] → (pairs : Pairs) → left self.new pairs ≡ [] }
+        ensures id { self.new.id ≡ self.old.id }
+    {
+        if self.back.is_empty() {
+            mem::swap(&mut self.front, &mut self.back);
+            self.back.reverse();
+        }
+    }
+
+    // Takes the last of what was fetched.
+    fn take_last(&mut self) -> Option<KvPair>
+        requires { self.old.back.items ≡ [] → (pairs : Pairs) → left self.old pairs ≡ [] }
+        ensures taken { MatchOption result ((pairs : Pairs) → left self.old pairs ≡ []) (λ pair. (pairs : Pairs) → left self.old pairs ≡ left self.new pairs ++ pair ∷ []) }
+        ensures none { IfNone result ((pairs : Pairs) → left self.new pairs ≡ []) }
+        ensures id { self.new.id ≡ self.old.id }
+    {
+        self.back.pop()
+    }
+
+    /// The last pair that is left. After the first one, and after a fault, there is none.
+    pub fn next_back<P: Pages>(&mut self, pages: &mut P) -> Option<Result<KvPair>>
+        ensures taken { TakesLast (left self.old (P.shows pages.old self.old.id)) result (left self.new (P.shows pages.old self.old.id)) }
+        ensures same { (i : ℕ) → P.shows pages.new i ≡ P.shows pages.old i }
+        ensures reads { P.reads pages.old (error_in result) pages.new }
+        ensures id { self.new.id ≡ self.old.id }
+    {
+        if self.back.is_empty() {
+            if let Err(error) = self.fetch_back(pages) {
+                self.end();
+                return Some(Err(error));
+            }
+        }
+        self.turn_back();
+        match self.take_last() {
+            Some(pair) => Some(Ok(pair)),
+            None => None,
+        }
+    }
+}
+
+// What is left of a range ahead of its last page.
+fn ahead_of_page(found: &[KvPair], range: KeyRange) -> Result<Option<KeyRange>>
+    ensures left { IfOk result (λ rest. (pairs : Pairs) → found.now ≡ drop (length (pairs_between range pairs) - 128) (pairs_between range pairs) → middle rest pairs ++ found.now ≡ pairs_between range pairs) }
+    ensures none { IfOk result (λ rest. found.now ≡ [] → rest ≡ None) }
+    ensures only { IsOkUnless result OutOfMemory }
+{
+    if found.len() != PAGE {
+        return Ok(None);
+    }
+    match found.first() {
+        Some(first) => Ok(Some((range.0, Bound::Excluded(first.0.clone()?)))),
+        None => Ok(None),
+    }
+}
+
+// What is left of a range behind its first page.
+pub(crate) fn behind_page(found: &[KvPair], range: KeyRange) -> Result<Option<KeyRange>>
+    ensures left { IfOk result (λ rest. (pairs : Pairs) → found.now ≡ take 128 (pairs_between range pairs) → found.now ++ middle rest pairs ≡ pairs_between range pairs) }
+    ensures none { IfOk result (λ rest. found.now ≡ [] → rest ≡ None) }
+    ensures only { IsOkUnless result OutOfMemory }
+{
+    if found.len() != PAGE {
+        return Ok(None);
+    }
+    match found.last() {
+        Some(last) => Ok(Some((Bound::Excluded(last.0.clone()?), range.1))),
+        None => Ok(None),
+    }
+}

@@ -1,0 +1,45 @@
+//! Pages of pairs, and ranges of keys that own their bounds.
+
+ghost use Rattle.std.specs.Prelude.{◌≡◌, ℕ, Option, Some, None, IfOk};
+ghost use Rattle.std.specs.Result.{result_err};
+ghost use Rattle.fjall_base.specs.Pairs.{Pairs, key_range, page, pairs_between};
+ghost use Rattle.fjall_base.specs.declared.error.Error.{Error};
+ghost use Rattle.fjall_base.specs.declared.error.Error.TheVariants.{OutOfMemory};
+
+use fjall_base::{KeyBounds, KvPair, Result, UserKey};
+use std::alloc::Global;
+use std::ops::Bound;
+
+/// Where a range of keys begins and where it ends. Between reversed bounds lies no key.
+pub type KeyRange = (Bound<UserKey>, Bound<UserKey>);
+
+/// How many pairs a page has that is fetched ahead.
+pub(crate) const PAGE: usize = 128;
+
+/// What shows one map for each keyspace, and gives the pairs of it page by page.
+pub trait Pages {
+    /// The map of a keyspace that it shows.
+    ghost shows: { Self → ℕ → Pairs };
+
+    /// How reads go: what it was, the error that they met where they met one, and what it is then.
+    ghost reads: { Self → Option Error → Self → Type 0 };
+
+    /// What bounds of ranges and pairs are kept in.
+    fn alloc(&self) -> Global;
+
+    /// The first pairs of a keyspace between the bounds or, where `back` holds, the last ones; at most `max`, in the
+    /// order of their keys in both cases. What it shows stays as it was, also after an `Err`.
+    fn page(&mut self, id: u64, range: &KeyRange, back: bool, max: usize) -> Result<Vec<KvPair>>
+        ensures ok { IfOk result (λ found. found.items ≡ page back max (pairs_between range.now (shows self.old id))) }
+        ensures same { (i : ℕ) → shows self.new i ≡ shows self.old i }
+        ensures reads { reads self.old (result_err result) self.new };
+
+    /// No read changes nothing.
+    ghost reads_none: { (pages : Self) → reads pages None pages };
+
+    /// Reads go on from what those before left.
+    ghost reads_on: { (old mid new : Self) (error : Option Error) → reads old None mid → reads mid error new → reads old error new };
+
+    /// Behind reads memory may be used up.
+    ghost reads_short: { (old new : Self) → reads old None new → reads old (Some OutOfMemory) new };
+}

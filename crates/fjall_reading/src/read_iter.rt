@@ -1,0 +1,106 @@
+//! The pairs of a range, read from both ends.
+
+ghost use Rattle.std.specs.Prelude.{◌≡◌, ℕ, Some, Err, true, false};
+ghost use Rattle.fjall_base.specs.Pairs.{pairs_between};
+ghost use Rattle.fjall_base.specs.declared.error.Error.TheVariants.{OutOfMemory};
+ghost use Rattle.fjall_reading.specs.Rests.{TakesFirst, TakesLast, error_in};
+ghost use Rattle.fjall_reading.specs.ReadIters.{left_of};
+
+use crate::cursor::Cursor;
+use crate::guard::Guard;
+use crate::pages::{KeyRange, Pages};
+use fjall_base::Error;
+use std::mem;
+
+/// What is left of the pairs of a range that a reader shows, in the order of their keys. It reads a page when one is wanted,
+/// and has two of them in memory at most.
+#[derive(Drop)]
+pub struct ReadIter<'a, R> {
+    reader: &'a mut R,
+    cursor: Cursor,
+    // Memory was used up when it was made, which the first call answers.
+    short: bool,
+}
+
+impl<'a, R: Pages> ReadIter<'a, R> {
+    /// The pairs of a keyspace in a range.
+    pub fn new(reader: &'a mut R, id: u64, range: KeyRange) -> ReadIter<'a, R>
+        ensures left { left_of R.shows result ≡ pairs_between range (R.shows reader.old id) }
+        ensures short { result.short ≡ false }
+        ensures reader { result.reader.now ≡ reader.old }
+        ensures same_reader { result.reader.ghost_name ≡ reader.entry.ghost_name }
+    {
+        let cursor = Cursor::new(reader.alloc(), id, range);
+        ReadIter {
+            reader,
+            cursor,
+            short: false,
+        }
+    }
+
+    /// No pair, since memory was used up: the first call answers that.
+    pub fn out_of_memory(reader: &'a mut R, id: u64) -> ReadIter<'a, R>
+        ensures short { result.short ≡ true }
+        ensures reader { result.reader.now ≡ reader.old }
+        ensures same_reader { result.reader.ghost_name ≡ reader.entry.ghost_name }
+    {
+        let cursor = Cursor::ended(reader.alloc(), id);
+        ReadIter {
+            reader,
+            cursor,
+            short: true,
+        }
+    }
+
+    /// The first pair that is left, or a fault. After the last pair, and after a fault, there is none.
+    pub fn next(&mut self) -> Option<Guard>
+        ensures taken { TakesFirst (left_of R.shows self.old) result (left_of R.shows self.new) }
+        ensures short { self.old.short ≡ true → result ≡ Some (Err OutOfMemory) }
+        ensures told { self.new.short ≡ false }
+        ensures same { (i : ℕ) → R.shows self.new.reader.now i ≡ R.shows self.old.reader.now i }
+        ensures reads { R.reads self.old.reader.now (error_in result) self.new.reader.now }
+        ensures same_reader { self.new.reader.ghost_name ≡ self.old.reader.ghost_name }
+    {
+        if mem::take(&mut self.short) {
+            self.cursor.end();
+            return Some(Guard::new(Err(Error::OutOfMemory)));
+        }
+        match self.cursor.next(self.reader) {
+            Some(found) => Some(Guard::new(found)),
+            None => None,
+        }
+    }
+
+    /// The last pair that is left, or a fault. After the first pair, and after a fault, there is none.
+    pub fn next_back(&mut self) -> Option<Guard>
+        ensures taken { TakesLast (left_of R.shows self.old) result (left_of R.shows self.new) }
+        ensures short { self.old.short ≡ true → result ≡ Some (Err OutOfMemory) }
+        ensures told { self.new.short ≡ false }
+        ensures same { (i : ℕ) → R.shows self.new.reader.now i ≡ R.shows self.old.reader.now i }
+        ensures reads { R.reads self.old.reader.now (error_in result) self.new.reader.now }
+        ensures same_reader { self.new.reader.ghost_name ≡ self.old.reader.ghost_name }
+    {
+        if mem::take(&mut self.short) {
+            self.cursor.end();
+            return Some(Guard::new(Err(Error::OutOfMemory)));
+        }
+        match self.cursor.next_back(self.reader) {
+            Some(found) => Some(Guard::new(found)),
+            None => None,
+        }
+    }
+
+    /// The reader, which is free again. A proof knows what it shows once the iterator was given up so; of one that is dropped
+    /// it knows nothing.
+    pub fn into_reader(self) -> &'a mut R
+        ensures reader { result.now ≡ self.entry.reader.now }
+        ensures same_reader { result.ghost_name ≡ self.entry.reader.ghost_name }
+    {
+        let ReadIter {
+            reader,
+            cursor: _cursor,
+            short: _,
+        } = self;
+        reader
+    }
+}
