@@ -1,9 +1,9 @@
 -- What is taken of the keyspaces' homes into memory, one home after another.
-use Rattle.std.proofs.Common.{◌≡◌, ◌≢◌, inl, inr, ℕ, zero, suc, ◌+◌, ◌<◌, ◌≤◌, ◌^◌, ◌==◌, ◌&&◌, ◌||◌, Bool, true, false, cond, List, [], ◌∷◌, ◌++◌, length, take, drop, get_or, map, All, Option, None, Some, is_some, add-one, refl, sym, ◌∙◌, ap, subst, arith}
+use Rattle.std.proofs.Common.{◌≡◌, ◌≢◌, inl, inr, ℕ, zero, suc, ◌+◌, ◌<◌, ◌≤◌, ◌^◌, ◌==◌, ◌&&◌, ◌||◌, Bool, true, false, cond, List, [], ◌∷◌, ◌++◌, length, take, drop, get_or, map, All, Option, None, Some, is_some, Contains, add-one, refl, sym, ◌∙◌, ap, subst, arith}
 use Rattle.std.specs.Prelude.{IfSome, MatchBool}
 use Rattle.std.proofs.lemmas.Bool.Decides.{nat_tests}
 use Rattle.std.proofs.lemmas.List.{get_or-map, get_or-take, get_or_default, length-map, take-append-drop}
-use Rattle.std.proofs.lemmas.List.Elements.{All-append, All-head, All-nil, All-push, All-tail, All-weaker}
+use Rattle.std.proofs.lemmas.List.Elements.{All-append, All-contains, All-head, All-nil, All-push, All-tail, All-weaker}
 use Rattle.std.proofs.lemmas.List.Folds.{find-append, list_any-append}
 use Rattle.std.proofs.Math.Seq.{take-suc}
 use Rattle.std.specs.List.{flat_map, list_any}
@@ -61,6 +61,11 @@ as_entries P [] all i d lt = absurd (omega (arith, lt))
 as_entries P (v ∷ versions) all zero d lt = all 0 v (omega arith)
 as_entries P (v ∷ versions) all (suc i) d lt = as_entries P versions (λ j e less. all (suc j) e (omega (arith, less))) i d (omega (arith, lt))
 
+-- what isn't beyond the persisted number is below whatever that is below
+pub low_number : (persisted : Option ℕ) (n bound : ℕ) → IfSome persisted (λ p. p < bound) → is_beyond persisted n ≡ false → n < bound
+low_number None n bound fits within = let no : true ≡ false = within in cc
+low_number (Some p) n bound fits within = let most : n ≤ p = grind (arith, nat_tests) in omega (arith, fits, most)
+
 module _ (image : Image) (id : ℕ) (home : LoadedHome) (read : IsRead image id home) where
   -- the home that is read
   abbrev pub its_home : Home
@@ -102,16 +107,12 @@ module _ (image : Image) (id : ℕ) (home : LoadedHome) (read : IsRead image id 
   last_is_record : IsRecord its_home.last
   last_is_record = last_has IsRecord read.loaded.records its_home.last read.loaded.openable.files.whole.each read.loaded.openable.files.last_is
 
-  low_number : (persisted : Option ℕ) (n : ℕ) → IfSome persisted (λ p. p < 2 ^ 63) → is_beyond persisted n ≡ false → n < 2 ^ 63
-  low_number None n fits within = let no : true ≡ false = within in cc
-  low_number (Some p) n fits within = let most : n ≤ p = grind (arith, nat_tests) in omega (arith, fits, most)
-
   -- they may be loaded
   pub may_load : (versions before : List Version) (clears : List ℕ) → clears ≡ home.record.clears.items → HasVersions its_home (map stored_entry versions) → All (λ v. v.keyspace_id ≡ id) versions → All (λ v. v.keyspace_id ≢ id) before
       → MayLoad id clears versions before
   may_load versions before clears are has own fresh = record {
     own = own;
-    low = All-weaker (λ (v : Version). is_beyond its_home.last.persisted v.seqno ≡ false) (λ (v : Version). v.seqno < 2 ^ 63) (λ v within. low_number its_home.last.persisted v.seqno last_is_record.consistent.persisted within) versions
+    low = All-weaker (λ (v : Version). is_beyond its_home.last.persisted v.seqno ≡ false) (λ (v : Version). v.seqno < 2 ^ 63) (λ v within. low_number its_home.last.persisted v.seqno (2 ^ 63) last_is_record.consistent.persisted within) versions
         (as_versions (λ v. is_beyond its_home.last.persisted v.number ≡ false) versions has.within.0);
     low_clears = subst (All (λ n. n < 2 ^ 63)) (sym (are ∙ clears_are)) last_is_record.consistent.numbers;
     fresh = fresh;
@@ -122,6 +123,15 @@ module _ (image : Image) (id : ℕ) (home : LoadedHome) (read : IsRead image id 
       → ((key : Bytes) → newest new.versions.items id key ≡ value_at key (2 ^ 63) clears (map stored_entry versions)) → LoadsHome id its_home old new
   loads_versions versions old new clears are has same values =
       inr (map stored_entry versions, has, same, λ key. values key ∙ ap (λ (l : List ℕ). value_at key (2 ^ 63) l (map stored_entry versions)) (are ∙ clears_are))
+
+-- ---- numbers of versions
+
+-- what is added of a home's versions is below whatever its persisted number is below
+pub added_below : (persisted : Option ℕ) (bound : ℕ) (stored old more : List Version) → IfSome persisted (λ n. n < bound) → All (λ v. is_beyond persisted v.seqno ≡ false) stored → All (λ v. v.seqno < bound) old
+    → All (Contains stored) more → All (λ v. v.seqno < bound) (old ++ more)
+added_below persisted bound stored old more fits within below are =
+    All-append (λ (v : Version). v.seqno < bound) old more below
+    (All-weaker (Contains stored) (λ (v : Version). v.seqno < bound) (λ v is. low_number persisted v.seqno bound fits (All-contains (λ (v : Version). is_beyond persisted v.seqno ≡ false) stored v within is)) more are)
 
 -- ---- homes one after another
 

@@ -1,6 +1,6 @@
 //! What the tables of the keyspaces that live hold, taken into memory.
 
-ghost use Rattle.std.specs.Prelude.{◌≡◌, ◌≢◌, ◌≤◌, ◌++◌, ◌↔◌, [], All, IfErr, IfOk, IfSome, IsOkUnless, IsTrue, MatchOption, OnOk, false, is_some, map, true};
+ghost use Rattle.std.specs.Prelude.{◌≡◌, ◌≢◌, ℕ, ◌<◌, ◌≤◌, ◌++◌, ◌↔◌, [], All, IfErr, IfOk, IfSome, IsOkUnless, IsTrue, MatchOption, OnOk, false, is_some, map, true};
 ghost use Rattle.fjall_base.specs.Disk.{Took};
 ghost use Rattle.fjall_contents.specs.Contents.{is_beyond};
 ghost use Rattle.fjall_contents.specs.Memory.{stored_entry};
@@ -120,6 +120,7 @@ fn read_versions<D: Disk>(
 ) -> Result<Option<Vec<Version>>>
     ensures found { IsTrue D.honest → (read : IsRead (seen (D.meaning disk.old)) id home.now)
         → IfOk result (λ found. MatchOption found (IsDamaged read.loaded.h) (λ versions. HasVersions read.loaded.h (map stored_entry versions.items))) }
+    ensures within { IfOk result (λ found. IfSome found (λ versions. All (λ v. is_beyond home.now.record.persisted v.seqno ≡ false) versions.items)) }
     ensures own { IfOk result (λ found. IfSome found (λ versions. All (λ v. v.keyspace_id ≡ id) versions.items)) }
     ensures same { IsTrue D.honest → Took (D.meaning disk.old) (D.meaning disk.new) [] }
     ensures served { IsTrue D.honest → AllServed (D.meaning disk.old) (D.meaning disk.new) }
@@ -146,6 +147,8 @@ fn load_home<D: Disk>(
     ensures loads { IsTrue D.honest → (read : IsRead (seen (D.meaning disk.old)) id home.now) → All (λ v. v.keyspace_id ≢ id) loaded.old.versions.items
         → OnOk result (LoadsHome id read.loaded.h loaded.old loaded.new) }
     ensures own { OnOk result (AddsOwn id loaded.old.versions.items loaded.new.versions.items) }
+    ensures below { (bound : ℕ) → IfSome home.now.record.persisted (λ n. n < bound) → All (λ v. v.seqno < bound) loaded.old.versions.items
+        → OnOk result (All (λ v. v.seqno < bound) loaded.new.versions.items) }
     ensures same { IsTrue D.honest → Took (D.meaning disk.old) (D.meaning disk.new) [] }
     ensures served { IsTrue D.honest → AllServed (D.meaning disk.old) (D.meaning disk.new) }
     ensures later { (D.meaning disk.old).faults ≤ (D.meaning disk.new).faults }
@@ -171,6 +174,9 @@ pub fn load_homes<D: Disk>(
     ensures loads { IsTrue D.honest → (c : Contents) → IsOpenable (seen (D.meaning disk.old)) c → c.keyspaces ≡ keyspaces.now
         → AreHomesRead (seen (D.meaning disk.old)) keyspaces.now.living homes.now → IfOk result (λ l. Loads c l.damaged.items l.versions.items) }
     ensures live { IfOk result (λ l. All (λ v. is_some (keyspace_at v.keyspace_id keyspaces.now.living) ≡ true) l.versions.items) }
+    // Whatever the disk does, nothing that is taken is numbered beyond what the homes tell as persisted.
+    ensures below { (bound : ℕ) → All (λ home. IfSome home.record.persisted (λ n. n < bound)) homes.now
+        → IfOk result (λ l. All (λ v. v.seqno < bound) l.versions.items) }
     ensures same { IsTrue D.honest → Took (D.meaning disk.old) (D.meaning disk.new) [] }
     ensures served { IsTrue D.honest → AllServed (D.meaning disk.old) (D.meaning disk.new) }
     ensures later { (D.meaning disk.old).faults ≤ (D.meaning disk.new).faults }

@@ -1,8 +1,9 @@
 -- What was opened, and the disk until then.
-use Rattle.std.proofs.Common.{◌≡◌, inl, inr, ℕ, ◌<◌, ◌==◌, Bool, true, false, if◌then◌else◌, max, List, [], ◌∷◌, length, map, All, Option, None, Some, Result, Ok, Err, refl, sym, ◌∙◌, ap, subst, arith}
+use Rattle.std.proofs.Common.{◌≡◌, inl, inr, ℕ, zero, suc, ◌<◌, ◌≤◌, ◌==◌, Bool, true, false, if◌then◌else◌, max, List, [], ◌∷◌, length, get_or, map, All, Option, None, Some, Result, Ok, Err, refl, sym, ◌∙◌, ap, subst, arith}
 use Rattle.std.specs.List.{AllByRecursion}
+use Rattle.std.proofs.lemmas.List.{get_or-map, length-map}
 use Rattle.std.proofs.lemmas.List.Elements.{All-from_recursion, All-nil}
-use Rattle.std.specs.Prelude.{IfOk, IfErr}
+use Rattle.std.specs.Prelude.{IfOk, IfErr, IfSome}
 use Rattle.fjall_base.specs.Disk.{Name, State, Image, Survives, LeavesBy, LeavesOnly, Meaning, Took, standing, state_in}
 use Rattle.fjall_base.specs.declared.error.Error.{Error}
 use Rattle.fjall_base.specs.declared.error.Error.TheVariants.{Io, OutOfMemory}
@@ -15,7 +16,7 @@ use Rattle.fjall_journal.specs.Writer.{Journal}
 use Rattle.fjall_files.specs.Names.{journal_name}
 use Rattle.fjall_versions.specs.declared.recovery.Persisted.{Persisted}
 use Rattle.fjall_versions.specs.Versions.{store_of as store_behind}
-use Rattle.fjall_versions.specs.Replays.{bare, least_after, persisted_at}
+use Rattle.fjall_versions.specs.Replays.{bare, first_fault, least_after, persisted_at}
 use Rattle.fjall_contents.specs.Contents.{nothing_stored, store_held as store_with}
 use Rattle.fjall_contents.specs.Memory.{AreTold, versions_beyond}
 use Rattle.fjall_recovery.specs.Places.{texts_of, contents_with}
@@ -26,7 +27,7 @@ use Rattle.fjall_tree.specs.Records as records
 use Rattle.fjall_meta.specs.declared.living.LivingKeyspace.{LivingKeyspace}
 use Rattle.fjall_catalog.specs.Catalog.{fields, first_catalog, listed}
 use Rattle.fjall_home.proofs.Resting.{last_has}
-use Rattle.fjall_recovery.specs.Folders.{Contents, IsFinished, IsOpenable, IsSound, IsUnfinished, Shows, StandsFor, number_of, past_record, past_records, store_of, with_versions}
+use Rattle.fjall_recovery.specs.Folders.{Contents, IsFinished, IsOpenable, IsSound, IsUnfinished, Shows, StandsFor, number_of, past, past_record, past_records, store_of, with_versions}
 use Rattle.fjall_recovery.specs.declared.folder.RecoveredFolder.{RecoveredFolder}
 use Rattle.fjall_home.specs.declared.reading.LoadedHome.{LoadedHome}
 use Rattle.fjall_recovery.specs.Homes.{AreHomesRead, HaveVersionsBut, Versions, lasts, stored_in}
@@ -40,11 +41,12 @@ use Rattle.fjall_recovery.proofs.Damage.{none_damaged, within_but}
 use Rattle.fjall_repair.proofs.Begun as Beginning
 use Rattle.fjall_repair.proofs.Agreeing.{homes_are}
 use Rattle.fjall_repair.proofs.Replayed.{told}
+use Rattle.fjall_contents.proofs.Following.{before_least}
 use Rattle.fjall_contents.proofs.Loaded.{memory_stands_for_the_store}
 use Rattle.fjall_repair.specs.Readings.{TakesRead, names_read, persisted_of}
 use Rattle.fjall_repair.specs.declared.opened.Opened.{Opened}
 use Rattle.fjall_repair.specs.Sweeps.{AreHomesOf, IsSwept, names_of, no_names}
-use Rattle.fjall_repair.specs.Opened.{ComesBack, HasNumbers, IsHeldUp, IsOpenedFrom, IsRepaired, IsUnopened, IsSomeFolder, Opens, Takes, records_of}
+use Rattle.fjall_repair.specs.Opened.{ComesBack, HasNumbers, IsHeldUp, IsOpenedFrom, IsRepaired, IsUnopened, IsSomeFolder, Opens, Takes, TellsBelow, records_of}
 
 -- ---- before the first change
 
@@ -180,6 +182,16 @@ home_numbers image (k ∷ living) (home ∷ homes) read =
     let l = read.0.loaded in
     (record_numbers l.records (records.view home.record) l.openable.files.whole.each (l.openable.files.last_is ∙ ap Some (sym l.record_is)), home_numbers image living homes read.1)
 
+-- what one of them tells is at most the greatest
+among_homes : (homes : List LoadedHome) (i : ℕ) (d : LoadedHome) → i < length homes → past_record (records.view (get_or homes i d).record) ≤ past_records (map (λ h. records.view h.record) homes)
+among_homes [] i d lt = absurd (omega (arith, lt))
+among_homes (h ∷ homes) zero d lt = omega arith
+among_homes (h ∷ homes) (suc i) d lt = let one = among_homes homes i d (omega (arith, lt)) in omega (arith, one)
+
+persisted_below : (persisted : Option ℕ) (other number : ℕ) → max (past persisted) other ≤ number → IfSome persisted (λ n. n < number)
+persisted_below None other number le = tt
+persisted_below (Some n) other number le = omega (arith, le)
+
 module _ (image : Image) (found : RecoveredFolder) (read : IsFinished image found) where
   pub numbers : All HasNumbers (records_of found)
   numbers = All-from_recursion HasNumbers (records_of found)
@@ -193,6 +205,29 @@ module _ (image : Image) (found : RecoveredFolder) (read : IsFinished image foun
       let first = past_record (fields found.catalog.catalog) in
       let all : number ≡ max found.journals.least (max first rest) = is in
       omega (arith, made, all)
+
+  -- and so is all that was read of batches and of what is persisted
+  pub told_below : (number : ℕ) → number ≡ max found.journals.least (past_records (records_of found)) → TellsBelow number found
+  told_below number is =
+      let gathers = read.journals.gathers in
+      let least = found.journals.least in
+      let rest = past_records (map (λ h. records.view h.record) found.homes.items) in
+      let first = past_record (fields found.catalog.catalog) in
+      let all : number ≡ max least (max first rest) = is in
+      let batches = map view found.journals.batches.items in
+      let sound : first_fault 0 batches ≡ None = ap (first_fault 0) gathers.all ∙ gathers.sound in
+      let next : least ≡ least_after 0 batches = gathers.next ∙ ap (least_after 0) (sym gathers.all) in
+      record {
+        batches = λ i d lt.
+            let b : Shown = view d in
+            let low : (get_or batches i b).number < least_after 0 batches = (before_least 0 batches sound).1 i b (subst (λ (n : ℕ). i < n) (sym (length-map found.journals.batches.items view)) lt) in
+            let here : get_or batches i b ≡ view (get_or found.journals.batches.items i d) = get_or-map view found.journals.batches.items i d b lt in
+            let it : (get_or found.journals.batches.items i d).seqno < least_after 0 batches = subst (λ (s : Shown). s.number < least_after 0 batches) here low in
+            omega (arith, it, next, all);
+        homes = λ i d lt.
+            let one : past_record (records.view (get_or found.homes.items i d).record) ≤ rest = among_homes found.homes.items i d lt in
+            persisted_below (get_or found.homes.items i d).record.persisted (past (get_or found.homes.items i d).record.highest) number (omega (arith, one, all));
+      }
 
   pub number_is : (contents : Contents) (number : ℕ) → Shows found contents → number ≡ max found.journals.least (past_records (records_of found)) → number ≡ number_of contents
   number_is contents number shows is =

@@ -1,8 +1,9 @@
 -- What the batches of journals make beyond what is stored of keyspaces, as they are replayed at an opening.
-use Rattle.std.proofs.Common.{◌≡◌, ℕ, zero, suc, ◌<◌, ◌==◌, Bool, true, false, cond, List, [], ◌∷◌, length, get_or, map, find, All, Option, None, Some, unwrap_or, is_some, refl, sym, ◌∙◌, ap, subst, arith}
+use Rattle.std.proofs.Common.{◌≡◌, ℕ, zero, suc, ◌<◌, ◌==◌, not, Bool, true, false, cond, List, [], ◌∷◌, length, get_or, map, filter, find, All, Option, None, Some, unwrap_or, is_some, refl, sym, ◌∙◌, ap, subst, arith}
 use Rattle.std.proofs.lemmas.Bool.{and_parts, true≢false}
 use Rattle.std.proofs.lemmas.Bool.Decides.{nat_tests}
-use Rattle.std.proofs.lemmas.List.Elements.{All-weaker}
+use Rattle.std.proofs.lemmas.List.Elements.{All-append, All-filter, All-head, All-map, All-tail, All-weaker}
+use Rattle.std.specs.List.{list_any}
 use Rattle.std.specs.Option.{option_map}
 use Rattle.std.specs.FinMap.{get}
 use Rattle.fjall_base.specs.Disk.{Image}
@@ -14,6 +15,7 @@ use Rattle.fjall_meta.specs.Keyspaces.{AreKeyspaces, Keyspaces, keyspace_at}
 use Rattle.fjall_versions.specs.declared.recovery.Persisted.{Persisted}
 use Rattle.fjall_versions.specs.declared.version.Version.{Version}
 use Rattle.fjall_versions.specs.Replays.{counts, persisted_at}
+use Rattle.fjall_versions.specs.Versions.{version_of, versions_put, versions_where}
 use Rattle.fjall_versions.proofs.Ids.{living_has}
 use Rattle.fjall_versions.proofs.Naming.{made_were_given}
 use Rattle.fjall_versions.proofs.Slots.{same_id}
@@ -42,6 +44,23 @@ living_given s all versions live = All-weaker (λ (v : Version). is_some (keyspa
     below : (k : Option LivingKeyspace) (id : ℕ) → keyspace_at id s.living ≡ k → is_some k ≡ true → id < s.next
     below (Some k) id at some = living_has (λ i. i < s.next) s.living id k at all.given
     below None id at some = absurd (true≢false (sym some))
+
+-- ---- numbers of versions
+
+-- what batches make is numbered below whatever they and the versions before are below, whichever test tells what counts of them
+pub made_below : (counted : ℕ → ℕ → Bool) (bound : ℕ) (batches : List Shown) (versions : List Version) → All (λ b. b.number < bound) batches → All (λ v. v.seqno < bound) versions
+    → All (λ v. v.seqno < bound) (versions_where counted versions batches)
+made_below counted bound [] versions low below = below
+made_below counted bound (batch ∷ batches) versions low below =
+    let Low : Version → Type 0 = λ v. v.seqno < bound in
+    let test = λ (v : Version). counted batch.number v.keyspace_id in
+    let made = map (version_of batch.number) batch.items in
+    let first : batch.number < bound = All-head (λ (b : Shown). b.number < bound) batch batches low in
+    made_below counted bound batches (versions_put (counted batch.number) versions batch) (All-tail (λ (b : Shown). b.number < bound) batch batches low)
+    (All-append Low (filter (λ (v : Version). not (list_any (λ id. id == v.keyspace_id) (filter (counted batch.number) batch.clears))) versions) (filter test made)
+    (All-filter _ Low versions below) (All-filter test Low made (All-map Low (version_of batch.number) batch.items (λ i d lt. first))))
+
+-- ---- the numbers that are told
 
 -- something of which these numbers are told
 abbrev pub told_stored : List Persisted → ℕ → Stored

@@ -45,10 +45,11 @@ pub record Opens (state : State) (folder : Option Contents) (o : Opened) : Type 
   pub number : o.number ≡ number_of (contents_with j t [])
   pub same : o.number ≡ number_held folder
 
--- keyspaces were made under lesser numbers than the next one, and versions are of ids that were given out
+-- keyspaces and versions were made under lesser numbers than the next one, and versions are of ids that were given out
 pub record IsLawful (o : Opened) : Type 0 where
   pub keyspaces : AreKeyspaces o.keyspaces
   pub made : All (λ k. k.number < o.number) o.keyspaces.living
+  pub below : All (λ v. v.seqno < o.number) o.versions.items
   pub given : All (λ v. v.keyspace_id < o.keyspaces.next) o.versions.items
 
 -- This is opened: a writer at the end of the active journal, what the last record of tree 0 says, the keyspaces that live, and
@@ -96,6 +97,11 @@ HasNumbers r = IfSome r.persisted (λ n. n < 2 ^ 63) × IfSome r.highest (λ n. 
 -- the last records of tree 0 and of each keyspace, as they were read
 abbrev pub records_of : RecoveredFolder → List Fields
 records_of f = fields f.catalog.catalog ∷ map (λ h. records.view h.record) f.homes.items
+
+-- each batch that was read, and what each keyspace's record tells as persisted, is numbered below this
+pub record TellsBelow (number : ℕ) (f : RecoveredFolder) : Type 0 where
+  pub batches : All (λ b. b.seqno < number) f.journals.batches.items
+  pub homes : All (λ h. IfSome h.record.persisted (λ n. n < number)) f.homes.items
 
 -- ---- why it isn't opened
 

@@ -1,10 +1,10 @@
 //! The numbers of changes that a folder tells: all that come later are greater.
 
 ghost use Rattle.std.specs.Prelude.{◌≡◌, ◌<◌, ◌^◌, All, IfErr, IfSome, OnOk, max};
-ghost use Rattle.fjall_base.specs.declared.error.Error.TheVariants.{Storage};
+ghost use Rattle.fjall_base.specs.declared.error.Error.TheVariants.{Storage, Unrecoverable};
 ghost use Rattle.fjall_base.specs.declared.error.StorageError.TheVariants.{TableDamaged};
 ghost use Rattle.fjall_recovery.specs.Folders.{past, past_records};
-ghost use Rattle.fjall_repair.specs.Opened.{HasNumbers, records_of};
+ghost use Rattle.fjall_repair.specs.Opened.{HasNumbers, TellsBelow, records_of};
 
 use fjall_base::{Error, Result, StorageError};
 use fjall_meta::LivingKeyspace;
@@ -43,5 +43,24 @@ pub(crate) fn check_made(living: &[LivingKeyspace], number: u64) -> Result<()>
         Ok(())
     } else {
         Err(Error::Storage(StorageError::TableDamaged))
+    }
+}
+
+/// Refuses a folder in which a batch has this number or a greater one, or a keyspace's record tells such a one as persisted. Of
+/// what an honest disk holds none is refused.
+pub(crate) fn check_told(found: &RecoveredFolder, number: u64) -> Result<()>
+    ensures ok { OnOk result (TellsBelow number found.now) }
+    ensures cause { IfErr result (λ e. (e ≡ Unrecoverable) × (TellsBelow number found.now → ⊥)) }
+{
+    let batches = &found.journals.batches;
+    let homes = &found.homes;
+    if batches.iter().all(|batch| batch.seqno < number)
+        && homes
+            .iter()
+            .all(|home| home.record.persisted < Some(number))
+    {
+        Ok(())
+    } else {
+        Err(Error::Unrecoverable)
     }
 }

@@ -1,6 +1,6 @@
 //! All that opening a folder takes, in memory before the disk is changed.
 
-ghost use Rattle.std.specs.Prelude.{◌≡◌, ◌<◌, ◌≤◌, [], ℕ, List, All, IfErr, IfOk, IsOkUnless, IsTrue, is_some, map, max, string_bytes, true};
+ghost use Rattle.std.specs.Prelude.{◌≡◌, ◌<◌, ◌≤◌, [], ℕ, List, All, IfErr, IfOk, IfSome, IsOkUnless, IsTrue, is_some, map, max, string_bytes, true};
 ghost use Rattle.fjall_base.specs.Disk.{Image, Took, state_in};
 ghost use Rattle.fjall_journal.specs.Batches.{view};
 ghost use Rattle.fjall_meta.specs.Keyspaces.{AreKeyspaces, keyspace_at, no_keyspaces};
@@ -18,7 +18,7 @@ ghost use Rattle.fjall_repair.specs.Mended.{IsMendingOf};
 ghost use Rattle.fjall_repair.specs.Opened.{HasNumbers, IsLawful, Takes, records_of};
 ghost use Rattle.fjall_repair.specs.Sweeps.{FindsAll, IsPlan, no_names};
 
-use crate::numbers::{check_made, number_of};
+use crate::numbers::{check_made, check_told, number_of};
 use crate::opened::Opened;
 use crate::plan::{SweepPlan, plan_sweep};
 use crate::{BeginPlan, MendPlan, plan_beginning, plan_mending};
@@ -142,6 +142,8 @@ fn replayed(
     ensures ok { (stored : ℕ → Stored) → AreTold keyspaces.now stored persisted.now
         → IfOk result (λ versions. versions.items ≡ versions_beyond keyspaces.now stored loaded.items (map view batches.items)) }
     ensures given { IfOk result (λ versions. All (λ v. v.keyspace_id < keyspaces.now.next) versions.items) }
+    ensures below { (bound : ℕ) → All (λ v. v.seqno < bound) loaded.items → All (λ b. b.seqno < bound) batches.items
+        → IfOk result (λ versions. All (λ v. v.seqno < bound) versions.items) }
     ensures lawful { AreKeyspaces keyspaces.now }
     ensures only { IsOkUnless result Error.OutOfMemory }
 {
@@ -159,6 +161,8 @@ fn database_of(
     active: &str,
 ) -> Result<Opened>
     requires live { All (λ v. is_some (keyspace_at v.keyspace_id found.catalog.keyspaces.living) ≡ true) loaded.versions.items }
+    requires below { (bound : ℕ) → All (λ h. IfSome h.record.persisted (λ n. n < bound)) found.homes.items
+        → All (λ v. v.seqno < bound) loaded.versions.items }
     ensures opened { IfOk result (λ o. Takes o active.now found.journals.end found.catalog.catalog found.catalog.keyspaces (persisted_of found) loaded.versions.items
         (map view found.journals.batches.items)) }
     ensures damaged { IfOk result (λ o. o.damaged.items ≡ loaded.damaged.items) }
@@ -170,6 +174,7 @@ fn database_of(
 {
     let number = number_of(&found);
     check_made(found.catalog.keyspaces.living(), number)?;
+    check_told(&found, number)?;
     let journal = Writer::from_file(alloc, active, found.journals.end as u64)?;
     let RecoveredFolder {
         journals,

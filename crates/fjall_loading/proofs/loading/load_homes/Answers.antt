@@ -1,4 +1,4 @@
-use Rattle.std.proofs.Common.{◌≡◌, ◌≤◌, ◌+◌, ◌∙◌, [], ◌++◌, ◌∷◌, ℕ, List, Iter, ap, is_some, rules, true, arith, get_or, length, min, refl, subst, sym, take}
+use Rattle.std.proofs.Common.{◌≡◌, ◌<◌, ◌≤◌, ◌+◌, ◌∙◌, [], ◌++◌, ◌∷◌, ℕ, All, IfSome, List, Iter, ap, is_some, rules, true, arith, get_or, length, min, refl, subst, sym, take}
 use Rattle.std.proofs.lemmas.Grind.{length_at_push}
 use Rattle.std.proofs.lemmas.List.{take_all}
 use Rattle.std.proofs.lemmas.List.Elements.{All-nil}
@@ -18,6 +18,7 @@ loop-keyspace-init g c = record {
   loads = λ honest contents openable same read.
       subst (λ (damaged : List ℕ). LoadsUpTo contents.homes [] damaged c.new.result.items) (sym c.new-2.ensures.items)
       (subst (λ (versions : List Version). LoadsUpTo contents.homes [] [] versions) (sym c.new.ensures.items) (loads_nothing contents.homes));
+  below = λ bound homes. subst (All (λ v. v.seqno < bound)) (sym c.new.ensures.items) (All-nil (λ v. v.seqno < bound));
   live = subst (AreOf []) (sym c.new.ensures.items) (All-nil (λ v. is_some (keyspace_at v.keyspace_id []) ≡ true));
   same = λ honest. search rules;
   served = λ honest. refl;
@@ -55,6 +56,7 @@ loop-keyspace-preserved g c =
           let loads : LoadsHome k.id at_turn.loaded.h c.loop-keyspace.loaded c.load_home.new.loaded = one.loads honest at_turn none in
           subst (λ (n : ℕ). LoadsUpTo contents.homes (take n living) c.load_home.new.loaded.damaged.items c.load_home.new.loaded.versions.items) more
           (loads_turn image s lawful homes n k home at here turn.0 contents openable same (standing (state_in (m c.loop-keyspace.disk))) still at_turn c.loop-keyspace.loaded c.load_home.new.loaded (so_far.loads honest contents openable same read) so_far.live one.own loads);
+      below = λ bound low. one.below bound (subst (λ h. IfSome h.record.persisted (λ n. n < bound)) (sym here) (low n home turn.1)) (so_far.below bound low);
       live = subst (λ (n : ℕ). AreOf (take n living) c.load_home.new.loaded.versions.items) more
           (of_turn image s lawful homes n k home at here turn.0 c.loop-keyspace.loaded.versions.items c.load_home.new.loaded.versions.items so_far.live one.own);
       same = λ honest. took_both (m c.args.disk.now) (m c.loop-keyspace.disk) (m c.load_home.new.disk) [] [] (so_far.same honest) (one.same honest);
@@ -83,3 +85,6 @@ returns-clause-loads g c honest contents openable same read =
 
 pub returns-clause-live : goal.returns-clause-live
 returns-clause-live g c = of_all (length c.loop-keyspace.yielded) c.args.keyspaces.now.living c.loop-keyspace.loaded.versions.items c.loop-keyspace.invariant.live
+
+pub returns-clause-below : goal.returns-clause-below
+returns-clause-below g c = c.loop-keyspace.invariant.below
