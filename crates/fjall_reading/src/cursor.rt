@@ -1,10 +1,10 @@
 //! Pairs from both ends of a range, page by page.
 
-ghost use Rattle.std.specs.Prelude.{◌≡◌, ◌++◌, [], ◌∷◌, ℕ, List, IfOk, IsOkUnless, OnOk, None, MatchOption, IfNone, take, drop, length, ◌-◌};
+ghost use Rattle.std.specs.Prelude.{◌≡◌, ◌++◌, [], ◌∷◌, ℕ, IfOk, IsOkUnless, OnOk, None, MatchOption, IfNone};
 ghost use Rattle.std.specs.Result.{result_err};
 ghost use Rattle.fjall_base.specs.Pairs.{Bytes, Pairs, page, pairs_between};
 ghost use Rattle.fjall_base.specs.declared.error.Error.TheVariants.{OutOfMemory};
-ghost use Rattle.fjall_reading.specs.Rests.{TakesFirst, TakesLast, error_in, middle};
+ghost use Rattle.fjall_reading.specs.Rests.{IsLeftAhead, IsLeftBehind, TakesFirst, TakesLast, error_in, middle};
 ghost use Rattle.fjall_reading.specs.Cursors.{left};
 
 use crate::pages::{KeyRange, PAGE, Pages};
@@ -198,7 +198,7 @@ impl Cursor {
 
 // What is left of a range ahead of its last page.
 fn ahead_of_page(found: &[KvPair], range: KeyRange) -> Result<Option<KeyRange>>
-    ensures left { IfOk result (λ rest. (pairs : Pairs) → found.now ≡ drop (length (pairs_between range pairs) - 128) (pairs_between range pairs) → middle rest pairs ++ found.now ≡ pairs_between range pairs) }
+    ensures left { IfOk result (λ rest. IsLeftAhead found.now range rest) }
     ensures none { IfOk result (λ rest. found.now ≡ [] → rest ≡ None) }
     ensures only { IsOkUnless result OutOfMemory }
 {
@@ -213,7 +213,7 @@ fn ahead_of_page(found: &[KvPair], range: KeyRange) -> Result<Option<KeyRange>>
 
 // What is left of a range behind its first page.
 pub(crate) fn behind_page(found: &[KvPair], range: KeyRange) -> Result<Option<KeyRange>>
-    ensures left { IfOk result (λ rest. (pairs : Pairs) → found.now ≡ take 128 (pairs_between range pairs) → found.now ++ middle rest pairs ≡ pairs_between range pairs) }
+    ensures left { IfOk result (λ rest. IsLeftBehind found.now range rest) }
     ensures none { IfOk result (λ rest. found.now ≡ [] → rest ≡ None) }
     ensures only { IsOkUnless result OutOfMemory }
 {
