@@ -4,7 +4,7 @@ ghost use Rattle.std.specs.Prelude.{◌≡◌, ◌++◌, [], ◌∷◌, ℕ, IfO
 ghost use Rattle.std.specs.Result.{result_err};
 ghost use Rattle.fjall_base.specs.Pairs.{Bytes, Pairs, page, pairs_between};
 ghost use Rattle.fjall_base.specs.declared.error.Error.TheVariants.{OutOfMemory};
-ghost use Rattle.fjall_reading.specs.Rests.{IsLeftAhead, IsLeftBehind, TakesFirst, TakesLast, error_in, middle};
+ghost use Rattle.fjall_reading.specs.Rests.{IsLeftAhead, IsLeftBehind, TakesFirst, TakesLast, error_in};
 ghost use Rattle.fjall_reading.specs.Cursors.{left};
 
 use crate::pages::{KeyRange, PAGE, Pages};

@@ -91,7 +91,9 @@ pub trait Readable: Pages {
 
     /// All pairs of the keyspace, in the order of their keys.
     fn iter<K: Identified>(&mut self, keyspace: &K) -> ReadIter<'_, Self>
-        ensures left { result.short ≡ false → left_of Self.shows result ≡ all_of (Self.shows self.old (K.identity keyspace.now)) }
+        ensures left { left_of Self.shows result ≡ all_of (Self.shows self.old (K.identity keyspace.now)) }
+        // It takes no memory, so that its first call is told of no want of it.
+        ensures whole { result.short ≡ false }
         ensures same { (i : ℕ) → Self.shows result.reader.now i ≡ Self.shows self.old i }
         ensures reads { Self.reads self.old None result.reader.now }
         ensures same_reader { result.reader.ghost_name ≡ self.entry.ghost_name }
