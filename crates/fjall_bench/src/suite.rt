@@ -105,7 +105,7 @@ fn fill_items<R: Print + Eprint + Clock + CpuClock, D: Disk>(
 ) -> Result<u64> {
     let id = make_keyspace(alloc, core, ITEMS)?;
     let watch = Stopwatch::start(rt)?;
-    fill(core, id, numbers)?;
+    fill(alloc, core, id, numbers)?;
     tell(rt, "pothvilai", workload, numbers.len() as u64, &watch)?;
     check(rt, core, workload, id, numbers)?;
     Ok(id)
@@ -169,7 +169,7 @@ fn sync_items<R: Print + Eprint + Clock + CpuClock, D: Disk>(
 ) -> Result<()> {
     let id = make_keyspace(alloc, core, ITEMS)?;
     let watch = Stopwatch::start(rt)?;
-    fill_synced(core, id, numbers)?;
+    fill_synced(alloc, core, id, numbers)?;
     let count = numbers.len() as u64;
     tell(rt, "pothvilai", "one sync a write", count, &watch)?;
     check(rt, core, "one sync a write", id, numbers)
@@ -203,13 +203,14 @@ fn make_each<R: Eprint + Clock + CpuClock, D: Disk>(
 // Gives each keyspace its pairs.
 fn fill_keyspaces<R: Eprint + Clock + CpuClock, D: Disk>(
     rt: &R,
+    alloc: Global,
     core: &mut Core<D>,
     ids: &[u64],
     numbers: &[u64],
 ) -> Result<()> {
     let pairs = ids.len().saturating_mul(numbers.len());
     let watch = Stopwatch::start(rt)?;
-    fill_each(core, ids, numbers)?;
+    fill_each(alloc, core, ids, numbers)?;
     tell(rt, "pothvilai", "fill keyspaces", pairs as u64, &watch)
 }
 
@@ -241,7 +242,7 @@ fn many_keyspaces<R: Print + Eprint + Clock + CpuClock, D: Disk + Drop>(
     let numbers = in_order(alloc, PAIRS_PER_KEYSPACE)?;
     let mut core = open(alloc, disk)?;
     let ids = make_each(rt, alloc, &mut core, count)?;
-    fill_keyspaces(rt, &mut core, &ids, &numbers)?;
+    fill_keyspaces(rt, alloc, &mut core, &ids, &numbers)?;
     reopen_keyspaces(rt, alloc, closed(core)?, &ids, &numbers)
 }
 

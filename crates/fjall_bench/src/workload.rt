@@ -1,7 +1,7 @@
 //! What is done to an engine and to the machine below it.
 
 use crate::data::{RECORD_LEN, key_of, value_of};
-use fjall_base::{Disk, Refused, Result};
+use fjall_base::{Disk, Refused, Result, Slice};
 use fjall_core::{Config, Core, PersistMode, View};
 use fjall_options::KeyspaceCreateOptions;
 use sha2::{Digest, Sha256};
@@ -28,36 +28,48 @@ pub fn make_keyspaces<D: Disk>(alloc: Global, core: &mut Core<D>, count: u64) ->
 }
 
 // Inserts a number's pair into a keyspace.
-fn insert<D: Disk>(core: &mut Core<D>, id: u64, number: u64) -> Result<()> {
-    core.insert(id, &key_of(number), &value_of(number))
+fn insert<D: Disk>(alloc: Global, core: &mut Core<D>, id: u64, number: u64) -> Result<()> {
+    let key = Slice::new(alloc, &key_of(number))?;
+    let value = Slice::new(alloc, &value_of(number))?;
+    core.insert(id, key, value)
 }
 
 // The same, and syncs the journal.
-fn insert_synced<D: Disk>(core: &mut Core<D>, id: u64, number: u64) -> Result<()> {
-    insert(core, id, number)?;
+fn insert_synced<D: Disk>(alloc: Global, core: &mut Core<D>, id: u64, number: u64) -> Result<()> {
+    insert(alloc, core, id, number)?;
     core.persist(PersistMode::SyncAll)
 }
 
 /// Inserts each number's pair into a keyspace, and hands all of it to the system.
-pub fn fill<D: Disk>(core: &mut Core<D>, id: u64, numbers: &[u64]) -> Result<()> {
+pub fn fill<D: Disk>(alloc: Global, core: &mut Core<D>, id: u64, numbers: &[u64]) -> Result<()> {
     for number in numbers {
-        insert(core, id, *number)?;
+        insert(alloc, core, id, *number)?;
     }
     core.persist(PersistMode::Buffer)
 }
 
 /// Inserts each number's pair into each keyspace.
-pub fn fill_each<D: Disk>(core: &mut Core<D>, ids: &[u64], numbers: &[u64]) -> Result<()> {
+pub fn fill_each<D: Disk>(
+    alloc: Global,
+    core: &mut Core<D>,
+    ids: &[u64],
+    numbers: &[u64],
+) -> Result<()> {
     for id in ids {
-        fill(core, *id, numbers)?;
+        fill(alloc, core, *id, numbers)?;
     }
     Ok(())
 }
 
 /// Inserts each number's pair into a keyspace, and syncs the journal behind each.
-pub fn fill_synced<D: Disk>(core: &mut Core<D>, id: u64, numbers: &[u64]) -> Result<()> {
+pub fn fill_synced<D: Disk>(
+    alloc: Global,
+    core: &mut Core<D>,
+    id: u64,
+    numbers: &[u64],
+) -> Result<()> {
     for number in numbers {
-        insert_synced(core, id, *number)?;
+        insert_synced(alloc, core, id, *number)?;
     }
     Ok(())
 }

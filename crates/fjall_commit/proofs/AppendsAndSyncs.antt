@@ -6,7 +6,9 @@ use Rattle.fjall_base.specs.declared.error.Error.{Error}
 use Rattle.fjall_base.specs.declared.error.Error.TheVariants.{Io}
 use Rattle.fjall_base.proofs.States.{alter-same, alter-other, differs}
 use Rattle.fjall_base.proofs.Moments.{after-append}
-use Rattle.fjall_journal.specs.Writer.{appending, WriteTook}
+use Rattle.fjall_journal.specs.declared.persist_mode.PersistMode.{PersistMode}
+use Rattle.fjall_journal.specs.declared.persist_mode.PersistMode.TheVariants.{Buffer, SyncData, SyncAll}
+use Rattle.fjall_journal.specs.Writer.{appending, syncing, WriteTook}
 
 -- a file of these bytes, whose name is synced
 abbrev pub place_of : List ℕ → List ℕ → Place
@@ -57,6 +59,12 @@ pub sync_but : (old new : Meaning) (name : Name) (bytes : List ℕ) → Took old
 sync_but old new name bytes took q other =
     ap (λ (s : State). s q) (took.state ∙ after-append (state_in old) (appending name bytes) (Sync name ∷ []))
     ∙ alter_but (after (state_in old) (appending name bytes)) name all_synced q other ∙ appending_but (state_in old) name bytes q other
+
+-- an append, and a sync where the mode asks for one
+pub mode_but : (old new : Meaning) (name : Name) (bytes : List ℕ) (mode : PersistMode) → Took old new (appending name bytes ++ syncing name mode) → SameBut name (state_in old) (state_in new)
+mode_but old new name bytes Buffer took = part_but old new name bytes (whole_part old new name bytes (subst (Took old new) (append-nil (appending name bytes)) took))
+mode_but old new name bytes SyncData took = sync_but old new name bytes took
+mode_but old new name bytes SyncAll took = sync_but old new name bytes took
 
 pub sync_place : (old new : Meaning) (name : Name) (synced unsynced bytes : List ℕ) → state_in old name ≡ place_of synced unsynced → Took old new (syncing_all name bytes) → state_in new name ≡ place_of (synced ++ (unsynced ++ bytes)) []
 sync_place old new name synced unsynced bytes is took =

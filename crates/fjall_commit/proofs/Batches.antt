@@ -3,17 +3,20 @@ use Rattle.std.proofs.Common.{◌≡◌, ◌||◌, nat_lt, nat_le, ℕ, ◌+◌,
 use Rattle.std.proofs.lemmas.List.{append-nil, map-append}
 use Rattle.std.proofs.lemmas.Bool.Decides.{nat_tests}
 use Rattle.std.proofs.lemmas.Grind.{flat_map-append}
+use Rattle.std.specs.List.{list_any}
 use Rattle.std.specs.Option.{option_or}
-use Rattle.fjall_journal.specs.declared.entry.ValueType.{ValueType}
+use Rattle.fjall_journal.specs.declared.op.Op.{Op}
+use Rattle.fjall_journal.specs.declared.op.Op.TheVariants.{Put, Remove, RemoveWeak}
 use Rattle.fjall_journal.specs.declared.persist_mode.PersistMode.{PersistMode}
 use Rattle.fjall_journal.specs.declared.persist_mode.PersistMode.TheVariants.{Buffer, SyncData, SyncAll}
-use Rattle.fjall_journal.specs.Batches.{Written, batch_text, of_item, shown}
-use Rattle.fjall_versions.specs.Replays.{Fault, Unordered, Indirect, fault_of, first_fault, is_indirection, least_after}
-use Rattle.fjall_recovery.specs.Journals.{batches_in}
+use Rattle.fjall_journal.specs.Batches.{Written, batch_text, items_of, shown}
+use Rattle.fjall_journal.specs.Ops.{BatchItem, entry_of, kind_of}
+use Rattle.fjall_versions.specs.Replays.{Fault, Unordered, Indirect, fault_of, first_fault, is_indirect, is_indirection, least_after}
+use Rattle.fjall_recovery.specs.Journals.{Journal, batches_in}
 use Rattle.fjall_versions.proofs.Faults.{first_fault-append, least_after-append}
 use Rattle.fjall_recovery.specs.Places.{Journaling, journals_with, texts_of}
 use Rattle.fjall_recovery.proofs.Roots.{batches_are}
-use Rattle.fjall_commit.specs.Journaling.{CanFollow, after_persist, next_number, synced, with_batch}
+use Rattle.fjall_commit.specs.Journaling.{CanFollow, after_mode, after_persist, next_number, synced, with_batch}
 
 pub texts-append : (front behind : List Written) → texts_of (front ++ behind) ≡ texts_of front ++ texts_of behind
 texts-append front behind = flat_map-append batch_text front behind
@@ -41,18 +44,30 @@ in_order least next le room = grind (arith, nat_tests)
 no_fault : (a b : Option Fault) → a ≡ None → b ≡ None → option_or a (option_or b None) ≡ None
 no_fault a b none other = ap (λ x. option_or x (option_or b None)) none ∙ ap (λ x. option_or x None) other
 
+-- all of these batches have no fault
+abbrev pub AreSound : Journaling → List Written → Type 0
+AreSound j batches = first_fault 0 (map shown (batches_in (journals_with j batches))) ≡ None
+
 -- it has no fault, nor have all with it
-pub batch_sound : (j : Journaling) (id : ℕ) (key value : List ℕ) (kind : ValueType) (seqno : ℕ) → CanFollow j seqno kind → first_fault 0 (map shown (batches_in (journals_with j j.later))) ≡ None
-    → first_fault 0 (map shown (batches_in (journals_with j (j.later ++ of_item id key value kind seqno ∷ [])))) ≡ None
-batch_sound j id key value kind seqno can sound =
-    let batch = of_item id key value kind seqno in
+pub batch_sound : (j : Journaling) (batch : Written) → CanFollow j batch.number → list_any is_indirect (items_of batch.changes) ≡ false → AreSound j j.later → AreSound j (j.later ++ batch ∷ [])
+batch_sound j batch can direct sound =
     let before = batches_in (journals_with j j.later) in
     let none : fault_of (next_number j) (shown batch) ≡ None =
-    ap (λ b. if b then Some Unordered else (if is_indirection kind || false then Some Indirect else None)) (in_order (next_number j) seqno can.above can.room)
-    ∙ ap (λ b. if b || false then Some Indirect else None) can.direct in
+    ap (λ b. if b then Some Unordered else (if list_any is_indirect (items_of batch.changes) then Some Indirect else None)) (in_order (next_number j) batch.number can.above can.room)
+    ∙ ap (λ b. if b then Some Indirect else None) direct in
     ap (λ (l : List Written). first_fault 0 (map shown l)) (batches-more j (batch ∷ []))
     ∙ ap (first_fault 0) (map-append shown before (batch ∷ [])) ∙ first_fault-append 0 (map shown before) (shown batch ∷ [])
     ∙ no_fault (first_fault 0 (map shown before)) (fault_of (next_number j) (shown batch)) sound none
+
+direct_kind : (op : Op) → is_indirection (kind_of op) ≡ false
+direct_kind (Put value) = refl
+direct_kind Remove = refl
+direct_kind RemoveWeak = refl
+
+-- the value of an item stands in the journal itself
+pub items_direct : (items : List BatchItem) → list_any is_indirect (items_of (map entry_of items)) ≡ false
+items_direct [] = refl
+items_direct (item ∷ items) = ap (λ b. b || list_any is_indirect (items_of (map entry_of items))) (direct_kind item.2) ∙ items_direct items
 
 -- ---- none more
 
@@ -64,3 +79,12 @@ pub kept-persist : (mode : PersistMode) (j : Journaling) → journals_with (afte
 kept-persist Buffer j = refl
 kept-persist SyncData j = synced_same j
 kept-persist SyncAll j = synced_same j
+
+-- nor does a batch of any mode, once it is there
+pub kept-mode : (mode : Option PersistMode) (j : Journaling) → journals_with (after_mode mode j) (after_mode mode j).later ≡ journals_with j j.later
+kept-mode None j = refl
+kept-mode (Some mode) j = kept-persist mode j
+
+-- the least number behind a batch of any mode
+pub next-mode : (mode : Option PersistMode) (out : Bool) (j : Journaling) (batch : Written) → next_number (after_mode mode (with_batch out j batch)) ≡ batch.number + 1
+next-mode mode out j batch = ap (λ (l : List Journal). least_after 0 (map shown (batches_in l))) (kept-mode mode (with_batch out j batch)) ∙ next-batch out j batch

@@ -19,7 +19,7 @@ use Rattle.fjall_recovery.specs.Places.{Journaling, LiesInRoot, journals_with, t
 use Rattle.fjall_recovery.proofs.Named.{journal_within}
 use Rattle.fjall_recovery.proofs.Roots.{crashes_leave_the_root}
 use Rattle.fjall_commit.specs.Journaling.{IsWriting, HasSome, LeavesRoot, after_persist, handed, synced}
-use Rattle.fjall_commit.proofs.AppendsAndSyncs.{SameBut, alter_but, appended_at, appending_at, appending_but, part_but, place_of, sync_but, sync_place, syncing_all, whole_part}
+use Rattle.fjall_commit.proofs.AppendsAndSyncs.{SameBut, alter_but, appended_at, appending_at, appending_but, mode_but, part_but, place_of, sync_but, sync_place, syncing_all, whole_part}
 use Rattle.fjall_commit.proofs.RootAfterWrites.{active_fits, part_lies, synced_lies, whole_goes_on, with_active}
 
 -- ---- one image
@@ -59,6 +59,15 @@ whole_left state j image lies none is =
     let left = some_left state j j.later j.cut image lies is in
     subst (λ (l : List Written). HasRoot image (journals_with j l)) (no_more left.0 left.1 (left.2 ∙ none)) left.3
 
+-- where nothing was taken, more may come behind
+more_left : (state : State) (j : Journaling) (more : List Written) (image : Image) → LiesInRoot state j → IsImage state image → LeavesRoot state j (j.later ++ more) image
+more_left state j more image lies is =
+    let left = root_left state j image lies is in
+    record { some = some_more j j.later more image left.some; elsewhere = left.elsewhere }
+
+pub nothing_leaves : (old new : Meaning) (j : Journaling) (more : List Written) → LiesInRoot (state_in old) j → Took old new [] → LeavesOnly old new (LeavesRoot (state_in old) j (j.later ++ more))
+nothing_leaves old new j more lies none = record { added = []; took = none; each = λ image is. more_left (state_in old) j more image lies is }
+
 -- ---- an append, in whole or in part
 
 module _ (old new : Meaning) (writer : Journal) (j : Journaling) (more : List Written) (writing : IsWriting (state_in old) writer j) (each : AllByRecursion IsWritten more)
@@ -72,11 +81,6 @@ module _ (old new : Meaning) (writer : Journal) (j : Journaling) (more : List Wr
   abbrev bytes : List ℕ
   bytes = writer.buffer ++ texts_of more
 
-  before : (image : Image) → IsImage state image → LeavesRoot state j (j.later ++ more) image
-  before image is =
-      let left = root_left state j image writing.root is in
-      record { some = some_more j j.later more image left.some; elsewhere = left.elsewhere }
-
   behind : (n : ℕ) (image : Image) → IsImage (change (Append name (take n bytes)) state) image → LeavesRoot state j (j.later ++ more) image
   behind n image is =
       let on = change (Append name (take n bytes)) state in
@@ -88,8 +92,8 @@ module _ (old new : Meaning) (writer : Journal) (j : Journaling) (more : List Wr
       }
 
   here_in_part : TookPart old new name bytes → LeavesOnly old new (LeavesRoot state j (j.later ++ more))
-  here_in_part (inl none) = record { added = []; took = none; each = before }
-  here_in_part (inr (n, took)) = record { added = Append name (take n bytes) ∷ []; took = took; each = λ image left. ⊎_elim (before image) (behind n image) left }
+  here_in_part (inl none) = nothing_leaves old new j more writing.root none
+  here_in_part (inr (n, took)) = record { added = Append name (take n bytes) ∷ []; took = took; each = λ image left. ⊎_elim (λ is. more_left state j more image writing.root is) (behind n image) left }
 
   pub leaves_part : TookPart old new writer.name bytes → LeavesOnly old new (LeavesRoot state j (j.later ++ more))
   leaves_part part = here_in_part (subst (λ (n : Name). TookPart old new n bytes) writing.name part)
@@ -201,16 +205,14 @@ module _ (old new : Meaning) (writer : Journal) (j : Journaling) (writing : IsWr
   failed_leaves now mode (inr (out, other, inr took)) = persist_leaves mode took
 
   persist_but : (mode : PersistMode) → Took old new (persist_steps writer mode) → SameBut writer.name from (state_in new)
-  persist_but Buffer took = part_but old new writer.name writer.buffer (whole_part old new writer.name writer.buffer (whole_buffer took))
-  persist_but SyncData took = sync_but old new writer.name writer.buffer took
-  persist_but SyncAll took = sync_but old new writer.name writer.buffer took
+  persist_but mode took = mode_but old new writer.name writer.buffer mode took
 
   failed_but : (now : Journal) (mode : PersistMode) → PersistTook writer now mode old new → SameBut writer.name from (state_in new)
   failed_but now mode (inl (same, took)) = part_but old new writer.name writer.buffer took
   failed_but now mode (inr (out, other, inl took)) = part_but old new writer.name writer.buffer (whole_part old new writer.name writer.buffer took)
   failed_but now mode (inr (out, other, inr took)) = persist_but mode took
 
-  apart : SameBut writer.name from (state_in new) → (q : Name) → is_of_keyspaces q ≡ true → state_in new q ≡ from q
+  pub apart : SameBut writer.name from (state_in new) → (q : Name) → is_of_keyspaces q ≡ true → state_in new q ≡ from q
   apart same = keyspaces_stay from (state_in new) j writing.root (subst (λ (n : Name). SameBut n from (state_in new)) writing.name same)
 
   pub persist_apart : (mode : PersistMode) → Took old new (persist_steps writer mode) → (q : Name) → is_of_keyspaces q ≡ true → state_in new q ≡ from q

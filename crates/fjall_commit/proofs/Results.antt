@@ -1,7 +1,6 @@
 -- What holds of both results of a call.
-use Rattle.std.proofs.Common.{Result, Ok, Err, sym}
-use Rattle.std.proofs.lemmas.Bool.{true≢false}
-use Rattle.std.specs.Prelude.{IsOk, OnOk, OnErr}
+use Rattle.std.proofs.Common.{Result, Ok, Err}
+use Rattle.std.specs.Prelude.{OnOk, OnErr}
 
 -- it holds of either result
 pub either_way : {T E A B : Type 0} (r : Result T E) (P : Type 0) → OnOk r A → OnErr r B → (A → P) → (B → P) → P
@@ -18,7 +17,7 @@ pub on_both : {T E A B : Type 0} (r : Result T E) (P : Type 0) → OnOk r A → 
 on_both (Ok x) P a b from_both = from_both a b
 on_both (Err e) P a b from_both = tt
 
--- what follows of a refusal, which doesn't come where it can't
-pub on_err : {T E A C : Type 0} (r : Result T E) (P : Type 0) → (C → IsOk r) → OnErr r A → ((C → ⊥) → A → P) → OnErr r P
-on_err (Ok x) P succeeds a from = tt
-on_err (Err e) P succeeds a from = from (λ c. true≢false (sym (succeeds c))) a
+-- what follows of two facts of a refusal, the first under a condition
+pub on_err : {T E A B C : Type 0} (r : Result T E) (P : Type 0) → (C → OnErr r A) → OnErr r B → ((C → A) → B → P) → OnErr r P
+on_err (Ok x) P a b from = tt
+on_err (Err e) P a b from = from a b

@@ -1,14 +1,13 @@
 -- The active journal of a database as it is written: batches go out behind those that stand, and are synced.
-use Rattle.std.specs.Prelude.{◌≡◌, ℕ, ◌<◌, ◌≤◌, ◌^◌, Bool, false, if◌then◌else◌, List, [], ◌∷◌, ◌++◌, length, map, take, true}
+use Rattle.std.specs.Prelude.{◌≡◌, ℕ, ◌<◌, ◌≤◌, ◌^◌, Bool, if◌then◌else◌, List, [], ◌∷◌, ◌++◌, length, map, take, true, Option, None, Some, is_none}
 use Rattle.fjall_base.specs.Disk.{State, Image, Survives, Meaning, Name, state_in}
 use Rattle.fjall_files.specs.Regions.{IsImageIn}
-use Rattle.fjall_journal.specs.declared.entry.ValueType.{ValueType}
 use Rattle.fjall_journal.specs.declared.persist_mode.PersistMode.{PersistMode}
 use Rattle.fjall_journal.specs.declared.persist_mode.PersistMode.TheVariants.{Buffer, SyncData, SyncAll}
 use Rattle.fjall_journal.specs.Batches.{Written, shown, batch_text}
 use Rattle.fjall_journal.specs.Writer.{Journal, goes_out}
 use Rattle.fjall_files.specs.Names.{journal_name}
-use Rattle.fjall_versions.specs.Replays.{is_indirection, least_after}
+use Rattle.fjall_versions.specs.Replays.{least_after}
 use Rattle.fjall_recovery.specs.Journals.{batches_in}
 use Rattle.fjall_recovery.specs.Halves.{HasRoot, is_of_keyspaces}
 use Rattle.fjall_recovery.specs.Places.{Journaling, LiesInRoot, journals_with, texts_of}
@@ -40,16 +39,19 @@ after_persist Buffer j = handed j
 after_persist SyncData j = synced j
 after_persist SyncAll j = synced j
 
+-- the journals once a batch of that mode was written
+abbrev pub after_mode : Option PersistMode → Journaling → Journaling
+after_mode None j = j
+after_mode (Some mode) j = after_persist mode j
+
 -- the least number that a batch behind all of these may have
 abbrev pub next_number : Journaling → ℕ
 next_number j = least_after 0 (map shown (batches_in (journals_with j j.later)))
 
--- A batch of this number, with one item of this kind, may follow: its number is above all others' and below 2^63, and its
--- value stands in the journal itself.
-pub record CanFollow (j : Journaling) (seqno : ℕ) (kind : ValueType) : Type 0 where
+-- A batch of this number may follow: it is above all others' and below 2^63.
+pub record CanFollow (j : Journaling) (seqno : ℕ) : Type 0 where
   pub above : next_number j ≤ seqno
   pub room : seqno < 2 ^ 63
-  pub direct : is_indirection kind ≡ false
 
 -- The image's root is sound, and holds the synced batches and a beginning of these.
 abbrev pub HasSome : Journaling → List Written → Image → Type 0
@@ -60,17 +62,17 @@ pub record LeavesRoot (state : State) (j : Journaling) (batches : List Written) 
   pub some : HasSome j batches image
   pub elsewhere : IsImageIn Survives is_of_keyspaces state image
 
--- the batch goes out, and doesn't wait in the buffer
-abbrev pub is_out : Bool → Journal → Written → Bool
-is_out by_hand writer batch = goes_out by_hand (length (writer.buffer ++ batch_text batch))
+-- the batch goes out, and doesn't wait in the buffer: with a mode always, and else from 8,192 bytes on
+abbrev pub is_out : Option PersistMode → Journal → Written → Bool
+is_out mode writer batch = goes_out (is_none mode) (length (writer.buffer ++ batch_text batch))
 
 -- for whichever journals the writer goes on behind on this disk
 abbrev pub ForWriting : Meaning → Journal → (Journaling → Type 0) → Type 0
 ForWriting disk writer Holds = (j : Journaling) → IsWriting (state_in disk) writer j → Holds j
 
--- the same, where a batch of this number with an item of this kind may follow
-abbrev pub ForFollowing : Meaning → Journal → ℕ → ValueType → (Journaling → Type 0) → Type 0
-ForFollowing disk writer seqno kind Holds = (j : Journaling) → IsWriting (state_in disk) writer j → CanFollow j seqno kind → Holds j
+-- the same, where a batch of this number may follow
+abbrev pub ForFollowing : Meaning → Journal → ℕ → (Journaling → Type 0) → Type 0
+ForFollowing disk writer seqno Holds = (j : Journaling) → IsWriting (state_in disk) writer j → CanFollow j seqno → Holds j
 
 -- what stands in `keyspaces` stayed
 abbrev pub KeepsKeyspaces : Meaning → Meaning → Type 0

@@ -1,6 +1,6 @@
 //! What holds of the active journal between two calls.
 
-ghost use Rattle.std.specs.Prelude.{◌≡◌, ◌+◌, Bool, []};
+ghost use Rattle.std.specs.Prelude.{◌≡◌, ◌+◌, Bool, [], Option};
 ghost use Rattle.fjall_base.specs.Disk.{Image, IsImage, State};
 ghost use Rattle.fjall_journal.specs.Batches.{Written};
 ghost use Rattle.fjall_journal.specs.Writer.{Journal};
@@ -8,7 +8,7 @@ ghost use Rattle.fjall_journal.specs.declared.persist_mode.PersistMode.{PersistM
 ghost use Rattle.fjall_files.specs.Names.{journal_name};
 ghost use Rattle.fjall_recovery.specs.Halves.{HasRoot};
 ghost use Rattle.fjall_recovery.specs.Places.{Journaling, LiesInRoot, journals_with};
-ghost use Rattle.fjall_commit.specs.Journaling.{IsWriting, LeavesRoot, after_persist, next_number, with_batch};
+ghost use Rattle.fjall_commit.specs.Journaling.{IsWriting, LeavesRoot, after_mode, after_persist, next_number, with_batch};
 
 /// Where all batches are synced, a writer of the active journal with an empty buffer goes on behind them.
 pub fn a_writer_begins()
@@ -33,7 +33,8 @@ pub fn a_persist_keeps_all()
     ensures { (mode : PersistMode) (j : Journaling) → journals_with (after_persist mode j) (after_persist mode j).later ≡ journals_with j j.later }
 {}
 
-/// The least number behind a batch is one more than the batch's.
+/// The least number behind a batch is one more than the batch's, in whatever mode it was written.
 pub fn numbers_go_on()
-    ensures { (out : Bool) (j : Journaling) (batch : Written) → next_number (with_batch out j batch) ≡ batch.number + 1 }
+    ensures { (mode : Option PersistMode) (out : Bool) (j : Journaling) (batch : Written)
+        → next_number (after_mode mode (with_batch out j batch)) ≡ batch.number + 1 }
 {}

@@ -1,45 +1,64 @@
 -- What the calls serve that leave the disk as it is.
-use Rattle.std.proofs.Common.{◌≡◌, ℕ, Bool, Option, None, Result, Ok, Err, IfOk, IfErr, OnOk, OnErr, IsOkUnless, IsPermutation, IsSorted, Vec, [], length, refl, sym, ◌∙◌, ap, subst}
+use Rattle.std.proofs.Common.{◌≡◌, ℕ, Bool, Option, None, Result, Ok, Err, IfOk, IfErr, OnOk, OnErr, IsOkUnless, IsPermutation, IsSorted, Vec, [], refl, sym, ◌∙◌, ap, subst}
 use Rattle.std.specs.FinMap.{values}
 use Rattle.std.specs.declared.alloc.Global.{Global}
-use Rattle.fjall_base.specs.Pairs.{Bytes, KeyRange, byte_order, page, pairs_between}
+use Rattle.fjall_base.specs.Pairs.{Bytes, KeyRange, byte_order, lookup, page, pairs_between}
 use Rattle.fjall_base.specs.Store.{kept}
 use Rattle.fjall_base.specs.declared.error.Error.{Error}
 use Rattle.fjall_base.specs.declared.error.Error.TheVariants.{OutOfMemory}
 use Rattle.fjall_versions.specs.Versions.{newest, pairs_in}
-use Rattle.fjall_state.specs.declared.call.View.{View}
-use Rattle.fjall_state.specs.declared.call.Call.{Call}
-use Rattle.fjall_state.specs.declared.call.Call.TheVariants.{GetAt, PageAt, Retain, KeyspaceCount, KeyspaceExists, ListKeyspaceNames, Seqno, VisibleSeqno, JournalDiskSpace}
-use Rattle.fjall_state.specs.declared.call.Reply.TheVariants.{Done, Flag, Names, Number, Pairs, Value, Refused}
-use Rattle.fjall_state.specs.Machine.{due_in, first_due, has_name, read_refusals}
-use Rattle.fjall_state.specs.Remembered.{IsDueOrMemory, Remembered, facts_of, retained}
+use Rattle.fjall_versions.proofs.Newest.{pairs_newest}
+use Rattle.fjall_history.specs.declared.ticket.View.{View}
+use Rattle.fjall_history.specs.declared.ticket.View.TheVariants.{At, Present}
+use Rattle.fjall_history.specs.declared.reply.Reply.{Reply}
+use Rattle.fjall_history.specs.declared.reply.Reply.TheVariants.{Done, Flag, Names, Number, Pairs, Value, Refused}
+use Rattle.fjall_history.specs.Queries.{Get, Page, Query}
+use Rattle.fjall_state.specs.Shapes.{Count, Exists, OfCount, OfHandle, OfRead, OneMore, Shape}
+use Rattle.fjall_state.specs.Shapes as shapes
+use Rattle.fjall_state.specs.Machine.{State, due_in, first_due, has_name, view_refusals}
+use Rattle.fjall_state.specs.Remembered.{IsDueOrMemory, Remembered, facts_of, retained, versions_in}
 use Rattle.fjall_files.proofs.Tidying.{stays_start}
+use Rattle.fjall_core.specs.Crashes.{BlamesDevice, IsSync, attempt}
 use Rattle.fjall_core.specs.Holding.{Held}
-use Rattle.fjall_core.specs.Standing.{Owes, Serves, names_reply, pairs_reply, reply_of, store_in, value_reply}
-use Rattle.fjall_core.proofs.ServedCalls.{answer_serves, either_serves, led_by, memory_owes, memory_serves, serves_by}
+use Rattle.fjall_core.specs.Standing.{HeldCount, OnDisk, Owes, Serves, held_due, names_reply, pairs_reply, reply_of, store_in, value_reply}
+use Rattle.fjall_core.proofs.ServedCalls.{answer_serves, either_owes, either_serves, led_by, memory_owes, memory_serves, serves_by}
 use Rattle.fjall_core.proofs.KeyspaceCalls.{Recounts, recount_leads}
 
 -- ---- reads
 
-pub value_serves : (core : Held) (m : Remembered) (view : View) (id : ℕ) (key : Bytes) (result : Result (Option Bytes) Error) → m ≡ core.memory
-    → OnOk result (first_due (read_refusals (facts_of m 0) id) ≡ None) → IfOk result (λ found. found ≡ newest m.versions id key) → IfErr result (IsDueOrMemory (first_due (read_refusals (facts_of m 0) id)))
-    → Serves core (GetAt view id key) (value_reply result) core
-value_serves core m view id key (Ok found) same none is cause =
-    let none_here : first_due (read_refusals (facts_of core.memory 0) id) ≡ None = subst (λ (x : Remembered). first_due (read_refusals (facts_of x 0) id) ≡ None) same none in
-    let is_here : found ≡ newest core.memory.versions id key = subst (λ (x : Remembered). found ≡ newest x.versions id key) same is in
-    answer_serves core (GetAt view id key) (Value found) (none_here, is_here, refl) refl refl (λ s. refl) (λ s sync. sync)
-value_serves core m view id key (Err error) same none is cause =
-    either_serves core (GetAt view id key) error tt (subst (λ (x : Remembered). IsDueOrMemory (first_due (read_refusals (facts_of x 0) id)) error) same cause)
+-- a read's refusals look at no table, and at the same in a core's memory
+due_here : (core : Held) (m : Remembered) (view : View) (id : ℕ) → m ≡ core.memory → (query : Query) → first_due (view_refusals (facts_of m 0) view id) ≡ held_due core (OfRead view id query)
+due_here core m Present id same query = ap (λ (x : Remembered). first_due (view_refusals (facts_of x 0) Present id)) same
+due_here core m (At ticket) id same query = ap (λ (x : Remembered). first_due (view_refusals (facts_of x 0) (At ticket) id)) same
 
-pub pairs_serves : (core : Held) (m : Remembered) (view : View) (id : ℕ) (range : KeyRange) (back : Bool) (max : ℕ) (result : Result (Vec (Bytes × Bytes) Global) Error) → m ≡ core.memory
-    → OnOk result (first_due (read_refusals (facts_of m 0) id) ≡ None) → IfOk result (λ found. found.items ≡ page back max (pairs_between range (pairs_in id m.versions)))
-    → IfErr result (IsDueOrMemory (first_due (read_refusals (facts_of m 0) id))) → Serves core (PageAt view id range back max) (pairs_reply result) core
+cause_here : (core : Held) (m : Remembered) (view : View) (id : ℕ) → m ≡ core.memory → (query : Query) (error : Error) → IsDueOrMemory (first_due (view_refusals (facts_of m 0) view id)) error → IsDueOrMemory (held_due core (OfRead view id query)) error
+cause_here core m view id same query error cause = subst (λ first. IsDueOrMemory first error) (due_here core m view id same query) cause
+
+pub value_owes : (core : Held) (m : Remembered) (view : View) (id : ℕ) (key : Bytes) (result : Result (Option Bytes) Error) → m ≡ core.memory → OnOk result (first_due (view_refusals (facts_of m 0) view id) ≡ None)
+    → IfOk result (λ found. found ≡ newest (versions_in m view) id key) → IfErr result (IsDueOrMemory (first_due (view_refusals (facts_of m 0) view id))) → Owes core (OfRead view id (Get key)) (value_reply result) core
+value_owes core m view id key (Ok found) same none is cause =
+    let value : found ≡ lookup (pairs_in id (versions_in core.memory view)) key =
+    is ∙ ap (λ (x : Remembered). newest (versions_in x view) id key) same ∙ sym (pairs_newest id (versions_in core.memory view) key) in
+    (sym (due_here core m view id same (Get key)) ∙ none, (ap Value value, refl))
+value_owes core m view id key (Err error) same none is cause = either_owes core (OfRead view id (Get key)) error tt (cause_here core m view id same (Get key) error cause)
+
+pub pairs_owes : (core : Held) (m : Remembered) (view : View) (id : ℕ) (range : KeyRange) (back : Bool) (max : ℕ) (result : Result (Vec (Bytes × Bytes) Global) Error) → m ≡ core.memory → OnOk result (first_due (view_refusals (facts_of m 0) view id) ≡ None)
+    → IfOk result (λ found. found.items ≡ page back max (pairs_between range (pairs_in id (versions_in m view)))) → IfErr result (IsDueOrMemory (first_due (view_refusals (facts_of m 0) view id))) → Owes core (OfRead view id (Page range back max)) (pairs_reply result) core
+pairs_owes core m view id range back max (Ok found) same none is cause =
+    (sym (due_here core m view id same (Page range back max)) ∙ none, ((found, refl, is ∙ ap (λ (x : Remembered). page back max (pairs_between range (pairs_in id (versions_in x view)))) same), refl))
+pairs_owes core m view id range back max (Err error) same none is cause = either_owes core (OfRead view id (Page range back max)) error tt (cause_here core m view id same (Page range back max) error cause)
+
+-- what a view has, as it was found in a core's memory
+pub value_serves : (core : Held) (m : Remembered) (view : View) (id : ℕ) (key : Bytes) (result : Result (Option Bytes) Error) → m ≡ core.memory → OnOk result (first_due (view_refusals (facts_of m 0) view id) ≡ None)
+    → IfOk result (λ found. found ≡ newest (versions_in m view) id key) → IfErr result (IsDueOrMemory (first_due (view_refusals (facts_of m 0) view id))) → Serves core (OfRead view id (Get key)) (value_reply result) core
+value_serves core m view id key (Ok found) same none is cause = answer_serves core (OfRead view id (Get key)) (Value found) (value_owes core m view id key (Ok found) same none is cause) refl refl (λ s. refl) (λ s sync. sync)
+value_serves core m view id key (Err error) same none is cause = either_serves core (OfRead view id (Get key)) error tt (cause_here core m view id same (Get key) error cause)
+
+pub pairs_serves : (core : Held) (m : Remembered) (view : View) (id : ℕ) (range : KeyRange) (back : Bool) (max : ℕ) (result : Result (Vec (Bytes × Bytes) Global) Error) → m ≡ core.memory → OnOk result (first_due (view_refusals (facts_of m 0) view id) ≡ None)
+    → IfOk result (λ found. found.items ≡ page back max (pairs_between range (pairs_in id (versions_in m view)))) → IfErr result (IsDueOrMemory (first_due (view_refusals (facts_of m 0) view id))) → Serves core (OfRead view id (Page range back max)) (pairs_reply result) core
 pairs_serves core m view id range back max (Ok found) same none is cause =
-    let none_here : first_due (read_refusals (facts_of core.memory 0) id) ≡ None = subst (λ (x : Remembered). first_due (read_refusals (facts_of x 0) id) ≡ None) same none in
-    let is_here : found.items ≡ page back max (pairs_between range (pairs_in id core.memory.versions)) = subst (λ (x : Remembered). found.items ≡ page back max (pairs_between range (pairs_in id x.versions))) same is in
-    answer_serves core (PageAt view id range back max) (Pairs found) (none_here, is_here, refl) refl refl (λ s. refl) (λ s sync. sync)
-pairs_serves core m view id range back max (Err error) same none is cause =
-    either_serves core (PageAt view id range back max) error tt (subst (λ (x : Remembered). IsDueOrMemory (first_due (read_refusals (facts_of x 0) id)) error) same cause)
+    answer_serves core (OfRead view id (Page range back max)) (Pairs found) (pairs_owes core m view id range back max (Ok found) same none is cause) refl refl (λ s. refl) (λ s sync. sync)
+pairs_serves core m view id range back max (Err error) same none is cause = either_serves core (OfRead view id (Page range back max)) error tt (cause_here core m view id same (Page range back max) error cause)
 
 -- ---- handles
 
@@ -56,53 +75,49 @@ retained_counts old new id is = record {
   journal = ap (λ (core : Held). core.journal) is;
 }
 
-retained_there : (core : Held) (m : Remembered) (id : ℕ) (result : Result Unit Error) → OnOk result (due_in (facts_of core.memory 0) (Retain id) ≡ None) → OnOk result (m ≡ retained id core.memory) → OnErr result (m ≡ core.memory)
-    → IfErr result (IsDueOrMemory (due_in (facts_of core.memory 0) (Retain id))) → Serves core (Retain id) (reply_of result) (record core { memory = m })
+retained_there : (core : Held) (m : Remembered) (id : ℕ) (result : Result Unit Error) → OnOk result (due_in (facts_of core.memory 0) (OfHandle OneMore id) ≡ None) → OnOk result (m ≡ retained id core.memory) → OnErr result (m ≡ core.memory)
+    → IfErr result (IsDueOrMemory (due_in (facts_of core.memory 0) (OfHandle OneMore id))) → Serves core (OfHandle OneMore id) (reply_of result) (record core { memory = m })
 retained_there core m id (Ok _) none is same cause =
     let new : Held = record core { memory = m } in
     let new_is : new ≡ with_handle core id = ap (λ (x : Remembered). record core { memory = x }) is in
-    serves_by core new (Retain id) Done (none, new_is) refl (stays_start core.disk) (λ s d stands on tidy. refl)
-    (λ s d stands on. led_by new s d (Retain id) Done [] refl (λ sync. sync) (recount_leads core new d refl (retained_counts core new id new_is) on))
+    serves_by core new (OfHandle OneMore id) Done (none, (refl, new_is)) refl (stays_start core.disk) (λ s d stands on tidy. refl)
+    (λ s d stands on. led_by new s d (OfHandle OneMore id) Done [] refl (λ sync. sync) (recount_leads core new d refl (retained_counts core new id new_is) on))
 retained_there core m id (Err error) none is same cause =
-    subst (λ (x : Remembered). Serves core (Retain id) (Refused error) (record core { memory = x })) (sym same) (either_serves core (Retain id) error tt cause)
+    subst (λ (x : Remembered). Serves core (OfHandle OneMore id) (Refused error) (record core { memory = x })) (sym same) (either_serves core (OfHandle OneMore id) error tt cause)
 
 -- the core is told by what it is and by what its memory is after the call
-pub retained_serves : (old core : Held) (m : Remembered) (id : ℕ) (result : Result Unit Error) → core ≡ old → OnOk result (due_in (facts_of core.memory 0) (Retain id) ≡ None) → OnOk result (m ≡ retained id core.memory)
-    → OnErr result (m ≡ core.memory) → IfErr result (IsDueOrMemory (due_in (facts_of core.memory 0) (Retain id))) → Serves old (Retain id) (reply_of result) (record core { memory = m })
+pub retained_serves : (old core : Held) (m : Remembered) (id : ℕ) (result : Result Unit Error) → core ≡ old → OnOk result (due_in (facts_of core.memory 0) (OfHandle OneMore id) ≡ None) → OnOk result (m ≡ retained id core.memory)
+    → OnErr result (m ≡ core.memory) → IfErr result (IsDueOrMemory (due_in (facts_of core.memory 0) (OfHandle OneMore id))) → Serves old (OfHandle OneMore id) (reply_of result) (record core { memory = m })
 retained_serves old core m id result same none is unchanged cause =
-    subst (λ (o : Held). Serves o (Retain id) (reply_of result) (record core { memory = m })) same (retained_there core m id result none is unchanged cause)
+    subst (λ (o : Held). Serves o (OfHandle OneMore id) (reply_of result) (record core { memory = m })) same (retained_there core m id result none is unchanged cause)
 
 -- ---- what is told of the core
 
-pub count_serves : (core : Held) (call : Call) (n : ℕ) → call ≡ KeyspaceCount → n ≡ length core.memory.keyspaces.living → Serves core call (Number n) core
-count_serves core call n asked is =
-    subst (λ (c : Call). Serves core c (Number n) core) (sym asked) (answer_serves core KeyspaceCount (Number n) (is, refl) refl refl (λ s. refl) (λ s sync. sync))
+-- a count that takes no memory
+pub count_serves : (core : Held) (shape : Shape) (count : Count) (reply : Reply) → shape ≡ OfCount count → HeldCount core count reply → BlamesDevice reply core.disk core.disk → OnDisk core (OfCount count) reply core
+    → Owes core (OfCount count) reply core → ((s : State) → attempt s (OfCount count) reply ≡ []) → ((s : State) → IsSync s (OfCount count) reply → ⊥) → Serves core shape reply core
+count_serves core shape count reply asked told blames disk owes none unsynced = subst (λ (c : Shape). Serves core c reply core) (sym asked) (answer_serves core (OfCount count) reply owes disk blames none unsynced)
 
-pub exists_serves : (core : Held) (call : Call) (name given : Bytes) (exists : Bool) → call ≡ KeyspaceExists name → given ≡ name → exists ≡ has_name (store_in core) given → Serves core call (Flag exists) core
-exists_serves core call name given exists asked same is =
-    let is_here : exists ≡ has_name (store_in core) name = is ∙ ap (has_name (store_in core)) same in
-    subst (λ (c : Call). Serves core c (Flag exists) core) (sym asked) (answer_serves core (KeyspaceExists name) (Flag exists) (is_here, refl) refl refl (λ s. refl) (λ s sync. sync))
+pub number_serves : (core : Held) (shape : Shape) (count : Count) (n : ℕ) → shape ≡ OfCount count → HeldCount core count (Number n) → Serves core shape (Number n) core
+number_serves core shape count n asked told = count_serves core shape count (Number n) asked told refl refl (refl, (told, refl)) (λ s. refl) (λ s sync. sync)
 
-pub seqno_serves : (core : Held) (call : Call) (n : ℕ) → call ≡ Seqno → n ≡ core.memory.next → Serves core call (Number n) core
-seqno_serves core call n asked is =
-    subst (λ (c : Call). Serves core c (Number n) core) (sym asked) (answer_serves core Seqno (Number n) (is, refl) refl refl (λ s. refl) (λ s sync. sync))
+pub number_owes : (core : Held) (shape : Shape) (count : Count) (n : ℕ) → shape ≡ OfCount count → HeldCount core count (Number n) → Owes core shape (Number n) core
+number_owes core shape count n asked told = subst (λ (c : Shape). Owes core c (Number n) core) (sym asked) (refl, (told, refl))
 
-pub visible_serves : (core : Held) (call : Call) (n : ℕ) → call ≡ VisibleSeqno → n ≡ core.memory.next → Serves core call (Number n) core
-visible_serves core call n asked is =
-    subst (λ (c : Call). Serves core c (Number n) core) (sym asked) (answer_serves core VisibleSeqno (Number n) (is, refl) refl refl (λ s. refl) (λ s sync. sync))
+pub exists_owes : (core : Held) (name given : Bytes) (exists : Bool) → given ≡ name → exists ≡ has_name (store_in core) given → Owes core (OfCount (Exists name)) (Flag exists) core
+exists_owes core name given exists same is = (refl, (ap Flag (is ∙ ap (has_name (store_in core)) same), refl))
 
-pub space_serves : (core : Held) (call : Call) (n : ℕ) → call ≡ JournalDiskSpace → n ≡ core.journal.len → Serves core call (Number n) core
-space_serves core call n asked is =
-    subst (λ (c : Call). Serves core c (Number n) core) (sym asked) (answer_serves core JournalDiskSpace (Number n) (is, refl) refl refl (λ s. refl) (λ s sync. sync))
+pub exists_serves : (core : Held) (name given : Bytes) (exists : Bool) → given ≡ name → exists ≡ has_name (store_in core) given → Serves core (OfCount (Exists name)) (Flag exists) core
+exists_serves core name given exists same is = answer_serves core (OfCount (Exists name)) (Flag exists) (exists_owes core name given exists same is) refl refl (λ s. refl) (λ s sync. sync)
 
 -- ---- names
 
 pub names_owes : (core : Held) (result : Result (Vec Bytes Global) Error) → IfOk result (λ names. IsPermutation (values (store_in core).names) names.items) → IfOk result (λ names. IsSorted byte_order names.items)
-    → IsOkUnless result OutOfMemory → Owes core ListKeyspaceNames (names_reply result) core
-names_owes core (Ok names) all sorted only = (all, sorted, refl)
-names_owes core (Err error) all sorted only = subst (λ (e : Error). Owes core ListKeyspaceNames (Refused e) core) (sym only) (memory_owes core ListKeyspaceNames tt refl)
+    → IsOkUnless result OutOfMemory → Owes core (OfCount shapes.Names) (names_reply result) core
+names_owes core (Ok names) all sorted only = (refl, ((names, refl, all, sorted), refl))
+names_owes core (Err error) all sorted only = subst (λ (e : Error). Owes core (OfCount shapes.Names) (Refused e) core) (sym only) (memory_owes core (OfCount shapes.Names) tt refl)
 
 pub names_serves : (core : Held) (result : Result (Vec Bytes Global) Error) → IfOk result (λ names. IsPermutation (values (store_in core).names) names.items) → IfOk result (λ names. IsSorted byte_order names.items)
-    → IsOkUnless result OutOfMemory → Serves core ListKeyspaceNames (names_reply result) core
-names_serves core (Ok names) all sorted only = answer_serves core ListKeyspaceNames (Names names) (all, sorted, refl) refl refl (λ s. refl) (λ s sync. sync)
-names_serves core (Err error) all sorted only = subst (λ (e : Error). Serves core ListKeyspaceNames (Refused e) core) (sym only) (memory_serves core ListKeyspaceNames tt refl)
+    → IsOkUnless result OutOfMemory → Serves core (OfCount shapes.Names) (names_reply result) core
+names_serves core (Ok names) all sorted only = answer_serves core (OfCount shapes.Names) (Names names) (names_owes core (Ok names) all sorted only) refl refl (λ s. refl) (λ s sync. sync)
+names_serves core (Err error) all sorted only = subst (λ (e : Error). Serves core (OfCount shapes.Names) (Refused e) core) (sym only) (memory_serves core (OfCount shapes.Names) tt refl)

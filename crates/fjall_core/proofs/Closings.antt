@@ -13,8 +13,8 @@ use Rattle.fjall_recovery.proofs.Holding.{a_rest_holds}
 use Rattle.fjall_files.specs.Tidy.{StaysTidy}
 use Rattle.fjall_commit.proofs.TidyWrites.{persist_stays}
 use Rattle.fjall_commit.proofs.CrashesInWrites.{persist_apart, persist_leaves, persist_out}
-use Rattle.fjall_state.specs.declared.call.Call.TheVariants.{Persist}
-use Rattle.fjall_state.specs.declared.call.Reply.TheVariants.{Refused}
+use Rattle.fjall_state.specs.Shapes.{OfPersist}
+use Rattle.fjall_history.specs.declared.reply.Reply.TheVariants.{Refused}
 use Rattle.fjall_state.specs.Machine as machine
 use Rattle.fjall_core.specs.Holding.{Held}
 use Rattle.fjall_core.specs.Durables.{Durable, Passes}
@@ -27,13 +27,13 @@ use Rattle.fjall_core.proofs.Syncs.{Persisted, hand_leaves, same_of, sync_empty,
 use Rattle.fjall_core.proofs.JournalWrites.{held_on, present_of}
 
 -- what the disk took of a sync is what closing owes of it
-pub closes_disk : (old new : Held) (result : Result Unit Error) → OnDisk old (Persist SyncAll) (reply_of result) new → ClosesDisk old result new.disk
+pub closes_disk : (old new : Held) (result : Result Unit Error) → OnDisk old (OfPersist SyncAll) (reply_of result) new → ClosesDisk old result new.disk
 closes_disk old new (Ok _) took = took
 closes_disk old new (Err (Io kind)) failed = failed
 closes_disk old new (Err error) same = same
 
 -- a sync asks for no command
-no_command : (s : machine.State) (error : Error) → attempt s (Persist SyncAll) (Refused error) ≡ []
+no_command : (s : machine.State) (error : Error) → attempt s (OfPersist SyncAll) (Refused error) ≡ []
 no_command s (Io kind) = refl
 no_command s error = refl
 
@@ -71,9 +71,9 @@ synced_closes old new s base pending well hands out housed stands on =
     }
 
 -- closing leaves what it may
-pub closing : (old new : Held) (result : Result Unit Error) (s : machine.State) (d : Durable) → Owes old (Persist SyncAll) (reply_of result) new → Serves old (Persist SyncAll) (reply_of result) new
+pub closing : (old new : Held) (result : Result Unit Error) (s : machine.State) (d : Durable) → Owes old (OfPersist SyncAll) (reply_of result) new → Serves old (OfPersist SyncAll) (reply_of result) new
     → ((s : machine.State) (d : Durable) → StandsFor old s → StandsOn old d → BlamesDevice (reply_of result) old.disk new.disk) → IsHoused (state_in new.disk) → StandsFor old s → StandsOn old d → Closes s d result new.disk
-closing old new (Ok _) s d (none, hands) serves blames housed stands on =
+closing old new (Ok _) s d (none, (told, hands)) serves blames housed stands on =
     let well = (none_due ((old.memory.poisoned, Poisoned) ∷ []) none).0 in
     let here : d ≡ held_on old d.base d.pending = λ i. record { meaning = on.same i; base = d.base; pending = d.pending } in
     subst (λ (x : Durable). Closes s x (Ok tt) new.disk) (sym here)

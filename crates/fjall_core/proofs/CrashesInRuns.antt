@@ -8,7 +8,8 @@ use Rattle.fjall_base.proofs.Moments.{after-append, started, runs_on, weaken}
 use Rattle.fjall_files.specs.Tidy.{IsTidy, StaysTidy}
 use Rattle.fjall_files.proofs.Tidying.{stays_both, stays_start, tidy_on}
 use Rattle.fjall_state.specs.declared.call.Call.{Call}
-use Rattle.fjall_state.specs.declared.call.Reply.{Reply}
+use Rattle.fjall_state.specs.Shapes.{shape_of}
+use Rattle.fjall_history.specs.declared.reply.Reply.{Reply}
 use Rattle.fjall_state.specs.Machine.{State, Step}
 use Rattle.fjall_recovery.specs.Folders.{StandsFor}
 use Rattle.fjall_core.specs.Durables.{Durable, IsBeginning, StandsAmid, Rests, Passes}
@@ -74,7 +75,7 @@ passes_still d here = record {
 pub run_passes : (s t : State) (d e : Durable) (calls : List Call) (replies : List Reply) (tried : List Command) → Rests d → RunOn s d calls replies tried t e → Passes d tried e
 run_passes s t d e [] [] tried here run = subst (λ l. Passes d l e) (sym run.0) (subst (λ x. Passes d [] x) (sym run.2) (passes_still d here))
 run_passes s t d e (c ∷ calls) (r ∷ replies) tried here (mid, on, rest, step, call, is, run) =
-    subst (λ l. Passes d l e) (sym is) (passes_on d on e (attempt s c r) rest call.0 (run_passes mid t on e calls replies rest call.0.rests run))
+    subst (λ l. Passes d l e) (sym is) (passes_on d on e (attempt s (shape_of c) r) rest call.0 (run_passes mid t on e calls replies rest call.0.rests run))
 run_passes s t d e [] (r ∷ replies) tried here run = absurd run
 run_passes s t d e (c ∷ calls) [] tried here run = absurd run
 
@@ -93,24 +94,24 @@ run_blames s t d e [] (r ∷ replies) tried tidy run = absurd run
 run_blames s t d e (c ∷ calls) [] tried tidy run = absurd run
 
 -- one call more
-pub run-push : (s m t : State) (d n e : Durable) (calls : List Call) (replies : List Reply) (tried : List Command) (c : Call) (r : Reply) → RunOn s d calls replies tried m n → Step m c r t → CallPasses m n c r e
-    → RunOn s d (calls ++ c ∷ []) (replies ++ r ∷ []) (tried ++ attempt m c r) t e
+pub run-push : (s m t : State) (d n e : Durable) (calls : List Call) (replies : List Reply) (tried : List Command) (c : Call) (r : Reply) → RunOn s d calls replies tried m n → Step m c r t → CallPasses m n (shape_of c) r e
+    → RunOn s d (calls ++ c ∷ []) (replies ++ r ∷ []) (tried ++ attempt m (shape_of c) r) t e
 run-push s m t d n e [] [] tried c r run step call = (
   t,
   e,
   [],
   subst (λ x. Step x c r t) run.1 step,
-  subst (λ x. CallPasses x d c r e) run.1 (subst (λ x. CallPasses m x c r e) run.2 call),
-  ap (λ (l : List Command). l ++ attempt m c r) run.0 ∙ ap (λ x. attempt x c r) run.1 ∙ sym (append-nil (attempt s c r)),
+  subst (λ x. CallPasses x d (shape_of c) r e) run.1 (subst (λ x. CallPasses m x (shape_of c) r e) run.2 call),
+  ap (λ (l : List Command). l ++ attempt m (shape_of c) r) run.0 ∙ ap (λ x. attempt x (shape_of c) r) run.1 ∙ sym (append-nil (attempt s (shape_of c) r)),
   (refl, refl, refl),
 )
 run-push s m t d n e (c' ∷ calls) (r' ∷ replies) tried c r (mid, on, rest, first, passes, is, run) step call = (
   mid,
   on,
-  rest ++ attempt m c r,
+  rest ++ attempt m (shape_of c) r,
   first,
   passes,
-  ap (λ (l : List Command). l ++ attempt m c r) is ∙ append_assoc (attempt s c' r') rest (attempt m c r),
+  ap (λ (l : List Command). l ++ attempt m (shape_of c) r) is ∙ append_assoc (attempt s (shape_of c') r') rest (attempt m (shape_of c) r),
   run-push mid m t on n e calls replies rest c r run step call,
 )
 run-push s m t d n e [] (r' ∷ replies) tried c r run step call = absurd run
@@ -192,23 +193,23 @@ settled_later d m e tried before all p s = record {
 -- each sync of a run that succeeded is such a moment
 pub run_safe : (s t : State) (d e : Durable) (calls : List Call) (replies : List Reply) (tried : List Command) (i : ℕ) (run : RunOn s d calls replies tried t e) → IsSyncAt s d calls replies tried t e run i → SafeAt s d calls replies i tried e e.meaning
 run_safe s t d e (c ∷ calls) (r ∷ replies) tried zero (mid, on, rest, step, call, is, run) sync = record {
-  before = attempt s c r;
+  before = attempt s (shape_of c) r;
   mid = mid;
   on = on;
-  so_far = (mid, on, [], step, call, sym (append-nil (attempt s c r)), (refl, refl, refl));
-  safe = subst (λ l. SafeSince d (attempt s c r) l e.meaning) (sym is)
-      (safe_now d on e.meaning (attempt s c r) rest call.0 (call.1 sync) (run_passes mid t on e calls replies rest call.0.rests run).leaves);
-  settled = subst (λ l. Settled d (attempt s c r) l e) (sym is) (settled_now d on e (attempt s c r) rest call.0 (call.1 sync) (run_passes mid t on e calls replies rest call.0.rests run));
+  so_far = (mid, on, [], step, call, sym (append-nil (attempt s (shape_of c) r)), (refl, refl, refl));
+  safe = subst (λ l. SafeSince d (attempt s (shape_of c) r) l e.meaning) (sym is)
+      (safe_now d on e.meaning (attempt s (shape_of c) r) rest call.0 (call.1 sync) (run_passes mid t on e calls replies rest call.0.rests run).leaves);
+  settled = subst (λ l. Settled d (attempt s (shape_of c) r) l e) (sym is) (settled_now d on e (attempt s (shape_of c) r) rest call.0 (call.1 sync) (run_passes mid t on e calls replies rest call.0.rests run));
 }
 run_safe s t d e (c ∷ calls) (r ∷ replies) tried (suc i) (mid, on, rest, step, call, is, run) sync =
     let later = run_safe mid t on e calls replies rest i run sync in
     record {
-      before = attempt s c r ++ later.before;
+      before = attempt s (shape_of c) r ++ later.before;
       mid = later.mid;
       on = later.on;
       so_far = (mid, on, later.before, step, call, refl, later.so_far);
-      safe = subst (λ l. SafeSince d (attempt s c r ++ later.before) l e.meaning) (sym is) (safe_later d on e.meaning (attempt s c r) later.before rest call.0 later.safe);
-      settled = subst (λ l. Settled d (attempt s c r ++ later.before) l e) (sym is) (settled_later d on e (attempt s c r) later.before rest call.0 later.settled);
+      safe = subst (λ l. SafeSince d (attempt s (shape_of c) r ++ later.before) l e.meaning) (sym is) (safe_later d on e.meaning (attempt s (shape_of c) r) later.before rest call.0 later.safe);
+      settled = subst (λ l. Settled d (attempt s (shape_of c) r ++ later.before) l e) (sym is) (settled_later d on e (attempt s (shape_of c) r) later.before rest call.0 later.settled);
     }
 run_safe s t d e [] replies tried i run sync = absurd sync
 run_safe s t d e (c ∷ calls) [] tried i run sync = absurd sync

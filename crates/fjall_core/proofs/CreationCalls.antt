@@ -5,11 +5,12 @@ use Rattle.fjall_base.specs.declared.error.Error.{Error}
 use Rattle.fjall_options.specs.Options.{AreOptions}
 use Rattle.fjall_meta.specs.Keyspaces.{id_of}
 use Rattle.fjall_state.specs.Machine.{has_name}
-use Rattle.fjall_state.specs.declared.call.Call.TheVariants.{Keyspace}
-use Rattle.fjall_state.specs.declared.call.Reply.TheVariants.{Number, Refused}
+use Rattle.fjall_state.specs.Shapes.{OfCreation}
+use Rattle.fjall_history.specs.declared.reply.Reply.TheVariants.{Number, Refused}
 use Rattle.fjall_state.specs.Remembered.{IsLawful, Remembered, poisoned, with_creation}
 use Rattle.fjall_core.specs.Holding.{Held}
-use Rattle.fjall_core.specs.Standing.{Owes, Serves, held_due, is_io, store_in}
+use Rattle.fjall_core.specs.Crashes.{is_io}
+use Rattle.fjall_core.specs.Standing.{Owes, Serves, held_due, store_in}
 use Rattle.fjall_core.specs.CallParts.{Makes}
 use Rattle.fjall_core.proofs.Creations.{IsFresh, created_owes, created_serves, id_left, is_fresh, made_memory, numbered_of, raised, to_raised, uncreated_owes, uncreated_serves}
 
@@ -21,9 +22,9 @@ stays_whole {old} is same = (λ i. record old { memory = same i }) ∙ is
 pub taken_back : {view made : Held} → view ≡ made → {new memory : Remembered} → new ≡ memory → (record view { memory = new }) ≡ (record made { memory = memory })
 taken_back {view} is {new} {memory} same = (λ i. record view { memory = same i }) ∙ ap (λ (h : Held). record h { memory = memory }) is
 
-module _ {old core : Held} (is : old ≡ core) (name : Bytes) (options : List Bytes) (due : held_due core (Keyspace name options) ≡ None) where
-  due_in : held_due old (Keyspace name options) ≡ None
-  due_in = ap (λ (h : Held). held_due h (Keyspace name options)) is ∙ due
+module _ {old core : Held} (is : old ≡ core) (name : Bytes) (options : List Bytes) (due : held_due core (OfCreation name options) ≡ None) where
+  due_in : held_due old (OfCreation name options) ≡ None
+  due_in = ap (λ (h : Held). held_due h (OfCreation name options)) is ∙ due
 
   unnamed_in : has_name (store_in core) name ≡ false → has_name (store_in old) name ≡ false
   unnamed_in unnamed = ap (λ (h : Held). has_name (store_in h) name) is ∙ unnamed
@@ -47,12 +48,12 @@ module _ {old core : Held} (is : old ≡ core) (name : Bytes) (options : List By
     held : m ≡ with_creation name options old.memory
     held = holds ∙ ap (λ (n : Bytes). with_creation n options old.memory) same
 
-    pub done_serves : Makes honest (record old { memory = m }) id number (Ok tt) made → honest → Serves core (Keyspace name options) (Number id) made
-    done_serves all = subst (λ (h : Held). honest → Serves h (Keyspace name options) (Number id) made) is
+    pub done_serves : Makes honest (record old { memory = m }) id number (Ok tt) made → honest → Serves core (OfCreation name options) (Number id) made
+    done_serves all = subst (λ (h : Held). honest → Serves h (OfCreation name options) (Number id) made) is
         (created_serves old name options id number id_is number_is fresh.after due_in fresh.fresh honest made unnamed_there (to_raised honest old made name options m id number (Ok tt) held all))
 
-    pub done_owes : Makes honest (record old { memory = m }) id number (Ok tt) made → Owes core (Keyspace name options) (Number id) made
-    done_owes all = subst (λ (h : Held). Owes h (Keyspace name options) (Number id) made) is
+    pub done_owes : Makes honest (record old { memory = m }) id number (Ok tt) made → Owes core (OfCreation name options) (Number id) made
+    done_owes all = subst (λ (h : Held). Owes h (OfCreation name options) (Number id) made) is
         (created_owes old name options id number id_is number_is fresh.after due_in fresh.fresh honest made (to_raised honest old made name options m id number (Ok tt) held all))
 
     module _ (error : Error) (all : Makes honest (record old { memory = m }) id number (Err error) made) where
@@ -67,10 +68,10 @@ module _ {old core : Held} (is : old ≡ core) (name : Bytes) (options : List By
         goes_back : new ≡ (if is_io error then record made { memory = poisoned old.memory } else record made { memory = old.memory })
         goes_back = poisons ∙ ap (λ (h : Held). if is_io error then record h { memory = poisoned h.memory } else h) back
 
-        pub undone_serves : honest → Serves core (Keyspace name options) (Refused error) new
-        undone_serves = subst (λ (h : Held). honest → Serves h (Keyspace name options) (Refused error) new) is
+        pub undone_serves : honest → Serves core (OfCreation name options) (Refused error) new
+        undone_serves = subst (λ (h : Held). honest → Serves h (OfCreation name options) (Refused error) new) is
             (uncreated_serves old name options id number id_is number_is fresh.after due_in fresh.fresh honest made new error fresh.lawful undone goes_back)
 
-        pub undone_owes : Owes core (Keyspace name options) (Refused error) new
-        undone_owes = subst (λ (h : Held). Owes h (Keyspace name options) (Refused error) new) is
+        pub undone_owes : Owes core (OfCreation name options) (Refused error) new
+        undone_owes = subst (λ (h : Held). Owes h (OfCreation name options) (Refused error) new) is
             (uncreated_owes old name options id number id_is number_is fresh.after due_in fresh.fresh honest made new error fresh.lawful undone goes_back)

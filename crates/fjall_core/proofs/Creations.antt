@@ -13,8 +13,8 @@ use Rattle.fjall_versions.specs.Versions.{store_of}
 use Rattle.fjall_versions.proofs.Creating as Creating
 use Rattle.fjall_commit.specs.declared.creation.Creation.{Creation}
 use Rattle.fjall_commit.specs.Changes.{IsCreation}
-use Rattle.fjall_state.specs.declared.call.Call.TheVariants.{Keyspace}
-use Rattle.fjall_state.specs.declared.call.Reply.TheVariants.{Number, Refused}
+use Rattle.fjall_state.specs.Shapes.{OfCreation}
+use Rattle.fjall_history.specs.declared.reply.Reply.TheVariants.{Number, Refused}
 use Rattle.fjall_state.specs.Allowed.{HasRoom}
 use Rattle.fjall_state.specs.Machine.{HasLongOption, State, has_name, present}
 use Rattle.fjall_state.specs.Remembered.{IsLawful, Remembered, facts_of, poisoned, with_creation}
@@ -30,8 +30,8 @@ use Rattle.fjall_files.specs.Tidy.{IsTidy, StaysTidy}
 use Rattle.fjall_files.proofs.Tidying.{stays_both, stays_start}
 use Rattle.fjall_core.specs.Holding.{Held}
 use Rattle.fjall_core.specs.Durables.{Durable, Passes}
-use Rattle.fjall_core.specs.Crashes.{attempt}
-use Rattle.fjall_core.specs.Standing.{Creates, Owes, OwesRefusal, Poisons, ReplacesTable, Serves, StandsFor, StandsOn, held_due, is_io, store_in}
+use Rattle.fjall_core.specs.Crashes.{attempt, is_io}
+use Rattle.fjall_core.specs.Standing.{Creates, Owes, OwesRefusal, Poisons, ReplacesTable, Serves, StandsFor, StandsOn, held_due, store_in}
 use Rattle.fjall_commit.specs.SyncedChanges.{SyncedThenChanged}
 use Rattle.fjall_core.specs.CallParts.{Makes}
 use Rattle.fjall_commit.specs.SyncedChanges as on_disk
@@ -85,12 +85,12 @@ module _ (old : Held) (name : Bytes) (options : List Bytes) (id number : ℕ) (i
     faults = all.3;
   }
 
-  module _ (none : held_due old (Keyspace name options) ≡ None) (fresh : has_name (store_in old) name ≡ false) where
+  module _ (none : held_due old (OfCreation name options) ≡ None) (fresh : has_name (store_in old) name ≡ false) where
     room : HasRoom (facts_of old.memory old.catalog.next_table_id)
     room = (may_create (facts_of old.memory old.catalog.next_table_id) name none).room fresh
 
-    pub created_owes : (honest : Type 0) (made : Held) → Makes honest (raised name options old) id number (Ok tt) made → Owes old (Keyspace name options) (Number id) made
-    created_owes honest made all = (none, inr (fresh, id_is, creates_of honest made all))
+    pub created_owes : (honest : Type 0) (made : Held) → Makes honest (raised name options old) id number (Ok tt) made → Owes old (OfCreation name options) (Number id) made
+    created_owes honest made all = (none, (id, refl, inr (fresh, id_is, creates_of honest made all)))
 
     -- wherever the core stood, no call was one that no disk can serve
     served_by : (made new : Held) (mid : Meaning) (creation : Creation) (done : Bool) → IsLawful old.memory → IsCreation old.catalog (with_keyspace name options old.memory.next old.memory.keyspaces) id number creation
@@ -114,11 +114,11 @@ module _ (old : Held) (name : Bytes) (options : List Bytes) (id number : ℕ) (i
     asks_one : (s : State) → StandsFor old s → (if has_name (present s) name then [] else (Create name (option_pairs options) ∷ [])) ≡ Create name (option_pairs options) ∷ []
     asks_one s stands = ap (λ b. if b then [] else (Create name (option_pairs options) ∷ [])) ((λ i. has_name (stands.remembered.present i) name) ∙ fresh)
 
-    pub created_serves : (honest : Type 0) (made : Held) → id_of name old.memory.keyspaces.living ≡ None → Makes honest (raised name options old) id number (Ok tt) made → honest → Serves old (Keyspace name options) (Number id) made
+    pub created_serves : (honest : Type 0) (made : Held) → id_of name old.memory.keyspaces.living ≡ None → Makes honest (raised name options old) id number (Ok tt) made → honest → Serves old (OfCreation name options) (Number id) made
     created_serves honest made unnamed all true_ =
         let turned = all.4 true_ in
         let well = ap (λ (h : Held). h.memory.poisoned) all.2 ∙ room.well in
-        let led : (s : State) (d : Durable) → StandsFor old s → StandsOn old d → Led made s d (Keyspace name options) (Number id) = λ s d stands on.
+        let led : (s : State) (d : Durable) → StandsFor old s → StandsOn old d → Led made s d (OfCreation name options) (Number id) = λ s d stands on.
         let lawful = stands.remembered.lawful in
         let core : Becomes (between old made turned.mid) made (with_creation name options old.memory) all.0.update.catalog true =
         record { memory_is = λ _. ap (λ (h : Held). h.memory) all.2; catalog_is = λ _. ap (λ (h : Held). h.catalog) all.2; journal_is = λ _. refl } in
@@ -127,9 +127,9 @@ module _ (old : Held) (name : Bytes) (options : List Bytes) (id number : ℕ) (i
         well
         (ap kept (sym (created_held old name options lawful)) ∙ ap (λ (h : Held). kept (store_in h)) (sym all.2)) on in
         (settled.0, settled.1, (subst (λ l. Passes d l settled.0) (sym (asks_one s stands)) settled.2, λ sync. settled.3)) in
-        serves_by old made (Keyspace name options) (Number id) (created_owes honest made all)
+        serves_by old made (OfCreation name options) (Number id) (created_owes honest made all)
         (subst (λ (o : Option ℕ). MatchOption o (ReplacesTable old made) (λ found. made.disk ≡ old.disk)) (sym unnamed)
-        (replaces_table old made (Keyspace name options) (Number id) (turned.changed.gone refl old.catalog _ id number all.1) well led))
+        (replaces_table old made (OfCreation name options) (Number id) (turned.changed.gone refl old.catalog _ id number all.1) well led))
         (kinds_by made turned.mid all.0 true all.1 turned.changed turned.synced.kinds)
         (λ s d stands on tidy. served_by made made turned.mid all.0 true stands.remembered.lawful all.1 turned.changed turned.synced d on tidy) led
 
@@ -152,22 +152,22 @@ module _ (old : Held) (name : Bytes) (options : List Bytes) (id number : ℕ) (i
     no_number (inl high) = let low = room.numbered in let same = number_is in absurd (let bad : ⊥ = omega (arith, high, low, same) in bad)
     no_number (inr table) = absurd (room.table table.1)
 
-    pub uncreated_owes : (honest : Type 0) (made new : Held) (error : Error) → IsLawful old.memory → Makes honest (raised name options old) id number (Err error) made → Back made new error → Owes old (Keyspace name options) (Refused error) new
-    uncreated_owes honest made new (Io kind) lawful all back = subst (λ first. OwesRefusal first old (Keyspace name options) (Io kind) new) (sym none) (tt, poisons_of honest made new kind all back)
-    uncreated_owes honest made new OutOfMemory lawful all back = subst (λ (h : Held). Owes old (Keyspace name options) (Refused OutOfMemory) h) (sym (whole_again made new all.0 back)) (memory_owes old (Keyspace name options) tt none)
-    uncreated_owes honest made new ValueTooLong lawful all back = subst (λ (h : Held). Owes old (Keyspace name options) (Refused ValueTooLong) h) (sym (whole_again made new all.0 back)) (long_owes old (Keyspace name options) (too_long lawful all.1) none)
+    pub uncreated_owes : (honest : Type 0) (made new : Held) (error : Error) → IsLawful old.memory → Makes honest (raised name options old) id number (Err error) made → Back made new error → Owes old (OfCreation name options) (Refused error) new
+    uncreated_owes honest made new (Io kind) lawful all back = subst (λ first. OwesRefusal first old (OfCreation name options) (Io kind) new) (sym none) (tt, poisons_of honest made new kind all back)
+    uncreated_owes honest made new OutOfMemory lawful all back = subst (λ (h : Held). Owes old (OfCreation name options) (Refused OutOfMemory) h) (sym (whole_again made new all.0 back)) (memory_owes old (OfCreation name options) tt none)
+    uncreated_owes honest made new ValueTooLong lawful all back = subst (λ (h : Held). Owes old (OfCreation name options) (Refused ValueTooLong) h) (sym (whole_again made new all.0 back)) (long_owes old (OfCreation name options) (too_long lawful all.1) none)
     uncreated_owes honest made new NumbersUsedUp lawful all back = no_number all.1
     uncreated_owes honest made new error lawful all back = absurd all.1
 
-    asked_one : (s : State) (kind : _) → StandsFor old s → attempt s (Keyspace name options) (Refused (Io kind)) ≡ Create name (option_pairs options) ∷ []
+    asked_one : (s : State) (kind : _) → StandsFor old s → attempt s (OfCreation name options) (Refused (Io kind)) ≡ Create name (option_pairs options) ∷ []
     asked_one s kind stands = asks_one s stands
 
-    pub uncreated_serves : (honest : Type 0) (made new : Held) (error : Error) → IsLawful old.memory → Makes honest (raised name options old) id number (Err error) made → Back made new error → honest → Serves old (Keyspace name options) (Refused error) new
+    pub uncreated_serves : (honest : Type 0) (made new : Held) (error : Error) → IsLawful old.memory → Makes honest (raised name options old) id number (Err error) made → Back made new error → honest → Serves old (OfCreation name options) (Refused error) new
     uncreated_serves honest made new (Io kind) lawful all back true_ =
         let fault = poisons_of honest made new kind all back in
         let disk : new.disk ≡ made.disk = ap (λ (h : Held). h.disk) back in
         let journal : new.journal ≡ made.journal = ap (λ (h : Held). h.journal) back in
-        serves_by old new (Keyspace name options) (Refused (Io kind)) (uncreated_owes honest made new (Io kind) lawful all back) tt
+        serves_by old new (OfCreation name options) (Refused (Io kind)) (uncreated_owes honest made new (Io kind) lawful all back) tt
         (subst (λ (m : Meaning). StaysTidy old.disk m) (sym disk) (⊎_elim (λ unsynced. unsynced.kinds) (λ turned. kinds_by made turned.mid all.0 false all.1 turned.changed turned.synced.kinds) (all.5 true_)))
         (λ s d stands on tidy. record {
           rose = fault.faults;
@@ -176,16 +176,16 @@ module _ (old : Held) (name : Bytes) (options : List Bytes) (id number : ℕ) (i
               (λ turned. served_by made new turned.mid all.0 false lawful all.1 (subst (λ m. on_disk.CreatedKeyspace turned.mid m all.0 false) (sym disk) turned.changed) turned.synced d on tidy)
               (all.5 true_);
         }) (λ s d stands on.
-        led_by new s d (Keyspace name options) (Refused (Io kind)) (Create name (option_pairs options) ∷ []) (asked_one s kind stands) (λ sync. sync)
+        led_by new s d (OfCreation name options) (Refused (Io kind)) (Create name (option_pairs options) ∷ []) (asked_one s kind stands) (λ sync. sync)
         (⊎_elim
         (λ unsynced. unsynced_leads old new d (Create name (option_pairs options)) room.well fault (subst (λ (h : Held). on_disk.Persisted old.disk h.disk old.journal h.journal SyncAll false) (sym back) unsynced) on)
         (λ turned. unaltered_leads old (between old made turned.mid) new d (Create name (option_pairs options)) room.well (stays old made turned.mid) turned.synced
         (changes_by made new turned.mid all.0 false lawful all.1 (subst (λ m. on_disk.CreatedKeyspace turned.mid m all.0 false) (sym disk) turned.changed)
         (record { memory_is = λ e. not_done e; catalog_is = λ e. not_done e; journal_is = λ e. not_done e })) fault on)
         (all.5 true_)))
-    uncreated_serves honest made new OutOfMemory lawful all back true_ = subst (λ (h : Held). Serves old (Keyspace name options) (Refused OutOfMemory) h) (sym (whole_again made new all.0 back)) (memory_serves old (Keyspace name options) tt none)
+    uncreated_serves honest made new OutOfMemory lawful all back true_ = subst (λ (h : Held). Serves old (OfCreation name options) (Refused OutOfMemory) h) (sym (whole_again made new all.0 back)) (memory_serves old (OfCreation name options) tt none)
     uncreated_serves honest made new ValueTooLong lawful all back true_ =
-        subst (λ (h : Held). Serves old (Keyspace name options) (Refused ValueTooLong) h) (sym (whole_again made new all.0 back)) (long_serves old (Keyspace name options) (too_long lawful all.1) none)
+        subst (λ (h : Held). Serves old (OfCreation name options) (Refused ValueTooLong) h) (sym (whole_again made new all.0 back)) (long_serves old (OfCreation name options) (too_long lawful all.1) none)
     uncreated_serves honest made new NumbersUsedUp lawful all back true_ = no_number all.1
     uncreated_serves honest made new error lawful all back true_ = absurd all.1
 
@@ -194,11 +194,11 @@ module _ (old : Held) (name : Bytes) (options : List Bytes) (id number : ℕ) (i
 -- a creation that nothing refuses, of a name that none has
 pub record IsFresh (old : Held) (name : Bytes) (options : List Bytes) : Type 0 where
   pub lawful : IsLawful old.memory
-  pub none : held_due old (Keyspace name options) ≡ None
+  pub none : held_due old (OfCreation name options) ≡ None
   pub fresh : has_name (store_in old) name ≡ false
   pub after : IsLawful (with_creation name options old.memory)
 
-pub is_fresh : (old : Held) (name : Bytes) (options : List Bytes) → IsLawful old.memory → held_due old (Keyspace name options) ≡ None → id_of name old.memory.keyspaces.living ≡ None → AreOptions options → IsFresh old name options
+pub is_fresh : (old : Held) (name : Bytes) (options : List Bytes) → IsLawful old.memory → held_due old (OfCreation name options) ≡ None → id_of name old.memory.keyspaces.living ≡ None → AreOptions options → IsFresh old name options
 is_fresh old name options lawful none unnamed are =
     let fresh = named_is old.memory.keyspaces lawful.keyspaces old.memory.versions name ∙ ap is_some unnamed in
     let allowed = may_create (facts_of old.memory old.catalog.next_table_id) name none in
@@ -225,15 +225,15 @@ made_memory honest old made name options id number (Io kind) all = all.2
 made_memory honest old made name options id number error all = ap (λ (h : Held). h.memory) all.0
 
 -- where a number and an id are left
-pub numbered_of : (core : Held) (name : Bytes) (options : List Bytes) → held_due core (Keyspace name options) ≡ None → has_name (store_in core) name ≡ false → core.memory.next < 2 ^ 63
+pub numbered_of : (core : Held) (name : Bytes) (options : List Bytes) → held_due core (OfCreation name options) ≡ None → has_name (store_in core) name ≡ false → core.memory.next < 2 ^ 63
 numbered_of core name options none fresh = ((may_create (facts_of core.memory core.catalog.next_table_id) name none).room fresh).numbered
 
-pub id_left : (core : Held) (name : Bytes) (options : List Bytes) → held_due core (Keyspace name options) ≡ None → has_name (store_in core) name ≡ false → core.memory.keyspaces.next ≢ 2 ^ 64 - 1
+pub id_left : (core : Held) (name : Bytes) (options : List Bytes) → held_due core (OfCreation name options) ≡ None → has_name (store_in core) name ≡ false → core.memory.keyspaces.next ≢ 2 ^ 64 - 1
 id_left core name options none fresh same = ((may_create (facts_of core.memory core.catalog.next_table_id) name none).room fresh).free ((rest_is_bare core.memory.keyspaces core.memory.versions).2 ∙ same)
 
 -- a name that a keyspace has
-pub found_serves : (core : Held) (name : Bytes) (options : List Bytes) (id : ℕ) → held_due core (Keyspace name options) ≡ None → id_of name core.memory.keyspaces.living ≡ Some id → Serves core (Keyspace name options) (Number id) core
-found_serves core name options id none found = serves_by core core (Keyspace name options) (Number id) (none, inl (found, refl))
+pub found_serves : (core : Held) (name : Bytes) (options : List Bytes) (id : ℕ) → held_due core (OfCreation name options) ≡ None → id_of name core.memory.keyspaces.living ≡ Some id → Serves core (OfCreation name options) (Number id) core
+found_serves core name options id none found = serves_by core core (OfCreation name options) (Number id) (none, (id, refl, inl (found, refl)))
     (subst (λ (o : Option ℕ). MatchOption o (ReplacesTable core core) (λ found. core.disk ≡ core.disk)) (sym found) refl) (stays_start core.disk) (λ _ _ _ _ _. refl) (λ s d stands on.
     let here : has_name (present s) name ≡ true = a_name_there core.memory core.catalog.next_table_id s stands.remembered name ∙ ap is_some found in
-    still_led core core s d (Keyspace name options) (Number id) (ap (λ b. if b then [] else (Create name (option_pairs options) ∷ [])) here) (λ sync. true≢false (sym here ∙ sync)) refl on)
+    still_led core core s d (OfCreation name options) (Number id) (ap (λ b. if b then [] else (Create name (option_pairs options) ∷ [])) here) (λ sync. true≢false (sym here ∙ sync)) refl on)

@@ -10,8 +10,8 @@ use Rattle.fjall_meta.specs.Keyspaces.{without_keyspace}
 use Rattle.fjall_catalog.specs.declared.update.Update.{Update}
 use Rattle.fjall_catalog.specs.Updates.{IsPreparingRefusal, IsUpdate}
 use Rattle.fjall_versions.proofs.Keeping as Keeping
-use Rattle.fjall_state.specs.declared.call.Call.TheVariants.{DeleteKeyspace}
-use Rattle.fjall_state.specs.declared.call.Reply.TheVariants.{Done, Refused}
+use Rattle.fjall_state.specs.Shapes.{OfDeletion}
+use Rattle.fjall_history.specs.declared.reply.Reply.TheVariants.{Done, Refused}
 use Rattle.fjall_state.specs.Allowed.{HasNumber}
 use Rattle.fjall_state.specs.Machine.{HasLongOption, State, is_living, present}
 use Rattle.fjall_state.specs.Remembered.{IsLawful, Remembered, facts_of, poisoned, with_deletion}
@@ -21,7 +21,8 @@ use Rattle.fjall_files.specs.Tidy.{StaysTidy}
 use Rattle.fjall_files.proofs.Tidying.{stays_both, stays_start}
 use Rattle.fjall_core.specs.Holding.{Held}
 use Rattle.fjall_core.specs.Durables.{Durable, Passes}
-use Rattle.fjall_core.specs.Standing.{Deletes, Owes, OwesRefusal, Poisons, ReplacesTable, Serves, StandsFor, StandsOn, held_due, is_io, store_in}
+use Rattle.fjall_core.specs.Crashes.{is_io}
+use Rattle.fjall_core.specs.Standing.{Deletes, Owes, OwesRefusal, Poisons, ReplacesTable, Serves, StandsFor, StandsOn, held_due, store_in}
 use Rattle.fjall_commit.specs.SyncedChanges.{SyncedThenChanged}
 use Rattle.fjall_core.specs.CallParts.{Unmakes}
 use Rattle.fjall_commit.specs.SyncedChanges as on_disk
@@ -43,7 +44,7 @@ deleted_whole {view} is old held id same =
     (λ i. record view { memory = same i }) ∙ ap (λ (r : Remembered). record view { memory = with_deletion id r }) (ap (λ (h : Held). h.memory) is ∙ held)
     ∙ ap (λ (h : Held). record h { memory = with_deletion id old.memory }) is
 
-module _ (old : Held) (id : ℕ) (none : held_due old (DeleteKeyspace id) ≡ None) (living : is_living (store_in old) id ≡ true) where
+module _ (old : Held) (id : ℕ) (none : held_due old (OfDeletion id) ≡ None) (living : is_living (store_in old) id ≡ true) where
   room : HasNumber (facts_of old.memory old.catalog.next_table_id)
   room = (may_delete (facts_of old.memory old.catalog.next_table_id) id none).number living
 
@@ -79,19 +80,19 @@ module _ (old : Held) (id : ℕ) (none : held_due old (DeleteKeyspace id) ≡ No
     faults = subst (λ (h : Held). old.disk.faults ≤ h.disk.faults) (sym is) all.3;
   }
 
-  pub deleted_owes : (honest : Type 0) (made new : Held) → IsLawful old.memory → Unmakes honest old id (Ok tt) made → Deleted made new → Owes old (DeleteKeyspace id) Done new
-  deleted_owes honest made new lawful all is = (none, inr (living, deletes_of honest made new lawful all is))
+  pub deleted_owes : (honest : Type 0) (made new : Held) → IsLawful old.memory → Unmakes honest old id (Ok tt) made → Deleted made new → Owes old (OfDeletion id) Done new
+  deleted_owes honest made new lawful all is = (none, (refl, inr (living, deletes_of honest made new lawful all is)))
 
   asks_one : (s : State) → StandsFor old s → (if is_living (present s) id then (Delete id ∷ []) else []) ≡ Delete id ∷ []
   asks_one s stands = ap (λ b. if b then (Delete id ∷ []) else []) ((λ i. is_living (stands.remembered.present i) id) ∙ living)
 
-  pub deleted_serves : (honest : Type 0) (made new : Held) → IsLawful old.memory → Unmakes honest old id (Ok tt) made → Deleted made new → honest → Serves old (DeleteKeyspace id) Done new
+  pub deleted_serves : (honest : Type 0) (made new : Held) → IsLawful old.memory → Unmakes honest old id (Ok tt) made → Deleted made new → honest → Serves old (OfDeletion id) Done new
   deleted_serves honest made new lawful all is true_ =
       let turned = all.4 true_ in
       let disk : new.disk ≡ made.disk = ap (λ (h : Held). h.disk) is in
       let changed = subst (λ m. on_disk.DeletedKeyspace turned.mid m all.0 true) (sym disk) turned.changed in
       let well = ap (λ (h : Held). h.memory.poisoned) is ∙ room.well in
-      let led : (s : State) (d : Durable) → StandsFor old s → StandsOn old d → Led new s d (DeleteKeyspace id) Done = λ s d stands on.
+      let led : (s : State) (d : Durable) → StandsFor old s → StandsOn old d → Led new s d (OfDeletion id) Done = λ s d stands on.
       let core : Becomes (between old made turned.mid) new (with_deletion id old.memory) all.0.catalog true =
       record { memory_is = λ _. ap (λ (h : Held). h.memory) is; catalog_is = λ _. ap (λ (h : Held). h.catalog) is ∙ ap (λ (h : Held). h.catalog) all.2; journal_is = λ _. ap (λ (h : Held). h.journal) is } in
       let settled = alter_settles old (between old made turned.mid) new d (Delete id) room.well (stays old made turned.mid) turned.synced
@@ -99,9 +100,9 @@ module _ (old : Held) (id : ℕ) (none : held_due old (DeleteKeyspace id) ≡ No
       well
       (sym (Keeping.deletion_of_versions id old.memory.keyspaces old.memory.versions) ∙ ap (λ (h : Held). kept (store_in h)) (sym is)) on in
       (settled.0, settled.1, (subst (λ l. Passes d l settled.0) (sym (asks_one s stands)) settled.2, λ sync. settled.3)) in
-      serves_by old new (DeleteKeyspace id) Done (deleted_owes honest made new lawful all is)
+      serves_by old new (OfDeletion id) Done (deleted_owes honest made new lawful all is)
       (subst (λ (b : Bool). MatchBool b (ReplacesTable old new) (new.disk ≡ old.disk)) (sym living)
-      (replaces_table old new (DeleteKeyspace id) Done (changed.gone refl old.catalog _ old.memory.next all.1) well led))
+      (replaces_table old new (OfDeletion id) Done (changed.gone refl old.catalog _ old.memory.next all.1) well led))
       (subst (λ (m : Meaning). StaysTidy old.disk m) (sym disk) (stays_both old.disk turned.mid made.disk turned.synced.kinds turned.changed.kinds))
       (λ s d stands on tidy. served_by made new turned.mid all.0 true all.1 changed turned.synced d on) led
 
@@ -124,18 +125,18 @@ module _ (old : Held) (id : ℕ) (none : held_due old (DeleteKeyspace id) ≡ No
   no_number lawful (inl high) = let low = room.numbered in absurd (let bad : ⊥ = omega (arith, high, low) in bad)
   no_number lawful (inr table) = absurd (room.table (some_left old.memory.keyspaces lawful.keyspaces old.memory.versions id living table.0) table.1)
 
-  pub undeleted_owes : (honest : Type 0) (made new : Held) (error : Error) → IsLawful old.memory → Unmakes honest old id (Err error) made → Back made new error → Owes old (DeleteKeyspace id) (Refused error) new
-  undeleted_owes honest made new (Io kind) lawful all back = subst (λ first. OwesRefusal first old (DeleteKeyspace id) (Io kind) new) (sym none) (tt, poisons_of honest made new kind all back)
-  undeleted_owes honest made new OutOfMemory lawful all back = subst (λ (h : Held). Owes old (DeleteKeyspace id) (Refused OutOfMemory) h) (sym (back ∙ all.0)) (memory_owes old (DeleteKeyspace id) tt none)
-  undeleted_owes honest made new ValueTooLong lawful all back = subst (λ (h : Held). Owes old (DeleteKeyspace id) (Refused ValueTooLong) h) (sym (back ∙ all.0)) (long_owes old (DeleteKeyspace id) (too_long lawful all.1) none)
+  pub undeleted_owes : (honest : Type 0) (made new : Held) (error : Error) → IsLawful old.memory → Unmakes honest old id (Err error) made → Back made new error → Owes old (OfDeletion id) (Refused error) new
+  undeleted_owes honest made new (Io kind) lawful all back = subst (λ first. OwesRefusal first old (OfDeletion id) (Io kind) new) (sym none) (tt, poisons_of honest made new kind all back)
+  undeleted_owes honest made new OutOfMemory lawful all back = subst (λ (h : Held). Owes old (OfDeletion id) (Refused OutOfMemory) h) (sym (back ∙ all.0)) (memory_owes old (OfDeletion id) tt none)
+  undeleted_owes honest made new ValueTooLong lawful all back = subst (λ (h : Held). Owes old (OfDeletion id) (Refused ValueTooLong) h) (sym (back ∙ all.0)) (long_owes old (OfDeletion id) (too_long lawful all.1) none)
   undeleted_owes honest made new NumbersUsedUp lawful all back = no_number lawful all.1
   undeleted_owes honest made new error lawful all back = absurd all.1
 
-  pub undeleted_serves : (honest : Type 0) (made new : Held) (error : Error) → IsLawful old.memory → Unmakes honest old id (Err error) made → Back made new error → honest → Serves old (DeleteKeyspace id) (Refused error) new
+  pub undeleted_serves : (honest : Type 0) (made new : Held) (error : Error) → IsLawful old.memory → Unmakes honest old id (Err error) made → Back made new error → honest → Serves old (OfDeletion id) (Refused error) new
   undeleted_serves honest made new (Io kind) lawful all back true_ =
       let fault = poisons_of honest made new kind all back in
       let disk : new.disk ≡ made.disk = ap (λ (h : Held). h.disk) back in
-      serves_by old new (DeleteKeyspace id) (Refused (Io kind)) (undeleted_owes honest made new (Io kind) lawful all back) tt
+      serves_by old new (OfDeletion id) (Refused (Io kind)) (undeleted_owes honest made new (Io kind) lawful all back) tt
       (subst (λ (m : Meaning). StaysTidy old.disk m) (sym disk) (⊎_elim (λ unsynced. unsynced.kinds) (λ turned. stays_both old.disk turned.mid made.disk turned.synced.kinds turned.changed.kinds) (all.5 true_)))
       (λ s d stands on tidy. record {
         rose = fault.faults;
@@ -144,21 +145,21 @@ module _ (old : Held) (id : ℕ) (none : held_due old (DeleteKeyspace id) ≡ No
             (λ turned. served_by made new turned.mid all.0 false all.1 (subst (λ m. on_disk.DeletedKeyspace turned.mid m all.0 false) (sym disk) turned.changed) turned.synced d on)
             (all.5 true_);
       }) (λ s d stands on.
-      led_by new s d (DeleteKeyspace id) (Refused (Io kind)) (Delete id ∷ []) (asks_one s stands) (λ sync. sync)
+      led_by new s d (OfDeletion id) (Refused (Io kind)) (Delete id ∷ []) (asks_one s stands) (λ sync. sync)
       (⊎_elim
       (λ unsynced. unsynced_leads old new d (Delete id) room.well fault (subst (λ (h : Held). on_disk.Persisted old.disk h.disk old.journal h.journal SyncAll false) (sym back) unsynced) on)
       (λ turned. unaltered_leads old (between old made turned.mid) new d (Delete id) room.well (stays old made turned.mid) turned.synced
       (changes_by made new turned.mid all.0 false all.1 (subst (λ m. on_disk.DeletedKeyspace turned.mid m all.0 false) (sym disk) turned.changed)
       (record { memory_is = λ e. not_done e; catalog_is = λ e. not_done e; journal_is = λ e. not_done e })) fault on)
       (all.5 true_)))
-  undeleted_serves honest made new OutOfMemory lawful all back true_ = subst (λ (h : Held). Serves old (DeleteKeyspace id) (Refused OutOfMemory) h) (sym (back ∙ all.0)) (memory_serves old (DeleteKeyspace id) tt none)
-  undeleted_serves honest made new ValueTooLong lawful all back true_ = subst (λ (h : Held). Serves old (DeleteKeyspace id) (Refused ValueTooLong) h) (sym (back ∙ all.0)) (long_serves old (DeleteKeyspace id) (too_long lawful all.1) none)
+  undeleted_serves honest made new OutOfMemory lawful all back true_ = subst (λ (h : Held). Serves old (OfDeletion id) (Refused OutOfMemory) h) (sym (back ∙ all.0)) (memory_serves old (OfDeletion id) tt none)
+  undeleted_serves honest made new ValueTooLong lawful all back true_ = subst (λ (h : Held). Serves old (OfDeletion id) (Refused ValueTooLong) h) (sym (back ∙ all.0)) (long_serves old (OfDeletion id) (too_long lawful all.1) none)
   undeleted_serves honest made new NumbersUsedUp lawful all back true_ = no_number lawful all.1
   undeleted_serves honest made new error lawful all back true_ = absurd all.1
 
 -- a keyspace that is deleted already
-pub gone_serves : (core : Held) (id : ℕ) → held_due core (DeleteKeyspace id) ≡ None → is_living (store_in core) id ≡ false → Serves core (DeleteKeyspace id) Done core
-gone_serves core id none gone = serves_by core core (DeleteKeyspace id) Done (none, inl (gone, refl))
+pub gone_serves : (core : Held) (id : ℕ) → held_due core (OfDeletion id) ≡ None → is_living (store_in core) id ≡ false → Serves core (OfDeletion id) Done core
+gone_serves core id none gone = serves_by core core (OfDeletion id) Done (none, (refl, inl (gone, refl)))
     (subst (λ (b : Bool). MatchBool b (ReplacesTable core core) (core.disk ≡ core.disk)) (sym gone) refl) (stays_start core.disk) (λ _ _ _ _ _. refl) (λ s d stands on.
     let here : is_living (present s) id ≡ false = (λ i. is_living (stands.remembered.present i) id) ∙ gone in
-    still_led core core s d (DeleteKeyspace id) Done (ap (λ b. if b then (Delete id ∷ []) else []) here) (λ sync. true≢false (sym sync ∙ here)) refl on)
+    still_led core core s d (OfDeletion id) Done (ap (λ b. if b then (Delete id ∷ []) else []) here) (λ sync. true≢false (sym sync ∙ here)) refl on)

@@ -14,11 +14,11 @@ use Rattle.fjall_base.specs.declared.error.Error.TheVariants.{Io}
 use Rattle.fjall_recovery.specs.Refusals.{HasRisen}
 use Rattle.fjall_recovery.specs.Places.{Journaling}
 use Rattle.fjall_commit.specs.Journaling.{IsWriting}
-use Rattle.fjall_state.specs.declared.call.Reply.TheVariants.{Refused}
+use Rattle.fjall_history.specs.declared.reply.Reply.TheVariants.{Refused}
 use Rattle.fjall_core.specs.Holding.{Held}
 use Rattle.fjall_core.specs.Durables.{Durable}
-use Rattle.fjall_core.specs.Crashes.{BlamesDevice}
-use Rattle.fjall_core.specs.Standing.{StandsOn, is_io}
+use Rattle.fjall_core.specs.Crashes.{BlamesDevice, is_io}
+use Rattle.fjall_core.specs.Standing.{StandsOn}
 
 -- a refusal that is no fault, and changes nothing
 pub refusal_blames : (error : Error) (disk : Meaning) → is_io error ≡ false → BlamesDevice (Refused error) disk disk

@@ -1,38 +1,45 @@
 -- Where a write leads a core and its disk.
-use Rattle.std.proofs.Common.{◌≡◌, inr, ℕ, ◌+◌, ◌<◌, ◌≤◌, ◌^◌, ◌==◌, max, nat_lt, Bool, true, false, List, [], ◌∷◌, ◌++◌, map, Option, Some, None, unwrap_or, refl, sym, ◌∙◌, ap, subst, arith, lt-ltb}
+use Rattle.std.proofs.Common.{◌≡◌, ◌≢◌, All, inr, ℕ, ◌+◌, ◌<◌, ◌≤◌, ◌^◌, ◌==◌, max, nat_lt, Bool, true, false, List, [], ◌∷◌, ◌++◌, map, Option, Some, None, unwrap_or, refl, sym, ◌∙◌, ap, subst, arith, lt-ltb}
 use Rattle.std.proofs.lemmas.Bool.{true≢false}
 use Rattle.std.proofs.lemmas.List.{append-nil}
+use Rattle.std.proofs.lemmas.List.Elements.{All-weaker}
 use Rattle.std.specs.Option.{is_some, option_map}
-use Rattle.fjall_base.specs.Pairs.{Bytes}
 use Rattle.fjall_base.specs.Store.{Store, Command, fold, kept}
 use Rattle.fjall_base.specs.Disk.{LeavesOnly, state_in}
 use Rattle.fjall_base.proofs.Moments.{at_end}
-use Rattle.fjall_journal.specs.Batches.{Written, of_item, shown}
+use Rattle.fjall_journal.specs.Batches.{Written, shown}
+use Rattle.fjall_journal.specs.Ops.{BatchItem, of_items, write_of}
+use Rattle.fjall_journal.specs.declared.persist_mode.PersistMode.{PersistMode}
+use Rattle.fjall_journal.specs.declared.persist_mode.PersistMode.TheVariants.{Buffer, SyncAll, SyncData}
 use Rattle.fjall_meta.specs.declared.living.LivingKeyspace.{LivingKeyspace}
 use Rattle.fjall_meta.specs.Keyspaces.{Keyspaces, keyspace_at}
-use Rattle.fjall_versions.specs.Replays.{counts, is_indirection, journal_commands, value_of}
+use Rattle.fjall_versions.specs.Replays.{counts, first_fault, journal_commands}
 use Rattle.fjall_versions.specs.Versions.{store_of}
 use Rattle.fjall_versions.proofs.Found.{found_has}
 use Rattle.fjall_versions.proofs.Kept.{kept_along}
 use Rattle.fjall_versions.proofs.Naming.{living_names}
-use Rattle.fjall_versions.proofs.Replaying.{one_item, one_more_version}
 use Rattle.fjall_versions.proofs.Slots.{fold-append}
+use Rattle.fjall_versions.proofs.Writes.{batch_command, items_store}
 use Rattle.fjall_catalog.specs.Catalog.{fields}
 use Rattle.fjall_contents.proofs.Following.{beyond_all}
 use Rattle.fjall_recovery.specs.Homes.{lasts, stored_in}
 use Rattle.fjall_recovery.specs.Folders.{past_records}
-use Rattle.fjall_recovery.specs.Places.{Journaling}
+use Rattle.fjall_recovery.specs.Journals.{Journal, batches_in}
+use Rattle.fjall_recovery.specs.Folders as folders
+use Rattle.fjall_recovery.specs.Places.{Journaling, LiesInTree, contents_with, journals_with}
 use Rattle.fjall_recovery.proofs.Storing.{beyond_lasts}
-use Rattle.fjall_commit.specs.Journaling.{CanFollow, IsWriting, LeavesRoot, next_number, with_batch}
-use Rattle.fjall_commit.proofs.Batches.{next-batch}
-use Rattle.fjall_state.specs.Ops.{Op, Put, Remove, RemoveWeak, bytes_in, kind_of, op_text, value_in}
-use Rattle.fjall_state.specs.Machine.{is_living, write_of}
-use Rattle.fjall_state.specs.Remembered.{IsLawful, Remembered, version_of, with_version}
+use Rattle.fjall_contents.specs.Contents.{store_held}
+use Rattle.fjall_commit.specs.Journaling.{CanFollow, IsWriting, after_mode, is_out, next_number, synced, with_batch}
+use Rattle.fjall_commit.proofs.Batches.{kept-mode, next-mode}
+use Rattle.fjall_state.specs.Machine.{is_living}
+use Rattle.fjall_state.specs.Remembered.{IsLawful, Remembered, with_items}
 use Rattle.fjall_core.specs.Holding.{Held}
 use Rattle.fjall_core.specs.Durables.{Durable, Lies, MakesPresent, Passes, Rests, StandsAmid, StaysFinished}
-use Rattle.fjall_core.specs.Standing.{Grows, Poisons, StandsOn, store_in}
-use Rattle.fjall_core.proofs.KeyspacesUnchanged.{SameKeyspaces, tree_along}
-use Rattle.fjall_core.proofs.CrashImages.{commanded, commands_more, leaves_finished, lies_rest, root_amid, root_finished}
+use Rattle.fjall_core.specs.CallParts.{WentOut}
+use Rattle.fjall_core.specs.Crashes.{IsSyncOf}
+use Rattle.fjall_core.specs.Standing.{Poisons, StandsOn, store_in}
+use Rattle.fjall_core.proofs.KeyspacesUnchanged.{tree_along}
+use Rattle.fjall_core.proofs.CrashImages.{commanded, commands_more, kept_with, leaves_finished, lies_rest, root_amid, root_finished}
 
 -- the core stands on some disk now, to which these commands lead
 abbrev pub Leads : Held → Durable → List Command → Type 0
@@ -80,11 +87,12 @@ stands_ill core base pending ill rests finished present = record {
   present = subst (λ b. MakesPresent b (held_on core base pending) (store_in core)) (sym ill) present;
 }
 
--- ---- a write that nothing refuses
+-- ---- a change that nothing refuses
 
-pub record IsAdmitted (core : Held) (id : ℕ) : Type 0 where
+pub record IsAdmitted (core : Held) (items : List BatchItem) : Type 0 where
   pub well : core.memory.poisoned ≡ false
-  pub living : is_living (store_in core) id ≡ true
+  pub some : items ≢ []
+  pub living : All (λ item. is_living (store_in core) item.0 ≡ true) items
   pub room : core.memory.next < 2 ^ 63
   pub lawful : IsLawful core.memory
 
@@ -92,123 +100,212 @@ is_there : {X : Type 0} (o : Option X) → is_some o ≡ true → (x : X) × (o 
 is_there (Some x) is = (x, refl)
 is_there None is = absurd (true≢false (sym is))
 
--- its batch counts
-pub it_counts : (core : Held) (id : ℕ) → IsAdmitted core id → counts core.memory.keyspaces core.memory.next id ≡ true
-it_counts core id admitted =
+-- an item of a keyspace that lives counts
+it_counts : (core : Held) (id : ℕ) → IsLawful core.memory → is_living (store_in core) id ≡ true → counts core.memory.keyspaces core.memory.next id ≡ true
+it_counts core id lawful is =
     let living = core.memory.keyspaces.living in
-    let found = is_there (keyspace_at id living) (sym (living_names core.memory.keyspaces core.memory.versions id) ∙ admitted.living) in
-    let lesser : found.0.number < core.memory.next = found_has (λ (k : LivingKeyspace). k.id == id) (λ (k : LivingKeyspace). k.number < core.memory.next) living found.0 found.1 admitted.lawful.made in
+    let found = is_there (keyspace_at id living) (sym (living_names core.memory.keyspaces core.memory.versions id) ∙ is) in
+    let lesser : found.0.number < core.memory.next = found_has (λ (k : LivingKeyspace). k.id == id) (λ (k : LivingKeyspace). k.number < core.memory.next) living found.0 found.1 lawful.made in
     ap (λ o. unwrap_or (option_map (λ (k : LivingKeyspace). nat_lt k.number core.memory.next) o) false) found.1 ∙ lt-ltb found.0.number core.memory.next lesser
 
-op_value : (o : Op) → value_of (kind_of o) (bytes_in o) ≡ value_in o
-op_value (Put value) = refl
-op_value Remove = refl
-op_value RemoveWeak = refl
+all_count : (core : Held) (items : List BatchItem) → IsLawful core.memory → All (λ item. is_living (store_in core) item.0 ≡ true) items → All (λ item. counts core.memory.keyspaces core.memory.next item.0 ≡ true) items
+all_count core items lawful living =
+    All-weaker (λ (i : BatchItem). is_living (store_in core) i.0 ≡ true) (λ (i : BatchItem). counts core.memory.keyspaces core.memory.next i.0 ≡ true) (λ i is. it_counts core i.0 lawful is) items living
 
-op_direct : (o : Op) → is_indirection (kind_of o) ≡ false
-op_direct (Put value) = refl
-op_direct Remove = refl
-op_direct RemoveWeak = refl
+-- the batch of these items under a core's next number
+abbrev pub batch_of : Held → List BatchItem → Written
+batch_of core items = of_items items core.memory.next
 
--- what its batch commands
-batch_commands : (core : Held) (id : ℕ) (key : Bytes) (o : Op) → IsAdmitted core id
-    → journal_commands core.memory.keyspaces (map shown (of_item id key (bytes_in o) (kind_of o) core.memory.next ∷ [])) ≡ write_of id key (value_in o) ∷ []
-batch_commands core id key o admitted =
-    append-nil _ ∙ one_item core.memory.keyspaces id key (bytes_in o) (kind_of o) core.memory.next (it_counts core id admitted) ∙ ap (λ v. write_of id key v ∷ []) (op_value o)
+-- what it commands
+batch_commands : (core : Held) (items : List BatchItem) → IsAdmitted core items → journal_commands core.memory.keyspaces (map shown (batch_of core items ∷ [])) ≡ write_of items ∷ []
+batch_commands core items admitted = append-nil _ ∙ batch_command core.memory.keyspaces items core.memory.next admitted.some (all_count core items admitted.lawful admitted.living)
 
 -- which is all beyond what the homes' files hold
-batch_beyond : (core : Held) (base : Store) (pending : List Command) (id : ℕ) (key : Bytes) (o : Op) → IsAdmitted core id → (lies : Lies core (held_on core base pending))
-    → commanded lies.tree (of_item id key (bytes_in o) (kind_of o) core.memory.next ∷ []) ≡ write_of id key (value_in o) ∷ []
-batch_beyond core base pending id key o admitted lies =
+batch_beyond : (core : Held) (base : Store) (pending : List Command) (items : List BatchItem) → IsAdmitted core items → (lies : Lies core (held_on core base pending)) → commanded lies.tree (batch_of core items ∷ []) ≡ write_of items ∷ []
+batch_beyond core base pending items admitted lies =
     let t = lies.tree in
-    let batch = of_item id key (bytes_in o) (kind_of o) core.memory.next in
+    let batch = batch_of core items in
     let past : past_records (lasts t.keyspaces.living t.homes) ≤ core.memory.next = omega (arith, lies.next) in
     let beyond = beyond_lasts t.homes t.versions t.keyspaces.living core.memory.next past in
     ap (λ (l : List Command). l ++ []) (beyond_all t.keyspaces (stored_in t.homes t.versions) (shown batch) beyond)
-    ∙ ap (λ (s : Keyspaces). journal_commands s (map shown (batch ∷ []))) lies.keyspaces ∙ batch_commands core id key o admitted
+    ∙ ap (λ (s : Keyspaces). journal_commands s (map shown (batch ∷ []))) lies.keyspaces ∙ batch_commands core items admitted
 
 -- it follows the batches that stand
-pub it_follows : (core : Held) (base : Store) (pending : List Command) (o : Op) (room : core.memory.next < 2 ^ 63) (lies : Lies core (held_on core base pending)) → CanFollow lies.journals core.memory.next (kind_of o)
-it_follows core base pending o room lies = record { above = omega (arith, lies.next); room = room; direct = op_direct o }
+pub it_follows : (core : Held) (base : Store) (pending : List Command) (room : core.memory.next < 2 ^ 63) (lies : Lies core (held_on core base pending)) → CanFollow lies.journals core.memory.next
+it_follows core base pending room lies = record { above = omega (arith, lies.next); room = room }
 
 more_max : (n past next : ℕ) → next ≡ max n past → n ≤ next → next + 1 ≡ max (next + 1) past
 more_max n past next is le = omega arith
 
--- one version more in memory is one command more
-present_more : (old new : Held) (base : Store) (pending : List Command) (id : ℕ) (key : Bytes) (o : Op) → new.memory ≡ with_version (version_of old.memory.next id key o) old.memory
-    → kept (fold base pending) ≡ kept (store_in old) → kept (fold base (pending ++ write_of id key (value_in o) ∷ [])) ≡ kept (store_in new)
-present_more old new base pending id key o is was =
-    let version = version_of old.memory.next id key o in
-    ap kept (fold-append base pending (write_of id key (value_in o) ∷ []))
-    ∙ kept_along (fold base pending) (store_in old) (write_of id key (value_in o) ∷ []) was
-    ∙ ap kept (sym (one_more_version old.memory.keyspaces old.memory.versions version))
+-- versions of these items more in memory are one command more
+pub present_more : (old new : Held) (base : Store) (pending : List Command) (items : List BatchItem) → new.memory ≡ with_items items old.memory → kept (fold base pending) ≡ kept (store_in old)
+    → kept (fold base (pending ++ write_of items ∷ [])) ≡ kept (store_in new)
+present_more old new base pending items is was =
+    ap kept (fold-append base pending (write_of items ∷ []))
+    ∙ kept_along (fold base pending) (store_in old) (write_of items ∷ []) was
+    ∙ ap kept (sym (items_store old.memory.keyspaces old.memory.versions items old.memory.next))
     ∙ ap (λ (m : Remembered). kept (store_of m.keyspaces m.versions)) (sym is)
 
--- what a write, which goes out or waits, did to the disk and to the journal's writer
-pub record WentOut (old new : Held) (batch : Written) (o : Op) (goes done : Bool) : Type 0 where
-  pub leaves : (j : Journaling) → IsWriting (state_in old.disk) old.journal j → CanFollow j old.memory.next (kind_of o) → LeavesOnly old.disk new.disk (LeavesRoot (state_in old.disk) j (j.later ++ batch ∷ []))
-  pub lies : done ≡ true → (j : Journaling) → IsWriting (state_in old.disk) old.journal j → CanFollow j old.memory.next (kind_of o) → IsWriting (state_in new.disk) new.journal (with_batch goes j batch)
-  pub elsewhere : (j : Journaling) → IsWriting (state_in old.disk) old.journal j → SameKeyspaces (state_in old.disk) (state_in new.disk)
+-- what the change did to the disk and to the journal's writer
+abbrev pub Wrote : Held → Held → List BatchItem → Option PersistMode → Bool → Type 0
+Wrote old new items mode done = WentOut old.disk new.disk old.journal new.journal (batch_of old items) mode done
 
 -- what a crash during it or after it leaves
-write_leaves : (old new : Held) (base : Store) (pending : List Command) (id : ℕ) (key : Bytes) (o : Op) (goes done : Bool) → IsAdmitted old id → (lies : Lies old (held_on old base pending))
-    → WentOut old new (of_item id key (bytes_in o) (kind_of o) old.memory.next) o goes done → LeavesOnly old.disk new.disk (StandsAmid base [] (pending ++ write_of id key (value_in o) ∷ []))
-write_leaves old new base pending id key o goes done admitted lies out =
-    let batch = of_item id key (bytes_in o) (kind_of o) old.memory.next in
-    let commands = batch_beyond old base pending id key o admitted lies in
-    subst (λ (l : List Command). LeavesOnly old.disk new.disk (StandsAmid base [] (pending ++ l))) commands
-    (root_amid base pending old.disk new.disk lies.journals lies.records lies.tree (batch ∷ []) lies.made lies.waits lies.in_tree
-    (out.leaves lies.journals lies.writing (it_follows old base pending o admitted.room lies)))
+change_leaves : (old new : Held) (base : Store) (pending : List Command) (items : List BatchItem) (mode : Option PersistMode) (done : Bool) → IsAdmitted old items → (lies : Lies old (held_on old base pending)) → Wrote old new items mode done
+    → LeavesOnly old.disk new.disk (StandsAmid base [] (pending ++ write_of items ∷ []))
+change_leaves old new base pending items mode done admitted lies out =
+    subst (λ (l : List Command). LeavesOnly old.disk new.disk (StandsAmid base [] (pending ++ l))) (batch_beyond old base pending items admitted lies)
+    (root_amid base pending old.disk new.disk lies.journals lies.records lies.tree (batch_of old items ∷ []) lies.made lies.waits lies.in_tree (out.leaves lies.journals lies.writing (it_follows old base pending admitted.room lies)))
 
--- where base and pending lie after it
-write_lies : (old new : Held) (base : Store) (pending : List Command) (id : ℕ) (key : Bytes) (o : Op) (goes : Bool) → IsAdmitted old id → Grows old (version_of old.memory.next id key o) (op_text id key o old.memory.next) new
-    → (lies : Lies old (held_on old base pending)) → WentOut old new (of_item id key (bytes_in o) (kind_of o) old.memory.next) o goes true → Lies new (held_on new base (pending ++ write_of id key (value_in o) ∷ []))
-write_lies old new base pending id key o goes admitted grows lies out =
-    let batch = of_item id key (bytes_in o) (kind_of o) old.memory.next in
-    let j = lies.journals in
-    let t = lies.tree in
-    let follows = it_follows old base pending o admitted.room lies in
-    let commands = batch_beyond old base pending id key o admitted lies in
-    let number = next-batch goes j batch in
-    let past = past_records (fields t.last ∷ lasts t.keyspaces.living t.homes) in
-    record {
-      journals = with_batch goes j batch;
-      records = lies.records;
-      tree = t;
-      writing = out.lies refl j lies.writing follows;
-      in_tree = tree_along (state_in old.disk) (state_in new.disk) lies.records t (out.elsewhere j lies.writing) lies.in_tree;
-      last = lies.last ∙ sym grows.catalog;
-      keyspaces = lies.keyspaces ∙ ap (λ (m : Remembered). m.keyspaces) (sym grows.memory_is);
-      made = lies.made;
-      waits = ap (λ (l : List Command). l ++ write_of id key (value_in o) ∷ []) lies.waits
-          ∙ ap (λ (l : List Command). commanded t j.later ++ l) (sym commands) ∙ sym (commands_more t j.later (batch ∷ []));
-      next = ap (λ (m : Remembered). m.next) grows.memory_is ∙ more_max (next_number j) past old.memory.next lies.next follows.above ∙ ap (λ n. max n past) (sym number);
-    }
+-- what is held goes on from there
+pub record GoesOn (old new : Held) (items : List BatchItem) : Type 0 where
+  pub memory_is : new.memory ≡ with_items items old.memory
+  pub catalog : new.catalog ≡ old.catalog
 
-write_passes : (old new : Held) (base : Store) (pending tried : List Command) → LeavesOnly old.disk new.disk (StandsAmid base [] (pending ++ tried)) → Rests (held_on new base (pending ++ tried))
-    → Passes (held_on old base pending) tried (held_on new base (pending ++ tried))
-write_passes old new base pending tried leaves rests = record { leaves = leaves; safe = []; base = refl; rest = refl; rests = rests }
+module _ (old new : Held) (base : Store) (pending : List Command) (items : List BatchItem) (mode : Option PersistMode) (admitted : IsAdmitted old items) (goes : GoesOn old new items) (lies : Lies old (held_on old base pending)) (out : Wrote old new items mode true) (goes_out : Bool)
+    (writes : IsWriting (state_in new.disk) new.journal (after_mode mode (with_batch goes_out lies.journals (batch_of old items)))) where
+  abbrev all : List Command
+  all = pending ++ write_of items ∷ []
 
--- a write that was done
-pub write_leads : (old new : Held) (id : ℕ) (key : Bytes) (o : Op) (goes : Bool) (d : Durable) → IsAdmitted old id → Grows old (version_of old.memory.next id key o) (op_text id key o old.memory.next) new
-    → WentOut old new (of_item id key (bytes_in o) (kind_of o) old.memory.next) o goes true → StandsOn old d → Leads new d (write_of id key (value_in o) ∷ [])
-write_leads old new id key o goes d admitted grows out = leads_on old new d (write_of id key (value_in o) ∷ []) (λ base pending stands.
-    let command = write_of id key (value_in o) in
+  abbrev after : Journaling
+  after = after_mode mode (with_batch goes_out lies.journals (batch_of old items))
+
+  waits_too : all ≡ commanded lies.tree (lies.journals.later ++ batch_of old items ∷ [])
+  waits_too =
+      ap (λ (l : List Command). l ++ write_of items ∷ []) lies.waits
+      ∙ ap (λ (l : List Command). commanded lies.tree lies.journals.later ++ l) (sym (batch_beyond old base pending items admitted lies)) ∙ sym (commands_more lies.tree lies.journals.later (batch_of old items ∷ []))
+
+  next_too : new.memory.next ≡ max (next_number after) (past_records (fields lies.tree.last ∷ lasts lies.tree.keyspaces.living lies.tree.homes))
+  next_too =
+      let past = past_records (fields lies.tree.last ∷ lasts lies.tree.keyspaces.living lies.tree.homes) in
+      ap (λ (m : Remembered). m.next) goes.memory_is ∙ more_max (next_number lies.journals) past old.memory.next lies.next (it_follows old base pending admitted.room lies).above
+      ∙ ap (λ n. max n past) (sym (next-mode mode goes_out lies.journals (batch_of old items)))
+
+  in_tree_too : LiesInTree (state_in new.disk) lies.records lies.tree
+  in_tree_too = tree_along (state_in old.disk) (state_in new.disk) lies.records lies.tree (out.elsewhere lies.journals lies.writing) lies.in_tree
+
+  -- where base and pending lie after it, while it may wait and isn't synced
+  pub pending_lies : kept base ≡ folders.store_of (contents_with after lies.tree []) → all ≡ commanded lies.tree after.later → Lies new (held_on new base all)
+  pending_lies made waits = record {
+    journals = after;
+    records = lies.records;
+    tree = lies.tree;
+    writing = writes;
+    in_tree = in_tree_too;
+    last = lies.last ∙ sym goes.catalog;
+    keyspaces = lies.keyspaces ∙ ap (λ (m : Remembered). m.keyspaces) (sym goes.memory_is);
+    made = made;
+    waits = waits;
+    next = next_too;
+  }
+
+  -- and once it is synced: all is in the base
+  pub settled_lies : kept (fold base all) ≡ folders.store_of (contents_with after lies.tree []) → [] ≡ commanded lies.tree after.later → Lies new (held_on new (fold base all) [])
+  settled_lies made waits = record {
+    journals = after;
+    records = lies.records;
+    tree = lies.tree;
+    writing = writes;
+    in_tree = in_tree_too;
+    last = lies.last ∙ sym goes.catalog;
+    keyspaces = lies.keyspaces ∙ ap (λ (m : Remembered). m.keyspaces) (sym goes.memory_is);
+    made = made;
+    waits = waits;
+    next = next_too;
+  }
+
+  -- the journals with a batch more are sound, since what was written is
+  sound_more : first_fault 0 (map shown (batches_in (journals_with lies.journals (lies.journals.later ++ batch_of old items ∷ [])))) ≡ None
+  sound_more = ap (λ (l : List Journal). first_fault 0 (map shown (batches_in l))) (sym (kept-mode mode (with_batch goes_out lies.journals (batch_of old items)))) ∙ writes.root.sound
+
+  -- the synced journals hold what they held
+  synced_too : journals_with (synced (with_batch goes_out lies.journals (batch_of old items))) [] ≡ journals_with lies.journals (lies.journals.later ++ batch_of old items ∷ [])
+  synced_too = ap (λ (l : List Written). lies.journals.sealed ++ record { id = lies.journals.active; batches = l } ∷ []) (append-nil (lies.journals.whole ++ (lies.journals.later ++ batch_of old items ∷ [])))
+
+  pub settled_made : kept (fold base all) ≡ folders.store_of (contents_with (synced (with_batch goes_out lies.journals (batch_of old items))) lies.tree [])
+  settled_made =
+      let t = lies.tree in
+      ap (λ (l : List Command). kept (fold base l)) waits_too
+      ∙ kept_with lies.journals t (lies.journals.later ++ batch_of old items ∷ []) lies.in_tree.rests.versions sound_more base lies.made
+      ∙ ap (λ (l : List Journal). store_held t.keyspaces (stored_in t.homes t.versions) (map shown (batches_in l))) (sym synced_too)
+
+-- a change that waits, or is in the file and isn't synced
+unsynced_leads : (old new : Held) (items : List BatchItem) (mode : Option PersistMode) (base : Store) (pending : List Command) (admitted : IsAdmitted old items) → GoesOn old new items → (stands : StandsOn old (held_on old base pending))
+    → Wrote old new items mode true → Lies new (held_on new base (pending ++ write_of items ∷ [])) → Leads new (held_on old base pending) (write_of items ∷ [])
+unsynced_leads old new items mode base pending admitted goes stands out after =
+    let command = write_of items in
+    let well : new.memory.poisoned ≡ false = ap (λ (m : Remembered). m.poisoned) goes.memory_is ∙ admitted.well in
+    let on = stands_well new base (pending ++ command ∷ []) well after (present_more old new base pending items goes.memory_is (present_of old (held_on old base pending) false admitted.well stands)) in (
+      held_on new base (pending ++ command ∷ []),
+      on,
+      record { leaves = change_leaves old new base pending items mode true admitted (stands.lies admitted.well) out; safe = []; base = refl; rest = refl; rests = on.rests },
+    )
+
+-- a change that was synced: nothing is pending
+synced_settles : (old new : Held) (items : List BatchItem) (mode : PersistMode) (base : Store) (pending : List Command) (admitted : IsAdmitted old items) → GoesOn old new items → (stands : StandsOn old (held_on old base pending))
+    → Wrote old new items (Some mode) true → Lies new (held_on new (fold base (pending ++ write_of items ∷ [])) []) → Settles new (held_on old base pending) (write_of items ∷ [])
+synced_settles old new items mode base pending admitted goes stands out after =
+    let command = write_of items in
+    let all = pending ++ command ∷ [] in
+    let well : new.memory.poisoned ≡ false = ap (λ (m : Remembered). m.poisoned) goes.memory_is ∙ admitted.well in
+    let on = stands_well new (fold base all) [] well after (present_more old new base pending items goes.memory_is (present_of old (held_on old base pending) false admitted.well stands)) in (
+      held_on new (fold base all) [],
+      on,
+      record { leaves = change_leaves old new base pending items (Some mode) true admitted (stands.lies admitted.well) out; safe = all; base = refl; rest = append-nil all; rests = on.rests },
+      refl,
+    )
+
+-- what a change that was done leads to: where its mode syncs, nothing is pending
+abbrev pub LeadsBy : Held → Durable → List BatchItem → Option PersistMode → Type 0
+LeadsBy new d items mode = (e : Durable) × StandsOn new e × Passes d (write_of items ∷ []) e × (IsSyncOf mode → e.pending ≡ [])
+
+-- that the batch was written as the mode has it
+writes_so : (old new : Held) (base : Store) (pending : List Command) (items : List BatchItem) (mode : Option PersistMode) → IsAdmitted old items → (lies : Lies old (held_on old base pending)) → Wrote old new items mode true
+    → IsWriting (state_in new.disk) new.journal (after_mode mode (with_batch (is_out mode old.journal (batch_of old items)) lies.journals (batch_of old items)))
+writes_so old new base pending items mode admitted lies out = out.lies refl lies.journals lies.writing (it_follows old base pending admitted.room lies)
+
+pub write_leads : (old new : Held) (items : List BatchItem) (mode : Option PersistMode) (d : Durable) → IsAdmitted old items → GoesOn old new items → Wrote old new items mode true → StandsOn old d → LeadsBy new d items mode
+write_leads old new items None d admitted goes out stands =
+    let led = leads_on old new d (write_of items ∷ []) (λ base pending on.
+    let lies = on.lies admitted.well in
+    let writes = writes_so old new base pending items None admitted lies out in
+    let goes_out = is_out None old.journal (batch_of old items) in
+    unsynced_leads old new items None base pending admitted goes on out
+    (pending_lies old new base pending items None admitted goes lies out goes_out writes lies.made (waits_too old new base pending items None admitted goes lies out goes_out writes))) stands in
+    (led.0, led.1, led.2, λ sync. absurd sync)
+write_leads old new items (Some Buffer) d admitted goes out stands =
+    let led = leads_on old new d (write_of items ∷ []) (λ base pending on.
+    let lies = on.lies admitted.well in
+    let writes = writes_so old new base pending items (Some Buffer) admitted lies out in
+    let goes_out = is_out (Some Buffer) old.journal (batch_of old items) in
+    unsynced_leads old new items (Some Buffer) base pending admitted goes on out
+    (pending_lies old new base pending items (Some Buffer) admitted goes lies out goes_out writes lies.made (waits_too old new base pending items (Some Buffer) admitted goes lies out goes_out writes))) stands in
+    (led.0, led.1, led.2, λ sync. absurd sync)
+write_leads old new items (Some SyncData) d admitted goes out stands =
+    let led = settles_on old new d (write_of items ∷ []) (λ base pending on.
+    let lies = on.lies admitted.well in
+    let writes = writes_so old new base pending items (Some SyncData) admitted lies out in
+    let goes_out = is_out (Some SyncData) old.journal (batch_of old items) in
+    synced_settles old new items SyncData base pending admitted goes on out
+    (settled_lies old new base pending items (Some SyncData) admitted goes lies out goes_out writes (settled_made old new base pending items (Some SyncData) admitted goes lies out goes_out writes) refl)) stands in
+    (led.0, led.1, led.2, λ _. led.3)
+write_leads old new items (Some SyncAll) d admitted goes out stands =
+    let led = settles_on old new d (write_of items ∷ []) (λ base pending on.
+    let lies = on.lies admitted.well in
+    let writes = writes_so old new base pending items (Some SyncAll) admitted lies out in
+    let goes_out = is_out (Some SyncAll) old.journal (batch_of old items) in
+    synced_settles old new items SyncAll base pending admitted goes on out
+    (settled_lies old new base pending items (Some SyncAll) admitted goes lies out goes_out writes (settled_made old new base pending items (Some SyncAll) admitted goes lies out goes_out writes) refl)) stands in
+    (led.0, led.1, led.2, λ _. led.3)
+
+-- a change that a fault refused: a crash may leave it or not
+pub torn_leads : (old new : Held) (items : List BatchItem) (mode : Option PersistMode) (d : Durable) → IsAdmitted old items → Poisons old new → Wrote old new items mode false → StandsOn old d → Leads new d (write_of items ∷ [])
+torn_leads old new items mode d admitted fault out = leads_on old new d (write_of items ∷ []) (λ base pending stands.
+    let command = write_of items in
     let lies = stands.lies admitted.well in
-    let after = write_lies old new base pending id key o goes admitted grows lies out in
-    let well : new.memory.poisoned ≡ false = ap (λ (m : Remembered). m.poisoned) grows.memory_is ∙ admitted.well in
-    let on = stands_well new base (pending ++ command ∷ []) well after (present_more old new base pending id key o grows.memory_is (present_of old (held_on old base pending) false admitted.well stands)) in
-    (held_on new base (pending ++ command ∷ []), on, write_passes old new base pending (command ∷ []) (write_leaves old new base pending id key o goes true admitted lies out) on.rests))
-
--- a write that a fault refused
-pub torn_leads : (old new : Held) (id : ℕ) (key : Bytes) (o : Op) (goes : Bool) (d : Durable) → IsAdmitted old id → Poisons old new
-    → WentOut old new (of_item id key (bytes_in o) (kind_of o) old.memory.next) o goes false → StandsOn old d → Leads new d (write_of id key (value_in o) ∷ [])
-torn_leads old new id key o goes d admitted fault out = leads_on old new d (write_of id key (value_in o) ∷ []) (λ base pending stands.
-    let command = write_of id key (value_in o) in
-    let lies = stands.lies admitted.well in
-    let leaves = write_leaves old new base pending id key o goes false admitted lies out in
-    let finished = leaves_finished old.disk new.disk (state_in old.disk) lies.journals _ (out.leaves lies.journals lies.writing (it_follows old base pending o admitted.room lies)) in
+    let leaves = change_leaves old new base pending items mode false admitted lies out in
+    let finished = leaves_finished old.disk new.disk (state_in old.disk) lies.journals _ (out.leaves lies.journals lies.writing (it_follows old base pending admitted.room lies)) in
     let rests : Rests (held_on new base (pending ++ command ∷ [])) = at_end old.disk new.disk _ leaves in
     let was = present_of old (held_on old base pending) false admitted.well stands ∙ ap (λ (m : Remembered). kept (store_of m.keyspaces m.versions)) (sym fault.memory_is) in
     let on = stands_ill new base (pending ++ command ∷ []) (ap (λ (m : Remembered). m.poisoned) fault.memory_is) rests finished (inr (pending, command, refl, was)) in
-    (held_on new base (pending ++ command ∷ []), on, write_passes old new base pending (command ∷ []) leaves rests))
+    (held_on new base (pending ++ command ∷ []), on, record { leaves = leaves; safe = []; base = refl; rest = refl; rests = rests }))

@@ -1,16 +1,17 @@
 -- Of each run it is known which sync was the last that succeeded.
-use Rattle.std.proofs.Common.{◌≡◌, ◌⊎◌, inl, inr, ℕ, zero, suc, ◌<◌, Bool, true, false, List, [], ◌∷◌, refl, sym, arith}
+use Rattle.std.proofs.Common.{◌≡◌, ◌⊎◌, inl, inr, ℕ, zero, suc, ◌<◌, Bool, true, false, List, [], ◌∷◌, Option, None, Some, refl, sym, arith}
 use Rattle.std.proofs.lemmas.Bool.{true≢false}
 use Rattle.fjall_base.specs.Store.{Command, Store}
+use Rattle.fjall_journal.specs.declared.persist_mode.PersistMode.{PersistMode}
 use Rattle.fjall_journal.specs.declared.persist_mode.PersistMode.TheVariants.{Buffer, SyncAll, SyncData}
 use Rattle.fjall_state.specs.declared.call.Call.{Call}
-use Rattle.fjall_state.specs.declared.call.Call.TheVariants.{DeleteKeyspace, Keyspace, Persist}
-use Rattle.fjall_state.specs.declared.call.Reply.{Reply}
-use Rattle.fjall_state.specs.declared.call.Reply.TheVariants.{Done, Number}
-use Rattle.fjall_state.specs.Machine.{State, has_name, is_living, present}
+use Rattle.fjall_state.specs.Shapes.{OfChange, OfCount, OfCreation, OfDeletion, OfHandle, OfPersist, OfRead, OfTickets, Shape, shape_of}
+use Rattle.fjall_history.specs.declared.reply.Reply.{Reply}
+use Rattle.fjall_history.specs.declared.reply.Reply.TheVariants.{Refused}
+use Rattle.fjall_state.specs.Machine.{State, has_name, is_living, mode_in, present}
 use Rattle.fjall_core.specs.Holding.{Held}
 use Rattle.fjall_core.specs.Durables.{Durable}
-use Rattle.fjall_core.specs.Crashes.{IsSync, IsSyncAt, RunOn}
+use Rattle.fjall_core.specs.Crashes.{IsSync, IsSyncAt, IsSyncMode, IsSyncOf, RunOn, Syncs}
 use Rattle.fjall_core.specs.Lives.{LastSync, NoSync, Served, UpTo, begun, start_of}
 use Rattle.fjall_core.specs.Openings.{OpensAs}
 
@@ -22,17 +23,32 @@ is_false_or_not : (b : Bool) → (b ≡ false) ⊎ (b ≡ false → ⊥)
 is_false_or_not true = inr (λ is. true≢false is)
 is_false_or_not false = inl refl
 
+-- a mode syncs, or it doesn't
+mode_or_not : (mode : PersistMode) → IsSyncMode mode ⊎ (IsSyncMode mode → ⊥)
+mode_or_not Buffer = inr (λ sync. sync)
+mode_or_not SyncData = inl tt
+mode_or_not SyncAll = inl tt
+
+given_or_not : (mode : Option PersistMode) → IsSyncOf mode ⊎ (IsSyncOf mode → ⊥)
+given_or_not None = inr (λ sync. sync)
+given_or_not (Some mode) = mode_or_not mode
+
+-- a call is one that syncs, or it isn't
+syncs_or_not : (s : State) (shape : Shape) → Syncs s shape ⊎ (Syncs s shape → ⊥)
+syncs_or_not s (OfChange [] how) = inr (λ sync. sync)
+syncs_or_not s (OfChange (item ∷ items) how) = given_or_not (mode_in (present s) how)
+syncs_or_not s (OfCreation name options) = is_false_or_not (has_name (present s) name)
+syncs_or_not s (OfDeletion id) = is_true_or_not (is_living (present s) id)
+syncs_or_not s (OfHandle call id) = inr (λ sync. sync)
+syncs_or_not s (OfRead view id query) = inr (λ sync. sync)
+syncs_or_not s (OfTickets call) = inr (λ sync. sync)
+syncs_or_not s (OfPersist mode) = mode_or_not mode
+syncs_or_not s (OfCount count) = inr (λ sync. sync)
+
 -- a call with its reply was a sync, or it wasn't
-sync_or_not : (s : State) (call : Call) (reply : Reply) → IsSync s call reply ⊎ (IsSync s call reply → ⊥)
-sync_or_not s (Persist Buffer) Done = inr (λ sync. sync)
-sync_or_not s (Persist SyncData) Done = inl tt
-sync_or_not s (Persist SyncAll) Done = inl tt
-sync_or_not s (Persist mode) reply = inr (λ sync. sync)
-sync_or_not s (Keyspace name options) (Number id) = is_false_or_not (has_name (present s) name)
-sync_or_not s (Keyspace name options) reply = inr (λ sync. sync)
-sync_or_not s (DeleteKeyspace id) Done = is_true_or_not (is_living (present s) id)
-sync_or_not s (DeleteKeyspace id) reply = inr (λ sync. sync)
-sync_or_not s call reply = inr (λ sync. sync)
+sync_or_not : (s : State) (shape : Shape) (reply : Reply) → IsSync s shape reply ⊎ (IsSync s shape reply → ⊥)
+sync_or_not s shape (Refused error) = inr (λ sync. sync)
+sync_or_not s shape reply = syncs_or_not s shape
 
 -- the last place of a run with a sync, or that it has none
 abbrev pub LastPlace : (s : State) (d : Durable) (calls : List Call) (replies : List Reply) (tried : List Command) (t : State) (e : Durable) → RunOn s d calls replies tried t e → Type 0
@@ -42,9 +58,9 @@ LastPlace s d calls replies tried t e run =
 
 last_place : (s t : State) (d e : Durable) (calls : List Call) (replies : List Reply) (tried : List Command) (run : RunOn s d calls replies tried t e) → LastPlace s d calls replies tried t e run
 last_place s t d e [] [] tried run = inr (λ i sync. sync)
-last_place s t d e (c ∷ calls) (r ∷ replies) tried (mid, on, rest, step, call, is, run) = by (last_place mid t on e calls replies rest run) (sync_or_not s c r)
+last_place s t d e (c ∷ calls) (r ∷ replies) tried (mid, on, rest, step, call, is, run) = by (last_place mid t on e calls replies rest run) (sync_or_not s (shape_of c) r)
   where
-    by : LastPlace mid on calls replies rest t e run → IsSync s c r ⊎ (IsSync s c r → ⊥) → LastPlace s d (c ∷ calls) (r ∷ replies) tried t e (mid, on, rest, step, call, is, run)
+    by : LastPlace mid on calls replies rest t e run → IsSync s (shape_of c) r ⊎ (IsSync s (shape_of c) r → ⊥) → LastPlace s d (c ∷ calls) (r ∷ replies) tried t e (mid, on, rest, step, call, is, run)
     by (inl (i, sync, none)) first = inl (suc i, sync, λ j lt at. later i none j lt at)
       where
         later : (i : ℕ) → ((j : ℕ) → i < j → IsSyncAt mid on calls replies rest t e run j → ⊥) → (j : ℕ) → suc i < j → IsSyncAt s d (c ∷ calls) (r ∷ replies) tried t e (mid, on, rest, step, call, is, run) j → ⊥

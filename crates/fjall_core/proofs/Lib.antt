@@ -2,6 +2,7 @@ mod Refusals
 mod CrashesInRuns
 mod AttemptedCommands
 pub mod RunsOverCrashes
+mod ResolvedRuns
 mod CrashImages
 mod KeyspacesUnchanged
 mod JournalWrites
@@ -14,6 +15,7 @@ mod KeyspaceCalls
 mod OwedSteps
 mod DeviceFaults
 mod ServedCalls
+mod TicketCalls
 mod PartOutcomes
 mod WriteCalls
 mod CallsInMemory

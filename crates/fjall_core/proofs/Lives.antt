@@ -16,10 +16,10 @@ use Rattle.fjall_recovery.specs.Folders.{StandsFor}
 use Rattle.fjall_recovery.proofs.Alone.{one_store}
 use Rattle.fjall_recovery.specs.Amid.{HoldsAmid}
 use Rattle.fjall_state.specs.declared.call.Call.{Call}
-use Rattle.fjall_state.specs.declared.call.Reply.{Reply}
+use Rattle.fjall_history.specs.declared.reply.Reply.{Reply}
 use Rattle.fjall_state.specs.Machine as machine
 use Rattle.fjall_state.specs.Machine.{present}
-use Rattle.fjall_state.specs.Histories.{latest}
+use Rattle.fjall_history.specs.Histories.{commands_of, latest}
 use Rattle.fjall_core.specs.Holding.{Held}
 use Rattle.fjall_core.specs.Durables.{Durable, IsBeginning, Passes, StandsAmid}
 use Rattle.fjall_core.specs.Crashes.{BlamesEach, Settled, Tried, at_most_one}
@@ -85,8 +85,8 @@ tidy_between old mid new first late tidy kinds took then =
 all_present : (core : Held) (store : Store) (opens : OpensAs core store) (tried : List Command) (t : machine.State) → Tried (start_of core store opens) tried t → t.poisoned ≡ false → present t ≡ fold store tried
 all_present core store opens tried t tries well = by tries.refused tries.all tries.fault
   where
-    by : (refused : Option Command) → tried ≡ tries.accepted ++ at_most_one refused → (IsSome refused → t.poisoned ≡ true) → present t ≡ fold store tried
-    by None all fault = ap latest tries.history ∙ ap (λ (l : List Command). fold store l) (sym (append-nil tries.accepted) ∙ sym all)
+    by : (refused : Option Command) → tried ≡ commands_of tries.accepted ++ at_most_one refused → (IsSome refused → t.poisoned ≡ true) → present t ≡ fold store tried
+    by None all fault = ap latest tries.history ∙ ap (λ (l : List Command). fold store l) (sym (append-nil (commands_of tries.accepted)) ∙ sym all)
     by (Some command) all fault = absurd (true≢false (sym (fault refl) ∙ well))
 
 -- what a sync followed is in the base at the end

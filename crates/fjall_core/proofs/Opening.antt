@@ -1,5 +1,5 @@
 -- A core over a folder that was opened.
-use Rattle.std.proofs.Common.{◌≡◌, ℕ, List, [], take, Option, refl, sym, ◌∙◌, ap, subst}
+use Rattle.std.proofs.Common.{arith, ◌≤◌, ◌≡◌, ℕ, List, [], take, Option, refl, sym, ◌∙◌, ap, subst}
 use Rattle.std.proofs.Math.Seq.{take-nil}
 use Rattle.fjall_base.specs.Store.{Store, kept}
 use Rattle.fjall_base.specs.Disk.{File, Image, LeavesOnly, Meaning, state_in}
@@ -17,6 +17,7 @@ use Rattle.fjall_repair.specs.declared.opened.Opened.{Opened}
 use Rattle.fjall_repair.specs.Opened.{ComesBack, IsOpenedFrom, IsUnopened}
 use Rattle.fjall_repair.specs.Opened as repair
 use Rattle.fjall_state.specs.Remembered.{Remembered, remembered}
+use Rattle.fjall_history.proofs.Values.{all_none}
 use Rattle.fjall_state.specs.Remembered as memory
 use Rattle.fjall_state.specs.Machine.{opened_state}
 use Rattle.fjall_state.proofs.Standing.{an_opening_stands}
@@ -32,6 +33,17 @@ held_of disk o memory = record { disk = disk; journal = o.journal; catalog = o.c
 abbrev pub core_of : Meaning → Opened → Held
 core_of disk o = held_of disk o (remembered o.keyspaces o.versions.items o.damaged.items o.number)
 
+-- what was opened is lawful
+lawful_of : (o : Opened) → repair.IsLawful o → memory.IsLawful (remembered o.keyspaces o.versions.items o.damaged.items o.number)
+lawful_of o lawful = record {
+  keyspaces = lawful.keyspaces;
+  made = lawful.made;
+  given = lawful.given;
+  below = lawful.below;
+  reached = all_none (λ i. i ≤ o.number);
+  spared = λ some. let bad : ⊥ = omega (arith, some) in absurd bad;
+}
+
 -- it stands for the store of the folder
 pub opens : (disk : Meaning) (o : Opened) (store : Store) (next : ℕ) → repair.IsLawful o → store_behind o.keyspaces o.versions.items ≡ store → o.number ≡ next → Opens (core_of disk o) store o.damaged.items next
 opens disk o store next lawful made number =
@@ -41,7 +53,7 @@ opens disk o store next lawful made number =
     record {
       remembered = subst (λ (s : Store). memory.StandsFor m table (opened_state s o.damaged.items next parts)) made
           (subst (λ (n : ℕ). memory.StandsFor m table (opened_state (store_behind o.keyspaces o.versions.items) o.damaged.items n parts)) number
-          (an_opening_stands m (record { keyspaces = lawful.keyspaces; made = lawful.made; given = lawful.given }) refl refl refl table parts refl));
+          (an_opening_stands m (lawful_of o lawful) refl refl refl refl table parts refl));
       journal = refl;
       buffer = refl;
     }

@@ -1,50 +1,55 @@
 -- What a call owes is a step of the machine, for each state that the core stood for.
-use Rattle.std.proofs.Common.{◌≡◌, ◌≢◌, inl, inr, ℕ, ◌+◌, ◌-◌, ◌<◌, ◌^◌, Bool, true, false, if◌then◌else◌, List, [], ◌∷◌, ◌++◌, length, take, get_or, Vec, Option, None, Some, All, refl, sym, ◌∙◌, ap, subst, arith, length-append}
-use Rattle.std.proofs.lemmas.List.{take_more}
+use Rattle.std.proofs.Common.{◌≡◌, ◌≢◌, inl, inr, ℕ, ◌+◌, ◌-◌, ◌^◌, Bool, true, false, if◌then◌else◌, List, [], ◌∷◌, ◌++◌, length, Option, None, Some, All, refl, sym, ◌∙◌, ap, subst, arith, length-append}
 use Rattle.std.proofs.lemmas.List.Elements.{All-head, All-tail}
-use Rattle.std.specs.Option.{is_some}
+use Rattle.std.specs.Option.{is_none, is_some}
 use Rattle.std.specs.Prelude.{IsPermutation}
-use Rattle.std.specs.declared.alloc.Global.{Global}
-use Rattle.std.specs.FinMap.{len, values}
-use Rattle.fjall_base.specs.Pairs.{Bytes, KeyRange, page, pairs_between}
+use Rattle.std.specs.FinMap.{get, len, values}
+use Rattle.fjall_base.specs.Pairs.{Bytes}
 use Rattle.fjall_base.specs.Store.{Create, Delete}
 use Rattle.fjall_base.specs.declared.error.Error.{Error}
 use Rattle.fjall_base.specs.declared.error.Error.TheVariants.{Io, OutOfMemory, ValueTooLong}
+use Rattle.fjall_journal.specs.Ops.{BatchItem, items_text}
 use Rattle.fjall_journal.specs.Writer.{Journal, after_command, counted, filled, goes_out}
 use Rattle.fjall_journal.specs.Writer as writer
+use Rattle.fjall_journal.specs.declared.persist_mode.PersistMode.TheVariants.{Buffer}
 use Rattle.fjall_options.specs.Options.{AreOptions}
 use Rattle.fjall_meta.specs.declared.living.LivingKeyspace.{LivingKeyspace}
 use Rattle.fjall_meta.specs.Keyspaces.{id_of}
 use Rattle.fjall_versions.specs.Replays.{option_pairs}
-use Rattle.fjall_versions.specs.Versions.{newest, pairs_in}
+use Rattle.fjall_versions.specs.Versions.{pairs_in}
 use Rattle.fjall_versions.proofs.Kept.{kept_along}
 use Rattle.fjall_versions.proofs.Naming.{rest_is_bare}
-use Rattle.fjall_state.specs.declared.call.View.{View}
-use Rattle.fjall_state.specs.declared.call.View.TheVariants.{Present}
+use Rattle.fjall_history.specs.declared.ticket.View.{View}
+use Rattle.fjall_history.specs.declared.reply.Reply.{Reply}
+use Rattle.fjall_history.specs.declared.reply.Reply.TheVariants.{Done, Number, Flag, Opened, Refused}
+use Rattle.fjall_history.specs.Histories as history
+use Rattle.fjall_history.specs.Histories.{number}
+use Rattle.fjall_history.specs.Queries.{Query, Tells}
+use Rattle.fjall_history.specs.Tickets.{Tickets, closed, collected, opened}
 use Rattle.fjall_state.specs.declared.call.Call.{Call}
-use Rattle.fjall_state.specs.declared.call.Call.TheVariants.{Keyspace, DeleteKeyspace, Retain, Release, Insert, Remove, RemoveWeak, GetAt, PageAt, Persist, KeyspaceCount, ListKeyspaceNames, KeyspaceExists, Seqno, VisibleSeqno, JournalDiskSpace}
-use Rattle.fjall_state.specs.declared.call.Reply.{Reply}
-use Rattle.fjall_state.specs.declared.call.Reply.TheVariants.{Done, Value, Pairs, Number, Names, Flag, Refused}
-use Rattle.fjall_state.specs.Histories as history
-use Rattle.fjall_state.specs.Ops.{Op, op_text, value_in}
-use Rattle.fjall_state.specs.Ops as op
-use Rattle.fjall_state.specs.Machine.{creation_refusals, first_due, has_name, write_refusals, State, Parts, Step, Run, Refuses, ChangesDisk, MayFail, TooLong, accepted, created, deleted, due, facts, is_living, leaves_buffer, present, read_refusals, written, written_out}
+use Rattle.fjall_state.specs.Shapes.{AsKeyspace, ByMode, Clone, Close, Collect, Count, Exists, JournalSpace, Keyspaces, Next, OfChange, OfCount, OfCreation, OfDeletion, OfHandle, OfPersist, OfRead, OfTickets, OneLess, OneMore, Open, OpenTickets, Persistence, Shape, TicketCall, Visible, shape_of}
+use Rattle.fjall_state.specs.Shapes as shapes
+use Rattle.fjall_state.specs.Machine.{Answers, CountIs, change_refusals, creation_refusals, first_due, has_name, State, Parts, StepOf, Run, Refuses, ChangesDisk, MayFail, TooLong, TurnsTickets, accepted, created, deleted, due, facts, is_living, leaves_buffer, mode_in, present, written, written_out}
 use Rattle.fjall_state.specs.Machine as machine
-use Rattle.fjall_state.specs.Remembered.{IsLawful, Remembered, facts_of, poisoned, version_of}
+use Rattle.fjall_state.specs.Remembered.{IsLawful, Remembered, facts_of, poisoned, versions_in}
 use Rattle.fjall_state.specs.Remembered as memory
 use Rattle.fjall_state.proofs.ByHand.{options_agree}
-use Rattle.fjall_state.proofs.Dues.{may_create, may_write}
+use Rattle.fjall_state.proofs.Dues.{may_change, may_create}
 use Rattle.fjall_state.proofs.Standing as law
-use Rattle.fjall_core.specs.Holding.{Held, by_hand}
-use Rattle.fjall_core.specs.Standing.{StandsFor, Owes, OwesAll, OwesRefusal, OwesFailure, OwesWrite, Poisons, RanOut, Grows, HandsOver, Alters, Counts, Creates, Deletes, held_due, store_in}
+use Rattle.fjall_core.specs.Holding.{Held}
+use Rattle.fjall_core.specs.Standing.{StandsFor, Gives, Owes, OwesAll, OwesChange, OwesCreation, OwesDeletion, OwesRefusal, OwesFailure, Poisons, RanOut, Grows, HandsOver, HeldCount, Alters, Counts, Creates, Deletes, held_due, mode_of, store_in, text_of}
 
 -- the machine may step so, to a state that the core stands for now
-abbrev pub Steps : Held → State → Call → Reply → Type 0
-Steps new s call reply = (t : State) × StandsFor new t × Step s call reply t
+abbrev pub Steps : Held → State → Shape → Reply → Type 0
+Steps new s shape reply = (t : State) × StandsFor new t × StepOf s shape reply t
+
+-- the same of a reply that is no refusal
+abbrev pub Answered : Held → State → Shape → Reply → Type 0
+Answered new s shape reply = (t : State) × StandsFor new t × ((due s shape ≡ None) × Answers s shape reply t)
 
 -- what is due in a state that the core stands for is due for the core
-pub same_due : (core : Held) (s : State) (call : Call) → StandsFor core s → due s call ≡ held_due core call
-same_due core s call stands = law.facts_agree core.memory core.catalog.next_table_id s stands.remembered call
+pub same_due : (core : Held) (s : State) (shape : Shape) → StandsFor core s → due s shape ≡ held_due core shape
+same_due core s shape stands = law.facts_agree core.memory core.catalog.next_table_id s stands.remembered shape
 
 -- the parts that a core's counts speak of
 abbrev pub parts_held : Held → Parts
@@ -68,40 +73,63 @@ still : (old new : Held) (s : State) → new ≡ old → StandsFor old s → Sta
 still old new s same stands = subst (λ c. StandsFor c s) (sym same) stands
 
 -- what is too long for the core is so for the state
-same_long : (old : Held) (s : State) (call : Call) → StandsFor old s → TooLong (store_in old) call → TooLong (present s) call
-same_long old s (Keyspace name options) stands long = subst machine.HasLongOption (kept_along (store_in old) (present s) (Create name (option_pairs options) ∷ []) (sym stands.remembered.present)) long
-same_long old s (DeleteKeyspace id) stands long = subst machine.HasLongOption (kept_along (store_in old) (present s) (Delete id ∷ []) (sym stands.remembered.present)) long
-same_long old s call stands long = absurd long
+same_long : (old : Held) (s : State) (shape : Shape) → StandsFor old s → TooLong (store_in old) shape → TooLong (present s) shape
+same_long old s (OfCreation name options) stands long = subst machine.HasLongOption (kept_along (store_in old) (present s) (Create name (option_pairs options) ∷ []) (sym stands.remembered.present)) long
+same_long old s (OfDeletion id) stands long = subst machine.HasLongOption (kept_along (store_in old) (present s) (Delete id ∷ []) (sym stands.remembered.present)) long
+same_long old s (OfChange items how) stands long = absurd long
+same_long old s (OfHandle call id) stands long = absurd long
+same_long old s (OfRead view id query) stands long = absurd long
+same_long old s (OfTickets call) stands long = absurd long
+same_long old s (OfPersist mode) stands long = absurd long
+same_long old s (OfCount count) stands long = absurd long
 
--- a write leaves the buffer of a state as it does the core's
-same_leaves : (old : Held) (s : State) → StandsFor old s → (id : ℕ) (key : Bytes) (o : Op) → leaves_buffer (facts s) s.parts.buffer id key o ≡ leaves_buffer (facts_of old.memory old.catalog.next_table_id) (length old.journal.buffer) id key o
-same_leaves old s stands id key o =
-    let hand = options_agree old.memory old.catalog.next_table_id s stands.remembered id in
-    λ i. goes_out (hand i) (stands.buffer i + length (op_text id key o (stands.remembered.number i)))
+-- the mode of a change is the state's
+pub same_mode : (old : Held) (s : State) → StandsFor old s → (how : Persistence) → mode_in (present s) how ≡ mode_of old how
+same_mode old s stands (AsKeyspace id) = ap (λ b. if b then None else Some Buffer) (options_agree old.memory old.catalog.next_table_id s stands.remembered id)
+same_mode old s stands (ByMode mode) = refl
+
+-- a change leaves the buffer of a state as it does the core's
+same_leaves : (old : Held) (s : State) → StandsFor old s → (items : List BatchItem) (how : Persistence) → leaves_buffer (facts s) s.parts.buffer items how ≡ leaves_buffer (facts_of old.memory old.catalog.next_table_id) (length old.journal.buffer) items how
+same_leaves old s stands items how =
+    let mode = same_mode old s stands how in
+    λ i. goes_out (is_none (mode i)) (stands.buffer i + length (items_text items (stands.remembered.number i)))
 
 -- what changes the core's disk does so for the state
-same_changes : (old : Held) (s : State) (call : Call) → StandsFor old s → ChangesDisk (facts_of old.memory old.catalog.next_table_id) (length old.journal.buffer) call → ChangesDisk (facts s) s.parts.buffer call
-same_changes old s (Insert id key value) stands out = same_leaves old s stands id key (op.Put value) ∙ out
-same_changes old s (Remove id key) stands out = same_leaves old s stands id key op.Remove ∙ out
-same_changes old s (RemoveWeak id key) stands out = same_leaves old s stands id key op.RemoveWeak ∙ out
-same_changes old s call stands changes = changes
+same_changes : (old : Held) (s : State) (shape : Shape) → StandsFor old s → ChangesDisk (facts_of old.memory old.catalog.next_table_id) (length old.journal.buffer) shape → ChangesDisk (facts s) s.parts.buffer shape
+same_changes old s (OfChange [] how) stands changes = absurd changes
+same_changes old s (OfChange (item ∷ items) how) stands out = same_leaves old s stands (item ∷ items) how ∙ out
+same_changes old s (OfCreation name options) stands changes = tt
+same_changes old s (OfDeletion id) stands changes = tt
+same_changes old s (OfHandle OneMore id) stands changes = absurd changes
+same_changes old s (OfHandle OneLess id) stands changes = tt
+same_changes old s (OfRead view id query) stands changes = absurd changes
+same_changes old s (OfTickets call) stands changes = absurd changes
+same_changes old s (OfPersist mode) stands changes = tt
+same_changes old s (OfCount count) stands changes = absurd changes
 
 -- where memory ran out the core stands for the same state
-ran_out_still : (old new : Held) (s : State) (call : Call) → RanOut old call new → StandsFor old s → StandsFor new s
-ran_out_still old new s (Release id) (same, later) stands = subst (λ (c : Held). StandsFor c s) (sym same) (record { remembered = stands.remembered; journal = stands.journal; buffer = stands.buffer })
-ran_out_still old new s call same stands = still old new s same stands
+ran_out_still : (old new : Held) (s : State) (shape : Shape) → RanOut old shape new → StandsFor old s → StandsFor new s
+ran_out_still old new s (OfHandle OneLess id) (same, later) stands = subst (λ (c : Held). StandsFor c s) (sym same) (record { remembered = stands.remembered; journal = stands.journal; buffer = stands.buffer })
+ran_out_still old new s (OfHandle OneMore id) same stands = still old new s same stands
+ran_out_still old new s (OfChange items how) same stands = still old new s same stands
+ran_out_still old new s (OfCreation name options) same stands = still old new s same stands
+ran_out_still old new s (OfDeletion id) same stands = still old new s same stands
+ran_out_still old new s (OfRead view id query) same stands = still old new s same stands
+ran_out_still old new s (OfTickets call) same stands = still old new s same stands
+ran_out_still old new s (OfPersist mode) same stands = still old new s same stands
+ran_out_still old new s (OfCount count) same stands = still old new s same stands
 
-failure_steps : (old new : Held) (s : State) (call : Call) (error : Error) → StandsFor old s → OwesFailure old call error new → (t : State) × StandsFor new t × MayFail call error s t
-failure_steps old new s call (Io kind) stands (changes, fault) = (poisoned_state new s, poisoned_stands old new s fault stands, (same_changes old s call stands changes, law.a_fault_poisons s (parts_held new)))
-failure_steps old new s call OutOfMemory stands (takes, out) = (s, ran_out_still old new s call out stands, (takes, refl))
-failure_steps old new s call ValueTooLong stands (long, same) = (s, still old new s same stands, (same_long old s call stands long, refl))
-failure_steps old new s call error stands none = absurd none
+failure_steps : (old new : Held) (s : State) (shape : Shape) (error : Error) → StandsFor old s → OwesFailure old shape error new → (t : State) × StandsFor new t × MayFail shape error s t
+failure_steps old new s shape (Io kind) stands (changes, fault) = (poisoned_state new s, poisoned_stands old new s fault stands, (same_changes old s shape stands changes, refl))
+failure_steps old new s shape OutOfMemory stands (takes, out) = (s, ran_out_still old new s shape out stands, (takes, refl))
+failure_steps old new s shape ValueTooLong stands (long, same) = (s, still old new s same stands, (same_long old s shape stands long, refl))
+failure_steps old new s shape error stands none = absurd none
 
-refusal_steps : (old new : Held) (s : State) (call : Call) (error : Error) (first : Option Error) → StandsFor old s → OwesRefusal first old call error new → (t : State) × StandsFor new t × Refuses first call error s t
-refusal_steps old new s call error (Some first) stands (is, same) = (s, still old new s same stands, (is, refl))
-refusal_steps old new s call error None stands failure = failure_steps old new s call error stands failure
+refusal_steps : (old new : Held) (s : State) (shape : Shape) (error : Error) (first : Option Error) → StandsFor old s → OwesRefusal first old shape error new → (t : State) × StandsFor new t × Refuses first shape error s t
+refusal_steps old new s shape error (Some first) stands (is, same) = (s, still old new s same stands, (is, refl))
+refusal_steps old new s shape error None stands failure = failure_steps old new s shape error stands failure
 
--- ---- writes
+-- ---- changes
 
 -- lengths that stop at the greatest number, as a state counts them and as the writer does
 journal_more : (j : Journal) (parts : Parts) (text : List ℕ) → parts.journal ≡ j.len → parts.buffer ≡ length j.buffer → (written_out parts (length text)).journal ≡ (writer.written_out (filled j text)).len
@@ -113,25 +141,33 @@ parts_after : (out : Bool) (j : Journal) (parts : Parts) (text : List ℕ) → p
 parts_after true j parts text journal buffer = (journal_more j parts text journal buffer, refl)
 parts_after false j parts text journal buffer = (journal, let all = length-append j.buffer text in omega (arith, all, buffer))
 
-grown_stands : (old new : Held) (s : State) (id : ℕ) (key : Bytes) (o : Op) → is_living (store_in old) id ≡ true → Grows old (version_of old.memory.next id key o) (op_text id key o old.memory.next) new → StandsFor old s
-    → StandsFor new (accepted s id key o)
-grown_stands old new s id key o living grows stands =
-    let text = op_text id key o old.memory.next in
-    let same : op_text id key o (history.number s.history) ≡ text = ap (op_text id key o) stands.remembered.number in
-    let out : leaves_buffer (facts s) s.parts.buffer id key o ≡ goes_out (by_hand old id) (length (old.journal.buffer ++ text)) =
-    same_leaves old s stands id key o ∙ ap (goes_out (by_hand old id)) (sym (length-append old.journal.buffer text)) in
-    let after = parts_after (goes_out (by_hand old id) (length (old.journal.buffer ++ text))) old.journal s.parts text stands.journal stands.buffer in
+-- the keyspaces of a change that nothing refuses live
+living_items : (core : Held) (items : List BatchItem) → first_due (change_refusals (facts_of core.memory core.catalog.next_table_id) items) ≡ None → All (λ item. is_living (store_in core) item.0 ≡ true) items
+living_items core items none = (may_change (facts_of core.memory core.catalog.next_table_id) items none).living
+
+grown_stands : (old new : Held) (s : State) (item : BatchItem) (items : List BatchItem) (how : Persistence) → All (λ i. is_living (store_in old) i.0 ≡ true) (item ∷ items) → Grows old (item ∷ items) how new → StandsFor old s
+    → StandsFor new (accepted s (item ∷ items) how)
+grown_stands old new s item items how living grows stands =
+    let all = item ∷ items in
+    let text = text_of old all in
+    let hand = is_none (mode_of old how) in
+    let t = accepted s all how in
+    let same : items_text all (history.number s.history) ≡ text = ap (items_text all) stands.remembered.number in
+    let out : leaves_buffer (facts s) s.parts.buffer all how ≡ goes_out hand (length (old.journal.buffer ++ text)) =
+    same_leaves old s stands all how ∙ ap (goes_out hand) (sym (length-append old.journal.buffer text)) in
+    let after = parts_after (goes_out hand (length (old.journal.buffer ++ text))) old.journal s.parts text stands.journal stands.buffer in
     record {
-      remembered = subst (λ (m : Remembered). memory.StandsFor m new.catalog.next_table_id (accepted s id key o)) (sym grows.memory_is)
-          (subst (λ c. memory.StandsFor (memory.with_version (version_of old.memory.next id key o) old.memory) c (accepted s id key o)) (ap (λ c. c.next_table_id) (sym grows.catalog))
-          (law.a_write_stands old.memory old.catalog.next_table_id s stands.remembered id key o living));
+      remembered = subst (λ (m : Remembered). memory.StandsFor m new.catalog.next_table_id t) (sym grows.memory_is)
+          (subst (λ c. memory.StandsFor (memory.with_items all old.memory) c t) (ap (λ c. c.next_table_id) (sym grows.catalog))
+          (law.changed_stands old.memory old.catalog.next_table_id s stands.remembered all t.parts refl living));
       journal = (λ i. (written (out i) s.parts (length (same i))).journal) ∙ after.0 ∙ ap (λ (j : Journal). j.len) (sym grows.journal);
       buffer = (λ i. (written (out i) s.parts (length (same i))).buffer) ∙ after.1 ∙ ap (λ (j : Journal). length j.buffer) (sym grows.journal);
     }
 
--- a write that nothing refuses is into a keyspace that lives
-write_living : (core : Held) (id : ℕ) (key value : Bytes) → first_due (write_refusals (facts_of core.memory core.catalog.next_table_id) id key value) ≡ None → is_living (store_in core) id ≡ true
-write_living core id key value none = (may_write (facts_of core.memory core.catalog.next_table_id) id key value none).living
+changed_steps : (old new : Held) (s : State) (items : List BatchItem) (how : Persistence) → held_due old (OfChange items how) ≡ None → OwesChange old items how new → StandsFor old s → Steps new s (OfChange items how) Done
+changed_steps old new s [] how none same stands = (s, still old new s same stands, (refl, (refl, refl)))
+changed_steps old new s (item ∷ items) how none grows stands =
+    (accepted s (item ∷ items) how, grown_stands old new s item items how (living_items old (item ∷ items) none) grows stands, (same_due old s (OfChange (item ∷ items) how) stands ∙ none, (refl, refl)))
 
 -- ---- what else changes
 
@@ -175,8 +211,8 @@ some_id core name none fresh same =
     let room = (may_create (facts_of core.memory core.catalog.next_table_id) name none).room fresh in
     room.free ((rest_is_bare core.memory.keyspaces core.memory.versions).2 ∙ same)
 
-created_steps : (old new : Held) (s : State) (name : Bytes) (options : List Bytes) (id : ℕ) → held_due old (Keyspace name options) ≡ None → has_name (store_in old) name ≡ false → id ≡ old.memory.keyspaces.next → Creates old name options new
-    → StandsFor old s → Steps new s (Keyspace name options) (Number id)
+created_steps : (old new : Held) (s : State) (name : Bytes) (options : List Bytes) (id : ℕ) → held_due old (OfCreation name options) ≡ None → has_name (store_in old) name ≡ false → id ≡ old.memory.keyspaces.next → Creates old name options new
+    → StandsFor old s → Steps new s (OfCreation name options) (Number id)
 created_steps old new s name options id none fresh is creates stands =
     let held = stands.remembered in
     let named = (may_create (facts_of old.memory old.catalog.next_table_id) name none).named in
@@ -184,21 +220,25 @@ created_steps old new s name options id none fresh is creates stands =
     let after = law.a_creation_stands old.memory old.catalog.next_table_id s held name options named fresh option_list (some_id old name none fresh) in (
       created s name options,
       altered_stands old new s (created s name options) _ _ creates after refl refl stands,
-      (same_due old s (Keyspace name options) stands ∙ none, inr ((λ i. has_name (held.present i) name) ∙ fresh, is ∙ sym (law.next_agrees old.memory old.catalog.next_table_id s held), refl)),
+      (same_due old s (OfCreation name options) stands ∙ none, (id, refl, inr ((λ i. has_name (held.present i) name) ∙ fresh, is ∙ sym (law.next_agrees old.memory old.catalog.next_table_id s held), refl))),
     )
 
-found_steps : (old new : Held) (s : State) (name : Bytes) (options : List Bytes) (id : ℕ) → held_due old (Keyspace name options) ≡ None → id_of name old.memory.keyspaces.living ≡ Some id → new ≡ old → StandsFor old s
-    → Steps new s (Keyspace name options) (Number id)
+found_steps : (old new : Held) (s : State) (name : Bytes) (options : List Bytes) (id : ℕ) → held_due old (OfCreation name options) ≡ None → id_of name old.memory.keyspaces.living ≡ Some id → new ≡ old → StandsFor old s
+    → Steps new s (OfCreation name options) (Number id)
 found_steps old new s name options id none found same stands =
     let held = stands.remembered in (
       s,
       still old new s same stands,
       (
-        same_due old s (Keyspace name options) stands ∙ none,
-        inl (
-          law.a_name_there old.memory old.catalog.next_table_id s held name ∙ ap is_some found,
-          (law.a_name_resolved old.memory old.catalog.next_table_id s held id name).1 found,
+        same_due old s (OfCreation name options) stands ∙ none,
+        (
+          id,
           refl,
+          inl (
+            law.a_name_there old.memory old.catalog.next_table_id s held name ∙ ap is_some found,
+            (law.a_name_resolved old.memory old.catalog.next_table_id s held id name).1 found,
+            refl,
+          ),
         ),
       ),
     )
@@ -208,112 +248,146 @@ found_steps old new s name options id none found same stands =
 same_count : (old : Held) (s : State) → StandsFor old s → len (store_in old).names ≡ len (present s).names
 same_count old s stands = sym (λ i. len (stands.remembered.present i).names)
 
-deleted_steps : (old new : Held) (s : State) (id : ℕ) → held_due old (DeleteKeyspace id) ≡ None → is_living (store_in old) id ≡ true → Deletes old id new → StandsFor old s → Steps new s (DeleteKeyspace id) Done
+deleted_steps : (old new : Held) (s : State) (id : ℕ) → held_due old (OfDeletion id) ≡ None → is_living (store_in old) id ≡ true → Deletes old id new → StandsFor old s → Steps new s (OfDeletion id) Done
 deleted_steps old new s id none living deletes stands =
     let held = stands.remembered in
     let here : is_living (present s) id ≡ true = law.living_agree old.memory old.catalog.next_table_id s held id ∙ living in (
       deleted s id,
       altered_stands old new s (deleted s id) _ _ deletes (law.a_deletion_stands old.memory old.catalog.next_table_id s held id living) refl refl stands,
-      (same_due old s (DeleteKeyspace id) stands ∙ none, ap (λ b. if b then deleted s id else s) (sym here)),
+      (same_due old s (OfDeletion id) stands ∙ none, (refl, ap (λ b. if b then deleted s id else s) (sym here))),
     )
 
-gone_steps : (old new : Held) (s : State) (id : ℕ) → held_due old (DeleteKeyspace id) ≡ None → is_living (store_in old) id ≡ false → new ≡ old → StandsFor old s → Steps new s (DeleteKeyspace id) Done
+gone_steps : (old new : Held) (s : State) (id : ℕ) → held_due old (OfDeletion id) ≡ None → is_living (store_in old) id ≡ false → new ≡ old → StandsFor old s → Steps new s (OfDeletion id) Done
 gone_steps old new s id none gone same stands =
     let here : is_living (present s) id ≡ false = law.living_agree old.memory old.catalog.next_table_id s stands.remembered id ∙ gone in
-    (s, still old new s same stands, (same_due old s (DeleteKeyspace id) stands ∙ none, ap (λ b. if b then deleted s id else s) (sym here)))
+    (s, still old new s same stands, (same_due old s (OfDeletion id) stands ∙ none, (refl, ap (λ b. if b then deleted s id else s) (sym here))))
 
 -- ---- handles
 
-retained_steps : (old new : Held) (s : State) (id : ℕ) → held_due old (Retain id) ≡ None → new ≡ record old { memory = memory.retained id old.memory } → StandsFor old s → Steps new s (Retain id) Done
+retained_steps : (old new : Held) (s : State) (id : ℕ) → held_due old (OfHandle OneMore id) ≡ None → new ≡ record old { memory = memory.retained id old.memory } → StandsFor old s → Steps new s (OfHandle OneMore id) Done
 retained_steps old new s id none is stands =
     let t = record s { handles = machine.one_more s.handles id } in (
       t,
       subst (λ c. StandsFor c t) (sym is) (record { remembered = law.a_retained_stands old.memory old.catalog.next_table_id s stands.remembered id; journal = stands.journal; buffer = stands.buffer }),
-      (same_due old s (Retain id) stands ∙ none, refl),
+      (same_due old s (OfHandle OneMore id) stands ∙ none, (refl, refl)),
     )
 
-released_steps : (old new : Held) (s : State) (id : ℕ) → held_due old (Release id) ≡ None → Counts old (memory.released id old.memory) new → StandsFor old s → Steps new s (Release id) Done
+released_steps : (old new : Held) (s : State) (id : ℕ) → held_due old (OfHandle OneLess id) ≡ None → Counts old (memory.released id old.memory) new → StandsFor old s → Steps new s (OfHandle OneLess id) Done
 released_steps old new s id none counts stands = (
   machine.released s id,
   counted_stands old new s (machine.released s id) _ counts (law.a_release_stands old.memory old.catalog.next_table_id s stands.remembered id) refl stands,
-  (same_due old s (Release id) stands ∙ none, refl),
+  (same_due old s (OfHandle OneLess id) stands ∙ none, (refl, refl)),
 )
+
+-- ---- tickets
+
+-- the core with other tickets
+with_tickets_for : (old new : Held) (s : State) (tickets : Tickets) → new ≡ record old { memory = memory.with_tickets new.memory.tickets old.memory } → new.memory.tickets ≡ tickets
+    → memory.StandsFor (memory.with_tickets tickets old.memory) old.catalog.next_table_id (record s { tickets = tickets }) → StandsFor old s → StandsFor new (record s { tickets = tickets })
+with_tickets_for old new s tickets is at held stands =
+    subst (λ c. StandsFor c (record s { tickets = tickets })) (sym (is ∙ ap (λ (t : Tickets). record old { memory = memory.with_tickets t old.memory }) at))
+    (record { remembered = held; journal = stands.journal; buffer = stands.buffer })
+
+module _ (old new : Held) (s : State) (stands : StandsFor old s) (is : new ≡ record old { memory = memory.with_tickets new.memory.tickets old.memory }) where
+  same_number : number s.history ≡ old.memory.next
+  same_number = stands.remembered.number
+
+  same_tickets : s.tickets ≡ old.memory.tickets
+  same_tickets = stands.remembered.tickets
+
+  -- what the core's tickets became the state's do
+  turned : (f : ℕ → Tickets → Tickets) → new.memory.tickets ≡ f old.memory.next old.memory.tickets → memory.StandsFor (memory.with_tickets (f old.memory.next old.memory.tickets) old.memory) old.catalog.next_table_id (record s { tickets = f old.memory.next s.tickets })
+      → StandsFor new (record s { tickets = f (number s.history) s.tickets })
+  turned f at held =
+      let same : f (number s.history) s.tickets ≡ f old.memory.next old.memory.tickets = λ i. f (same_number i) (same_tickets i) in
+      let half : f old.memory.next s.tickets ≡ f old.memory.next old.memory.tickets = λ i. f old.memory.next (same_tickets i) in
+      subst (λ t. StandsFor new (record s { tickets = t })) (sym same)
+      (with_tickets_for old new s (f old.memory.next old.memory.tickets) is at (subst (λ t. memory.StandsFor (memory.with_tickets (f old.memory.next old.memory.tickets) old.memory) old.catalog.next_table_id (record s { tickets = t })) half held) stands)
+
+  none_due : (call : TicketCall) → held_due old (OfTickets call) ≡ None → due s (OfTickets call) ≡ None
+  none_due call none = same_due old s (OfTickets call) stands ∙ none
+
+  pub tickets_step : (call : TicketCall) (reply : Reply) → held_due old (OfTickets call) ≡ None → TurnsTickets old.memory.next old.memory.tickets call reply new.memory.tickets → Answered new s (OfTickets call) reply
+  tickets_step Open reply none (told, at) = (
+    record s { tickets = opened (number s.history) s.tickets },
+    turned opened at (law.opened_stands old.memory old.catalog.next_table_id s stands.remembered),
+    (none_due Open none, ((told ∙ sym (λ i. Opened (record { id = (same_tickets i).next; instant = same_number i })), refl), refl)),
+  )
+  tickets_step (Clone id) reply none (instant, there, told, at) = (
+    record s { tickets = opened instant s.tickets },
+    turned (λ _. opened instant) at (law.cloned_stands old.memory old.catalog.next_table_id s stands.remembered id instant there),
+    (none_due (Clone id) none, ((instant, ap (λ (t : Tickets). get t.instants id) same_tickets ∙ there, told ∙ ap (λ (t : Tickets). Opened (record { id = t.next; instant = instant })) (sym same_tickets), refl), refl)),
+  )
+  tickets_step (Close id) reply none (told, at) = (
+    record s { tickets = closed (number s.history) id s.tickets },
+    turned (λ n. closed n id) at (law.closed_stands old.memory old.catalog.next_table_id s stands.remembered id),
+    (none_due (Close id) none, ((told, refl), refl)),
+  )
+  tickets_step Collect reply none (told, at) = (
+    record s { tickets = collected (number s.history) s.tickets },
+    turned collected at (law.collected_stands old.memory old.catalog.next_table_id s stands.remembered),
+    (none_due Collect none, ((told ∙ ap Number (ap (λ (t : Tickets). t.watermark) at ∙ sym (λ i. (collected (same_number i) (same_tickets i)).watermark)), refl), refl)),
+  )
 
 -- ---- each call
 
-written_steps : (old new : Held) (s : State) (call : Call) (id : ℕ) (key : Bytes) (o : Op) → is_living (store_in old) id ≡ true → OwesWrite old call id key o new → StandsFor old s → StandsFor new (accepted s id key o) × (due s call ≡ None)
-written_steps old new s call id key o living (none, grows) stands = (grown_stands old new s id key o living grows stands, same_due old s call stands ∙ none)
-
-read_steps : (old new : Held) (s : State) (view : View) (id : ℕ) (key : Bytes) (found : Option Bytes) → held_due old (GetAt view id key) ≡ None → found ≡ newest old.memory.versions id key → new ≡ old → StandsFor old s
-    → Steps new s (GetAt view id key) (Value found)
-read_steps old new s Present id key found none is same stands = (
+-- a read of a map that is the view's
+read_steps : (old new : Held) (s : State) (view : View) (id : ℕ) (query : Query) (reply : Reply) → held_due old (OfRead view id query) ≡ None → Tells query (pairs_in id (versions_in old.memory view)) reply → new ≡ old → StandsFor old s
+    → Answered new s (OfRead view id query) reply
+read_steps old new s view id query reply none told same stands = (
   s,
   still old new s same stands,
-  (same_due old s (GetAt Present id key) stands ∙ none, is ∙ law.keys_agree old.memory old.catalog.next_table_id s stands.remembered id none key, refl),
+  (same_due old s (OfRead view id query) stands ∙ none, (subst (λ m. Tells query m reply) (law.pairs_agree old.memory old.catalog.next_table_id s stands.remembered view id none) told, refl)),
 )
 
-page_steps : (old new : Held) (s : State) (view : View) (id : ℕ) (range : KeyRange) (back : Bool) (max : ℕ) (found : Vec (Bytes × Bytes) Global) → held_due old (PageAt view id range back max) ≡ None
-    → found.items ≡ page back max (pairs_between range (pairs_in id old.memory.versions)) → new ≡ old → StandsFor old s → Steps new s (PageAt view id range back max) (Pairs found)
-page_steps old new s Present id range back max found none is same stands = (
-  s,
-  still old new s same stands,
-  (
-    same_due old s (PageAt Present id range back max) stands ∙ none,
-    is ∙ ap (λ m. page back max (pairs_between range m)) (law.pairs_agree old.memory old.catalog.next_table_id s stands.remembered id none),
-    refl,
-  ),
-)
+same_counts : (old : Held) (s : State) (count : Count) (reply : Reply) → HeldCount old count reply → StandsFor old s → CountIs s count reply
+same_counts old s Keyspaces reply told stands = told ∙ ap Number (sym (law.names_counted old.memory old.catalog.next_table_id s stands.remembered))
+same_counts old s shapes.Names reply (names, told, all, sorted) stands = (names, told, subst (λ l. IsPermutation l names.items) (sym (λ i. values (stands.remembered.present i).names)) all, sorted)
+same_counts old s (Exists name) reply told stands = told ∙ ap Flag (sym (λ i. has_name (stands.remembered.present i) name))
+same_counts old s Next reply told stands = told ∙ ap Number (sym stands.remembered.number)
+same_counts old s Visible reply told stands = told ∙ ap Number (sym stands.remembered.number)
+same_counts old s JournalSpace reply told stands = told ∙ ap Number (sym stands.journal)
+same_counts old s OpenTickets reply told stands = told ∙ ap (λ (t : Tickets). Number (len t.instants)) (sym stands.remembered.tickets)
+
+creation_steps : (old new : Held) (s : State) (name : Bytes) (options : List Bytes) (id : ℕ) → held_due old (OfCreation name options) ≡ None → OwesCreation old name options id new → StandsFor old s → Steps new s (OfCreation name options) (Number id)
+creation_steps old new s name options id none (inl (found, same)) stands = found_steps old new s name options id none found same stands
+creation_steps old new s name options id none (inr (fresh, is, creates)) stands = created_steps old new s name options id none fresh is creates stands
+
+deletion_steps : (old new : Held) (s : State) (id : ℕ) → held_due old (OfDeletion id) ≡ None → OwesDeletion old id new → StandsFor old s → Steps new s (OfDeletion id) Done
+deletion_steps old new s id none (inl (gone, same)) stands = gone_steps old new s id none gone same stands
+deletion_steps old new s id none (inr (living, deletes)) stands = deleted_steps old new s id none living deletes stands
+
+gives_step : (old new : Held) (shape : Shape) (reply : Reply) (s : State) → held_due old shape ≡ None → Gives old shape reply new → StandsFor old s → Answered new s shape reply
+gives_step old new (OfChange items how) reply s none (told, owes) stands = subst (λ r. Answered new s (OfChange items how) r) (sym told) (changed_steps old new s items how none owes stands)
+gives_step old new (OfCreation name options) reply s none (id, told, owes) stands = subst (λ r. Answered new s (OfCreation name options) r) (sym told) (creation_steps old new s name options id none owes stands)
+gives_step old new (OfDeletion id) reply s none (told, owes) stands = subst (λ r. Answered new s (OfDeletion id) r) (sym told) (deletion_steps old new s id none owes stands)
+gives_step old new (OfHandle OneMore id) reply s none (told, is) stands = subst (λ r. Answered new s (OfHandle OneMore id) r) (sym told) (retained_steps old new s id none is stands)
+gives_step old new (OfHandle OneLess id) reply s none (told, counts) stands = subst (λ r. Answered new s (OfHandle OneLess id) r) (sym told) (released_steps old new s id none counts stands)
+gives_step old new (OfRead view id query) reply s none (told, same) stands = read_steps old new s view id query reply none told same stands
+gives_step old new (OfTickets call) reply s none (turns, is) stands = tickets_step old new s stands is call reply none turns
+gives_step old new (OfPersist mode) reply s none (told, hands) stands =
+    (record s { parts = written_out s.parts 0 }, handed_stands old new s hands stands, (same_due old s (OfPersist mode) stands ∙ none, (told, refl)))
+gives_step old new (OfCount count) reply s none (told, same) stands = (s, still old new s same stands, (same_due old s (OfCount count) stands ∙ none, (same_counts old s count reply told stands, refl)))
 
 -- each call is a step
-pub owes_step : (old new : Held) (call : Call) (reply : Reply) (s : State) → Owes old call reply new → StandsFor old s → Steps new s call reply
-owes_step old new call (Refused error) s owes stands =
-    subst (λ first. (t : State) × StandsFor new t × Refuses first call error s t) (sym (same_due old s call stands)) (refusal_steps old new s call error (held_due old call) stands owes)
-owes_step old new (Keyspace name options) (Number id) s (none, inl (found, same)) stands = found_steps old new s name options id none found same stands
-owes_step old new (Keyspace name options) (Number id) s (none, inr (fresh, is, creates)) stands = created_steps old new s name options id none fresh is creates stands
-owes_step old new (DeleteKeyspace id) Done s (none, inl (gone, same)) stands = gone_steps old new s id none gone same stands
-owes_step old new (DeleteKeyspace id) Done s (none, inr (living, deletes)) stands = deleted_steps old new s id none living deletes stands
-owes_step old new (Retain id) Done s (none, is) stands = retained_steps old new s id none is stands
-owes_step old new (Release id) Done s (none, counts) stands = released_steps old new s id none counts stands
-owes_step old new (Insert id key value) Done s owes stands =
-    let on = written_steps old new s (Insert id key value) id key (op.Put value) (write_living old id key value owes.0) owes stands in
-    (accepted s id key (op.Put value), on.0, (on.1, refl))
-owes_step old new (Remove id key) Done s owes stands =
-    let on = written_steps old new s (Remove id key) id key op.Remove (write_living old id key [] owes.0) owes stands in
-    (accepted s id key op.Remove, on.0, (on.1, refl))
-owes_step old new (RemoveWeak id key) Done s owes stands =
-    let on = written_steps old new s (RemoveWeak id key) id key op.RemoveWeak (write_living old id key [] owes.0) owes stands in
-    (accepted s id key op.RemoveWeak, on.0, (on.1, refl))
-owes_step old new (GetAt view id key) (Value found) s (none, is, same) stands = read_steps old new s view id key found none is same stands
-owes_step old new (PageAt view id range back max) (Pairs found) s (none, is, same) stands = page_steps old new s view id range back max found none is same stands
-owes_step old new (Persist mode) Done s (none, hands) stands = (record s { parts = written_out s.parts 0 }, handed_stands old new s hands stands, (same_due old s (Persist mode) stands ∙ none, refl))
-owes_step old new KeyspaceCount (Number n) s (is, same) stands = (s, still old new s same stands, (is ∙ sym (law.names_counted old.memory old.catalog.next_table_id s stands.remembered), refl))
-owes_step old new ListKeyspaceNames (Names names) s (all, sorted, same) stands =
-    (s, still old new s same stands, (subst (λ l. IsPermutation l names.items) (sym (λ i. values (stands.remembered.present i).names)) all, sorted, refl))
-owes_step old new (KeyspaceExists name) (Flag exists) s (is, same) stands = (s, still old new s same stands, (is ∙ sym (λ i. has_name (stands.remembered.present i) name), refl))
-owes_step old new Seqno (Number n) s (is, same) stands = (s, still old new s same stands, (is ∙ sym stands.remembered.number, refl))
-owes_step old new VisibleSeqno (Number n) s (is, same) stands = (s, still old new s same stands, (is ∙ sym stands.remembered.number, refl))
-owes_step old new JournalDiskSpace (Number n) s (is, same) stands = (s, still old new s same stands, (is ∙ sym stands.journal, refl))
-owes_step old new call reply s none stands = absurd none
+pub owes_step : (old new : Held) (shape : Shape) (reply : Reply) (s : State) → Owes old shape reply new → StandsFor old s → Steps new s shape reply
+owes_step old new shape (Refused error) s owes stands =
+    subst (λ first. (t : State) × StandsFor new t × Refuses first shape error s t) (sym (same_due old s shape stands)) (refusal_steps old new s shape error (held_due old shape) stands owes)
+owes_step old new shape reply s (none, gives) stands = gives_step old new shape reply s none gives stands
 
 -- calls one after another are a run
 pub owes_run : (old new : Held) (calls : List Call) (replies : List Reply) (s : State) → OwesAll old calls replies new → StandsFor old s → (t : State) × StandsFor new t × Run s calls replies t
 owes_run old new [] [] s same stands = (s, subst (λ c. StandsFor c s) (sym same) stands, refl)
 owes_run old new (call ∷ calls) (reply ∷ replies) s (mid, owes, more) stands =
-    let next = owes_step old mid call reply s owes stands in
+    let next = owes_step old mid (shape_of call) reply s owes stands in
     let rest = owes_run mid new calls replies next.0 more next.1 in
     (rest.0, rest.1, (next.0, next.2, rest.2))
 owes_run old new [] (reply ∷ replies) s none stands = absurd none
 owes_run old new (call ∷ calls) [] s none stands = absurd none
 
 -- one call more
-pub owes_push : (old mid new : Held) (calls : List Call) (replies : List Reply) (call : Call) (reply : Reply) → OwesAll old calls replies mid → Owes mid call reply new → OwesAll old (calls ++ call ∷ []) (replies ++ reply ∷ []) new
-owes_push old mid new [] [] call reply so_far more = (new, subst (λ c. Owes c call reply new) so_far more, refl)
+pub owes_push : (old mid new : Held) (calls : List Call) (replies : List Reply) (call : Call) (reply : Reply) → OwesAll old calls replies mid → Owes mid (shape_of call) reply new → OwesAll old (calls ++ call ∷ []) (replies ++ reply ∷ []) new
+owes_push old mid new [] [] call reply so_far more = (new, subst (λ c. Owes c (shape_of call) reply new) so_far more, refl)
 owes_push old mid new (c ∷ calls) (r ∷ replies) call reply (between, one, so_far) more = (between, one, owes_push between mid new calls replies call reply so_far more)
 owes_push old mid new [] (r ∷ replies) call reply so_far more = absurd so_far
 owes_push old mid new (c ∷ calls) [] call reply so_far more = absurd so_far
-
-pub owed_more : (old mid new : Held) (calls : List Call) (replies more : List Reply) (i : ℕ) (call : Call) (reply : Reply) → i < length calls → call ≡ get_or calls i call → more ≡ replies ++ reply ∷ []
-    → OwesAll old (take i calls) replies mid → Owes mid call reply new → OwesAll old (take (i + 1) calls) more new
-owed_more old mid new calls replies more i call reply lt is pushed so_far owes =
-    subst (λ cs. OwesAll old cs more new) (sym (take_more calls i call lt ∙ ap (λ c. take i calls ++ c ∷ []) (sym is)))
-    (subst (λ rs. OwesAll old (take i calls ++ call ∷ []) rs new) (sym pushed) (owes_push old mid new (take i calls) replies call reply so_far owes))

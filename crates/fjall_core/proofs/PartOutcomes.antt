@@ -1,54 +1,48 @@
 -- What came of the parts of a call.
-use Rattle.std.proofs.Common.{◌≡◌, ℕ, ◌≤◌, Bool, true, false, if◌then◌else◌, List, [], ◌++◌, length, Ok, Err, refl, sym, ◌∙◌, ap, subst}
+use Rattle.std.proofs.Common.{◌≡◌, ℕ, ◌≤◌, Bool, true, false, if◌then◌else◌, is_none, List, [], Option, Ok, Err, refl, sym, ◌∙◌, ap, subst}
 use Rattle.std.proofs.lemmas.Bool.{true≢false}
-use Rattle.fjall_base.specs.Disk.{Took, TookPart}
-use Rattle.fjall_base.specs.Errors.{IsFault, IsFaultOrMemory, Rose}
+use Rattle.fjall_base.specs.Disk.{Took}
+use Rattle.fjall_base.specs.Errors.{IsFault, IsFaultOrMemory}
 use Rattle.fjall_base.specs.declared.error.Error.{Error}
 use Rattle.fjall_base.specs.declared.error.Error.TheVariants.{Io, OutOfMemory}
-use Rattle.fjall_journal.specs.declared.entry.ValueType.{ValueType}
-use Rattle.fjall_journal.specs.Batches.{batch_text, of_item}
-use Rattle.fjall_journal.specs.Writer.{after_command, command_steps, goes_out, written_out}
+use Rattle.fjall_journal.specs.declared.persist_mode.PersistMode.{PersistMode}
+use Rattle.fjall_journal.specs.Ops.{BatchItem, items_text, of_items}
+use Rattle.fjall_journal.specs.Writer.{BatchTook, after_command, batch_steps, written_out}
 use Rattle.fjall_meta.specs.Keyspaces.{Keyspaces, without_keyspace}
 use Rattle.fjall_catalog.specs.declared.update.Update.{Update}
 use Rattle.fjall_catalog.specs.Updates.{IsUpdate}
-use Rattle.fjall_versions.specs.declared.version.Version.{Version}
 use Rattle.fjall_commit.specs.declared.creation.Creation.{Creation}
 use Rattle.fjall_commit.specs.Changes.{IsCreation}
-use Rattle.fjall_state.specs.Remembered.{poisoned, with_version}
-use Rattle.fjall_core.specs.Holding.{Held, by_hand}
-use Rattle.fjall_core.specs.Standing.{is_io}
+use Rattle.fjall_commit.specs.Journaling.{is_out}
+use Rattle.fjall_state.specs.Remembered.{poisoned, with_items}
+use Rattle.fjall_core.specs.Holding.{Held}
+use Rattle.fjall_core.specs.Crashes.{is_io}
 use Rattle.fjall_commit.specs.SyncedChanges.{CreatedKeyspace, SyncsThenChanges, DeletedKeyspace}
-use Rattle.fjall_core.specs.CallParts.{FilesGone, Makes, Removes, Unmakes, WentOut, Writes, is_out}
+use Rattle.fjall_core.specs.CallParts.{FilesGone, Makes, Removes, Unmakes, WentOut, Writes}
 
--- ---- a write
+-- ---- a change of items
 
-module _ (honest : Type 0) (old : Held) (version : Version) (id : ℕ) (key value : List ℕ) (kind : ValueType) (n : ℕ) (numbered : n ≡ old.memory.next) (hand : Bool) (handed : hand ≡ by_hand old version.keyspace_id) where
-  abbrev text : ℕ → List ℕ
-  text m = batch_text (of_item id key value kind m)
-
-  abbrev pub goes : Bool → ℕ → Bool
-  goes b m = goes_out b (length (old.journal.buffer ++ text m))
-
+module _ (honest : Type 0) (old : Held) (items : List BatchItem) (mode : Option PersistMode) (n : ℕ) (numbered : n ≡ old.memory.next) where
   abbrev pub Went : Held → Bool → Type 0
-  Went new done = honest → WentOut old.disk new.disk old.journal new.journal (of_item id key value kind n) kind n (goes hand n) done
+  Went new done = honest → WentOut old.disk new.disk old.journal new.journal (of_items items n) mode done
 
-  abbrev Done : Held → Bool → ℕ → Type 0
-  Done new b m =
-      (new ≡ record old { disk = new.disk; memory = with_version version old.memory; journal = after_command b old.journal (text m) }) × (old.disk.faults ≤ new.disk.faults)
-      × (honest → Took old.disk new.disk (command_steps b old.journal (text m)))
-      × (honest → WentOut old.disk new.disk old.journal new.journal (of_item id key value kind m) kind m (goes b m) true)
-      × (goes b m ≡ false → new.disk ≡ old.disk)
+  abbrev Done : Held → ℕ → Type 0
+  Done new m =
+      (new ≡ record old { disk = new.disk; memory = with_items items old.memory; journal = after_command (is_none mode) old.journal (items_text items m) }) × (old.disk.faults ≤ new.disk.faults)
+      × (honest → Took old.disk new.disk (batch_steps mode old.journal (items_text items m)))
+      × (honest → WentOut old.disk new.disk old.journal new.journal (of_items items m) mode true)
+      × (is_out mode old.journal (of_items items m) ≡ false → new.disk ≡ old.disk)
 
-  pub write_done : (new : Held) → new ≡ record old { disk = new.disk; memory = with_version version old.memory; journal = after_command hand old.journal (text n) } → old.disk.faults ≤ new.disk.faults
-      → (honest → Took old.disk new.disk (command_steps hand old.journal (text n))) → Went new true → (goes hand n ≡ false → new.disk ≡ old.disk)
-      → Writes honest old version (of_item id key value kind old.memory.next) kind (Ok tt) new
-  write_done new is faults took went waits = subst (Done new (by_hand old version.keyspace_id)) numbered (subst (λ b. Done new b n) handed (is, faults, took, went, waits))
+  pub write_done : (new : Held) → new ≡ record old { disk = new.disk; memory = with_items items old.memory; journal = after_command (is_none mode) old.journal (items_text items n) } → old.disk.faults ≤ new.disk.faults
+      → (honest → Took old.disk new.disk (batch_steps mode old.journal (items_text items n))) → Went new true → (is_out mode old.journal (of_items items n) ≡ false → new.disk ≡ old.disk)
+      → Writes honest old items mode (Ok tt) new
+  write_done new is faults took went waits = subst (Done new) numbered (is, faults, took, went, waits)
 
-  abbrev Failed : Held → Bool → ℕ → Type 0
-  Failed mid b m =
-      (honest → TookPart old.disk mid.disk old.journal.name (old.journal.buffer ++ text m))
-      × (honest → WentOut old.disk mid.disk old.journal mid.journal (of_item id key value kind m) kind m (goes b m) false)
-      × (goes b m ≡ true)
+  abbrev Failed : Held → ℕ → Type 0
+  Failed mid m =
+      (honest → BatchTook mode old.disk mid.disk old.journal (items_text items m))
+      × (honest → WentOut old.disk mid.disk old.journal mid.journal (of_items items m) mode false)
+      × (is_out mode old.journal (of_items items m) ≡ true)
 
   went_there : (b : Bool) (error : Error) → is_io error ≡ true → (b ≡ false → error ≡ OutOfMemory) → b ≡ true
   went_there true error io faultless = refl
@@ -56,15 +50,11 @@ module _ (honest : Type 0) (old : Held) (version : Version) (id : ℕ) (key valu
 
   pub write_failed : (mid new : Held) (error : Error) → mid ≡ record old { disk = mid.disk; journal = mid.journal } → new ≡ (if is_io error then record mid { memory = poisoned mid.memory } else mid) → IsFaultOrMemory old.disk.faults mid.disk.faults error
       → (error ≡ OutOfMemory → mid.journal ≡ old.journal) → (error ≡ OutOfMemory → mid.disk ≡ old.disk)
-      → (honest → TookPart old.disk mid.disk old.journal.name (old.journal.buffer ++ text n)) → Went mid false → (goes hand n ≡ false → error ≡ OutOfMemory)
-      → Writes honest old version (of_item id key value kind old.memory.next) kind (Err error) new
+      → (honest → BatchTook mode old.disk mid.disk old.journal (items_text items n)) → Went mid false → (is_out mode old.journal (of_items items n) ≡ false → error ≡ OutOfMemory)
+      → Writes honest old items mode (Err error) new
   write_failed mid new (Io fault) same is cause journal disk took went faultless =
-      let all = subst (Failed mid (by_hand old version.keyspace_id)) numbered (subst (λ b. Failed mid b n) handed (took, went, went_there (goes hand n) (Io fault) refl faultless)) in
-      subst (λ (h : Held). (h.memory ≡ poisoned old.memory) × Rose old.disk.faults h.disk.faults
-      × (honest → TookPart old.disk h.disk old.journal.name (old.journal.buffer ++ batch_text (of_item id key value kind old.memory.next)))
-      × (honest → WentOut old.disk h.disk old.journal h.journal (of_item id key value kind old.memory.next) kind old.memory.next (is_out old version.keyspace_id (of_item id key value kind old.memory.next)) false)
-      × (is_out old version.keyspace_id (of_item id key value kind old.memory.next) ≡ true)) (sym is)
-      (ap (λ (h : Held). poisoned h.memory) same, cause, all.0, all.1, all.2)
+      let all = subst (Failed mid) numbered (took, went, went_there (is_out mode old.journal (of_items items n)) (Io fault) refl faultless) in
+      subst (λ (h : Held). Writes honest old items mode (Err (Io fault)) h) (sym is) (ap (λ (h : Held). poisoned h.memory) same, cause, all.0, all.1, all.2)
   write_failed mid new OutOfMemory same is cause journal disk took went faultless = (is ∙ same ∙ (λ i. record old { disk = disk refl i; journal = journal refl i }), refl)
   write_failed mid new error same is cause journal disk took went faultless = absurd cause
 

@@ -7,8 +7,8 @@ use Rattle.fjall_base.specs.declared.error.Error.{Error}
 use Rattle.fjall_base.specs.declared.error.Error.TheVariants.{Io, Poisoned}
 use Rattle.fjall_journal.specs.declared.persist_mode.PersistMode.{PersistMode}
 use Rattle.fjall_journal.specs.Writer.{Journal, PersistTook, persist_steps}
-use Rattle.fjall_state.specs.declared.call.Call.TheVariants.{Persist}
-use Rattle.fjall_state.specs.declared.call.Reply.TheVariants.{Done, Refused}
+use Rattle.fjall_state.specs.Shapes.{OfPersist}
+use Rattle.fjall_history.specs.declared.reply.Reply.TheVariants.{Done, Refused}
 use Rattle.fjall_state.specs.Machine.{first_due}
 use Rattle.fjall_state.specs.Remembered.{poisoned}
 use Rattle.fjall_core.specs.Holding.{Held}
@@ -20,19 +20,19 @@ use Rattle.fjall_commit.proofs.AppendsAndSyncs.{whole_part}
 
 -- ---- a persist
 
-pub ill_due : (core : Held) (mode : PersistMode) → core.memory.poisoned ≡ true → held_due core (Persist mode) ≡ Some Poisoned
+pub ill_due : (core : Held) (mode : PersistMode) → core.memory.poisoned ≡ true → held_due core (OfPersist mode) ≡ Some Poisoned
 ill_due core mode ill = ap (λ b. first_due ((b, Poisoned) ∷ [])) ill
 
-pub well_due : (core : Held) (mode : PersistMode) → core.memory.poisoned ≡ false → held_due core (Persist mode) ≡ None
+pub well_due : (core : Held) (mode : PersistMode) → core.memory.poisoned ≡ false → held_due core (OfPersist mode) ≡ None
 well_due core mode well = ap (λ b. first_due ((b, Poisoned) ∷ [])) well
 
 -- done
-pub persisted_owes : (old new : Held) (mode : PersistMode) → old.memory.poisoned ≡ false → HandsOver old new → Owes old (Persist mode) Done new
-persisted_owes old new mode well hands = (well_due old mode well, hands)
+pub persisted_owes : (old new : Held) (mode : PersistMode) → old.memory.poisoned ≡ false → HandsOver old new → Owes old (OfPersist mode) Done new
+persisted_owes old new mode well hands = (well_due old mode well, (refl, hands))
 
-pub persisted_serves : (old new : Held) (mode : PersistMode) → old.memory.poisoned ≡ false → HandsOver old new → Took old.disk new.disk (persist_steps old.journal mode) → Persisted old new mode true → Serves old (Persist mode) Done new
+pub persisted_serves : (old new : Held) (mode : PersistMode) → old.memory.poisoned ≡ false → HandsOver old new → Took old.disk new.disk (persist_steps old.journal mode) → Persisted old new mode true → Serves old (OfPersist mode) Done new
 persisted_serves old new mode well hands took out =
-    serves_by old new (Persist mode) Done (persisted_owes old new mode well hands) took out.kinds (λ s d stands on tidy. served_on old new.disk d well out.served on) (λ s d stands on.
+    serves_by old new (OfPersist mode) Done (persisted_owes old new mode well hands) took out.kinds (λ s d stands on tidy. served_on old new.disk d well out.served on) (λ s d stands on.
     let led = persist_leads old new mode d well hands out on in
     (led.0, led.1, (led.2, led.3 s)))
 
@@ -42,13 +42,13 @@ part_of old new now mode (inl part) = inl part.1
 part_of old new now mode (inr (is, synced, inl out)) = inl (whole_part old.disk new.disk old.journal.name old.journal.buffer out)
 part_of old new now mode (inr (is, synced, inr all)) = inr all
 
-pub unpersisted_owes : (old new : Held) (mode : PersistMode) (error : Error) → old.memory.poisoned ≡ false → new.memory ≡ poisoned old.memory → IsFault old.disk.faults new.disk.faults error → Owes old (Persist mode) (Refused error) new
-unpersisted_owes old new mode (Io kind) well is cause = subst (λ first. OwesRefusal first old (Persist mode) (Io kind) new) (sym (well_due old mode well)) (tt, record { memory_is = is; faults = cause })
+pub unpersisted_owes : (old new : Held) (mode : PersistMode) (error : Error) → old.memory.poisoned ≡ false → new.memory ≡ poisoned old.memory → IsFault old.disk.faults new.disk.faults error → Owes old (OfPersist mode) (Refused error) new
+unpersisted_owes old new mode (Io kind) well is cause = subst (λ first. OwesRefusal first old (OfPersist mode) (Io kind) new) (sym (well_due old mode well)) (tt, record { memory_is = is; faults = cause })
 unpersisted_owes old new mode error well is cause = absurd cause
 
 pub unpersisted_serves : (old new : Held) (mode : PersistMode) (error : Error) → old.memory.poisoned ≡ false → new.memory ≡ poisoned old.memory → IsFault old.disk.faults new.disk.faults error → PersistTook old.journal new.journal mode old.disk new.disk
-    → Persisted old new mode false → Serves old (Persist mode) (Refused error) new
+    → Persisted old new mode false → Serves old (OfPersist mode) (Refused error) new
 unpersisted_serves old new mode (Io kind) well is cause took out =
-    serves_by old new (Persist mode) (Refused (Io kind)) (unpersisted_owes old new mode (Io kind) well is cause) (part_of old new new.journal mode took) out.kinds (λ s d stands on tidy. failed_on old new.disk d well cause out.served on) (λ s d stands on.
-    led_by new s d (Persist mode) (Refused (Io kind)) [] refl (no_sync s (Persist mode) (Io kind)) (unpersist_leads old new mode d well (record { memory_is = is; faults = cause }) out on))
+    serves_by old new (OfPersist mode) (Refused (Io kind)) (unpersisted_owes old new mode (Io kind) well is cause) (part_of old new new.journal mode took) out.kinds (λ s d stands on tidy. failed_on old new.disk d well cause out.served on) (λ s d stands on.
+    led_by new s d (OfPersist mode) (Refused (Io kind)) [] refl (no_sync s (OfPersist mode) (Io kind)) (unpersist_leads old new mode d well (record { memory_is = is; faults = cause }) out on))
 unpersisted_serves old new mode error well is cause took out = absurd cause

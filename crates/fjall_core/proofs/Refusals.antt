@@ -1,20 +1,20 @@
 -- Which refusals are due, and what a call asks for.
-use Rattle.std.proofs.Common.{◌≡◌, ℕ, ◌-◌, ◌^◌, Bool, true, false, not, ◌==◌, ◌&&◌, if◌then◌else◌, List, [], ◌∷◌, Option, None, Some, refl, sym, ap}
+use Rattle.std.proofs.Common.{◌≡◌, ℕ, Bool, true, false, not, ◌&&◌, if◌then◌else◌, List, [], ◌∷◌, Option, Some, None, refl, sym, ap}
 use Rattle.std.proofs.lemmas.Bool.{true≢false}
 use Rattle.std.proofs.lemmas.Option.{none-some}
 use Rattle.std.specs.List.{AllByRecursion}
 use Rattle.fjall_base.specs.Pairs.{Bytes}
 use Rattle.fjall_base.specs.Store.{Command, Create, Delete}
 use Rattle.fjall_base.specs.declared.error.Error.{Error}
-use Rattle.fjall_base.specs.declared.error.Error.TheVariants.{Io, KeyspaceDeleted, NumbersUsedUp, Poisoned, UnknownKeyspace}
-use Rattle.fjall_journal.specs.declared.persist_mode.PersistMode.TheVariants.{Buffer, SyncData, SyncAll}
+use Rattle.fjall_base.specs.declared.error.Error.TheVariants.{NumbersUsedUp, Poisoned, SnapshotClosed}
+use Rattle.fjall_journal.specs.Ops.{BatchItem, write_of}
 use Rattle.fjall_versions.specs.Replays.{option_pairs}
-use Rattle.fjall_state.specs.declared.call.Call.{Call}
-use Rattle.fjall_state.specs.declared.call.Call.TheVariants.{Keyspace, DeleteKeyspace, Retain, Release, Insert, Remove, RemoveWeak, GetAt, PageAt, Persist, KeyspaceCount, ListKeyspaceNames, KeyspaceExists, Seqno, VisibleSeqno, JournalDiskSpace}
-use Rattle.fjall_state.specs.declared.call.Reply.TheVariants.{Refused}
-use Rattle.fjall_state.specs.Machine.{Facts, State, handles_of, is_read, is_unknown, due, due_in, facts, first_due, creation_refusals, deletion_refusals, read_refusals, write_refusals, has_name, is_living, present, write_of}
-use Rattle.fjall_core.specs.Crashes.{asked, attempt, IsSync}
-use Rattle.fjall_core.specs.Standing.{is_io}
+use Rattle.fjall_history.specs.declared.ticket.View.TheVariants.{At, Present}
+use Rattle.fjall_history.specs.declared.reply.Reply.TheVariants.{Refused}
+use Rattle.fjall_history.specs.Tickets.{Tickets, ids_used_up, is_open}
+use Rattle.fjall_state.specs.Shapes.{Clone, Close, Collect, OfChange, OfCount, OfCreation, OfDeletion, OfHandle, OfPersist, OfRead, OfTickets, OneLess, OneMore, Open, Shape, TicketCall}
+use Rattle.fjall_state.specs.Machine.{Facts, State, change_refusals, creation_refusals, deletion_refusals, due, due_in, facts, first_due, handle_refusals, has_name, is_living, present, ticket_refusal, view_refusals}
+use Rattle.fjall_core.specs.Crashes.{IsSync, asked, attempt, is_io}
 
 -- where none is due, no cause holds
 pub none_due : (refusals : List (Bool × Error)) → first_due refusals ≡ None → AllByRecursion (λ refusal. refusal.0 ≡ false) refusals
@@ -33,68 +33,81 @@ no_fault_due [] each = refl
 no_fault_due ((true, error) ∷ refusals) each = each.0
 no_fault_due ((false, error) ∷ refusals) each = no_fault_due refusals each.1
 
-no_write_fault : (f : Facts) (id : ℕ) (key value : Bytes) → is_fault (first_due (write_refusals f id key value)) ≡ false
-no_write_fault f id key value = no_fault_due (write_refusals f id key value) (refl, (refl, (refl, (refl, (refl, (refl, (refl, tt)))))))
+opening_not : (b : Bool) → is_fault (if b then Some NumbersUsedUp else None) ≡ false
+opening_not true = refl
+opening_not false = refl
 
-pub never_due : (f : Facts) (call : Call) → is_fault (due_in f call) ≡ false
-never_due f (Keyspace name options) = no_fault_due (creation_refusals f name) (refl, (refl, (refl, tt)))
-never_due f (DeleteKeyspace id) = no_fault_due (deletion_refusals f id) (refl, (refl, (refl, tt)))
-never_due f (Retain id) = no_fault_due ((is_unknown f.store id, UnknownKeyspace) ∷ (not (is_read f id), KeyspaceDeleted) ∷ (handles_of f.handles id == 2 ^ 64 - 1, NumbersUsedUp) ∷ []) (refl, (refl, (refl, tt)))
-never_due f (Release id) = no_fault_due ((is_unknown f.store id, UnknownKeyspace) ∷ (handles_of f.handles id == 0, UnknownKeyspace) ∷ []) (refl, (refl, tt))
-never_due f (Insert id key value) = no_write_fault f id key value
-never_due f (Remove id key) = no_write_fault f id key []
-never_due f (RemoveWeak id key) = no_write_fault f id key []
-never_due f (GetAt view id key) = no_fault_due (read_refusals f id) (refl, (refl, (refl, tt)))
-never_due f (PageAt view id range back max) = no_fault_due (read_refusals f id) (refl, (refl, (refl, tt)))
-never_due f (Persist mode) = no_fault_due ((f.poisoned, Poisoned) ∷ []) (refl, tt)
-never_due f KeyspaceCount = refl
-never_due f ListKeyspaceNames = refl
-never_due f (KeyspaceExists name) = refl
-never_due f Seqno = refl
-never_due f VisibleSeqno = refl
-never_due f JournalDiskSpace = refl
+cloning_not : (a b : Bool) → is_fault (if a then (if b then Some NumbersUsedUp else None) else Some SnapshotClosed) ≡ false
+cloning_not true b = opening_not b
+cloning_not false b = refl
+
+closing_not : (b : Bool) → is_fault (if b then None else Some SnapshotClosed) ≡ false
+closing_not true = refl
+closing_not false = refl
+
+no_ticket_fault : (t : Tickets) (call : TicketCall) → is_fault (ticket_refusal t call) ≡ false
+no_ticket_fault t Open = opening_not (ids_used_up t)
+no_ticket_fault t (Clone id) = cloning_not (is_open t id) (ids_used_up t)
+no_ticket_fault t (Close id) = closing_not (is_open t id)
+no_ticket_fault t Collect = refl
+
+pub never_due : (f : Facts) (shape : Shape) → is_fault (due_in f shape) ≡ false
+never_due f (OfChange [] how) = refl
+never_due f (OfChange (item ∷ items) how) = no_fault_due (change_refusals f (item ∷ items)) (refl, (refl, (refl, (refl, (refl, (refl, (refl, (refl, tt))))))))
+never_due f (OfCreation name options) = no_fault_due (creation_refusals f name) (refl, (refl, (refl, tt)))
+never_due f (OfDeletion id) = no_fault_due (deletion_refusals f id) (refl, (refl, (refl, tt)))
+never_due f (OfHandle OneMore id) = no_fault_due (handle_refusals f OneMore id) (refl, (refl, (refl, tt)))
+never_due f (OfHandle OneLess id) = no_fault_due (handle_refusals f OneLess id) (refl, (refl, tt))
+never_due f (OfRead Present id query) = no_fault_due (view_refusals f Present id) (refl, (refl, (refl, tt)))
+never_due f (OfRead (At ticket) id query) = no_fault_due (view_refusals f (At ticket) id) (refl, (refl, (refl, (refl, tt))))
+never_due f (OfTickets call) = no_ticket_fault f.tickets call
+never_due f (OfPersist mode) = no_fault_due ((f.poisoned, Poisoned) ∷ []) (refl, tt)
+never_due f (OfCount count) = refl
 
 -- what is refused without a fault was not tried
-pub no_attempt : (s : State) (call : Call) (error : Error) → is_io error ≡ false → attempt s call (Refused error) ≡ []
-no_attempt s call (Io kind) other = absurd (true≢false other)
-no_attempt s call error other = refl
+pub no_attempt : (s : State) (shape : Shape) (error : Error) → is_io error ≡ false → attempt s shape (Refused error) ≡ []
+no_attempt s shape error other = ap (λ b. if b then asked s shape else []) other
+
+-- a fault was tried
+pub an_attempt : (s : State) (shape : Shape) (error : Error) → is_io error ≡ true → attempt s shape (Refused error) ≡ asked s shape
+an_attempt s shape error io = ap (λ b. if b then asked s shape else []) io
 
 -- and what is refused is no sync
-pub no_sync : (s : State) (call : Call) (error : Error) → IsSync s call (Refused error) → ⊥
-no_sync s (Persist Buffer) error sync = sync
-no_sync s (Persist SyncData) error sync = sync
-no_sync s (Persist SyncAll) error sync = sync
-no_sync s call error sync = sync
+pub no_sync : (s : State) (shape : Shape) (error : Error) → IsSync s shape (Refused error) → ⊥
+no_sync s shape error sync = sync
 
 -- ---- what a call asks for
 
 -- A call asks for nothing, or for one command, which is refused to a poisoned engine.
-pub data Asks (s : State) (call : Call) : Type 0 where
-  asks_nothing : (none : asked s call ≡ []) → Asks s call
-  asks_one : (command : Command) (is : asked s call ≡ command ∷ []) (well : due s call ≡ None → s.poisoned ≡ false) → Asks s call
+pub data Asks (s : State) (shape : Shape) : Type 0 where
+  asks_nothing : (none : asked s shape ≡ []) → Asks s shape
+  asks_one : (command : Command) (is : asked s shape ≡ command ∷ []) (well : due s shape ≡ None → s.poisoned ≡ false) → Asks s shape
 
 and_false : (a b : Bool) → a ≡ true → (a && b) ≡ false → b ≡ false
 and_false true b is none = none
 and_false false b is none = absurd (true≢false (sym is))
 
-well_write : (s : State) (id : ℕ) (key value : Bytes) → first_due (write_refusals (facts s) id key value) ≡ None → s.poisoned ≡ false
-well_write s id key value none = (none_due (write_refusals (facts s) id key value) none).1.1.1.1.1.0
+well_change : (s : State) (items : List BatchItem) → first_due (change_refusals (facts s) items) ≡ None → s.poisoned ≡ false
+well_change s items none = (none_due (change_refusals (facts s) items) none).1.1.1.1.1.0
 
-creation_asks : (s : State) (name : Bytes) (options : List Bytes) (had : Bool) → has_name (present s) name ≡ had → Asks s (Keyspace name options)
+creation_asks : (s : State) (name : Bytes) (options : List Bytes) (had : Bool) → has_name (present s) name ≡ had → Asks s (OfCreation name options)
 creation_asks s name options true had = asks_nothing (ap (λ b. if b then [] else (Create name (option_pairs options) ∷ [])) had)
 creation_asks s name options false had =
     asks_one (Create name (option_pairs options)) (ap (λ b. if b then [] else (Create name (option_pairs options) ∷ [])) had)
     (λ none. and_false (not (has_name (present s) name)) s.poisoned (ap not had) (none_due (creation_refusals (facts s) name) none).1.0)
 
-deletion_asks : (s : State) (id : ℕ) (living : Bool) → is_living (present s) id ≡ living → Asks s (DeleteKeyspace id)
+deletion_asks : (s : State) (id : ℕ) (living : Bool) → is_living (present s) id ≡ living → Asks s (OfDeletion id)
 deletion_asks s id true living =
     asks_one (Delete id) (ap (λ b. if b then (Delete id ∷ []) else []) living) (λ none. and_false (is_living (present s) id) s.poisoned living (none_due (deletion_refusals (facts s) id) none).1.0)
 deletion_asks s id false living = asks_nothing (ap (λ b. if b then (Delete id ∷ []) else []) living)
 
-pub asks : (s : State) (call : Call) → Asks s call
-asks s (Keyspace name options) = creation_asks s name options (has_name (present s) name) refl
-asks s (DeleteKeyspace id) = deletion_asks s id (is_living (present s) id) refl
-asks s (Insert id key value) = asks_one (write_of id key (Some value)) refl (well_write s id key value)
-asks s (Remove id key) = asks_one (write_of id key None) refl (well_write s id key [])
-asks s (RemoveWeak id key) = asks_one (write_of id key None) refl (well_write s id key [])
-asks s call = asks_nothing refl
+pub asks : (s : State) (shape : Shape) → Asks s shape
+asks s (OfChange [] how) = asks_nothing refl
+asks s (OfChange (item ∷ items) how) = asks_one (write_of (item ∷ items)) refl (well_change s (item ∷ items))
+asks s (OfCreation name options) = creation_asks s name options (has_name (present s) name) refl
+asks s (OfDeletion id) = deletion_asks s id (is_living (present s) id) refl
+asks s (OfHandle call id) = asks_nothing refl
+asks s (OfRead view id query) = asks_nothing refl
+asks s (OfTickets call) = asks_nothing refl
+asks s (OfPersist mode) = asks_nothing refl
+asks s (OfCount count) = asks_nothing refl

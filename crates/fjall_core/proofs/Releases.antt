@@ -18,8 +18,8 @@ use Rattle.fjall_meta.specs.Keyspaces.{AreKeyspaces, Keyspaces, keyspace_at}
 use Rattle.fjall_versions.specs.Versions.{store_of}
 use Rattle.fjall_versions.proofs.Naming.{living_names, rest_is_bare}
 use Rattle.fjall_commit.specs.Removals.{IsUnused, RemovesOwn}
-use Rattle.fjall_state.specs.declared.call.Call.TheVariants.{Release}
-use Rattle.fjall_state.specs.declared.call.Reply.TheVariants.{Done, Refused}
+use Rattle.fjall_state.specs.Shapes.{OfHandle, OneLess}
+use Rattle.fjall_history.specs.declared.reply.Reply.TheVariants.{Done, Refused}
 use Rattle.fjall_state.specs.Machine.{State, handles_of, is_living, is_unknown}
 use Rattle.fjall_state.specs.Remembered.{Remembered, is_last, released}
 use Rattle.fjall_state.proofs.Dues.{none_due}
@@ -68,7 +68,7 @@ unused_of m id are known gone =
     under false true is none fits = absurd (true≢false none)
     under false false is none fits = grind (arith, nat_tests)
 
-known : (core : Held) (id : ℕ) → held_due core (Release id) ≡ None → is_unknown (store_in core) id ≡ false
+known : (core : Held) (id : ℕ) → held_due core (OfHandle OneLess id) ≡ None → is_unknown (store_in core) id ≡ false
 known core id none = (none_due ((is_unknown (store_in core) id, UnknownKeyspace) ∷ (handles_of core.memory.handles id == 0, UnknownKeyspace) ∷ []) none).0
 
 deleted : (m : Remembered) (id : ℕ) → is_last m id ≡ true → is_living (store_of m.keyspaces m.versions) id ≡ false
@@ -92,8 +92,8 @@ recounts_of old new s id stands counts =
       journal = counts.journal;
     }
 
-pub released_owes : (old new : Held) (id : ℕ) → held_due old (Release id) ≡ None → Counts old (released id old.memory) new → Owes old (Release id) Done new
-released_owes old new id none counts = (none, counts)
+pub released_owes : (old new : Held) (id : ℕ) → held_due old (OfHandle OneLess id) ≡ None → Counts old (released id old.memory) new → Owes old (OfHandle OneLess id) Done new
+released_owes old new id none counts = (none, (refl, counts))
 
 -- what is done to the disk where the files are to go, and where they aren't
 gone_on_disk : (A B : Type 0) (last poisoned : Bool) → last ≡ true → poisoned ≡ false → A → MatchBool (last && not poisoned) A B
@@ -106,13 +106,13 @@ kept_on_disk A B true false (inl other) b = absurd (true≢false other)
 kept_on_disk A B true false (inr ill) b = absurd (true≢false (sym ill))
 
 -- handles counted, on a disk that stays as it is
-pub counted_serves : (old new : Held) (id : ℕ) → held_due old (Release id) ≡ None → (is_last old.memory id ≡ false) ⊎ (old.memory.poisoned ≡ true) → Counts old (released id old.memory) new → new.disk ≡ old.disk → Serves old (Release id) Done new
+pub counted_serves : (old new : Held) (id : ℕ) → held_due old (OfHandle OneLess id) ≡ None → (is_last old.memory id ≡ false) ⊎ (old.memory.poisoned ≡ true) → Counts old (released id old.memory) new → new.disk ≡ old.disk → Serves old (OfHandle OneLess id) Done new
 counted_serves old new id none why counts same =
-    serves_by old new (Release id) Done (none, counts) (kept_on_disk (RemovesOwn id old.disk new.disk × Within (codes "keyspaces") old.disk new.disk) (new.disk ≡ old.disk) (is_last old.memory id) old.memory.poisoned why same)
+    serves_by old new (OfHandle OneLess id) Done (none, (refl, counts)) (kept_on_disk (RemovesOwn id old.disk new.disk × Within (codes "keyspaces") old.disk new.disk) (new.disk ≡ old.disk) (is_last old.memory id) old.memory.poisoned why same)
     (subst (λ disk. StaysTidy old.disk disk) (sym same) (stays_start old.disk)) (λ s d stands on tidy. ap (λ (m : Meaning). m.misuses) same) (λ s d stands on.
-    led_by new s d (Release id) Done [] refl (λ sync. sync) (recount_leads old new d same (recounts_of old new s id stands counts) on))
+    led_by new s d (OfHandle OneLess id) Done [] refl (λ sync. sync) (recount_leads old new d same (recounts_of old new s id stands counts) on))
 
-unused_by : (old : Held) (s : State) (id : ℕ) → StandsFor old s → held_due old (Release id) ≡ None → is_last old.memory id ≡ true → IsUnused id old.memory.keyspaces
+unused_by : (old : Held) (s : State) (id : ℕ) → StandsFor old s → held_due old (OfHandle OneLess id) ≡ None → is_last old.memory id ≡ true → IsUnused id old.memory.keyspaces
 unused_by old s id stands none last = unused_of old.memory id stands.remembered.lawful.keyspaces (known old id none) (deleted old.memory id last)
 
 -- wherever the core stood, no call was one that no disk can serve
@@ -122,7 +122,7 @@ release_served old new id gone unused well d on tidy =
     let lies = (subst (λ (x : Durable). StandsOn old x) here on).lies well in
     gone.served lies.records lies.tree lies.in_tree (folder_kind (state_in old.disk) id unused.fits tidy)
 
-removed_of : (old new : Held) (s : State) (id : ℕ) → StandsFor old s → held_due old (Release id) ≡ None → is_last old.memory id ≡ true → FilesGone id old.disk new.disk → Removed old new
+removed_of : (old new : Held) (s : State) (id : ℕ) → StandsFor old s → held_due old (OfHandle OneLess id) ≡ None → is_last old.memory id ≡ true → FilesGone id old.disk new.disk → Removed old new
 removed_of old new s id stands none last gone =
     let unused = unused_of old.memory id stands.remembered.lawful.keyspaces (known old id none) (deleted old.memory id last) in
     record {
@@ -132,17 +132,17 @@ removed_of old new s id stands none last gone =
     }
 
 -- files removed, and then handles counted
-pub removed_serves : (old new : Held) (id : ℕ) → held_due old (Release id) ≡ None → is_last old.memory id ≡ true → old.memory.poisoned ≡ false → Counts old (released id old.memory) new → FilesGone id old.disk new.disk → RemovesOwn id old.disk new.disk
-    → Serves old (Release id) Done new
+pub removed_serves : (old new : Held) (id : ℕ) → held_due old (OfHandle OneLess id) ≡ None → is_last old.memory id ≡ true → old.memory.poisoned ≡ false → Counts old (released id old.memory) new → FilesGone id old.disk new.disk → RemovesOwn id old.disk new.disk
+    → Serves old (OfHandle OneLess id) Done new
 removed_serves old new id none last well counts gone removed =
-    serves_by old new (Release id) Done (none, counts)
+    serves_by old new (OfHandle OneLess id) Done (none, (refl, counts))
     (gone_on_disk (RemovesOwn id old.disk new.disk × Within (codes "keyspaces") old.disk new.disk) (new.disk ≡ old.disk) (is_last old.memory id) old.memory.poisoned last well (removed, gone.within)) gone.kinds
     (λ s d stands on tidy. release_served old new id gone (unused_by old s id stands none last) well d on tidy) (λ s d stands on.
-    led_by new s d (Release id) Done [] refl (λ sync. sync) (removed_leads old new d well (recounts_of old new s id stands counts) (removed_of old new s id stands none last gone) on))
+    led_by new s d (OfHandle OneLess id) Done [] refl (λ sync. sync) (removed_leads old new d well (recounts_of old new s id stands counts) (removed_of old new s id stands none last gone) on))
 
 -- memory ran out before anything was removed
-out_owes : (old new : Held) (id : ℕ) → held_due old (Release id) ≡ None → new ≡ record old { disk = new.disk } → old.disk.faults ≤ new.disk.faults → Owes old (Release id) (Refused OutOfMemory) new
-out_owes old new id none same later = subst (λ first. OwesRefusal first old (Release id) OutOfMemory new) (sym none) (tt, (same, later))
+out_owes : (old new : Held) (id : ℕ) → held_due old (OfHandle OneLess id) ≡ None → new ≡ record old { disk = new.disk } → old.disk.faults ≤ new.disk.faults → Owes old (OfHandle OneLess id) (Refused OutOfMemory) new
+out_owes old new id none same later = subst (λ first. OwesRefusal first old (OfHandle OneLess id) OutOfMemory new) (sym none) (tt, (same, later))
 
 same_counts : (old new : Held) → new ≡ record old { disk = new.disk } → Recounts old new
 same_counts old new same = record {
@@ -154,29 +154,29 @@ same_counts old new same = record {
   journal = ap (λ (h : Held). h.journal) same;
 }
 
-out_serves : (old new : Held) (id : ℕ) → held_due old (Release id) ≡ None → is_last old.memory id ≡ true → old.memory.poisoned ≡ false → new ≡ record old { disk = new.disk } → old.disk.faults ≤ new.disk.faults
-    → FilesGone id old.disk new.disk → Took old.disk new.disk [] → Serves old (Release id) (Refused OutOfMemory) new
+out_serves : (old new : Held) (id : ℕ) → held_due old (OfHandle OneLess id) ≡ None → is_last old.memory id ≡ true → old.memory.poisoned ≡ false → new ≡ record old { disk = new.disk } → old.disk.faults ≤ new.disk.faults
+    → FilesGone id old.disk new.disk → Took old.disk new.disk [] → Serves old (OfHandle OneLess id) (Refused OutOfMemory) new
 out_serves old new id none last well same later gone took =
-    serves_by old new (Release id) (Refused OutOfMemory) (out_owes old new id none same later) took gone.kinds
+    serves_by old new (OfHandle OneLess id) (Refused OutOfMemory) (out_owes old new id none same later) took gone.kinds
     (λ s d stands on tidy. release_served old new id gone (unused_by old s id stands none last) well d on tidy) (λ s d stands on.
-    led_by new s d (Release id) (Refused OutOfMemory) [] refl (λ sync. sync)
+    led_by new s d (OfHandle OneLess id) (Refused OutOfMemory) [] refl (λ sync. sync)
     (removed_leads old new d well (same_counts old new same) (removed_of old new s id stands none last gone) on))
 
 -- a removal that was refused
-pub unremoved_owes : (honest : Type 0) (old new : Held) (id : ℕ) (error : Error) → held_due old (Release id) ≡ None → Removes honest old id (Err error) new → Owes old (Release id) (Refused error) new
-unremoved_owes honest old new id (Io kind) none all = subst (λ first. OwesRefusal first old (Release id) (Io kind) new) (sym none) (tt, record { memory_is = ap (λ (h : Held). h.memory) all.0; faults = all.1 })
+pub unremoved_owes : (honest : Type 0) (old new : Held) (id : ℕ) (error : Error) → held_due old (OfHandle OneLess id) ≡ None → Removes honest old id (Err error) new → Owes old (OfHandle OneLess id) (Refused error) new
+unremoved_owes honest old new id (Io kind) none all = subst (λ first. OwesRefusal first old (OfHandle OneLess id) (Io kind) new) (sym none) (tt, record { memory_is = ap (λ (h : Held). h.memory) all.0; faults = all.1 })
 unremoved_owes honest old new id error none all =
-    subst (λ e. Owes old (Release id) (Refused e) new) (sym all.1) (out_owes old new id none all.0 all.2)
+    subst (λ e. Owes old (OfHandle OneLess id) (Refused e) new) (sym all.1) (out_owes old new id none all.0 all.2)
 
-pub unremoved_serves : (honest : Type 0) (old new : Held) (id : ℕ) (error : Error) → held_due old (Release id) ≡ None → is_last old.memory id ≡ true → old.memory.poisoned ≡ false → Removes honest old id (Err error) new → honest
-    → Serves old (Release id) (Refused error) new
+pub unremoved_serves : (honest : Type 0) (old new : Held) (id : ℕ) (error : Error) → held_due old (OfHandle OneLess id) ≡ None → is_last old.memory id ≡ true → old.memory.poisoned ≡ false → Removes honest old id (Err error) new → honest
+    → Serves old (OfHandle OneLess id) (Refused error) new
 unremoved_serves honest old new id (Io kind) none last well all true_ =
-    serves_by old new (Release id) (Refused (Io kind)) (unremoved_owes honest old new id (Io kind) none all) (all.2 true_).within (all.2 true_).kinds
+    serves_by old new (OfHandle OneLess id) (Refused (Io kind)) (unremoved_owes honest old new id (Io kind) none all) (all.2 true_).within (all.2 true_).kinds
     (λ s d stands on tidy. record { rose = all.1; served = release_served old new id (all.2 true_) (unused_by old s id stands none last) well d on tidy }) (λ s d stands on.
-    led_by new s d (Release id) (Refused (Io kind)) [] refl (λ sync. sync)
+    led_by new s d (OfHandle OneLess id) (Refused (Io kind)) [] refl (λ sync. sync)
     (unremoved_leads old new d well (record { memory_is = ap (λ (h : Held). h.memory) all.0; faults = all.1 }) (removed_of old new s id stands none last (all.2 true_)) on))
 unremoved_serves honest old new id error none last well all true_ =
-    subst (λ e. Serves old (Release id) (Refused e) new) (sym all.1) (out_serves old new id none last well all.0 all.2 (all.3 true_) (all.4 true_))
+    subst (λ e. Serves old (OfHandle OneLess id) (Refused e) new) (sym all.1) (out_serves old new id none last well all.0 all.2 (all.3 true_) (all.4 true_))
 
 -- a removal that was done, and then the handles counted
 counts_then : (honest : Type 0) (old mid new : Held) (id : ℕ) → Removes honest old id (Ok tt) mid → new ≡ record mid { memory = released id mid.memory } → Counts old (released id old.memory) new
@@ -187,10 +187,10 @@ counts_then honest old mid new id all is = record {
   faults = subst (λ (h : Held). old.disk.faults ≤ h.disk.faults) (sym is) all.1;
 }
 
-pub then_owes : (honest : Type 0) (old mid new : Held) (id : ℕ) → held_due old (Release id) ≡ None → Removes honest old id (Ok tt) mid → new ≡ record mid { memory = released id mid.memory } → Owes old (Release id) Done new
-then_owes honest old mid new id none all is = (none, counts_then honest old mid new id all is)
+pub then_owes : (honest : Type 0) (old mid new : Held) (id : ℕ) → held_due old (OfHandle OneLess id) ≡ None → Removes honest old id (Ok tt) mid → new ≡ record mid { memory = released id mid.memory } → Owes old (OfHandle OneLess id) Done new
+then_owes honest old mid new id none all is = (none, (refl, counts_then honest old mid new id all is))
 
-pub then_serves : (honest : Type 0) (old mid new : Held) (id : ℕ) → held_due old (Release id) ≡ None → is_last old.memory id ≡ true → old.memory.poisoned ≡ false → Removes honest old id (Ok tt) mid → new ≡ record mid { memory = released id mid.memory } → honest
-    → Serves old (Release id) Done new
+pub then_serves : (honest : Type 0) (old mid new : Held) (id : ℕ) → held_due old (OfHandle OneLess id) ≡ None → is_last old.memory id ≡ true → old.memory.poisoned ≡ false → Removes honest old id (Ok tt) mid → new ≡ record mid { memory = released id mid.memory } → honest
+    → Serves old (OfHandle OneLess id) Done new
 then_serves honest old mid new id none last well all is true_ =
     removed_serves old new id none last well (counts_then honest old mid new id all is) (subst (λ (h : Held). FilesGone id old.disk h.disk) (sym is) (all.2 true_)) (subst (λ (h : Held). RemovesOwn id old.disk h.disk) (sym is) (all.3 true_))

@@ -1,11 +1,11 @@
 -- Calls one after another over a disk that may crash.
-use Rattle.std.proofs.Common.{◌≡◌, ℕ, ◌+◌, ◌<◌, List, [], ◌∷◌, ◌++◌, length, take, get_or, refl, sym, ◌∙◌, ap, subst, append_assoc}
-use Rattle.std.proofs.lemmas.List.{take_more}
+use Rattle.std.proofs.Common.{List, [], ◌∷◌, ◌++◌, refl, sym, ◌∙◌, ap, subst, append_assoc}
 use Rattle.fjall_base.specs.Store.{Command}
 use Rattle.fjall_base.specs.Disk.{LeavesOnly}
 use Rattle.fjall_files.specs.Tidy.{StaysTidy}
 use Rattle.fjall_state.specs.declared.call.Call.{Call}
-use Rattle.fjall_state.specs.declared.call.Reply.{Reply}
+use Rattle.fjall_state.specs.Shapes.{shape_of}
+use Rattle.fjall_history.specs.declared.reply.Reply.{Reply}
 use Rattle.fjall_state.specs.Machine.{State}
 use Rattle.fjall_core.specs.Holding.{Held}
 use Rattle.fjall_core.specs.Durables.{Durable, StandsAmid}
@@ -26,24 +26,18 @@ pub record SoFar (new : Held) (s : State) (d : Durable) (calls : List Call) (rep
 pub none_yet : (core : Held) (s : State) (d : Durable) → StandsFor core s → StandsOn core d → SoFar core s d [] []
 none_yet core s d stands on = record { tried = []; state = s; durable = d; stands = stands; on = on; run = (refl, refl, refl) }
 
-one_more : (mid new : Held) (s : State) (d : Durable) (calls : List Call) (replies : List Reply) (c : Call) (r : Reply) → SoFar mid s d calls replies → Serves mid c r new → SoFar new s d (calls ++ c ∷ []) (replies ++ r ∷ [])
+-- one call more
+pub one_more : (mid new : Held) (s : State) (d : Durable) (calls : List Call) (replies : List Reply) (c : Call) (r : Reply) → SoFar mid s d calls replies → Serves mid (shape_of c) r new → SoFar new s d (calls ++ c ∷ []) (replies ++ r ∷ [])
 one_more mid new s d calls replies c r so_far serves =
     let next = serves.crash so_far.state so_far.durable so_far.stands so_far.on in
     record {
-      tried = so_far.tried ++ attempt so_far.state c r;
+      tried = so_far.tried ++ attempt so_far.state (shape_of c) r;
       state = next.0;
       durable = next.1;
       stands = next.2;
       on = next.3;
       run = run-push s so_far.state next.0 d so_far.durable next.1 calls replies so_far.tried c r so_far.run next.4 next.5;
     }
-
--- one call more of a list
-pub call_more : (mid new : Held) (s : State) (d : Durable) (calls : List Call) (replies more : List Reply) (i : ℕ) (call : Call) (reply : Reply) → i < length calls → call ≡ get_or calls i call → more ≡ replies ++ reply ∷ []
-    → SoFar mid s d (take i calls) replies → Serves mid call reply new → SoFar new s d (take (i + 1) calls) more
-call_more mid new s d calls replies more i call reply lt is pushed so_far serves =
-    subst (λ cs. SoFar new s d cs more) (sym (take_more calls i call lt ∙ ap (λ c. take i calls ++ c ∷ []) (sym is)))
-    (subst (λ rs. SoFar new s d (take i calls ++ call ∷ []) rs) (sym pushed) (one_more mid new s d (take i calls) replies call reply so_far serves))
 
 -- one run behind another
 run_behind : (s m t : State) (d n e : Durable) (calls more : List Call) (replies others : List Reply) (tried rest : List Command) → RunOn s d calls replies tried m n → RunOn m n more others rest t e
@@ -56,7 +50,7 @@ run_behind s m t d n e (c ∷ calls) more (r ∷ replies) others tried rest (mid
   behind ++ rest,
   step,
   passes,
-  ap (λ (l : List Command). l ++ rest) is ∙ append_assoc (attempt s c r) behind rest,
+  ap (λ (l : List Command). l ++ rest) is ∙ append_assoc (attempt s (shape_of c) r) behind rest,
   run_behind mid m t on n e calls more replies others behind rest first run,
 )
 run_behind s m t d n e [] more (r ∷ replies) others tried rest first run = absurd first

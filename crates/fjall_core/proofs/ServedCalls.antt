@@ -16,16 +16,15 @@ use Rattle.fjall_catalog.specs.Catalog.{listed}
 use Rattle.fjall_catalog.specs.Updates.{IsTableGone}
 use Rattle.fjall_files.specs.Tidy.{IsTidy, StaysTidy}
 use Rattle.fjall_files.proofs.Tidying.{stays_start}
-use Rattle.fjall_state.specs.declared.call.Call.{Call}
-use Rattle.fjall_state.specs.declared.call.Call.TheVariants.{Release}
-use Rattle.fjall_state.specs.declared.call.Reply.{Reply}
-use Rattle.fjall_state.specs.declared.call.Reply.TheVariants.{Refused}
+use Rattle.fjall_state.specs.Shapes.{OfHandle, OneLess, Shape}
+use Rattle.fjall_history.specs.declared.reply.Reply.{Reply}
+use Rattle.fjall_history.specs.declared.reply.Reply.TheVariants.{Refused}
 use Rattle.fjall_state.specs.Machine.{State, TakesMemory, TooLong}
 use Rattle.fjall_state.specs.Remembered.{IsDueOrMemory, facts_of}
 use Rattle.fjall_core.specs.Holding.{Held}
 use Rattle.fjall_core.specs.Durables.{Durable, Passes}
-use Rattle.fjall_core.specs.Crashes.{BlamesDevice, CallLeaves, IsSync, attempt}
-use Rattle.fjall_core.specs.Standing.{HasTable, OnDisk, Owes, OwesRefusal, RanOut, ReplacesTable, Serves, StandsFor, StandsOn, held_due, is_io, store_in}
+use Rattle.fjall_core.specs.Crashes.{BlamesDevice, CallLeaves, IsSync, attempt, is_io}
+use Rattle.fjall_core.specs.Standing.{HasTable, OnDisk, Owes, OwesRefusal, RanOut, ReplacesTable, Serves, StandsFor, StandsOn, held_due, store_in}
 use Rattle.fjall_core.proofs.CrashesInRuns.{passes_still}
 use Rattle.fjall_core.proofs.Refusals.{is_fault, never_due, no_attempt, no_sync}
 use Rattle.fjall_core.proofs.OwedSteps.{owes_step}
@@ -33,15 +32,15 @@ use Rattle.fjall_core.proofs.DeviceFaults.{refusal_blames}
 use Rattle.fjall_core.proofs.JournalWrites.{Leads}
 
 -- the core stands on some disk now, to which such a call leads
-abbrev pub Led : Held → State → Durable → Call → Reply → Type 0
-Led new s d call reply = (e : Durable) × StandsOn new e × CallLeaves s d call reply e
+abbrev pub Led : Held → State → Durable → Shape → Reply → Type 0
+Led new s d shape reply = (e : Durable) × StandsOn new e × CallLeaves s d shape reply e
 
 -- what a call owes, what it did to the disk, and where it leads, is what it serves
-pub serves_by : (old new : Held) (call : Call) (reply : Reply) → Owes old call reply new → OnDisk old call reply new → StaysTidy old.disk new.disk → ((s : State) (d : Durable) → StandsFor old s → StandsOn old d → IsTidy (state_in old.disk) → BlamesDevice reply old.disk new.disk) → ((s : State) (d : Durable) → StandsFor old s → StandsOn old d → Led new s d call reply) → Serves old call reply new
-serves_by old new call reply owes disk stays device led = record {
+pub serves_by : (old new : Held) (shape : Shape) (reply : Reply) → Owes old shape reply new → OnDisk old shape reply new → StaysTidy old.disk new.disk → ((s : State) (d : Durable) → StandsFor old s → StandsOn old d → IsTidy (state_in old.disk) → BlamesDevice reply old.disk new.disk) → ((s : State) (d : Durable) → StandsFor old s → StandsOn old d → Led new s d shape reply) → Serves old shape reply new
+serves_by old new shape reply owes disk stays device led = record {
   disk = disk;
   crash = λ s d stands on.
-      let stepped = owes_step old new call reply s owes stands in
+      let stepped = owes_step old new shape reply s owes stands in
       let way = led s d stands on in
       let blames = subst (λ (m : Meaning). IsTidy (state_in m) → BlamesDevice reply m way.0.meaning) (sym on.same) (subst (λ (m : Meaning). IsTidy (state_in old.disk) → BlamesDevice reply old.disk m) (sym way.1.same) (device s d stands on)) in
       let kinds = subst (λ (m : Meaning). StaysTidy m way.0.meaning) (sym on.same) (subst (λ (m : Meaning). StaysTidy old.disk m) (sym way.1.same) stays) in
@@ -49,77 +48,77 @@ serves_by old new call reply owes disk stays device led = record {
 }
 
 -- a way that these commands lead, of a call that tried just them and was no sync
-pub led_by : (new : Held) (s : State) (d : Durable) (call : Call) (reply : Reply) (tried : List Command) → attempt s call reply ≡ tried → (IsSync s call reply → ⊥) → Leads new d tried → Led new s d call reply
-led_by new s d call reply tried is unsynced leads = (leads.0, leads.1, (subst (λ l. Passes d l leads.0) (sym is) leads.2, λ sync. absurd (unsynced sync)))
+pub led_by : (new : Held) (s : State) (d : Durable) (shape : Shape) (reply : Reply) (tried : List Command) → attempt s shape reply ≡ tried → (IsSync s shape reply → ⊥) → Leads new d tried → Led new s d shape reply
+led_by new s d shape reply tried is unsynced leads = (leads.0, leads.1, (subst (λ l. Passes d l leads.0) (sym is) leads.2, λ sync. absurd (unsynced sync)))
 
 -- nothing was done, and nothing tried
-pub still_led : (old new : Held) (s : State) (d : Durable) (call : Call) (reply : Reply) → attempt s call reply ≡ [] → (IsSync s call reply → ⊥) → new ≡ old → StandsOn old d → Led new s d call reply
-still_led old new s d call reply none unsynced same on =
-    led_by new s d call reply [] none unsynced (d, subst (λ core. StandsOn core d) (sym same) on, passes_still d on.rests)
+pub still_led : (old new : Held) (s : State) (d : Durable) (shape : Shape) (reply : Reply) → attempt s shape reply ≡ [] → (IsSync s shape reply → ⊥) → new ≡ old → StandsOn old d → Led new s d shape reply
+still_led old new s d shape reply none unsynced same on =
+    led_by new s d shape reply [] none unsynced (d, subst (λ core. StandsOn core d) (sym same) on, passes_still d on.rests)
 
 -- ---- refusals
 
-out_untouched : (core : Held) (call : Call) → OnDisk core call (Refused OutOfMemory) core
-out_untouched core (Release id) = record { state = refl; steps = sym (append-nil core.disk.steps) }
-out_untouched core call = refl
+out_untouched : (core : Held) (shape : Shape) → OnDisk core shape (Refused OutOfMemory) core
+out_untouched core (OfHandle OneLess id) = record { state = refl; steps = sym (append-nil core.disk.steps) }
+out_untouched core shape = refl
 
-untouched : (core : Held) (call : Call) (error : Error) → is_io error ≡ false → OnDisk core call (Refused error) core
-untouched core call (Io kind) other = absurd (true≢false other)
-untouched core call OutOfMemory other = out_untouched core call
-untouched core call error other = refl
+untouched : (core : Held) (shape : Shape) (error : Error) → is_io error ≡ false → OnDisk core shape (Refused error) core
+untouched core shape (Io kind) other = absurd (true≢false other)
+untouched core shape OutOfMemory other = out_untouched core shape
+untouched core shape error other = refl
 
 -- a refusal that is no fault and changes nothing
-refusal_serves : (core : Held) (call : Call) (error : Error) → is_io error ≡ false → Owes core call (Refused error) core → Serves core call (Refused error) core
-refusal_serves core call error other owes = serves_by core core call (Refused error) owes (untouched core call error other) (stays_start core.disk)
+refusal_serves : (core : Held) (shape : Shape) (error : Error) → is_io error ≡ false → Owes core shape (Refused error) core → Serves core shape (Refused error) core
+refusal_serves core shape error other owes = serves_by core core shape (Refused error) owes (untouched core shape error other) (stays_start core.disk)
     (λ s d stands on tidy. refusal_blames error core.disk other)
-    (λ s d stands on. still_led core core s d call (Refused error) (no_attempt s call error other) (no_sync s call error) refl on)
+    (λ s d stands on. still_led core core s d shape (Refused error) (no_attempt s shape error other) (no_sync s shape error) refl on)
 
-pub due_owes : (core : Held) (call : Call) (error : Error) → held_due core call ≡ Some error → Owes core call (Refused error) core
-due_owes core call error due = subst (λ first. OwesRefusal first core call error core) (sym due) (refl, refl)
+pub due_owes : (core : Held) (shape : Shape) (error : Error) → held_due core shape ≡ Some error → Owes core shape (Refused error) core
+due_owes core shape error due = subst (λ first. OwesRefusal first core shape error core) (sym due) (refl, refl)
 
 -- a refusal that is due
-pub due_serves : (core : Held) (call : Call) (error : Error) → held_due core call ≡ Some error → Serves core call (Refused error) core
-due_serves core call error due = refusal_serves core call error (ap is_fault (sym due) ∙ never_due (facts_of core.memory core.catalog.next_table_id) call) (due_owes core call error due)
+pub due_serves : (core : Held) (shape : Shape) (error : Error) → held_due core shape ≡ Some error → Serves core shape (Refused error) core
+due_serves core shape error due = refusal_serves core shape error (ap is_fault (sym due) ∙ never_due (facts_of core.memory core.catalog.next_table_id) shape) (due_owes core shape error due)
 
 -- want of memory
-ran_out : (core : Held) (call : Call) → RanOut core call core
-ran_out core (Release id) = (refl, omega arith)
-ran_out core call = refl
+ran_out : (core : Held) (shape : Shape) → RanOut core shape core
+ran_out core (OfHandle OneLess id) = (refl, omega arith)
+ran_out core shape = refl
 
-pub memory_owes : (core : Held) (call : Call) → TakesMemory call → held_due core call ≡ None → Owes core call (Refused OutOfMemory) core
-memory_owes core call takes due = subst (λ first. OwesRefusal first core call OutOfMemory core) (sym due) (takes, ran_out core call)
+pub memory_owes : (core : Held) (shape : Shape) → TakesMemory shape → held_due core shape ≡ None → Owes core shape (Refused OutOfMemory) core
+memory_owes core shape takes due = subst (λ first. OwesRefusal first core shape OutOfMemory core) (sym due) (takes, ran_out core shape)
 
-pub memory_serves : (core : Held) (call : Call) → TakesMemory call → held_due core call ≡ None → Serves core call (Refused OutOfMemory) core
-memory_serves core call takes due = refusal_serves core call OutOfMemory refl (memory_owes core call takes due)
+pub memory_serves : (core : Held) (shape : Shape) → TakesMemory shape → held_due core shape ≡ None → Serves core shape (Refused OutOfMemory) core
+memory_serves core shape takes due = refusal_serves core shape OutOfMemory refl (memory_owes core shape takes due)
 
 -- an option that is too long
-pub long_owes : (core : Held) (call : Call) → TooLong (store_in core) call → held_due core call ≡ None → Owes core call (Refused ValueTooLong) core
-long_owes core call long due = subst (λ first. OwesRefusal first core call ValueTooLong core) (sym due) (long, refl)
+pub long_owes : (core : Held) (shape : Shape) → TooLong (store_in core) shape → held_due core shape ≡ None → Owes core shape (Refused ValueTooLong) core
+long_owes core shape long due = subst (λ first. OwesRefusal first core shape ValueTooLong core) (sym due) (long, refl)
 
-pub long_serves : (core : Held) (call : Call) → TooLong (store_in core) call → held_due core call ≡ None → Serves core call (Refused ValueTooLong) core
-long_serves core call long due = refusal_serves core call ValueTooLong refl (long_owes core call long due)
+pub long_serves : (core : Held) (shape : Shape) → TooLong (store_in core) shape → held_due core shape ≡ None → Serves core shape (Refused ValueTooLong) core
+long_serves core shape long due = refusal_serves core shape ValueTooLong refl (long_owes core shape long due)
 
 -- the refusal that is due, or want of memory where none is
-pub either_owes : (core : Held) (call : Call) (error : Error) → TakesMemory call → IsDueOrMemory (held_due core call) error → Owes core call (Refused error) core
-either_owes core call error takes is = by_due (held_due core call) refl is
+pub either_owes : (core : Held) (shape : Shape) (error : Error) → TakesMemory shape → IsDueOrMemory (held_due core shape) error → Owes core shape (Refused error) core
+either_owes core shape error takes is = by_due (held_due core shape) refl is
   where
-    by_due : (first : Option Error) → held_due core call ≡ first → IsDueOrMemory first error → Owes core call (Refused error) core
-    by_due (Some first) due same = subst (λ e. Owes core call (Refused e) core) (sym same) (due_owes core call first due)
-    by_due None due same = subst (λ e. Owes core call (Refused e) core) (sym same) (memory_owes core call takes due)
+    by_due : (first : Option Error) → held_due core shape ≡ first → IsDueOrMemory first error → Owes core shape (Refused error) core
+    by_due (Some first) due same = subst (λ e. Owes core shape (Refused e) core) (sym same) (due_owes core shape first due)
+    by_due None due same = subst (λ e. Owes core shape (Refused e) core) (sym same) (memory_owes core shape takes due)
 
-pub either_serves : (core : Held) (call : Call) (error : Error) → TakesMemory call → IsDueOrMemory (held_due core call) error → Serves core call (Refused error) core
-either_serves core call error takes is = by_due (held_due core call) refl is
+pub either_serves : (core : Held) (shape : Shape) (error : Error) → TakesMemory shape → IsDueOrMemory (held_due core shape) error → Serves core shape (Refused error) core
+either_serves core shape error takes is = by_due (held_due core shape) refl is
   where
-    by_due : (first : Option Error) → held_due core call ≡ first → IsDueOrMemory first error → Serves core call (Refused error) core
-    by_due (Some first) due same = subst (λ e. Serves core call (Refused e) core) (sym same) (due_serves core call first due)
-    by_due None due same = subst (λ e. Serves core call (Refused e) core) (sym same) (memory_serves core call takes due)
+    by_due : (first : Option Error) → held_due core shape ≡ first → IsDueOrMemory first error → Serves core shape (Refused error) core
+    by_due (Some first) due same = subst (λ e. Serves core shape (Refused e) core) (sym same) (due_serves core shape first due)
+    by_due None due same = subst (λ e. Serves core shape (Refused e) core) (sym same) (memory_serves core shape takes due)
 
 -- ---- reads
 
 -- an answer that changes nothing, of a call that asks for no command
-pub answer_serves : (core : Held) (call : Call) (reply : Reply) → Owes core call reply core → OnDisk core call reply core → BlamesDevice reply core.disk core.disk → ((s : State) → attempt s call reply ≡ []) → ((s : State) → IsSync s call reply → ⊥) → Serves core call reply core
-answer_serves core call reply owes disk blames none unsynced =
-    serves_by core core call reply owes disk (stays_start core.disk) (λ s d stands on tidy. blames) (λ s d stands on. still_led core core s d call reply (none s) (unsynced s) refl on)
+pub answer_serves : (core : Held) (shape : Shape) (reply : Reply) → Owes core shape reply core → OnDisk core shape reply core → BlamesDevice reply core.disk core.disk → ((s : State) → attempt s shape reply ≡ []) → ((s : State) → IsSync s shape reply → ⊥) → Serves core shape reply core
+answer_serves core shape reply owes disk blames none unsynced =
+    serves_by core core shape reply owes disk (stays_start core.disk) (λ s d stands on tidy. blames) (λ s d stands on. still_led core core s d shape reply (none s) (unsynced s) refl on)
 
 -- ---- tree 0's table
 
@@ -135,8 +134,8 @@ table_there core d on well =
     of state (Some t) (bytes ∷ texts) safe = (bytes, safe.0)
 
 -- The old table is gone, and the new one is there wherever the call leads the core.
-pub replaces_table : (old new : Held) (call : Call) (reply : Reply) → IsTableGone (state_in new.disk) old.catalog → new.memory.poisoned ≡ false → ((s : State) (d : Durable) → StandsFor old s → StandsOn old d → Led new s d call reply) → ReplacesTable old new
-replaces_table old new call reply gone well led = record {
+pub replaces_table : (old new : Held) (shape : Shape) (reply : Reply) → IsTableGone (state_in new.disk) old.catalog → new.memory.poisoned ≡ false → ((s : State) (d : Durable) → StandsFor old s → StandsOn old d → Led new s d shape reply) → ReplacesTable old new
+replaces_table old new shape reply gone well led = record {
   gone = gone;
   there = λ s d stands on. let way = led s d stands on in table_there new way.0 way.1 well;
 }

@@ -16,8 +16,8 @@ use Rattle.fjall_recovery.specs.Folders.{past_records}
 use Rattle.fjall_recovery.specs.Journals.{Journal, batches_in}
 use Rattle.fjall_recovery.specs.Places.{Journaling, journals_with}
 use Rattle.fjall_commit.specs.Journaling.{LeavesRoot, after_persist, synced}
-use Rattle.fjall_state.specs.declared.call.Call.TheVariants.{Persist}
-use Rattle.fjall_state.specs.declared.call.Reply.TheVariants.{Done}
+use Rattle.fjall_state.specs.Shapes.{OfPersist}
+use Rattle.fjall_history.specs.declared.reply.Reply.TheVariants.{Done}
 use Rattle.fjall_state.specs.Machine as Machine
 use Rattle.fjall_state.specs.Remembered.{Remembered}
 use Rattle.fjall_core.specs.Holding.{Held}
@@ -117,7 +117,7 @@ buffer_leads old new d well hands out = leads_on old new d [] (λ base pending o
 
 -- a persist that was done, and where it synced, nothing is pending
 pub persist_leads : (old new : Held) (mode : PersistMode) (d : Durable) → old.memory.poisoned ≡ false → HandsOver old new → Persisted old new mode true → StandsOn old d
-    → (e : Durable) × StandsOn new e × Passes d [] e × ((s : Machine.State) → IsSync s (Persist mode) Done → e.pending ≡ [])
+    → (e : Durable) × StandsOn new e × Passes d [] e × ((s : Machine.State) → IsSync s (OfPersist mode) Done → e.pending ≡ [])
 persist_leads old new Buffer d well hands out stands =
     let led = buffer_leads old new d well hands out stands in
     (led.0, led.1, led.2, λ s none. absurd none)

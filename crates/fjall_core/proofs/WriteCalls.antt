@@ -1,143 +1,100 @@
--- What the parts of a call make of it.
-use Rattle.std.proofs.Common.{◌≡◌, ℕ, true, [], ◌∷◌, ◌++◌, length, Option, None, Result, Ok, Err, refl, sym, ◌∙◌, ap, subst, length-append}
-use Rattle.fjall_base.specs.Pairs.{Bytes}
-use Rattle.fjall_base.specs.Disk.{TookPart}
+-- What the parts of a change make of it.
+use Rattle.std.proofs.Common.{◌≡◌, ◌≢◌, ◌==◌, true, false, All, List, [], ◌∷◌, length, is_none, arith, Option, None, Result, Ok, Err, refl, sym, ◌∙◌, ap, subst, length-append}
+use Rattle.std.proofs.lemmas.Bool.{eqb-true, true≢false}
 use Rattle.fjall_base.specs.declared.error.Error.{Error}
 use Rattle.fjall_base.specs.declared.error.Error.TheVariants.{Io}
-use Rattle.fjall_journal.specs.declared.entry.ValueType.{ValueType}
-use Rattle.fjall_journal.specs.Batches.{Written, of_item}
+use Rattle.fjall_journal.specs.declared.persist_mode.PersistMode.{PersistMode}
+use Rattle.fjall_journal.specs.Ops.{BatchItem, write_of}
 use Rattle.fjall_journal.specs.Writer.{goes_out}
-use Rattle.fjall_files.proofs.Tidying.{stays_part}
-use Rattle.fjall_commit.proofs.BatchAppends.{command_part}
-use Rattle.fjall_versions.specs.declared.version.Version.{Version}
-use Rattle.fjall_state.specs.declared.call.Reply.{Reply}
-use Rattle.fjall_state.specs.declared.call.Reply.TheVariants.{Done, Refused}
-use Rattle.fjall_state.specs.Allowed.{MayWrite}
-use Rattle.fjall_state.specs.Changes.{call_of}
-use Rattle.fjall_state.specs.Ops.{Op, Put, Remove, RemoveWeak, bytes_in, kind_of, op_text, value_in}
-use Rattle.fjall_state.specs.Machine.{ChangesDisk, State, TakesMemory, first_due, leaves_buffer, write_of, write_refusals}
-use Rattle.fjall_state.specs.Remembered.{facts_of, version_of}
-use Rattle.fjall_state.proofs.Dues.{may_write}
-use Rattle.fjall_core.specs.Holding.{Held, by_hand}
-use Rattle.fjall_core.specs.Crashes.{IsSync, attempt}
-use Rattle.fjall_core.specs.Standing.{Grows, OnDisk, Owes, OwesRefusal, Serves, StandsFor, WroteOut, held_due, reply_of}
-use Rattle.fjall_core.specs.CallParts.{Writes, is_out}
+use Rattle.fjall_commit.proofs.BatchAppends.{refused_stays, took_stays}
+use Rattle.fjall_history.specs.declared.reply.Reply.TheVariants.{Done, Refused}
+use Rattle.fjall_state.specs.Allowed.{MayChange}
+use Rattle.fjall_state.specs.Machine.{State, change_refusals, first_due, is_living}
+use Rattle.fjall_state.specs.Shapes.{OfChange, Persistence}
+use Rattle.fjall_state.specs.Remembered.{facts_of}
+use Rattle.fjall_state.proofs.Dues.{may_change}
+use Rattle.fjall_core.specs.Holding.{Held}
+use Rattle.fjall_core.specs.Crashes.{IsSyncOf}
+use Rattle.fjall_core.specs.Standing.{Grows, Owes, OwesRefusal, Serves, StandsFor, held_due, mode_of, reply_of, store_in, text_of}
+use Rattle.fjall_core.specs.CallParts.{Writes}
 use Rattle.fjall_core.proofs.DeviceFaults.{failed_on, served_on}
-use Rattle.fjall_core.proofs.ServedCalls.{led_by, memory_owes, memory_serves, serves_by}
-use Rattle.fjall_core.proofs.JournalWrites.{IsAdmitted, torn_leads, write_leads}
+use Rattle.fjall_core.proofs.OwedSteps.{same_mode}
+use Rattle.fjall_core.proofs.Refusals.{no_sync}
+use Rattle.fjall_core.proofs.ServedCalls.{answer_serves, led_by, memory_owes, memory_serves, serves_by}
+use Rattle.fjall_core.proofs.JournalWrites.{GoesOn, IsAdmitted, torn_leads, write_leads}
 
--- ---- writes
+some_items : (item : BatchItem) (items : List BatchItem) → (item ∷ items) ≢ []
+some_items item items is = cc
 
--- the call of a write is refused as a write of its bytes is
-pub op_due : (core : Held) (id : ℕ) (key : Bytes) (o : Op) → held_due core (call_of id key o) ≡ first_due (write_refusals (facts_of core.memory core.catalog.next_table_id) id key (bytes_in o))
-op_due core id key (Put value) = refl
-op_due core id key Remove = refl
-op_due core id key RemoveWeak = refl
+module _ (honest : Type 0) (old new : Held) (item : BatchItem) (items : List BatchItem) (how : Persistence) (none : held_due old (OfChange (item ∷ items) how) ≡ None) where
+  abbrev all : List BatchItem
+  all = item ∷ items
 
-pub op_takes : (id : ℕ) (key : Bytes) (o : Op) → TakesMemory (call_of id key o)
-op_takes id key (Put value) = tt
-op_takes id key Remove = tt
-op_takes id key RemoveWeak = tt
+  abbrev mode : Option PersistMode
+  mode = mode_of old how
 
--- the batch of a write
-abbrev pub batch_of : Held → ℕ → Bytes → Op → Written
-batch_of core id key o = of_item id key (bytes_in o) (kind_of o) core.memory.next
+  may : MayChange (facts_of old.memory old.catalog.next_table_id) all
+  may = may_change (facts_of old.memory old.catalog.next_table_id) all none
 
--- where it goes out, it leaves the buffer
-op_leaves : (core : Held) (id : ℕ) (key : Bytes) (o : Op) → is_out core id (batch_of core id key o) ≡ true → leaves_buffer (facts_of core.memory core.catalog.next_table_id) (length core.journal.buffer) id key o ≡ true
-op_leaves core id key o out = ap (goes_out (by_hand core id)) (sym (length-append core.journal.buffer (op_text id key o core.memory.next))) ∙ out
+  admits : (s : State) → StandsFor old s → IsAdmitted old all
+  admits s stands = record { well = may.well; some = some_items item items; living = may.living; room = may.numbered; lawful = stands.remembered.lawful }
 
-op_changes : (core : Held) (id : ℕ) (key : Bytes) (o : Op) → is_out core id (batch_of core id key o) ≡ true → ChangesDisk (facts_of core.memory core.catalog.next_table_id) (length core.journal.buffer) (call_of id key o)
-op_changes core id key (Put value) out = op_leaves core id key (Put value) out
-op_changes core id key Remove out = op_leaves core id key Remove out
-op_changes core id key RemoveWeak out = op_leaves core id key RemoveWeak out
+  grows : Writes honest old all mode (Ok tt) new → Grows old all how new
+  grows w = record { memory_is = ap (λ (h : Held). h.memory) w.0; catalog = ap (λ (h : Held). h.catalog) w.0; journal = ap (λ (h : Held). h.journal) w.0; faults = w.1; waits = w.4 }
 
--- a write that nothing refuses can be made
-pub may : (core : Held) (id : ℕ) (key : Bytes) (o : Op) → held_due core (call_of id key o) ≡ None → MayWrite (facts_of core.memory core.catalog.next_table_id) id key (bytes_in o)
-may core id key o none = may_write (facts_of core.memory core.catalog.next_table_id) id key (bytes_in o) (sym (op_due core id key o) ∙ none)
+  -- what came of a change is what its call owes
+  pub written_owes : (result : Result Unit Error) → Writes honest old all mode result new → Owes old (OfChange all how) (reply_of result) new
+  written_owes (Ok _) w = (none, (refl, grows w))
+  written_owes (Err (Io kind)) w =
+      subst (λ first. OwesRefusal first old (OfChange all how) (Io kind) new) (sym none)
+      (ap (goes_out (is_none mode)) (sym (length-append old.journal.buffer (text_of old all))) ∙ w.4, record { memory_is = w.0; faults = w.1 })
+  written_owes (Err error) w =
+      subst (λ (h : Held). Owes old (OfChange all how) (Refused error) h) (sym w.0) (subst (λ e. Owes old (OfChange all how) (Refused e) old) (sym w.1) (memory_owes old (OfChange all how) tt none))
 
-admits : (core : Held) (s : State) (id : ℕ) (key : Bytes) (o : Op) → held_due core (call_of id key o) ≡ None → StandsFor core s → IsAdmitted core id
-admits core s id key o none stands =
-    let allowed = may core id key o none in
-    record { well = allowed.well; living = allowed.living; room = allowed.numbered; lawful = stands.remembered.lawful }
+  pub written_serves : (result : Result Unit Error) → Writes honest old all mode result new → honest → Serves old (OfChange all how) (reply_of result) new
+  written_serves (Ok _) w h =
+      let out = w.3 h in
+      let on_with : GoesOn old new all = record { memory_is = ap (λ (c : Held). c.memory) w.0; catalog = ap (λ (c : Held). c.catalog) w.0 } in
+      serves_by old new (OfChange all how) Done (written_owes (Ok tt) w) (w.2 h) (took_stays mode old.journal (text_of old all) old.disk new.disk (w.2 h))
+      (λ s d stands on tidy. served_on old new.disk d may.well out.served on) (λ s d stands on.
+      let led = write_leads old new all mode d (admits s stands) on_with out on in
+      (led.0, led.1, (led.2, λ sync. led.3 (subst IsSyncOf (same_mode old s stands how) sync))))
+  written_serves (Err (Io kind)) w h =
+      let out = w.3 h in
+      serves_by old new (OfChange all how) (Refused (Io kind)) (written_owes (Err (Io kind)) w) (w.2 h) (refused_stays mode old.journal (text_of old all) old.disk new.disk (w.2 h))
+      (λ s d stands on tidy. failed_on old new.disk d may.well w.1 out.served on) (λ s d stands on.
+      led_by new s d (OfChange all how) (Refused (Io kind)) (write_of all ∷ []) refl (no_sync s (OfChange all how) (Io kind))
+      (torn_leads old new all mode d (admits s stands) (record { memory_is = w.0; faults = w.1 }) out on))
+  written_serves (Err error) w h =
+      subst (λ (c : Held). Serves old (OfChange all how) (Refused error) c) (sym w.0) (subst (λ e. Serves old (OfChange all how) (Refused e) old) (sym w.1) (memory_serves old (OfChange all how) tt none))
 
--- what the disk took of a write, told of its call
-op_disk : (old new : Held) (id : ℕ) (key : Bytes) (o : Op) → WroteOut old id key o new → OnDisk old (call_of id key o) Done new
-op_disk old new id key (Put value) took = took
-op_disk old new id key Remove took = took
-op_disk old new id key RemoveWeak took = took
+-- ---- items that may be none
 
-op_part : (old new : Held) (id : ℕ) (key : Bytes) (o : Op) (kind : _) → TookPart old.disk new.disk old.journal.name (old.journal.buffer ++ op_text id key o old.memory.next) → OnDisk old (call_of id key o) (Refused (Io kind)) new
-op_part old new id key (Put value) kind took = took
-op_part old new id key Remove kind took = took
-op_part old new id key RemoveWeak kind took = took
+pub no_items_serve : (core : Held) (items : List BatchItem) (how : Persistence) → (length items == 0) ≡ true → Serves core (OfChange items how) Done core
+no_items_serve core [] how is = answer_serves core (OfChange [] how) Done (refl, (refl, refl)) refl refl (λ s. refl) (λ s sync. sync)
+no_items_serve core (item ∷ items) how is = let none = eqb-true (length (item ∷ items)) 0 is in let bad : ⊥ = omega (arith, none) in absurd bad
 
-op_grows : (old new : Held) (id : ℕ) (key : Bytes) (o : Op) → held_due old (call_of id key o) ≡ None → Grows old (version_of old.memory.next id key o) (op_text id key o old.memory.next) new → Owes old (call_of id key o) Done new
-op_grows old new id key (Put value) none grows = (none, grows)
-op_grows old new id key Remove none grows = (none, grows)
-op_grows old new id key RemoveWeak none grows = (none, grows)
+pub no_items_owe : (core : Held) (items : List BatchItem) (how : Persistence) → (length items == 0) ≡ true → Owes core (OfChange items how) Done core
+no_items_owe core [] how is = (refl, (refl, refl))
+no_items_owe core (item ∷ items) how is = let none = eqb-true (length (item ∷ items)) 0 is in let bad : ⊥ = omega (arith, none) in absurd bad
 
-op_attempt : (s : State) (id : ℕ) (key : Bytes) (o : Op) → attempt s (call_of id key o) Done ≡ write_of id key (value_in o) ∷ []
-op_attempt s id key (Put value) = refl
-op_attempt s id key Remove = refl
-op_attempt s id key RemoveWeak = refl
+-- what is due, as it was looked for in a core's memory
+pub found_due : (view core : Held) (items : List BatchItem) (how : Persistence) → view ≡ core → (length items == 0) ≡ false → (first : Option Error) → first ≡ first_due (change_refusals (facts_of view.memory 0) items)
+    → held_due core (OfChange items how) ≡ first
+found_due view core [] how same some first is = absurd (true≢false some)
+found_due view core (item ∷ items) how same some first is = ap (λ (h : Held). first_due (change_refusals (facts_of h.memory 0) (item ∷ items))) (sym same) ∙ sym is
 
-op_tried : (s : State) (id : ℕ) (key : Bytes) (o : Op) (kind : _) → attempt s (call_of id key o) (Refused (Io kind)) ≡ write_of id key (value_in o) ∷ []
-op_tried s id key (Put value) kind = refl
-op_tried s id key Remove kind = refl
-op_tried s id key RemoveWeak kind = refl
+pub all_live : (core : Held) (items : List BatchItem) (how : Persistence) → (length items == 0) ≡ false → held_due core (OfChange items how) ≡ None → All (λ item. is_living (store_in core) item.0 ≡ true) items
+all_live core [] how some none = absurd (true≢false some)
+all_live core (item ∷ items) how some none = (may_change (facts_of core.memory core.catalog.next_table_id) (item ∷ items) none).living
 
-op_unsynced : (s : State) (id : ℕ) (key : Bytes) (o : Op) (reply : Reply) → IsSync s (call_of id key o) reply → ⊥
-op_unsynced s id key (Put value) reply sync = sync
-op_unsynced s id key Remove reply sync = sync
-op_unsynced s id key RemoveWeak reply sync = sync
+pub change_serves : (honest : Type 0) (old new : Held) (items : List BatchItem) (how : Persistence) (mode : Option PersistMode) (result : Result Unit Error) → (length items == 0) ≡ false → held_due old (OfChange items how) ≡ None → mode_of old how ≡ mode
+    → Writes honest old items mode result new → honest → Serves old (OfChange items how) (reply_of result) new
+change_serves honest old new [] how given result some none same w h = absurd (true≢false some)
+change_serves honest old new (item ∷ items) how given result some none same w h =
+    written_serves honest old new item items how none result (subst (λ m. Writes honest old (item ∷ items) m result new) (sym same) w) h
 
--- what came of a write is what its call owes
-pub written_owes : (honest : Type 0) (old new : Held) (id : ℕ) (key : Bytes) (o : Op) (result : Result Unit Error) → held_due old (call_of id key o) ≡ None
-    → Writes honest old (version_of old.memory.next id key o) (of_item id key (bytes_in o) (kind_of o) old.memory.next) (kind_of o) result new → Owes old (call_of id key o) (reply_of result) new
-written_owes honest old new id key o (Ok _) none all =
-    op_grows old new id key o none (record { memory_is = ap (λ (h : Held). h.memory) all.0; catalog = ap (λ (h : Held). h.catalog) all.0; journal = ap (λ (h : Held). h.journal) all.0; faults = all.1; waits = all.4 })
-written_owes honest old new id key o (Err (Io kind)) none all =
-    subst (λ first. OwesRefusal first old (call_of id key o) (Io kind) new) (sym none) (op_changes old id key o all.4, record { memory_is = all.0; faults = all.1 })
-written_owes honest old new id key o (Err error) none all =
-    subst (λ (h : Held). Owes old (call_of id key o) (Refused error) h) (sym all.0) (subst (λ e. Owes old (call_of id key o) (Refused e) old) (sym all.1) (memory_owes old (call_of id key o) (op_takes id key o) none))
-
-pub written_serves : (honest : Type 0) (old new : Held) (id : ℕ) (key : Bytes) (o : Op) (result : Result Unit Error) → held_due old (call_of id key o) ≡ None
-    → Writes honest old (version_of old.memory.next id key o) (of_item id key (bytes_in o) (kind_of o) old.memory.next) (kind_of o) result new → honest → Serves old (call_of id key o) (reply_of result) new
-written_serves honest old new id key o (Ok _) none all true_ =
-    let owes = written_owes honest old new id key o (Ok tt) none all in
-    let out = all.3 true_ in
-    let is = all.0 in
-    let grows : Grows old (version_of old.memory.next id key o) (op_text id key o old.memory.next) new =
-    record { memory_is = ap (λ (h : Held). h.memory) is; catalog = ap (λ (h : Held). h.catalog) is; journal = ap (λ (h : Held). h.journal) is; faults = all.1; waits = all.4 } in
-    serves_by old new (call_of id key o) Done owes (op_disk old new id key o (all.2 true_))
-    (stays_part old.disk new.disk old.journal.name (old.journal.buffer ++ op_text id key o old.memory.next) (command_part (by_hand old id) old.journal (op_text id key o old.memory.next) old.disk new.disk (all.2 true_)))
-    (λ s d stands on tidy. served_on old new.disk d (may old id key o none).well out.served on) (λ s d stands on.
-    led_by new s d (call_of id key o) Done (write_of id key (value_in o) ∷ []) (op_attempt s id key o) (op_unsynced s id key o Done)
-    (write_leads old new id key o (is_out old id (batch_of old id key o)) d (admits old s id key o none stands) grows (record { leaves = out.leaves; lies = out.lies; elsewhere = out.elsewhere }) on))
-written_serves honest old new id key o (Err (Io kind)) none all true_ =
-    let owes = written_owes honest old new id key o (Err (Io kind)) none all in
-    let out = all.3 true_ in
-    serves_by old new (call_of id key o) (Refused (Io kind)) owes (op_part old new id key o kind (all.2 true_)) (stays_part old.disk new.disk old.journal.name (old.journal.buffer ++ op_text id key o old.memory.next) (all.2 true_))
-    (λ s d stands on tidy. failed_on old new.disk d (may old id key o none).well all.1 out.served on) (λ s d stands on.
-    led_by new s d (call_of id key o) (Refused (Io kind)) (write_of id key (value_in o) ∷ []) (op_tried s id key o kind) (op_unsynced s id key o (Refused (Io kind)))
-    (torn_leads old new id key o (is_out old id (batch_of old id key o)) d (admits old s id key o none stands) (record { memory_is = all.0; faults = all.1 }) (record { leaves = out.leaves; lies = out.lies; elsewhere = out.elsewhere }) on))
-written_serves honest old new id key o (Err error) none all true_ =
-    subst (λ (h : Held). Serves old (call_of id key o) (Refused error) h) (sym all.0) (subst (λ e. Serves old (call_of id key o) (Refused e) old) (sym all.1) (memory_serves old (call_of id key o) (op_takes id key o) none))
-
--- ---- as the code finds it out
-
--- a refusal that was found on what the core holds
-pub found_due : (held core : Held) (id : ℕ) (key value : Bytes) (o : Op) (found : Option Error) → held ≡ core → value ≡ bytes_in o → found ≡ first_due (write_refusals (facts_of held.memory 0) id key value) → held_due core (call_of id key o) ≡ found
-found_due held core id key value o found same bytes is =
-    op_due core id key o ∙ ap (λ (h : Held). first_due (write_refusals (facts_of h.memory h.catalog.next_table_id) id key (bytes_in o))) (sym same)
-    ∙ ap (λ v. first_due (write_refusals (facts_of held.memory 0) id key v)) (sym bytes) ∙ sym is
-
--- the write of a change, told of its operation
-pub same_write : (honest : Type 0) (old new : Held) (version : Version) (id : ℕ) (key value : Bytes) (kind : ValueType) (o : Op) (result : Result Unit Error) → version ≡ version_of old.memory.next id key o → value ≡ bytes_in o → kind ≡ kind_of o
-    → Writes honest old version (of_item id key value kind old.memory.next) kind result new
-    → Writes honest old (version_of old.memory.next id key o) (of_item id key (bytes_in o) (kind_of o) old.memory.next) (kind_of o) result new
-same_write honest old new version id key value kind o result versions values kinds all =
-    subst (λ k. Writes honest old (version_of old.memory.next id key o) (of_item id key (bytes_in o) k old.memory.next) k result new) kinds
-    (subst (λ v. Writes honest old (version_of old.memory.next id key o) (of_item id key v kind old.memory.next) kind result new) values
-    (subst (λ v. Writes honest old v (of_item id key value kind old.memory.next) kind result new) versions all))
+pub change_owes : (honest : Type 0) (old new : Held) (items : List BatchItem) (how : Persistence) (mode : Option PersistMode) (result : Result Unit Error) → (length items == 0) ≡ false → held_due old (OfChange items how) ≡ None → mode_of old how ≡ mode
+    → Writes honest old items mode result new → Owes old (OfChange items how) (reply_of result) new
+change_owes honest old new [] how given result some none same w = absurd (true≢false some)
+change_owes honest old new (item ∷ items) how given result some none same w = written_owes honest old new item items how none result (subst (λ m. Writes honest old (item ∷ items) m result new) (sym same) w)

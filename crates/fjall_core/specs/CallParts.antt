@@ -1,28 +1,28 @@
 -- What the parts of calls make of a core and of its disk.
-use Rattle.std.specs.Prelude.{◌≡◌, ℕ, ◌≤◌, Bool, true, false, List, [], ◌∷◌, ◌++◌, length, codes, Result, Ok, Err}
-use Rattle.fjall_base.specs.Disk.{IsNoFile, LeavesOnly, Meaning, Name, Took, TookPart, state_in}
+use Rattle.std.specs.Prelude.{◌≡◌, ℕ, ◌≤◌, Bool, true, false, List, [], ◌∷◌, ◌++◌, codes, Option, is_none, Result, Ok, Err}
+use Rattle.fjall_base.specs.Disk.{IsNoFile, LeavesOnly, Meaning, Name, Took, state_in}
 use Rattle.fjall_base.specs.Errors.{Rose}
 use Rattle.fjall_base.specs.declared.error.Error.{Error}
 use Rattle.fjall_base.specs.declared.error.Error.TheVariants.{Io, OutOfMemory}
-use Rattle.fjall_journal.specs.declared.entry.ValueType.{ValueType}
-use Rattle.fjall_journal.specs.Batches.{Written, batch_text}
+use Rattle.fjall_journal.specs.declared.persist_mode.PersistMode.{PersistMode}
+use Rattle.fjall_journal.specs.Batches.{Written}
+use Rattle.fjall_journal.specs.Ops.{BatchItem, items_text, of_items}
 use Rattle.fjall_files.specs.Regions.{Within}
 use Rattle.fjall_files.specs.Names.{keyspace_folder}
 use Rattle.fjall_files.specs.Tidy.{StaysTidy}
-use Rattle.fjall_journal.specs.Writer.{Journal, after_command, command_steps, goes_out, written_out}
+use Rattle.fjall_journal.specs.Writer.{BatchTook, Journal, after_command, batch_steps, written_out}
 use Rattle.fjall_tree.specs.Records.{Fields}
 use Rattle.fjall_meta.specs.Keyspaces.{without_keyspace}
 use Rattle.fjall_catalog.specs.declared.update.Update.{Update}
 use Rattle.fjall_catalog.specs.Updates.{IsPreparingRefusal, IsUpdate}
-use Rattle.fjall_versions.specs.declared.version.Version.{Version}
 use Rattle.fjall_recovery.specs.Halves.{HasTree, Tree, is_of_keyspaces}
 use Rattle.fjall_recovery.specs.Places.{Journaling, LiesInTree}
-use Rattle.fjall_commit.specs.Journaling.{CanFollow, IsWriting, LeavesRoot, with_batch}
+use Rattle.fjall_commit.specs.Journaling.{CanFollow, IsWriting, LeavesRoot, after_mode, is_out, with_batch}
 use Rattle.fjall_commit.specs.declared.creation.Creation.{Creation}
 use Rattle.fjall_commit.specs.Changes.{IsCreation}
 use Rattle.fjall_commit.specs.Removals.{IsUnused, RemovesOwn}
-use Rattle.fjall_state.specs.Remembered.{poisoned, with_version}
-use Rattle.fjall_core.specs.Holding.{Held, by_hand}
+use Rattle.fjall_state.specs.Remembered.{poisoned, with_items}
+use Rattle.fjall_core.specs.Holding.{Held}
 use Rattle.fjall_commit.specs.SyncedChanges.{CreatedKeyspace, DeletedKeyspace, SyncedThenChanged, SyncsThenChanges}
 
 -- What came of making a keyspace that stands in memory already: it is on the disk, and the catalog knows it; or the disk
@@ -69,29 +69,25 @@ Removes honest old id (Err (Io kind)) new =
 Removes honest old id (Err error) new =
     (new ≡ record old { disk = new.disk }) × (error ≡ OutOfMemory) × (old.disk.faults ≤ new.disk.faults) × (honest → FilesGone id old.disk new.disk) × (honest → Took old.disk new.disk [])
 
--- What a write did to the disk and to the journal's writer: a crash leaves a beginning of the batches with this one, and
--- where it was done the writer goes on behind it, which went out or waits; what stands in `keyspaces` stayed.
-pub record WentOut (old new : Meaning) (before after : Journal) (batch : Written) (kind : ValueType) (number : ℕ) (out done : Bool) : Type 0 where
-  pub leaves : (j : Journaling) → IsWriting (state_in old) before j → CanFollow j number kind → LeavesOnly old new (LeavesRoot (state_in old) j (j.later ++ batch ∷ []))
-  pub lies : done ≡ true → (j : Journaling) → IsWriting (state_in old) before j → CanFollow j number kind → IsWriting (state_in new) after (with_batch out j batch)
+-- What a change did to the disk and to the journal's writer: a crash leaves a beginning of the batches with this one, and
+-- where it was done the writer goes on behind it, which went out or waits, or was synced; what stands in `keyspaces` stayed.
+pub record WentOut (old new : Meaning) (before after : Journal) (batch : Written) (mode : Option PersistMode) (done : Bool) : Type 0 where
+  pub leaves : (j : Journaling) → IsWriting (state_in old) before j → CanFollow j batch.number → LeavesOnly old new (LeavesRoot (state_in old) j (j.later ++ batch ∷ []))
+  pub lies : done ≡ true → (j : Journaling) → IsWriting (state_in old) before j → CanFollow j batch.number → IsWriting (state_in new) after (after_mode mode (with_batch (is_out mode before batch) j batch))
   pub elsewhere : (j : Journaling) → IsWriting (state_in old) before j → (q : Name) → is_of_keyspaces q ≡ true → state_in new q ≡ state_in old q
   pub served : (j : Journaling) → IsWriting (state_in old) before j → new.misuses ≡ old.misuses
 
--- the batch of a write into this keyspace goes out, and doesn't wait in the buffer
-abbrev pub is_out : Held → ℕ → Written → Bool
-is_out core id batch = goes_out (by_hand core id) (length (core.journal.buffer ++ batch_text batch))
-
--- one version more stands in memory, and its batch in the journal; or a fault of the disk, to which the batch went, has
--- poisoned the core; or nothing changed
-abbrev pub Writes : Type 0 → Held → Version → Written → ValueType → Result Unit Error → Held → Type 0
-Writes honest old version batch kind (Ok _) new =
-    (new ≡ record old { disk = new.disk; memory = with_version version old.memory; journal = after_command (by_hand old version.keyspace_id) old.journal (batch_text batch) }) × (old.disk.faults ≤ new.disk.faults)
-    × (honest → Took old.disk new.disk (command_steps (by_hand old version.keyspace_id) old.journal (batch_text batch)))
-    × (honest → WentOut old.disk new.disk old.journal new.journal batch kind old.memory.next (is_out old version.keyspace_id batch) true)
-    × (is_out old version.keyspace_id batch ≡ false → new.disk ≡ old.disk)
-Writes honest old version batch kind (Err (Io fault)) new =
+-- a version of each item more stands in memory, and their batch in the journal; or a fault of the disk, to which the batch
+-- went, has poisoned the core; or nothing changed
+abbrev pub Writes : Type 0 → Held → List BatchItem → Option PersistMode → Result Unit Error → Held → Type 0
+Writes honest old items mode (Ok _) new =
+    (new ≡ record old { disk = new.disk; memory = with_items items old.memory; journal = after_command (is_none mode) old.journal (items_text items old.memory.next) }) × (old.disk.faults ≤ new.disk.faults)
+    × (honest → Took old.disk new.disk (batch_steps mode old.journal (items_text items old.memory.next)))
+    × (honest → WentOut old.disk new.disk old.journal new.journal (of_items items old.memory.next) mode true)
+    × (is_out mode old.journal (of_items items old.memory.next) ≡ false → new.disk ≡ old.disk)
+Writes honest old items mode (Err (Io fault)) new =
     (new.memory ≡ poisoned old.memory) × Rose old.disk.faults new.disk.faults
-    × (honest → TookPart old.disk new.disk old.journal.name (old.journal.buffer ++ batch_text batch))
-    × (honest → WentOut old.disk new.disk old.journal new.journal batch kind old.memory.next (is_out old version.keyspace_id batch) false)
-    × (is_out old version.keyspace_id batch ≡ true)
-Writes honest old version batch kind (Err error) new = (new ≡ old) × (error ≡ OutOfMemory)
+    × (honest → BatchTook mode old.disk new.disk old.journal (items_text items old.memory.next))
+    × (honest → WentOut old.disk new.disk old.journal new.journal (of_items items old.memory.next) mode false)
+    × (is_out mode old.journal (of_items items old.memory.next) ≡ true)
+Writes honest old items mode (Err error) new = (new ≡ old) × (error ≡ OutOfMemory)

@@ -1,51 +1,45 @@
 -- Runs of calls over a disk that may crash, and what the syncs among them make safe.
-use Rattle.std.specs.Prelude.{◌≡◌, ℕ, zero, suc, List, [], ◌∷◌, ◌++◌, take, Option, Some, None, IsSome, true, false, if◌then◌else◌}
+use Rattle.std.specs.Prelude.{◌≡◌, ℕ, zero, suc, List, [], ◌∷◌, ◌++◌, take, Bool, Option, Some, None, IsSome, true, false, if◌then◌else◌}
 use Rattle.fjall_base.specs.Store.{Command, Create, Delete, fold, kept}
 use Rattle.fjall_base.specs.Disk.{DeviceFailed, Image, IsImage, Meaning, Took, LeavesOnly, state_in}
 use Rattle.fjall_base.specs.Disk as disk
+use Rattle.fjall_base.specs.declared.error.Error.{Error}
 use Rattle.fjall_base.specs.declared.error.Error.TheVariants.{Io}
 use Rattle.fjall_journal.specs.declared.persist_mode.PersistMode.{PersistMode}
 use Rattle.fjall_journal.specs.declared.persist_mode.PersistMode.TheVariants.{Buffer, SyncData, SyncAll}
 use Rattle.fjall_state.specs.declared.call.Call.{Call}
-use Rattle.fjall_state.specs.declared.call.Call.TheVariants.{DeleteKeyspace, GetAt, Insert, JournalDiskSpace, Keyspace, KeyspaceCount, KeyspaceExists, ListKeyspaceNames, PageAt, Persist, Release, Remove, RemoveWeak, Retain, Seqno, VisibleSeqno}
-use Rattle.fjall_state.specs.declared.call.Reply.{Reply}
-use Rattle.fjall_state.specs.declared.call.Reply.TheVariants.{Done, Flag, Names, Number, Pairs, Refused, Value}
+use Rattle.fjall_history.specs.declared.reply.Reply.{Reply}
+use Rattle.fjall_history.specs.declared.reply.Reply.TheVariants.{Refused}
 use Rattle.fjall_files.specs.Tidy.{IsTidy, StaysTidy}
 use Rattle.fjall_versions.specs.Replays.{option_pairs}
 use Rattle.fjall_recovery.specs.Folders.{StandsFor}
-use Rattle.fjall_state.specs.Histories.{extended}
-use Rattle.fjall_state.specs.Machine.{State, Step, has_name, is_living, present, write_of}
+use Rattle.fjall_journal.specs.Ops.{write_of}
+use Rattle.fjall_history.specs.Histories.{Accepted, commands_of, extended}
+use Rattle.fjall_state.specs.Shapes.{OfChange, OfCount, OfCreation, OfDeletion, OfHandle, OfPersist, OfRead, OfTickets, Shape, shape_of}
+use Rattle.fjall_state.specs.Machine.{State, Step, has_name, is_living, mode_in, present}
 use Rattle.fjall_core.specs.Durables.{Durable, IsBeginning, StandsAmid, Passes}
 
 -- the command that a call asks for in that state
-abbrev pub asked : State → Call → List Command
-asked s (Keyspace name options) = if has_name (present s) name then [] else (Create name (option_pairs options) ∷ [])
-asked s (DeleteKeyspace id) = if is_living (present s) id then (Delete id ∷ []) else []
-asked s (Insert id key value) = write_of id key (Some value) ∷ []
-asked s (Remove id key) = write_of id key None ∷ []
-asked s (RemoveWeak id key) = write_of id key None ∷ []
-asked s (Retain id) = []
-asked s (Release id) = []
-asked s (GetAt view id key) = []
-asked s (PageAt view id range back max) = []
-asked s (Persist mode) = []
-asked s KeyspaceCount = []
-asked s ListKeyspaceNames = []
-asked s (KeyspaceExists name) = []
-asked s Seqno = []
-asked s VisibleSeqno = []
-asked s JournalDiskSpace = []
+abbrev pub asked : State → Shape → List Command
+asked s (OfChange [] how) = []
+asked s (OfChange (item ∷ items) how) = write_of (item ∷ items) ∷ []
+asked s (OfCreation name options) = if has_name (present s) name then [] else (Create name (option_pairs options) ∷ [])
+asked s (OfDeletion id) = if is_living (present s) id then (Delete id ∷ []) else []
+asked s (OfHandle call id) = []
+asked s (OfRead view id query) = []
+asked s (OfTickets call) = []
+asked s (OfPersist mode) = []
+asked s (OfCount count) = []
+
+-- it tells of a fault of the disk
+abbrev pub is_io : Error → Bool
+is_io (Io kind) = true
+is_io error = false
 
 -- what a call in that state tried to do: its command, where it was accepted or a fault of the disk refused it
-abbrev pub attempt : State → Call → Reply → List Command
-attempt s call Done = asked s call
-attempt s call (Number n) = asked s call
-attempt s call (Refused (Io kind)) = asked s call
-attempt s call (Refused error) = []
-attempt s call (Value found) = []
-attempt s call (Pairs found) = []
-attempt s call (Names names) = []
-attempt s call (Flag flag) = []
+abbrev pub attempt : State → Shape → Reply → List Command
+attempt s shape (Refused error) = if is_io error then asked s shape else []
+attempt s shape reply = asked s shape
 
 -- the modes of a persist that sync the journal
 abbrev pub IsSyncMode : PersistMode → Type 0
@@ -53,27 +47,27 @@ IsSyncMode Buffer = ⊥
 IsSyncMode SyncData = Unit {0}
 IsSyncMode SyncAll = Unit {0}
 
--- In that state, a sync of all that was accepted which succeeded: a creation or a deletion is one too. Each call is listed.
-abbrev pub IsSync : State → Call → Reply → Type 0
-IsSync s (Persist mode) Done = IsSyncMode mode
-IsSync s (Persist mode) reply = ⊥
-IsSync s (Keyspace name options) (Number id) = has_name (present s) name ≡ false
-IsSync s (Keyspace name options) reply = ⊥
-IsSync s (DeleteKeyspace id) Done = is_living (present s) id ≡ true
-IsSync s (DeleteKeyspace id) reply = ⊥
-IsSync s (Retain id) reply = ⊥
-IsSync s (Release id) reply = ⊥
-IsSync s (Insert id key value) reply = ⊥
-IsSync s (Remove id key) reply = ⊥
-IsSync s (RemoveWeak id key) reply = ⊥
-IsSync s (GetAt view id key) reply = ⊥
-IsSync s (PageAt view id range back max) reply = ⊥
-IsSync s KeyspaceCount reply = ⊥
-IsSync s ListKeyspaceNames reply = ⊥
-IsSync s (KeyspaceExists name) reply = ⊥
-IsSync s Seqno reply = ⊥
-IsSync s VisibleSeqno reply = ⊥
-IsSync s JournalDiskSpace reply = ⊥
+-- a change with such a mode
+abbrev pub IsSyncOf : Option PersistMode → Type 0
+IsSyncOf None = ⊥
+IsSyncOf (Some mode) = IsSyncMode mode
+
+-- a call that syncs all that was accepted, where it succeeds: a creation and a deletion do so too
+abbrev pub Syncs : State → Shape → Type 0
+Syncs s (OfChange [] how) = ⊥
+Syncs s (OfChange (item ∷ items) how) = IsSyncOf (mode_in (present s) how)
+Syncs s (OfCreation name options) = has_name (present s) name ≡ false
+Syncs s (OfDeletion id) = is_living (present s) id ≡ true
+Syncs s (OfHandle call id) = ⊥
+Syncs s (OfRead view id query) = ⊥
+Syncs s (OfTickets call) = ⊥
+Syncs s (OfPersist mode) = IsSyncMode mode
+Syncs s (OfCount count) = ⊥
+
+-- in that state, a sync that succeeded
+abbrev pub IsSync : State → Shape → Reply → Type 0
+IsSync s shape (Refused error) = ⊥
+IsSync s shape reply = Syncs s shape
 
 -- `Io` is answered only where the device failed, and no call of the disk was one that no disk can serve
 abbrev pub BlamesDevice : Reply → Meaning → Meaning → Type 0
@@ -81,14 +75,14 @@ BlamesDevice (Refused (Io kind)) old new = DeviceFailed old new
 BlamesDevice reply old new = new.misuses ≡ old.misuses
 
 -- what one call in that state leaves, and where it was a sync that succeeded, nothing is pending
-abbrev pub CallLeaves : State → Durable → Call → Reply → Durable → Type 0
-CallLeaves s old call reply new = Passes old (attempt s call reply) new × (IsSync s call reply → new.pending ≡ [])
+abbrev pub CallLeaves : State → Durable → Shape → Reply → Durable → Type 0
+CallLeaves s old shape reply new = Passes old (attempt s shape reply) new × (IsSync s shape reply → new.pending ≡ [])
 
 -- The same; where nothing stands in the way the device is to blame for `Io`, and the call put at each name only what may
 -- stand there.
-abbrev pub CallPasses : State → Durable → Call → Reply → Durable → Type 0
-CallPasses s old call reply new =
-    Passes old (attempt s call reply) new × (IsSync s call reply → new.pending ≡ []) × (IsTidy (state_in old.meaning) → BlamesDevice reply old.meaning new.meaning) × StaysTidy old.meaning new.meaning
+abbrev pub CallPasses : State → Durable → Shape → Reply → Durable → Type 0
+CallPasses s old shape reply new =
+    Passes old (attempt s shape reply) new × (IsSync s shape reply → new.pending ≡ []) × (IsTidy (state_in old.meaning) → BlamesDevice reply old.meaning new.meaning) × StaysTidy old.meaning new.meaning
 
 -- These replies to these calls, one step after another, on a disk that goes through what such steps leave; the commands
 -- tried in order.
@@ -96,7 +90,7 @@ abbrev pub RunOn : State → Durable → List Call → List Reply → List Comma
 RunOn s d [] [] tried t e = (tried ≡ []) × (t ≡ s) × (e ≡ d)
 RunOn s d (call ∷ calls) (reply ∷ replies) tried t e =
     (mid : State) × (on : Durable) × (rest : List Command)
-    × Step s call reply mid × CallPasses s d call reply on × (tried ≡ attempt s call reply ++ rest) × RunOn mid on calls replies rest t e
+    × Step s call reply mid × CallPasses s d (shape_of call) reply on × (tried ≡ attempt s (shape_of call) reply ++ rest) × RunOn mid on calls replies rest t e
 RunOn s d calls replies tried t e = ⊥
 
 -- each `Io` of such a run was the device's failing
@@ -110,15 +104,15 @@ at_most_one (Some command) = command ∷ []
 
 -- What was tried from one state to the other was accepted, but for at most one command at the end, which a fault refused.
 pub record Tried (s : State) (tried : List Command) (t : State) : Type 0 where
-  pub accepted : List Command
+  pub accepted : List Accepted
   pub history : t.history ≡ extended s.history accepted
   pub refused : Option Command
-  pub all : tried ≡ accepted ++ at_most_one refused
+  pub all : tried ≡ commands_of accepted ++ at_most_one refused
   pub fault : IsSome refused → t.poisoned ≡ true
 
 -- the call at that place of the run was a sync that succeeded
 abbrev pub IsSyncAt : (s : State) (d : Durable) (calls : List Call) (replies : List Reply) (tried : List Command) (t : State) (e : Durable) → RunOn s d calls replies tried t e → ℕ → Type 0
-IsSyncAt s d (call ∷ calls) (reply ∷ replies) tried t e run zero = IsSync s call reply
+IsSyncAt s d (call ∷ calls) (reply ∷ replies) tried t e run zero = IsSync s (shape_of call) reply
 IsSyncAt s d (call ∷ calls) (reply ∷ replies) tried t e (mid, on, rest, step, passes, is, run) (suc i) = IsSyncAt mid on calls replies rest t e run i
 IsSyncAt s d calls replies tried t e run i = ⊥
 

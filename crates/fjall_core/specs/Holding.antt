@@ -1,10 +1,7 @@
 -- What a core holds, to contracts. It stores no history.
-use Rattle.std.specs.Prelude.{ℕ, Bool}
 use Rattle.fjall_base.specs.Disk.{Meaning}
 use Rattle.fjall_journal.specs.Writer.{Journal}
 use Rattle.fjall_catalog.specs.declared.catalog.Catalog.{Catalog}
-use Rattle.fjall_versions.specs.Versions.{store_of}
-use Rattle.fjall_state.specs.Machine.{persists_by_hand}
 use Rattle.fjall_state.specs.Remembered.{Remembered}
 
 -- What the disk means, the journal's writer, what tree 0's last record says, and what stands in memory.
@@ -13,7 +10,3 @@ pub record Held : Type 0 where
   pub journal : Journal
   pub catalog : Catalog
   pub memory : Remembered
-
--- whether the writes of the keyspace of this id are persisted by hand
-abbrev pub by_hand : Held → ℕ → Bool
-by_hand core id = persists_by_hand (store_of core.memory.keyspaces core.memory.versions) id

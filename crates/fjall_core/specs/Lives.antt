@@ -11,7 +11,7 @@ use Rattle.fjall_files.specs.Tidy.{StaysTidy}
 use Rattle.fjall_state.specs.Machine as machine
 use Rattle.fjall_state.specs.Machine.{opened_state, present}
 use Rattle.fjall_state.specs.declared.call.Call.{Call}
-use Rattle.fjall_state.specs.declared.call.Reply.{Reply}
+use Rattle.fjall_history.specs.declared.reply.Reply.{Reply}
 use Rattle.fjall_core.specs.Holding.{Held}
 use Rattle.fjall_core.specs.Durables.{Durable, IsBeginning, StandsAmid}
 use Rattle.fjall_core.specs.Crashes.{IsSyncAt}

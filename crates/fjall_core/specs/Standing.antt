@@ -1,8 +1,8 @@
 -- What a core stands for, and what its calls owe.
-use Rattle.std.specs.Prelude.{◌≡◌, ◌⊎◌, ℕ, ◌+◌, ◌≤◌, ◌&&◌, Bool, true, false, nat_le, not, if◌then◌else◌, List, [], ◌∷◌, ◌++◌, length, codes, IfSome, MatchBool, MatchOption, Option, Some, None, Result, Ok, Err, OnOk, IsPermutation, IsSorted, Vec}
+use Rattle.std.specs.Prelude.{◌≡◌, ◌⊎◌, ℕ, ◌+◌, ◌≤◌, ◌&&◌, true, false, nat_le, not, if◌then◌else◌, List, [], ◌∷◌, ◌++◌, length, codes, IfSome, MatchBool, MatchOption, Option, Some, None, is_none, Result, Ok, Err, OnOk, IsPermutation, IsSorted, Vec}
 use Rattle.std.specs.FinMap.{len, values}
 use Rattle.std.specs.declared.alloc.Global.{Global}
-use Rattle.fjall_base.specs.Pairs.{Bytes, byte_order, page, pairs_between}
+use Rattle.fjall_base.specs.Pairs.{Bytes, byte_order}
 use Rattle.fjall_base.specs.Store.{Store, Command, kept}
 use Rattle.fjall_base.specs.Disk.{Meaning, Took, TookPart, LeavesOnly, state_in}
 use Rattle.fjall_base.specs.Disk as disk
@@ -12,30 +12,32 @@ use Rattle.fjall_base.specs.declared.error.Error.TheVariants.{Io, OutOfMemory, P
 use Rattle.fjall_files.specs.Regions.{IsSafe, Within}
 use Rattle.fjall_files.specs.Tidy.{StaysTidy}
 use Rattle.fjall_recovery.specs.Amid.{HoldsAmid}
+use Rattle.fjall_journal.specs.declared.persist_mode.PersistMode.{PersistMode}
 use Rattle.fjall_journal.specs.declared.persist_mode.PersistMode.TheVariants.{SyncAll}
-use Rattle.fjall_journal.specs.Writer.{after_command, command_steps, goes_out, persist_steps, written_out}
+use Rattle.fjall_journal.specs.Writer.{BatchTook, after_command, batch_steps, goes_out, persist_steps, written_out}
 use Rattle.fjall_files.specs.Names.{table_name}
 use Rattle.fjall_meta.specs.Keyspaces.{id_of}
 use Rattle.fjall_catalog.specs.declared.catalog.Catalog.{Catalog}
 use Rattle.fjall_catalog.specs.Updates.{IsTableGone}
-use Rattle.fjall_versions.specs.declared.version.Version.{Version}
-use Rattle.fjall_versions.specs.Versions.{newest, pairs_in, store_of}
+use Rattle.fjall_versions.specs.Versions.{pairs_in, store_of}
 use Rattle.fjall_recovery.specs.Folders.{Contents}
 use Rattle.fjall_recovery.specs.Held.{Holds, store_held}
 use Rattle.fjall_repair.specs.Opened.{ComesBack}
 use Rattle.fjall_commit.specs.Removals.{RemovesOwn}
+use Rattle.fjall_journal.specs.Ops.{BatchItem, items_text}
+use Rattle.fjall_history.specs.declared.ticket.Ticket.{Ticket}
+use Rattle.fjall_history.specs.declared.reply.Reply.{Reply}
+use Rattle.fjall_history.specs.declared.reply.Reply.TheVariants.{Done, Value, Pairs, Number, Names, Flag, Opened, Refused}
+use Rattle.fjall_history.specs.Queries.{Tells}
 use Rattle.fjall_state.specs.declared.call.Call.{Call}
-use Rattle.fjall_state.specs.declared.call.Call.TheVariants.{Keyspace, DeleteKeyspace, Retain, Release, Insert, Remove, RemoveWeak, GetAt, PageAt, Persist, KeyspaceCount, ListKeyspaceNames, KeyspaceExists, Seqno, VisibleSeqno, JournalDiskSpace}
-use Rattle.fjall_state.specs.declared.call.Reply.{Reply}
-use Rattle.fjall_state.specs.declared.call.Reply.TheVariants.{Done, Value, Pairs, Number, Names, Flag, Refused}
-use Rattle.fjall_state.specs.Ops.{Op, op_text}
-use Rattle.fjall_state.specs.Ops as op
-use Rattle.fjall_state.specs.Machine.{State, Step, Run, TakesMemory, ChangesDisk, TooLong, present, due_in, has_name, is_living}
-use Rattle.fjall_state.specs.Remembered.{IsLawful, Remembered, facts_of, is_last, version_of, with_version, with_creation, with_deletion, retained, released, poisoned}
+use Rattle.fjall_state.specs.Shapes.{Count, Exists, JournalSpace, Keyspaces, Next, OfChange, OfCount, OfCreation, OfDeletion, OfHandle, OfPersist, OfRead, OfTickets, OneLess, OneMore, OpenTickets, Persistence, Shape, Visible, shape_of}
+use Rattle.fjall_state.specs.Shapes as shapes
+use Rattle.fjall_state.specs.Machine.{State, StepOf, Run, TakesMemory, ChangesDisk, TooLong, TurnsTickets, present, due_in, has_name, is_living, mode_in}
+use Rattle.fjall_state.specs.Remembered.{IsLawful, Remembered, facts_of, is_last, versions_in, with_items, with_creation, with_deletion, with_tickets, retained, released, poisoned}
 use Rattle.fjall_state.specs.Remembered as memory
 use Rattle.fjall_core.specs.Durables.{Durable, StandsAmid, Passes, Rests, Lies, MakesPresent, StaysFinished}
 use Rattle.fjall_core.specs.Crashes.{BlamesDevice, CallPasses, RunOn, Tried, IsSyncAt, SafeAt}
-use Rattle.fjall_core.specs.Holding.{Held, by_hand}
+use Rattle.fjall_core.specs.Holding.{Held}
 
 -- the store that stands in memory
 abbrev pub store_in : Held → Store
@@ -59,22 +61,30 @@ pub record StandsOn (core : Held) (d : Durable) : Type 0 where
 -- ---- what calls owe, whatever the disk is
 
 -- the refusal that is due for a call of this core
-abbrev pub held_due : Held → Call → Option Error
-held_due core call = due_in (facts_of core.memory core.catalog.next_table_id) call
+abbrev pub held_due : Held → Shape → Option Error
+held_due core shape = due_in (facts_of core.memory core.catalog.next_table_id) shape
+
+-- the mode of a change
+abbrev pub mode_of : Held → Persistence → Option PersistMode
+mode_of core how = mode_in (store_in core) how
+
+-- the text of a change's batch
+abbrev pub text_of : Held → List BatchItem → List ℕ
+text_of core items = items_text items core.memory.next
 
 -- A fault of the disk has poisoned the core, and what is in memory is as before.
 pub record Poisons (old new : Held) : Type 0 where
   pub memory_is : new.memory ≡ poisoned old.memory
   pub faults : Rose old.disk.faults new.disk.faults
 
--- One version more stands in memory, under the next number. Its batch's text is in the journal's file with all that waited
--- or, where its keyspace persists by hand, waits too while that is less than 8,192 bytes, and the disk is left alone.
-pub record Grows (old : Held) (version : Version) (text : List ℕ) (new : Held) : Type 0 where
-  pub memory_is : new.memory ≡ with_version version old.memory
+-- A version of each item more stands in memory, under the next number. The batch's text is in the journal's file with all that
+-- waited or, where the change has no mode, waits too while that is less than 8,192 bytes, and the disk is left alone.
+pub record Grows (old : Held) (items : List BatchItem) (how : Persistence) (new : Held) : Type 0 where
+  pub memory_is : new.memory ≡ with_items items old.memory
   pub catalog : new.catalog ≡ old.catalog
-  pub journal : new.journal ≡ after_command (by_hand old version.keyspace_id) old.journal text
+  pub journal : new.journal ≡ after_command (is_none (mode_of old how)) old.journal (text_of old items)
   pub faults : old.disk.faults ≤ new.disk.faults
-  pub waits : goes_out (by_hand old version.keyspace_id) (length (old.journal.buffer ++ text)) ≡ false → new.disk ≡ old.disk
+  pub waits : goes_out (is_none (mode_of old how)) (length (old.journal.buffer ++ text_of old items)) ≡ false → new.disk ≡ old.disk
 
 -- All that waited in the buffer is in the journal's file; memory is as before.
 pub record HandsOver (old new : Held) : Type 0 where
@@ -108,84 +118,91 @@ pub record Counts (old : Held) (after : Remembered) (new : Held) : Type 0 where
   pub journal : new.journal ≡ old.journal
   pub faults : old.disk.faults ≤ new.disk.faults
 
--- it tells of a fault of the disk
-abbrev pub is_io : Error → Bool
-is_io (Io kind) = true
-is_io error = false
-
 -- Where memory ran out nothing has changed; a release has looked at the disk by then.
-abbrev pub RanOut : Held → Call → Held → Type 0
-RanOut old (Release id) new = (new ≡ record old { disk = new.disk }) × (old.disk.faults ≤ new.disk.faults)
-RanOut old call new = new ≡ old
+abbrev pub RanOut : Held → Shape → Held → Type 0
+RanOut old (OfChange items how) new = new ≡ old
+RanOut old (OfCreation name options) new = new ≡ old
+RanOut old (OfDeletion id) new = new ≡ old
+RanOut old (OfHandle OneMore id) new = new ≡ old
+RanOut old (OfHandle OneLess id) new = (new ≡ record old { disk = new.disk }) × (old.disk.faults ≤ new.disk.faults)
+RanOut old (OfRead view id query) new = new ≡ old
+RanOut old (OfTickets call) new = new ≡ old
+RanOut old (OfPersist mode) new = new ≡ old
+RanOut old (OfCount count) new = new ≡ old
 
 -- where no refusal is due, a fault may be told, or want of memory, or that an option's value is too long to be stored
-abbrev pub OwesFailure : Held → Call → Error → Held → Type 0
-OwesFailure old call (Io kind) new = ChangesDisk (facts_of old.memory old.catalog.next_table_id) (length old.journal.buffer) call × Poisons old new
-OwesFailure old call OutOfMemory new = TakesMemory call × RanOut old call new
-OwesFailure old call ValueTooLong new = TooLong (store_in old) call × (new ≡ old)
-OwesFailure old call error new = ⊥
+abbrev pub OwesFailure : Held → Shape → Error → Held → Type 0
+OwesFailure old shape (Io kind) new = ChangesDisk (facts_of old.memory old.catalog.next_table_id) (length old.journal.buffer) shape × Poisons old new
+OwesFailure old shape OutOfMemory new = TakesMemory shape × RanOut old shape new
+OwesFailure old shape ValueTooLong new = TooLong (store_in old) shape × (new ≡ old)
+OwesFailure old shape error new = ⊥
 
 -- a refusal is the one that is due, and changes nothing
-abbrev pub OwesRefusal : Option Error → Held → Call → Error → Held → Type 0
-OwesRefusal (Some first) old call error new = (error ≡ first) × (new ≡ old)
-OwesRefusal None old call error new = OwesFailure old call error new
+abbrev pub OwesRefusal : Option Error → Held → Shape → Error → Held → Type 0
+OwesRefusal (Some first) old shape error new = (error ≡ first) × (new ≡ old)
+OwesRefusal None old shape error new = OwesFailure old shape error new
 
--- a write that nothing refused stands in memory, and its batch in the journal
-abbrev pub OwesWrite : Held → Call → ℕ → Bytes → Op → Held → Type 0
-OwesWrite old call id key o new = (held_due old call ≡ None) × Grows old (version_of old.memory.next id key o) (op_text id key o old.memory.next) new
+-- a change that nothing refused stands in memory, and its batch in the journal; one of no items changes nothing
+abbrev pub OwesChange : Held → List BatchItem → Persistence → Held → Type 0
+OwesChange old [] how new = new ≡ old
+OwesChange old (item ∷ items) how new = Grows old (item ∷ items) how new
+
+-- a name that a keyspace has answers its id; another one's keyspace was made
+abbrev pub OwesCreation : Held → Bytes → List Bytes → ℕ → Held → Type 0
+OwesCreation old name options id new =
+    ((id_of name old.memory.keyspaces.living ≡ Some id) × (new ≡ old))
+    ⊎ ((has_name (store_in old) name ≡ false) × (id ≡ old.memory.keyspaces.next) × Creates old name options new)
+
+abbrev pub OwesDeletion : Held → ℕ → Held → Type 0
+OwesDeletion old id new = ((is_living (store_in old) id ≡ false) × (new ≡ old)) ⊎ ((is_living (store_in old) id ≡ true) × Deletes old id new)
+
+-- counts from memory
+abbrev pub HeldCount : Held → Count → Reply → Type 0
+HeldCount core Keyspaces reply = reply ≡ Number (length core.memory.keyspaces.living)
+HeldCount core shapes.Names reply = (names : Vec Bytes Global) × (reply ≡ Names names) × IsPermutation (values (store_in core).names) names.items × IsSorted byte_order names.items
+HeldCount core (Exists name) reply = reply ≡ Flag (has_name (store_in core) name)
+HeldCount core Next reply = reply ≡ Number core.memory.next
+HeldCount core Visible reply = reply ≡ Number core.memory.next
+HeldCount core JournalSpace reply = reply ≡ Number core.journal.len
+HeldCount core OpenTickets reply = reply ≡ Number (len core.memory.tickets.instants)
+
+-- where nothing refuses it, a call gives such a reply, and leaves this
+abbrev pub Gives : Held → Shape → Reply → Held → Type 0
+Gives old (OfChange items how) reply new = (reply ≡ Done) × OwesChange old items how new
+Gives old (OfCreation name options) reply new = (id : ℕ) × (reply ≡ Number id) × OwesCreation old name options id new
+Gives old (OfDeletion id) reply new = (reply ≡ Done) × OwesDeletion old id new
+Gives old (OfHandle OneMore id) reply new = (reply ≡ Done) × (new ≡ record old { memory = retained id old.memory })
+Gives old (OfHandle OneLess id) reply new = (reply ≡ Done) × Counts old (released id old.memory) new
+Gives old (OfRead view id query) reply new = Tells query (pairs_in id (versions_in old.memory view)) reply × (new ≡ old)
+Gives old (OfTickets call) reply new =
+    TurnsTickets old.memory.next old.memory.tickets call reply new.memory.tickets × (new ≡ record old { memory = with_tickets new.memory.tickets old.memory })
+Gives old (OfPersist mode) reply new = (reply ≡ Done) × HandsOver old new
+Gives old (OfCount count) reply new = HeldCount old count reply × (new ≡ old)
 
 -- What a call owes whatever the disk is: each refusal for its cause, with what it leaves, and each answer from memory.
-abbrev pub Owes : Held → Call → Reply → Held → Type 0
-Owes old call (Refused error) new = OwesRefusal (held_due old call) old call error new
-Owes old (Keyspace name options) (Number id) new =
-    (held_due old (Keyspace name options) ≡ None)
-    × (((id_of name old.memory.keyspaces.living ≡ Some id) × (new ≡ old))
-    ⊎ ((has_name (store_in old) name ≡ false) × (id ≡ old.memory.keyspaces.next) × Creates old name options new))
-Owes old (DeleteKeyspace id) Done new =
-    (held_due old (DeleteKeyspace id) ≡ None)
-    × (((is_living (store_in old) id ≡ false) × (new ≡ old)) ⊎ ((is_living (store_in old) id ≡ true) × Deletes old id new))
-Owes old (Retain id) Done new = (held_due old (Retain id) ≡ None) × (new ≡ record old { memory = retained id old.memory })
-Owes old (Release id) Done new = (held_due old (Release id) ≡ None) × Counts old (released id old.memory) new
-Owes old (Insert id key value) Done new = OwesWrite old (Insert id key value) id key (op.Put value) new
-Owes old (Remove id key) Done new = OwesWrite old (Remove id key) id key op.Remove new
-Owes old (RemoveWeak id key) Done new = OwesWrite old (RemoveWeak id key) id key op.RemoveWeak new
-Owes old (GetAt view id key) (Value found) new =
-    (held_due old (GetAt view id key) ≡ None) × (found ≡ newest old.memory.versions id key) × (new ≡ old)
-Owes old (PageAt view id range back max) (Pairs found) new =
-    (held_due old (PageAt view id range back max) ≡ None)
-    × (found.items ≡ page back max (pairs_between range (pairs_in id old.memory.versions))) × (new ≡ old)
-Owes old (Persist mode) Done new = (held_due old (Persist mode) ≡ None) × HandsOver old new
-Owes old KeyspaceCount (Number n) new = (n ≡ length old.memory.keyspaces.living) × (new ≡ old)
-Owes old ListKeyspaceNames (Names names) new =
-    IsPermutation (values (store_in old).names) names.items × IsSorted byte_order names.items × (new ≡ old)
-Owes old (KeyspaceExists name) (Flag exists) new = (exists ≡ has_name (store_in old) name) × (new ≡ old)
-Owes old Seqno (Number n) new = (n ≡ old.memory.next) × (new ≡ old)
-Owes old VisibleSeqno (Number n) new = (n ≡ old.memory.next) × (new ≡ old)
-Owes old JournalDiskSpace (Number n) new = (n ≡ old.journal.len) × (new ≡ old)
-Owes old call reply new = ⊥
+abbrev pub Owes : Held → Shape → Reply → Held → Type 0
+Owes old shape (Refused error) new = OwesRefusal (held_due old shape) old shape error new
+Owes old shape reply new = (held_due old shape ≡ None) × Gives old shape reply new
 
 -- calls one after another
 abbrev pub OwesAll : Held → List Call → List Reply → Held → Type 0
 OwesAll old [] [] new = new ≡ old
-OwesAll old (call ∷ calls) (reply ∷ replies) new = (mid : Held) × Owes old call reply mid × OwesAll mid calls replies new
+OwesAll old (call ∷ calls) (reply ∷ replies) new = (mid : Held) × Owes old (shape_of call) reply mid × OwesAll mid calls replies new
 OwesAll old calls replies new = ⊥
 
 -- ---- what a disk takes of calls that returns what it holds
 
--- what a disk took of a write that failed: some beginning of the batch's text behind what waited in the buffer
-abbrev pub TookWrite : Held → ℕ → Bytes → Op → Held → Type 0
-TookWrite old id key o new = TookPart old.disk new.disk old.journal.name (old.journal.buffer ++ op_text id key o old.memory.next)
-
 -- what the disk took of a call where it failed; of a creation and a deletion the clause on crashes tells
-abbrev pub DiskFailed : Held → Call → Held → Type 0
-DiskFailed old (Keyspace name options) new = Unit {0}
-DiskFailed old (DeleteKeyspace id) new = Unit {0}
-DiskFailed old (Release id) new = Within (codes "keyspaces") old.disk new.disk
-DiskFailed old (Insert id key value) new = TookWrite old id key (op.Put value) new
-DiskFailed old (Remove id key) new = TookWrite old id key op.Remove new
-DiskFailed old (RemoveWeak id key) new = TookWrite old id key op.RemoveWeak new
-DiskFailed old (Persist mode) new = TookPart old.disk new.disk old.journal.name old.journal.buffer ⊎ Took old.disk new.disk (persist_steps old.journal mode)
-DiskFailed old call new = ⊥
+abbrev pub DiskFailed : Held → Shape → Held → Type 0
+DiskFailed old (OfChange items how) new = BatchTook (mode_of old how) old.disk new.disk old.journal (text_of old items)
+DiskFailed old (OfCreation name options) new = Unit {0}
+DiskFailed old (OfDeletion id) new = Unit {0}
+DiskFailed old (OfHandle OneMore id) new = ⊥
+DiskFailed old (OfHandle OneLess id) new = Within (codes "keyspaces") old.disk new.disk
+DiskFailed old (OfRead view id query) new = ⊥
+DiskFailed old (OfTickets call) new = ⊥
+DiskFailed old (OfPersist mode) new = TookPart old.disk new.disk old.journal.name old.journal.buffer ⊎ Took old.disk new.disk (persist_steps old.journal mode)
+DiskFailed old (OfCount count) new = ⊥
 
 -- the table that the catalog names is safe in tree 0's folder
 abbrev pub HasTable : disk.State → Catalog → Type 0
@@ -202,38 +219,51 @@ pub record ReplacesTable (old new : Held) : Type 0 where
 abbrev pub RemovesLast : Held → ℕ → Held → Type 0
 RemovesLast old id new = MatchBool (is_last old.memory id && not old.memory.poisoned) (RemovesOwn id old.disk new.disk × Within (codes "keyspaces") old.disk new.disk) (new.disk ≡ old.disk)
 
--- what a disk took of a write that was done: what waited in the buffer and the batch's text, or nothing where that waits too
-abbrev pub WroteOut : Held → ℕ → Bytes → Op → Held → Type 0
-WroteOut old id key o new = Took old.disk new.disk (command_steps (by_hand old id) old.journal (op_text id key o old.memory.next))
+-- what a disk took of a call that memory ran out in: nothing, though a release has looked at it
+abbrev pub DiskLooked : Held → Shape → Held → Type 0
+DiskLooked old (OfChange items how) new = new.disk ≡ old.disk
+DiskLooked old (OfCreation name options) new = new.disk ≡ old.disk
+DiskLooked old (OfDeletion id) new = new.disk ≡ old.disk
+DiskLooked old (OfHandle OneMore id) new = new.disk ≡ old.disk
+DiskLooked old (OfHandle OneLess id) new = Took old.disk new.disk []
+DiskLooked old (OfRead view id query) new = new.disk ≡ old.disk
+DiskLooked old (OfTickets call) new = new.disk ≡ old.disk
+DiskLooked old (OfPersist mode) new = new.disk ≡ old.disk
+DiskLooked old (OfCount count) new = new.disk ≡ old.disk
 
--- What the disk took of a call: of a creation of a name that none had, and of a deletion of a keyspace that lived, another
--- table of tree 0, where the clause on crashes tells the rest; of a release the removal of files, before which memory may run
--- out; the batch's text behind what waited in the buffer, where it doesn't wait too; the buffer and a sync where the mode asks
--- for one; and else nothing.
-abbrev pub OnDisk : Held → Call → Reply → Held → Type 0
-OnDisk old call (Refused (Io kind)) new = DiskFailed old call new
-OnDisk old (Release id) (Refused OutOfMemory) new = Took old.disk new.disk []
-OnDisk old call (Refused error) new = new.disk ≡ old.disk
-OnDisk old (Keyspace name options) (Number id) new = MatchOption (id_of name old.memory.keyspaces.living) (ReplacesTable old new) (λ found. new.disk ≡ old.disk)
-OnDisk old (DeleteKeyspace id) Done new = MatchBool (is_living (store_in old) id) (ReplacesTable old new) (new.disk ≡ old.disk)
-OnDisk old (Release id) Done new = RemovesLast old id new
-OnDisk old (Insert id key value) Done new = WroteOut old id key (op.Put value) new
-OnDisk old (Remove id key) Done new = WroteOut old id key op.Remove new
-OnDisk old (RemoveWeak id key) Done new = WroteOut old id key op.RemoveWeak new
-OnDisk old (Persist mode) Done new = Took old.disk new.disk (persist_steps old.journal mode)
-OnDisk old call reply new = new.disk ≡ old.disk
+-- What the disk took of a call that was done: of a change the batch's text behind what waited in the buffer, where it doesn't
+-- wait too, and a sync where its mode asks for one; of a creation of a name that none had, and of a deletion of a keyspace that
+-- lived, another table of tree 0, where the clause on crashes tells the rest; of a release the removal of files; of a persist
+-- the buffer, and a sync where its mode asks for one; and else nothing.
+abbrev pub DiskTook : Held → Shape → Held → Type 0
+DiskTook old (OfChange [] how) new = new.disk ≡ old.disk
+DiskTook old (OfChange (item ∷ items) how) new = Took old.disk new.disk (batch_steps (mode_of old how) old.journal (text_of old (item ∷ items)))
+DiskTook old (OfCreation name options) new = MatchOption (id_of name old.memory.keyspaces.living) (ReplacesTable old new) (λ found. new.disk ≡ old.disk)
+DiskTook old (OfDeletion id) new = MatchBool (is_living (store_in old) id) (ReplacesTable old new) (new.disk ≡ old.disk)
+DiskTook old (OfHandle OneMore id) new = new.disk ≡ old.disk
+DiskTook old (OfHandle OneLess id) new = RemovesLast old id new
+DiskTook old (OfRead view id query) new = new.disk ≡ old.disk
+DiskTook old (OfTickets call) new = new.disk ≡ old.disk
+DiskTook old (OfPersist mode) new = Took old.disk new.disk (persist_steps old.journal mode)
+DiskTook old (OfCount count) new = new.disk ≡ old.disk
+
+abbrev pub OnDisk : Held → Shape → Reply → Held → Type 0
+OnDisk old shape (Refused (Io kind)) new = DiskFailed old shape new
+OnDisk old shape (Refused OutOfMemory) new = DiskLooked old shape new
+OnDisk old shape (Refused error) new = new.disk ≡ old.disk
+OnDisk old shape reply new = DiskTook old shape new
 
 -- Whichever state the core stood for, the call steps to one that it stands for now.
-abbrev pub Steps : Held → Call → Reply → Held → Type 0
-Steps old call reply new = (s : State) → StandsFor old s → (t : State) × StandsFor new t × Step s call reply t
+abbrev pub Steps : Held → Shape → Reply → Held → Type 0
+Steps old shape reply new = (s : State) → StandsFor old s → (t : State) × StandsFor new t × StepOf s shape reply t
 
 -- One call over a disk that returns what it holds. The disk took what such a call writes. Whatever state the core stood
 -- for, and whatever base and pending it stood on, it goes on by a step of the machine, and a crash during the call or
 -- after it leaves what such a step may leave.
-pub record Serves (old : Held) (call : Call) (reply : Reply) (new : Held) : Type 0 where
-  pub disk : OnDisk old call reply new
+pub record Serves (old : Held) (shape : Shape) (reply : Reply) (new : Held) : Type 0 where
+  pub disk : OnDisk old shape reply new
   pub crash : (s : State) (d : Durable) → StandsFor old s → StandsOn old d
-      → (t : State) × (e : Durable) × StandsFor new t × StandsOn new e × Step s call reply t × CallPasses s d call reply e
+      → (t : State) × (e : Durable) × StandsFor new t × StandsOn new e × StepOf s shape reply t × CallPasses s d shape reply e
 
 -- the reply to a change or to a sync
 abbrev pub reply_of : Result Unit Error → Reply
@@ -254,6 +284,11 @@ pairs_reply (Err error) = Refused error
 abbrev pub number_reply : Result ℕ Error → Reply
 number_reply (Ok n) = Number n
 number_reply (Err error) = Refused error
+
+-- the reply to an opening of a ticket
+abbrev pub ticket_reply : Result Ticket Error → Reply
+ticket_reply (Ok ticket) = Opened ticket
+ticket_reply (Err error) = Refused error
 
 -- the reply to a list of names
 abbrev pub names_reply : Result (Vec Bytes Global) Error → Reply

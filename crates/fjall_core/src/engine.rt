@@ -2,7 +2,7 @@
 
 ghost use Rattle.std.specs.Prelude.{◌≡◌, if◌then◌else◌};
 ghost use Rattle.fjall_state.specs.Remembered.{poisoned};
-ghost use Rattle.fjall_core.specs.Standing.{is_io};
+ghost use Rattle.fjall_core.specs.Crashes.{is_io};
 
 use fjall_base::{Disk, Error};
 use fjall_catalog::Catalog;

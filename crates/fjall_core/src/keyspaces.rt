@@ -2,7 +2,7 @@
 
 ghost use Rattle.std.specs.Prelude.{◌≡◌, None, IsTrue, false, true};
 ghost use Rattle.fjall_state.specs.Machine.{has_name, is_living};
-ghost use Rattle.fjall_state.specs.declared.call.Call.TheVariants.{Keyspace, DeleteKeyspace, Retain, Release};
+ghost use Rattle.fjall_state.specs.Shapes.{OfCreation, OfDeletion, OfHandle, OneLess, OneMore};
 ghost use Rattle.fjall_meta.specs.Keyspaces.{id_of};
 ghost use Rattle.fjall_state.specs.Remembered.{IsLawful};
 ghost use Rattle.fjall_core.specs.CallParts.{Makes, Removes, Unmakes};
@@ -24,8 +24,8 @@ impl<D: Disk> Core<D> {
     /// `Poisoned`, `NumbersUsedUp`, `ValueTooLong` (an option's value of 2^32 bytes or more), `OutOfMemory`, and `Io`,
     /// after which the core is poisoned. After each of the others nothing has changed.
     pub fn keyspace(&mut self, name: &[u8], options: KeyspaceCreateOptions) -> Result<u64>
-        ensures serves { IsTrue D.honest → Serves self.old (Keyspace name.now options) (number_reply result) self.new }
-        ensures owes { Owes self.old (Keyspace name.now options) (number_reply result) self.new }
+        ensures serves { IsTrue D.honest → Serves self.old (OfCreation name.now options) (number_reply result) self.new }
+        ensures owes { Owes self.old (OfCreation name.now options) (number_reply result) self.new }
     {
         if let Some(error) = self
             .memory
@@ -41,11 +41,11 @@ impl<D: Disk> Core<D> {
 
     // Makes a keyspace of a name that none has.
     fn create(&mut self, name: &[u8], options: KeyspaceCreateOptions) -> Result<u64>
-        requires due { held_due self.old (Keyspace name.now options) ≡ None }
+        requires due { held_due self.old (OfCreation name.now options) ≡ None }
         requires fresh { id_of name.now self.old.memory.keyspaces.living ≡ None }
         requires unnamed { has_name (store_in self.old) name.now ≡ false }
-        ensures serves { IsTrue D.honest → Serves self.old (Keyspace name.now options) (number_reply result) self.new }
-        ensures owes { Owes self.old (Keyspace name.now options) (number_reply result) self.new }
+        ensures serves { IsTrue D.honest → Serves self.old (OfCreation name.now options) (number_reply result) self.new }
+        ensures owes { Owes self.old (OfCreation name.now options) (number_reply result) self.new }
     {
         let name = Slice::new(self.alloc, name)?;
         let number = self.memory.seqno();
@@ -79,8 +79,8 @@ impl<D: Disk> Core<D> {
     /// lives `Poisoned`, `NumbersUsedUp`, `ValueTooLong` (another keyspace's option of 2^32 bytes or more),
     /// `OutOfMemory`, and `Io`, after which the core is poisoned. After each of the others nothing has changed.
     pub fn delete_keyspace(&mut self, id: u64) -> Result<()>
-        ensures serves { IsTrue D.honest → Serves self.old (DeleteKeyspace id) (reply_of result) self.new }
-        ensures owes { Owes self.old (DeleteKeyspace id) (reply_of result) self.new }
+        ensures serves { IsTrue D.honest → Serves self.old (OfDeletion id) (reply_of result) self.new }
+        ensures owes { Owes self.old (OfDeletion id) (reply_of result) self.new }
     {
         if let Some(error) = self.memory.deletion_refusal(id, self.catalog.next_table_id) {
             return Err(error);
@@ -93,10 +93,10 @@ impl<D: Disk> Core<D> {
 
     // Deletes a keyspace that lives.
     fn delete(&mut self, id: u64) -> Result<()>
-        requires due { held_due self.old (DeleteKeyspace id) ≡ None }
+        requires due { held_due self.old (OfDeletion id) ≡ None }
         requires living { is_living (store_in self.old) id ≡ true }
-        ensures serves { IsTrue D.honest → Serves self.old (DeleteKeyspace id) (reply_of result) self.new }
-        ensures owes { Owes self.old (DeleteKeyspace id) (reply_of result) self.new }
+        ensures serves { IsTrue D.honest → Serves self.old (OfDeletion id) (reply_of result) self.new }
+        ensures owes { Owes self.old (OfDeletion id) (reply_of result) self.new }
     {
         let lasting = self.memory.prepare_deletion(self.alloc, id)?;
         match self.unmake(id) {
@@ -130,8 +130,8 @@ impl<D: Disk> Core<D> {
     /// Refusals: `UnknownKeyspace`; `KeyspaceDeleted` after a deleted keyspace's last release; `NumbersUsedUp`;
     /// `OutOfMemory`. After each of them nothing has changed.
     pub fn retain(&mut self, id: u64) -> Result<()>
-        ensures serves { IsTrue D.honest → Serves self.old (Retain id) (reply_of result) self.new }
-        ensures owes { Owes self.old (Retain id) (reply_of result) self.new }
+        ensures serves { IsTrue D.honest → Serves self.old (OfHandle OneMore id) (reply_of result) self.new }
+        ensures owes { Owes self.old (OfHandle OneMore id) (reply_of result) self.new }
     {
         self.memory.retain(id)
     }
@@ -142,8 +142,8 @@ impl<D: Disk> Core<D> {
     /// Refusals: `UnknownKeyspace` where no handle is counted; `OutOfMemory`, before which the disk was no more than looked
     /// at; and `Io`, after which the core is poisoned. After each of them the handle is still counted.
     pub fn release(&mut self, id: u64) -> Result<()>
-        ensures serves { IsTrue D.honest → Serves self.old (Release id) (reply_of result) self.new }
-        ensures owes { Owes self.old (Release id) (reply_of result) self.new }
+        ensures serves { IsTrue D.honest → Serves self.old (OfHandle OneLess id) (reply_of result) self.new }
+        ensures owes { Owes self.old (OfHandle OneLess id) (reply_of result) self.new }
     {
         if let Some(error) = self.memory.release_refusal(id) {
             return Err(error);

@@ -14,7 +14,8 @@ ghost use Rattle.fjall_core.specs.Holding.{Held};
 ghost use Rattle.fjall_core.specs.Lives.{AreLeftOf, GoesOn, HoldsFold, LastSync, Life, Lived, Lives, Served, all_left, begun, start_of};
 ghost use Rattle.fjall_core.specs.Standing.{HoldsStore, Owes, OwesAll, Runs, RunsOn, RunsSafely, StandsOn, Steps};
 ghost use Rattle.fjall_state.specs.declared.call.Call.{Call};
-ghost use Rattle.fjall_state.specs.declared.call.Reply.{Reply};
+ghost use Rattle.fjall_state.specs.Shapes.{Shape};
+ghost use Rattle.fjall_history.specs.declared.reply.Reply.{Reply};
 ghost use Rattle.fjall_base.specs.Crash.{IsHoused};
 ghost use Rattle.fjall_core.specs.Crashes.{BlamesEach, RunOn};
 ghost use Rattle.fjall_core.specs.Openings.{OpensAmid, OpensAs};
@@ -146,7 +147,7 @@ pub fn a_run_blames_the_device()
 
 /// What a call owes whatever the disk is makes it a step of the machine.
 pub fn an_owed_call_steps()
-    ensures { (old new : Held) (call : Call) (reply : Reply) → Owes old call reply new → Steps old call reply new }
+    ensures { (old new : Held) (shape : Shape) (reply : Reply) → Owes old shape reply new → Steps old shape reply new }
 {}
 
 /// What calls owe whatever the disk is makes them a run of the machine.

@@ -1,4 +1,4 @@
-//! The engine's one machine: calls that change keyspaces, read them and sync their journal.
+//! The engine's one machine: calls that change keyspaces, read them at any view and sync their journal.
 #![tactic(auto)]
 
 mod close;
@@ -10,12 +10,13 @@ mod open;
 mod reads;
 mod replies;
 mod run;
+mod snapshots;
 mod writes;
 
 pub use config::Config;
 pub use engine::Core;
-pub use fjall_journal::PersistMode;
-pub use fjall_state::{Call, Reply, View};
+pub use fjall_journal::{BatchItem, Op, PersistMode};
+pub use fjall_state::{Call, Reply, Ticket, View};
 pub use fjall_versions::{KeyRange, Version};
 pub use laws::{
     a_core_holds_amid, a_crash_amid_holds, a_last_sync, a_life_holds, a_run_blames_the_device,

@@ -2,9 +2,10 @@
 
 ghost use Rattle.std.specs.Prelude.{◌≡◌, IsTrue, length};
 ghost use Rattle.std.specs.FinMap.{len};
-ghost use Rattle.fjall_state.specs.Histories.{number};
+ghost use Rattle.fjall_history.specs.Histories.{number};
+ghost use Rattle.fjall_history.specs.Queries.{Get, Page};
 ghost use Rattle.fjall_state.specs.Machine.{State, has_name, present};
-ghost use Rattle.fjall_state.specs.declared.call.Call.TheVariants.{GetAt, PageAt, ListKeyspaceNames};
+ghost use Rattle.fjall_state.specs.Shapes.{Names, OfCount, OfRead};
 ghost use Rattle.fjall_core.specs.Standing.{StandsFor, Owes, Serves, names_reply, pairs_reply, store_in, value_reply};
 
 use crate::engine::Core;
@@ -15,22 +16,21 @@ use fjall_versions::KeyRange;
 impl<D: Disk> Core<D> {
     /// The value that a key of a keyspace has in a view. A key that no write can have has none.
     ///
-    /// Refusals: `UnknownKeyspace`, `KeyspaceDeleted`, `Storage(TableDamaged)` where a block of one of its tables is
-    /// wrong, `OutOfMemory`. Nothing changes.
+    /// Refusals: `SnapshotClosed`, `UnknownKeyspace`, `KeyspaceDeleted`, `Storage(TableDamaged)` where a block of one of
+    /// its tables is wrong, `OutOfMemory`. Nothing changes.
     pub fn get_at(&mut self, view: View, id: u64, key: &[u8]) -> Result<Option<UserValue>>
-        ensures serves { IsTrue D.honest → Serves self.old (GetAt view id key.now) (value_reply result) self.new }
-        ensures owes { Owes self.old (GetAt view id key.now) (value_reply result) self.new }
+        ensures serves { IsTrue D.honest → Serves self.old (OfRead view id (Get key.now)) (value_reply result) self.new }
+        ensures owes { Owes self.old (OfRead view id (Get key.now)) (value_reply result) self.new }
         ensures same { self.new ≡ self.old }
     {
-        let View::Present = view;
-        self.memory.get(id, key)
+        self.memory.get(view, id, key)
     }
 
     /// The first pairs of a keyspace's range in a view or, where `back`, the last ones: at most `max`, in the order of
     /// their keys.
     ///
-    /// Refusals: `UnknownKeyspace`, `KeyspaceDeleted`, `Storage(TableDamaged)` where a block of one of its tables is
-    /// wrong, `OutOfMemory`. Nothing changes.
+    /// Refusals: `SnapshotClosed`, `UnknownKeyspace`, `KeyspaceDeleted`, `Storage(TableDamaged)` where a block of one of
+    /// its tables is wrong, `OutOfMemory`. Nothing changes.
     pub fn page_at(
         &mut self,
         view: View,
@@ -39,12 +39,11 @@ impl<D: Disk> Core<D> {
         back: bool,
         max: usize,
     ) -> Result<Vec<KvPair>>
-        ensures serves { IsTrue D.honest → Serves self.old (PageAt view id range.now back max) (pairs_reply result) self.new }
-        ensures owes { Owes self.old (PageAt view id range.now back max) (pairs_reply result) self.new }
+        ensures serves { IsTrue D.honest → Serves self.old (OfRead view id (Page range.now back max)) (pairs_reply result) self.new }
+        ensures owes { Owes self.old (OfRead view id (Page range.now back max)) (pairs_reply result) self.new }
         ensures same { self.new ≡ self.old }
     {
-        let View::Present = view;
-        self.memory.page(self.alloc, id, range, back, max)
+        self.memory.page(self.alloc, view, id, range, back, max)
     }
 
     /// How many keyspaces live.
@@ -57,8 +56,8 @@ impl<D: Disk> Core<D> {
 
     /// The names of the keyspaces that live, in the order of their bytes. Refuses for want of memory alone.
     pub fn list_keyspace_names(&mut self) -> Result<Vec<Slice>>
-        ensures serves { IsTrue D.honest → Serves self.old ListKeyspaceNames (names_reply result) self.new }
-        ensures owes { Owes self.old ListKeyspaceNames (names_reply result) self.new }
+        ensures serves { IsTrue D.honest → Serves self.old (OfCount Names) (names_reply result) self.new }
+        ensures owes { Owes self.old (OfCount Names) (names_reply result) self.new }
         ensures same { self.new ≡ self.old }
     {
         self.memory.list_keyspace_names(self.alloc)

@@ -1,10 +1,10 @@
 //! Results of calls, as replies.
 
 ghost use Rattle.std.specs.Prelude.{◌≡◌};
-ghost use Rattle.fjall_core.specs.Standing.{names_reply, number_reply, pairs_reply, reply_of, value_reply};
+ghost use Rattle.fjall_core.specs.Standing.{names_reply, number_reply, pairs_reply, reply_of, ticket_reply, value_reply};
 
 use fjall_base::{KvPair, Result, Slice, UserValue};
-use fjall_state::Reply;
+use fjall_state::{Reply, Ticket};
 
 /// The reply to a change or to a sync.
 pub(crate) fn reply_of(done: Result<()>) -> Reply
@@ -42,6 +42,16 @@ pub(crate) fn number_reply(found: Result<u64>) -> Reply
 {
     match found {
         Ok(number) => Reply::Number(number),
+        Err(error) => Reply::Refused(error),
+    }
+}
+
+/// The reply to an opening of a ticket.
+pub(crate) fn ticket_reply(opened: Result<Ticket>) -> Reply
+    ensures { result ≡ ticket_reply opened }
+{
+    match opened {
+        Ok(ticket) => Reply::Opened(ticket),
         Err(error) => Reply::Refused(error),
     }
 }

@@ -1,71 +1,74 @@
 //! Calls that change keys, and the sync of the journal.
 
-ghost use Rattle.std.specs.Prelude.{◌≡◌, ◌<◌, ◌^◌, None, IsTrue, true};
-ghost use Rattle.fjall_base.specs.Limits.{item_refusal};
-ghost use Rattle.fjall_journal.specs.Batches.{of_item};
-ghost use Rattle.fjall_state.specs.Changes.{op_of, call_of};
+ghost use Rattle.std.specs.Prelude.{◌≡◌, ◌<◌, ◌^◌, All, None, IsTrue, length, true};
+ghost use Rattle.fjall_journal.specs.Ops.{items_refusal};
+ghost use Rattle.fjall_journal.specs.declared.op.Op.TheVariants as ops;
 ghost use Rattle.fjall_state.specs.Machine.{State, is_living};
-ghost use Rattle.fjall_state.specs.declared.call.Call.TheVariants.{Insert, Remove, RemoveWeak, Persist};
+ghost use Rattle.fjall_state.specs.Shapes.{AsKeyspace, ByMode, OfChange, OfPersist, Persistence, of_write};
 ghost use Rattle.fjall_core.specs.Crashes.{BlamesDevice};
 ghost use Rattle.fjall_core.specs.Durables.{Durable};
 ghost use Rattle.fjall_core.specs.CallParts.{Writes};
-ghost use Rattle.fjall_core.specs.Standing.{StandsFor, StandsOn, Owes, Serves, reply_of, store_in};
+ghost use Rattle.fjall_core.specs.Standing.{StandsFor, StandsOn, Owes, Serves, mode_of, reply_of, store_in};
 
 use crate::engine::Core;
-use fjall_base::{Disk, Error, Result};
+use fjall_base::{Disk, Error, Result, UserKey, UserValue};
 use fjall_commit::{append_batch, sync_journal};
-use fjall_journal::{PersistMode, ValueType};
-use fjall_state::Change;
-use fjall_versions::Version;
+use fjall_journal::{BatchItem, Op, PersistMode};
+use std::slice;
 
 impl<D: Disk> Core<D> {
-    // Writes one version under the next number. All memory is got before the first byte goes to the disk.
-    fn write(
-        &mut self,
-        id: u64,
-        version: Version,
-        key: &[u8],
-        value: &[u8],
-        value_type: ValueType,
-    ) -> Result<()>
-        requires fits { item_refusal key.now value.now ≡ None }
-        requires living { is_living (store_in self.old) id ≡ true }
-        requires version { version.keyspace_id ≡ id }
+    // Writes these items as one command, under the next number. All memory is got before the first byte goes to the disk.
+    fn write(&mut self, items: &[BatchItem], mode: Option<PersistMode>) -> Result<()>
+        requires fits { items_refusal items.now ≡ None }
+        requires some { 0 < length items.now }
+        requires living { All (λ item. is_living (store_in self.old) item.0 ≡ true) items.now }
         requires room { self.old.memory.next < 2 ^ 63 }
-        ensures writes { Writes (IsTrue D.honest) self.old version (of_item id key.now value.now value_type self.old.memory.next) value_type result self.new }
+        ensures writes { Writes (IsTrue D.honest) self.old items.now mode result self.new }
     {
         let seqno = self.memory.seqno();
-        let by_hand = self.memory.persists_by_hand(id);
-        self.memory.push_version(version)?;
-        let written = append_batch(
-            &mut self.journal,
-            &mut self.disk,
-            by_hand,
-            id,
-            key,
-            value,
-            value_type,
-            seqno,
-        );
+        self.memory.push_items(items)?;
+        let written = append_batch(&mut self.journal, &mut self.disk, mode, items, seqno);
         if let Err(error) = written {
-            self.memory.pop_version();
+            self.memory.take_items(items.len());
             self.poison_by(&error);
             return Err(error);
         }
         Ok(())
     }
 
-    // Changes a key, where nothing refuses it.
-    fn change(&mut self, id: u64, key: &[u8], change: Change<'_>) -> Result<()>
-        ensures serves { IsTrue D.honest → Serves self.old (call_of id key.now (op_of change.entry)) (reply_of result) self.new }
-        ensures owes { Owes self.old (call_of id key.now (op_of change.entry)) (reply_of result) self.new }
+    // Changes keys by these items, persisted by this mode or none, where nothing refuses it.
+    fn change(&mut self, items: &[BatchItem], mode: Option<PersistMode>) -> Result<()>
+        ensures serves { IsTrue D.honest → (how : Persistence) → mode_of self.old how ≡ mode
+            → Serves self.old (OfChange items.now how) (reply_of result) self.new }
+        ensures owes { (how : Persistence) → mode_of self.old how ≡ mode → Owes self.old (OfChange items.now how) (reply_of result) self.new }
     {
-        let value = change.bytes();
-        if let Some(error) = self.memory.write_refusal(id, key, value) {
+        if items.is_empty() {
+            return Ok(());
+        }
+        if let Some(error) = self.memory.change_refusal(items) {
             return Err(error);
         }
-        let version = change.version(self.alloc, id, self.memory.seqno(), key)?;
-        self.write(id, version, key, value, change.value_type())
+        self.write(items, mode)
+    }
+
+    // How a write of one key of this keyspace is persisted.
+    fn mode_of(&self, id: u64) -> Option<PersistMode>
+        ensures { result ≡ mode_of self.now (AsKeyspace id) }
+    {
+        if self.memory.persists_by_hand(id) {
+            None
+        } else {
+            Some(PersistMode::Buffer)
+        }
+    }
+
+    // Changes one key, persisted as its keyspace says.
+    fn change_key(&mut self, item: BatchItem) -> Result<()>
+        ensures serves { IsTrue D.honest → Serves self.old (of_write item) (reply_of result) self.new }
+        ensures owes { Owes self.old (of_write item) (reply_of result) self.new }
+    {
+        let mode = self.mode_of(item.0);
+        self.change(slice::from_ref(&item), mode)
     }
 
     /// Gives a key of a keyspace a value, under the next number, and hands the command to the system, with all that
@@ -76,28 +79,47 @@ impl<D: Disk> Core<D> {
     /// Refusals, the first that has its cause: `KeyEmpty`, `KeyTooLong` (above 65,535 bytes), `ValueTooLong` (above
     /// 4,294,967,295), `UnknownKeyspace`, `KeyspaceDeleted`, `Poisoned`, `NumbersUsedUp`, `OutOfMemory`, and `Io`,
     /// after which the core is poisoned. After each of the others nothing has changed.
-    pub fn insert(&mut self, id: u64, key: &[u8], value: &[u8]) -> Result<()>
-        ensures serves { IsTrue D.honest → Serves self.old (Insert id key.now value.now) (reply_of result) self.new }
-        ensures owes { Owes self.old (Insert id key.now value.now) (reply_of result) self.new }
+    pub fn insert(&mut self, id: u64, key: UserKey, value: UserValue) -> Result<()>
+        ensures serves { IsTrue D.honest → Serves self.old (of_write (id, key, ops.Put value)) (reply_of result) self.new }
+        ensures owes { Owes self.old (of_write (id, key, ops.Put value)) (reply_of result) self.new }
     {
-        self.change(id, key, Change::Put(value))
+        self.change_key((id, key, Op::Put(value)))
     }
 
     /// Takes a key of a keyspace and its value away, under the next number, whether the key is there or not. It is
     /// refused as [`insert`](Core::insert) is, and a crash may lose it as long.
-    pub fn remove(&mut self, id: u64, key: &[u8]) -> Result<()>
-        ensures serves { IsTrue D.honest → Serves self.old (Remove id key.now) (reply_of result) self.new }
-        ensures owes { Owes self.old (Remove id key.now) (reply_of result) self.new }
+    pub fn remove(&mut self, id: u64, key: UserKey) -> Result<()>
+        ensures serves { IsTrue D.honest → Serves self.old (of_write (id, key, ops.Remove)) (reply_of result) self.new }
+        ensures owes { Owes self.old (of_write (id, key, ops.Remove)) (reply_of result) self.new }
     {
-        self.change(id, key, Change::Remove)
+        self.change_key((id, key, Op::Remove))
     }
 
     /// Acts as [`remove`](Core::remove); the journal alone tells the two apart.
-    pub fn remove_weak(&mut self, id: u64, key: &[u8]) -> Result<()>
-        ensures serves { IsTrue D.honest → Serves self.old (RemoveWeak id key.now) (reply_of result) self.new }
-        ensures owes { Owes self.old (RemoveWeak id key.now) (reply_of result) self.new }
+    pub fn remove_weak(&mut self, id: u64, key: UserKey) -> Result<()>
+        ensures serves { IsTrue D.honest → Serves self.old (of_write (id, key, ops.RemoveWeak)) (reply_of result) self.new }
+        ensures owes { Owes self.old (of_write (id, key, ops.RemoveWeak)) (reply_of result) self.new }
     {
-        self.change(id, key, Change::RemoveWeak)
+        self.change_key((id, key, Op::RemoveWeak))
+    }
+
+    /// Changes keys of any keyspaces by these items, in their order, as one command under one number, all or none of which
+    /// outlives a crash. Where one key has several items the last one counts. No items are no command: that is Ok, takes no
+    /// number and leaves the disk alone, also in a poisoned core.
+    ///
+    /// Without a mode the command waits in the journal's buffer while that has less than 8,192 bytes. With `Buffer` it is
+    /// handed to the system with all that waited, and with the two sync modes the journal is synced too: then it and all
+    /// before it outlive a crash.
+    ///
+    /// Refusals, each looked for in all items before the next: `KeyEmpty`, `KeyTooLong`, `ValueTooLong`,
+    /// `UnknownKeyspace`, `KeyspaceDeleted`; then `Poisoned`, `TooManyItems` (above 4,294,967,295), `NumbersUsedUp`,
+    /// `OutOfMemory`, and `Io`, after which the core is poisoned, and a crash may leave the command or not. After each of the
+    /// others nothing has changed.
+    pub fn commit_batch(&mut self, items: Vec<BatchItem>, mode: Option<PersistMode>) -> Result<()>
+        ensures serves { IsTrue D.honest → Serves self.old (OfChange items.items (ByMode mode)) (reply_of result) self.new }
+        ensures owes { Owes self.old (OfChange items.items (ByMode mode)) (reply_of result) self.new }
+    {
+        self.change(&items, mode)
     }
 
     /// Writes the journal's buffer out, in which commands wait of keyspaces that persist by hand, and in the two sync
@@ -105,11 +127,11 @@ impl<D: Disk> Core<D> {
     ///
     /// Refusals: `Poisoned`, and `Io`, after which the core is poisoned.
     pub fn persist(&mut self, mode: PersistMode) -> Result<()>
-        ensures serves { IsTrue D.honest → Serves self.old (Persist mode) (reply_of result) self.new }
+        ensures serves { IsTrue D.honest → Serves self.old (OfPersist mode) (reply_of result) self.new }
         // Whatever stands in the way elsewhere, the device is to blame for `Io`.
         ensures device { IsTrue D.honest → (s : State) (d : Durable) → StandsFor self.old s → StandsOn self.old d
             → BlamesDevice (reply_of result) self.old.disk self.new.disk }
-        ensures owes { Owes self.old (Persist mode) (reply_of result) self.new }
+        ensures owes { Owes self.old (OfPersist mode) (reply_of result) self.new }
     {
         if self.memory.is_poisoned() {
             return Err(Error::Poisoned);

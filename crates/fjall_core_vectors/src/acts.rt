@@ -1,10 +1,10 @@
 //! Scenarios over a disk in memory: lists of acts, and what each of them answers.
 
-use crate::database::{Database, add, closed, crashed, items, opened};
+use crate::database::{Database, add, closed, crashed, items, opened, view_of};
 use crate::script::Line;
 use crate::tape::Tape;
 use fjall_base::{CompressionType, Disk, Error, KvPair, Refused, Result, Slice, checksum};
-use fjall_core::KeyRange;
+use fjall_core::{KeyRange, View};
 use fjall_journal::{Entry, ValueType};
 use fjall_memory::MemoryDisk;
 use std::alloc::Global;
@@ -25,6 +25,12 @@ pub enum Act {
     /// Makes a keyspace whose writes are persisted by hand.
     ByHand(&'static str),
     Get(u64, &'static str),
+    /// By the ticket of this id.
+    GetAt(u64, u64, &'static str),
+    /// The keys of a page of a keyspace by the ticket of this id: whether from behind, and how many at most.
+    PageAt(u64, u64, bool, usize),
+    /// How many snapshots are open.
+    Snapshots,
     /// The keys of a page of a keyspace: from, to, whether from behind, and how many at most.
     Page(u64, Bound<&'static str>, Bound<&'static str>, bool, usize),
     Names,
@@ -131,11 +137,12 @@ fn spell(text: &mut String, bytes: &[u8]) -> Result<()> {
 fn value_text(
     alloc: Global,
     core: &mut Database<MemoryDisk>,
+    view: View,
     id: u64,
     key: &str,
 ) -> Result<String> {
     let mut text = String::new(alloc);
-    match core.get(id, key.as_bytes())? {
+    match core.get_at(view, id, key.as_bytes())? {
         Some(value) => spell(&mut text, &value)?,
         None => text.push_str("-")?,
     }
@@ -188,7 +195,20 @@ fn page_text(
     max: usize,
 ) -> Result<String> {
     let range = range(alloc, from, to)?;
-    keys_text(alloc, &core.page(id, &range, back, max)?)
+    keys_text(alloc, &core.page_at(View::Present, id, &range, back, max)?)
+}
+
+/// The keys of a page by a ticket.
+fn seen_text(
+    alloc: Global,
+    core: &mut Database<MemoryDisk>,
+    view: View,
+    id: u64,
+    back: bool,
+    max: usize,
+) -> Result<String> {
+    let range = (Bound::Unbounded, Bound::Unbounded);
+    keys_text(alloc, &core.page_at(view, id, &range, back, max)?)
 }
 
 /// A number that an open database tells of itself.
@@ -198,6 +218,7 @@ fn told_number(core: &Database<MemoryDisk>, act: Act) -> Option<u64> {
         Act::Seqno => Some(core.seqno()),
         Act::Visible => Some(core.visible_seqno()),
         Act::Space => Some(core.journal_disk_space()),
+        Act::Snapshots => Some(core.open_snapshots()),
         _ => None,
     }
 }
@@ -217,7 +238,11 @@ fn asked(alloc: Global, core: &mut Database<MemoryDisk>, act: Act) -> Result<Str
     match act {
         Act::Ask(line) => number_text(alloc, line.ask(core)?),
         Act::ByHand(name) => number_text(alloc, Some(core.keyspace_by_hand(name.as_bytes())?)),
-        Act::Get(id, key) => value_text(alloc, core, id, key),
+        Act::Get(id, key) => value_text(alloc, core, View::Present, id, key),
+        Act::GetAt(ticket, id, key) => value_text(alloc, core, view_of(ticket), id, key),
+        Act::PageAt(ticket, id, back, max) => {
+            seen_text(alloc, core, view_of(ticket), id, back, max)
+        }
         Act::Page(id, from, to, back, max) => page_text(alloc, core, id, (from, to), back, max),
         Act::Names => names_text(alloc, &core.names()?),
         Act::Exists(name) => flag_text(alloc, core.keyspace_exists(name.as_bytes())),

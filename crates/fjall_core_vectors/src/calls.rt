@@ -2,10 +2,10 @@
 
 use crate::acts::Act::*;
 use crate::acts::{ITEMS, Row, Scenario, first_wrong, names_text};
-use crate::database::{Database, items, opened};
+use crate::database::{Database, Item, batch, items, opened, view_of};
 use crate::script::Line::*;
 use fjall_base::{ClosedDisk, Disk, Error, Result, Slice};
-use fjall_core::{Call, Config, PersistMode, Reply, View};
+use fjall_core::{Call, Config, PersistMode, Reply, Ticket, View};
 use fjall_memory::MemoryDisk;
 use fjall_options::KeyspaceCreateOptions;
 use std::alloc::{AllocError, Global};
@@ -147,9 +147,18 @@ enum Request {
     Retain,
     Release,
     DeleteKeyspace,
+    CommitBatch,
+    Snapshot,
+    /// Of the ticket that the call at this place opened.
+    CloneSnapshot(u64),
+    CloseSnapshot(u64),
+    SeenAt(u64),
+    PageSeenAt(u64),
+    Gc,
+    OpenSnapshots,
 }
 
-/// Each call, for a new database.
+/// The calls of keyspaces, keys and counts, for a new database.
 const REQUESTS: &[Request] = &[
     Request::Seqno,
     Request::Keyspace,
@@ -170,6 +179,31 @@ const REQUESTS: &[Request] = &[
     Request::Release,
 ];
 
+/// Those of batches and snapshots: each names a ticket by the place of the call that opened it.
+const OF_TICKETS: &[Request] = &[
+    Request::Keyspace,
+    Request::Insert(1),
+    Request::Snapshot,
+    Request::CommitBatch,
+    Request::GetAt,
+    Request::SeenAt(2),
+    Request::CloneSnapshot(2),
+    Request::Snapshot,
+    Request::CloseSnapshot(2),
+    Request::SeenAt(2),
+    Request::CloseSnapshot(2),
+    Request::SeenAt(6),
+    Request::PageSeenAt(6),
+    Request::SeenAt(7),
+    // The call at the place 0 opened none, and none has the place 99.
+    Request::SeenAt(0),
+    Request::PageSeenAt(99),
+    Request::CloneSnapshot(0),
+    Request::OpenSnapshots,
+    Request::Gc,
+    Request::Seqno,
+];
+
 /// The call that makes the keyspace.
 fn creation(alloc: Global) -> Result<Call> {
     let options = KeyspaceCreateOptions::default(alloc)?;
@@ -182,7 +216,55 @@ fn insertion(alloc: Global, id: u64) -> Result<Call> {
     Ok(Call::Insert(id, key, Slice::new(alloc, b"b")?))
 }
 
+/// What the batch changes.
+const CHANGES: &[Item] = &[(1, "c", Some("d")), (1, "a", None)];
+
+/// The call that commits the batch.
+fn commit(alloc: Global) -> Result<Call> {
+    Ok(Call::CommitBatch(batch(alloc, CHANGES)?, Some(PersistMode::Buffer)))
+}
+
+/// The call that reads the key by the ticket of a place.
+fn seen_at(alloc: Global, place: u64) -> Result<Call> {
+    Ok(Call::GetAt(view_of(place), 1, Slice::new(alloc, b"a")?))
+}
+
+/// The call that reads a page.
+fn page_at(view: View) -> Call {
+    Call::PageAt(view, 1, (Unbounded, Unbounded), false, 1)
+}
+
 impl Request {
+    /// The call, where it is of tickets or of a page.
+    fn of_ticket(self) -> Option<Call> {
+        match self {
+            Request::Snapshot => Some(Call::Snapshot),
+            Request::CloneSnapshot(place) => Some(Call::CloneSnapshot(Ticket::of_call(place))),
+            Request::CloseSnapshot(place) => Some(Call::CloseSnapshot(Ticket::of_call(place))),
+            Request::PageSeenAt(place) => Some(page_at(view_of(place))),
+            Request::PageAt => Some(page_at(View::Present)),
+            Request::Gc => Some(Call::Gc),
+            Request::OpenSnapshots => Some(Call::OpenSnapshots),
+            _ => None,
+        }
+    }
+
+    /// The call, where it takes no memory.
+    fn plain(self) -> Option<Call> {
+        match self {
+            Request::KeyspaceCount => Some(Call::KeyspaceCount),
+            Request::ListKeyspaceNames => Some(Call::ListKeyspaceNames),
+            Request::Seqno => Some(Call::Seqno),
+            Request::VisibleSeqno => Some(Call::VisibleSeqno),
+            Request::JournalDiskSpace => Some(Call::JournalDiskSpace),
+            Request::Persist => Some(Call::Persist(PersistMode::SyncAll)),
+            Request::Retain => Some(Call::Retain(1)),
+            Request::Release => Some(Call::Release(1)),
+            Request::DeleteKeyspace => Some(Call::DeleteKeyspace(1)),
+            _ => self.of_ticket(),
+        }
+    }
+
     /// The call, where it names the key alone, or the keyspace.
     fn naming(self, alloc: Global) -> std::result::Result<Call, AllocError> {
         if matches!(self, Request::KeyspaceExists) {
@@ -198,21 +280,16 @@ impl Request {
 
     /// The call.
     fn call(self, alloc: Global) -> Result<Call> {
-        Ok(match self {
-            Request::Keyspace => creation(alloc)?,
-            Request::Insert(id) => insertion(alloc, id)?,
-            Request::PageAt => Call::PageAt(View::Present, 1, (Unbounded, Unbounded), false, 1),
-            Request::KeyspaceCount => Call::KeyspaceCount,
-            Request::ListKeyspaceNames => Call::ListKeyspaceNames,
-            Request::Seqno => Call::Seqno,
-            Request::VisibleSeqno => Call::VisibleSeqno,
-            Request::JournalDiskSpace => Call::JournalDiskSpace,
-            Request::Persist => Call::Persist(PersistMode::SyncAll),
-            Request::Retain => Call::Retain(1),
-            Request::Release => Call::Release(1),
-            Request::DeleteKeyspace => Call::DeleteKeyspace(1),
-            _ => self.naming(alloc)?,
-        })
+        if let Some(call) = self.plain() {
+            return Ok(call);
+        }
+        match self {
+            Request::Keyspace => creation(alloc),
+            Request::Insert(id) => insertion(alloc, id),
+            Request::CommitBatch => commit(alloc),
+            Request::SeenAt(place) => seen_at(alloc, place),
+            _ => Ok(self.naming(alloc)?),
+        }
     }
 }
 
@@ -235,6 +312,7 @@ fn told_with(alloc: Global, reply: &Reply, names: &str) -> std::result::Result<S
         Reply::Number(number) => format!(in alloc; "number {number}"),
         Reply::Names(_) => format!(in alloc; "names {names}"),
         Reply::Flag(is_so) => format!(in alloc; "flag {is_so}"),
+        Reply::Opened(ticket) => format!(in alloc; "ticket {} at {}", ticket.id, ticket.instant),
         Reply::Refused(error) => format!(in alloc; "refused {error:?}"),
     }
 }
@@ -267,25 +345,39 @@ fn replies<D: Disk>(
     core.run(calls(alloc, requests)?)
 }
 
-/// What a new database on a disk replies to each request, and how many replies there are to none.
-fn served<D: Disk + Drop>(alloc: Global, disk: D) -> Result<(String, usize)> {
+/// What a new database on a disk replies to each of these requests, and how many replies there are to none.
+fn served<D: Disk + Drop>(alloc: Global, disk: D, requests: &[Request]) -> Result<(String, usize)> {
     let mut core = opened(alloc, disk)?;
-    let text = all_told(alloc, &replies(alloc, &mut core, REQUESTS)?)?;
+    let text = all_told(alloc, &replies(alloc, &mut core, requests)?)?;
     let none = replies(alloc, &mut core, &[])?.len();
     Ok((text, none))
 }
 
-const REPLIES: &str =
-    "number 0; number 1; done; refused UnknownKeyspace; value [98]; done; number 2; \
-    number 49; done; done; 0 pairs; number 1; flag true; names items; done; done; done; ";
+/// Requests, and what is replied to them.
+const LISTS: &[(&[Request], &str)] = &[
+    (
+        REQUESTS,
+        "number 0; number 1; done; refused UnknownKeyspace; value [98]; done; number 2; \
+        number 49; done; done; 0 pairs; number 1; flag true; names items; done; done; done; ",
+    ),
+    (
+        OF_TICKETS,
+        "number 1; done; ticket 0 at 2; done; no value; value [98]; ticket 1 at 2; ticket 2 at 3; \
+        done; refused SnapshotClosed; refused SnapshotClosed; value [98]; 1 pairs; no value; \
+        refused SnapshotClosed; refused SnapshotClosed; refused SnapshotClosed; number 2; number 1; \
+        number 3; ",
+    ),
+];
 
 // The second disk keeps nothing, so that what is answered stands in memory alone.
 #[test]
 fn lists_of_calls_are_served_in_order(rt: HostRuntime) -> std::result::Result<(), Fail> {
-    let (text, none) = served(rt.alloc(), MemoryDisk::new(rt.alloc()))?;
-    assert_eq!(rt; (text.as_str(), none), (REPLIES, 0));
-    let (text, none) = served(rt.alloc(), ClosedDisk)?;
-    assert_eq!(rt; (text.as_str(), none), (REPLIES, 0));
+    for &(requests, due) in LISTS {
+        let (text, none) = served(rt.alloc(), MemoryDisk::new(rt.alloc()), requests)?;
+        assert_eq!(rt; (text.as_str(), none), (due, 0));
+        let (text, none) = served(rt.alloc(), ClosedDisk, requests)?;
+        assert_eq!(rt; (text.as_str(), none), (due, 0));
+    }
     Ok(())
 }
 

@@ -2,11 +2,32 @@
 //!
 //! The calls of a core are passed on without what they promise, since a test asserts what it wants to know.
 
-use fjall_base::{Disk, Error, KvPair, Refused, Result, Slice, UserValue};
-use fjall_core::{Call, Config, Core, KeyRange, PersistMode, Reply, View};
+use fjall_base::{Disk, Error, KvPair, Refused, Result, Slice, UserKey, UserValue};
+use fjall_core::{BatchItem, Call, Config, Core, KeyRange, Op, PersistMode, Reply, Ticket, View};
 use fjall_memory::MemoryDisk;
 use fjall_options::KeyspaceCreateOptions;
 use std::alloc::Global;
+
+/// An item of a batch: keyspace, key, and the value that the key gets, or none.
+pub type Item = (u64, &'static str, Option<&'static str>);
+
+/// What becomes of a key that gets this value, or none.
+fn op(alloc: Global, value: Option<&str>) -> Result<Op> {
+    Ok(match value {
+        Some(value) => Op::Put(Slice::new(alloc, value.as_bytes())?),
+        None => Op::Remove,
+    })
+}
+
+/// The items of a batch.
+pub fn batch(alloc: Global, items: &[Item]) -> Result<Vec<BatchItem>> {
+    let mut batch = Vec::new(alloc);
+    for (id, key, value) in items {
+        let key = Slice::new(alloc, key.as_bytes())?;
+        batch.push((*id, key, op(alloc, *value)?))?;
+    }
+    Ok(batch)
+}
 
 /// A core over a disk.
 #[derive(Drop)]
@@ -60,16 +81,52 @@ impl<D: Disk> Database<D> {
         self.core.release(id)
     }
 
+    fn key(&self, key: &[u8]) -> Result<UserKey> {
+        Ok(Slice::new(self.alloc, key)?)
+    }
+
     pub fn insert(&mut self, id: u64, key: &[u8], value: &[u8]) -> Result<()> {
+        let key = self.key(key)?;
+        let value = Slice::new(self.alloc, value)?;
         self.core.insert(id, key, value)
     }
 
     pub fn remove(&mut self, id: u64, key: &[u8]) -> Result<()> {
+        let key = self.key(key)?;
         self.core.remove(id, key)
     }
 
     pub fn remove_weak(&mut self, id: u64, key: &[u8]) -> Result<()> {
+        let key = self.key(key)?;
         self.core.remove_weak(id, key)
+    }
+
+    pub fn commit_batch(&mut self, items: &[Item], mode: Option<PersistMode>) -> Result<()> {
+        let items = batch(self.alloc, items)?;
+        self.core.commit_batch(items, mode)
+    }
+
+    /// The id of a ticket.
+    pub fn snapshot(&mut self) -> Result<u64> {
+        Ok(self.core.snapshot()?.id)
+    }
+
+    /// The id of a ticket that shows what that of this id does.
+    pub fn clone_snapshot(&mut self, id: u64) -> Result<u64> {
+        let ticket = Ticket::of_call(id);
+        Ok(self.core.clone_snapshot(ticket)?.id)
+    }
+
+    pub fn close_snapshot(&mut self, id: u64) -> Result<()> {
+        self.core.close_snapshot(Ticket::of_call(id))
+    }
+
+    pub fn gc(&mut self) -> u64 {
+        self.core.gc()
+    }
+
+    pub fn open_snapshots(&self) -> u64 {
+        self.core.open_snapshots()
     }
 
     pub fn persist(&mut self, mode: PersistMode) -> Result<()> {
@@ -80,14 +137,19 @@ impl<D: Disk> Database<D> {
         self.core.get_at(View::Present, id, key)
     }
 
-    pub fn page(
+    pub fn get_at(&mut self, view: View, id: u64, key: &[u8]) -> Result<Option<UserValue>> {
+        self.core.get_at(view, id, key)
+    }
+
+    pub fn page_at(
         &mut self,
+        view: View,
         id: u64,
         range: &KeyRange,
         back: bool,
         max: usize,
     ) -> Result<Vec<KvPair>> {
-        self.core.page_at(View::Present, id, range, back, max)
+        self.core.page_at(view, id, range, back, max)
     }
 
     pub fn names(&mut self) -> Result<Vec<Slice>> {
@@ -127,6 +189,11 @@ impl<D: Disk> Database<D> {
         let Database { alloc: _, core } = self;
         core.close()
     }
+}
+
+/// The view of the ticket of this id.
+pub fn view_of(id: u64) -> View {
+    View::At(Ticket::of_call(id))
 }
 
 /// The database on a disk, or why there is none.

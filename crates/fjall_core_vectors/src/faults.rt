@@ -20,6 +20,16 @@ const POISONED: &[Row] = &[
     (Ask(Delete(1)), "Poisoned"),
     (Ask(Create("other")), "Poisoned"),
     (Ask(Create("items")), "1"),
+    (Ask(Commit(&[(1, "e", Some("f"))], None)), "Poisoned"),
+    (Ask(Commit(&[], None)), ""),
+    (Ask(Commit(&[], Some(PersistMode::SyncAll))), ""),
+    (
+        Ask(Commit(&[(1, "e", None), (2, "e", None)], None)),
+        "UnknownKeyspace",
+    ),
+    (Ask(Snapshot), "0"),
+    (GetAt(0, 1, "a"), "b"),
+    (GetAt(0, 1, "c"), "-"),
     (Ask(Insert(1, "", "f")), "KeyEmpty"),
     (Ask(Insert(2, "e", "f")), "UnknownKeyspace"),
     (Visible, "2"),
@@ -39,6 +49,33 @@ const APPEND_49: &[Row] = &[
     (Ask(Insert(1, "c", "d")), "Io(Other)"),
 ];
 
+// The batch has 71 bytes.
+const BATCH_50: &[Row] = &[
+    (Fail(&[], 50), ""),
+    (Open, ""),
+    (
+        Ask(Commit(&[(1, "c", Some("d")), (1, "a", None)], None)),
+        "",
+    ),
+    (Ask(Persist(PersistMode::Buffer)), "Io(Other)"),
+    (Get(1, "c"), "d"),
+    (Get(1, "a"), "-"),
+    (Visible, "3"),
+    (Ask(Commit(&[(1, "a", None)], None)), "Poisoned"),
+];
+
+const BATCH_71: &[Row] = &[
+    (Fail(&[], 71), ""),
+    (Open, ""),
+    (
+        Ask(Commit(
+            &[(1, "c", Some("d")), (1, "a", None)],
+            Some(PersistMode::SyncAll),
+        )),
+        "Io(Other)",
+    ),
+];
+
 const CRASHED: &[Row] = &[
     (Close, "Poisoned"),
     (Crash(98), ""),
@@ -47,6 +84,15 @@ const CRASHED: &[Row] = &[
 ];
 
 const LOST: &[Row] = &[(Get(1, "c"), "-"), (Seqno, "2"), (Space, "49")];
+
+const CLOSED: &[Row] = &[(Close, "Poisoned"), (Crash(1_000), ""), (Open, "")];
+
+const KEPT_BATCH: &[Row] = &[
+    (Get(1, "a"), "-"),
+    (Get(1, "c"), "d"),
+    (Seqno, "3"),
+    (Space, "120"),
+];
 
 const KEPT: &[Row] = &[(Get(1, "c"), "d"), (Seqno, "3"), (Space, "98")];
 
@@ -171,6 +217,11 @@ const OF_FAULTS: &[Scenario] = &[
         "a whole append poisons",
         &[APPEND_49, POISONED, CRASHED, KEPT],
     ),
+    (
+        "a whole batch poisons",
+        &[BATCH_71, POISONED, CLOSED, KEPT_BATCH],
+    ),
+    ("a part of what waited poisons", &[BATCH_50, CLOSED, LOST]),
     ("a sync of the data poisons", &[SYNC_DATA, POISONED]),
     ("a sync of all poisons", &[SYNC_ALL, POISONED]),
     ("a creation poisons", &[CREATION, POISONED, NOT_CREATED]),

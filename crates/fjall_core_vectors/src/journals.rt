@@ -150,6 +150,17 @@ const NUMBERS_END: &[Row] = &[
     (Batch((1 << 63) - 1, PUT), ""),
     (Open, ""),
     (Ask(Insert(1, "a", "x")), "NumbersUsedUp"),
+    (
+        Ask(Commit(&[(1, "a", None), (1, "b", None)], None)),
+        "NumbersUsedUp",
+    ),
+    (
+        Ask(Commit(&[(1, "a", None), (2, "b", None)], None)),
+        "UnknownKeyspace",
+    ),
+    (Ask(Commit(&[], None)), ""),
+    (Ask(Snapshot), "0"),
+    (GetAt(0, 1, "a"), "w"),
     (Ask(Delete(1)), "NumbersUsedUp"),
     (Ask(Create("more")), "NumbersUsedUp"),
     (Ask(Create("items")), "1"),

@@ -4,6 +4,8 @@
 #[cfg(test)]
 mod acts;
 #[cfg(test)]
+mod batches;
+#[cfg(test)]
 mod by_hand;
 #[cfg(test)]
 mod calls;
@@ -26,6 +28,10 @@ mod restarts;
 #[cfg(test)]
 mod script;
 #[cfg(test)]
+mod snapshots;
+#[cfg(test)]
 mod sweep;
 #[cfg(test)]
 mod tape;
+#[cfg(test)]
+mod tickets;

@@ -2,9 +2,13 @@
 
 use crate::database::Database;
 use fjall_base::{Disk, KvPair, Result, Slice};
+use fjall_core::View;
 use std::alloc::Global;
 use std::mem;
 use std::ops::Bound;
+
+/// A key of a keyspace gets a value, or none.
+pub type Change = (u64, Slice, Option<Slice>);
 
 /// What takes a number of its own.
 #[derive(Clone, Drop)]
@@ -13,10 +17,8 @@ pub enum Command {
     Create(Slice),
     /// Deletes the keyspace of this id.
     Delete(u64),
-    /// Gives a key of a keyspace a value.
-    Put(u64, Slice, Slice),
-    /// Takes a key of a keyspace away.
-    Take(u64, Slice),
+    /// Changes keys of keyspaces, one after another.
+    Write(Vec<Change>),
 }
 
 /// A keyspace that lives, with its pairs in the order of their keys.
@@ -59,18 +61,20 @@ fn deleted(alloc: Global, homes: Vec<Home>, id: u64) -> Result<Vec<Home>> {
     Ok(left)
 }
 
-/// A key of the keyspace of this id, where it lives, has this value from now on, or none.
-fn write(
-    alloc: Global,
-    homes: &mut Vec<Home>,
-    id: u64,
-    key: &Slice,
-    value: Option<&Slice>,
-) -> Result<()> {
+/// A key of its keyspace, where that lives, has another value from now on, or none.
+fn write(alloc: Global, homes: &mut Vec<Home>, change: &Change) -> Result<()> {
     for home in homes {
-        if home.id == id {
-            alter(alloc, home, key, value)?;
+        if home.id == change.0 {
+            alter(alloc, home, &change.1, change.2.as_ref())?;
         }
+    }
+    Ok(())
+}
+
+/// These changes, one after another.
+fn write_all(alloc: Global, homes: &mut Vec<Home>, changes: &[Change]) -> Result<()> {
+    for change in changes {
+        write(alloc, homes, change)?;
     }
     Ok(())
 }
@@ -90,8 +94,7 @@ fn next(alloc: Global, homes: Vec<Home>, command: &Command, new_id: u64) -> Resu
     match command {
         Command::Create(name) => homes.push(new_home(alloc, name, new_id)?)?,
         Command::Delete(id) => return deleted(alloc, homes, *id),
-        Command::Put(id, key, value) => write(alloc, &mut homes, *id, key, Some(value))?,
-        Command::Take(id, key) => write(alloc, &mut homes, *id, key, None)?,
+        Command::Write(changes) => write_all(alloc, &mut homes, changes)?,
     }
     Ok(homes)
 }
@@ -119,23 +122,50 @@ pub fn fold(alloc: Global, commands: &[Command]) -> Result<Vec<Home>> {
     sorted(homes)
 }
 
+/// The pairs of the keyspace of this id, none where there is no such keyspace.
+fn pairs_of(homes: &[Home], id: u64) -> &[KvPair] {
+    for home in homes {
+        if home.id == id {
+            return &home.pairs;
+        }
+    }
+    &[]
+}
+
+/// Whether these are the keyspaces that are there now, with the pairs that they had then.
+pub fn are_seen(seen: &[Home], now: &[Home], then: &[Home]) -> bool {
+    for (one, home) in seen.iter().zip(now) {
+        let pairs = pairs_of(then, home.id);
+        if one.id != home.id || one.name != home.name || one.pairs.as_slice() != pairs {
+            return false;
+        }
+    }
+    seen.len() == now.len()
+}
+
 /// The pairs of a keyspace that a database shows.
-fn pairs<D: Disk>(core: &mut Database<D>, id: u64) -> Result<Vec<KvPair>> {
-    core.page(id, &(Bound::Unbounded, Bound::Unbounded), false, usize::MAX)
+fn pairs<D: Disk>(core: &mut Database<D>, view: View, id: u64) -> Result<Vec<KvPair>> {
+    core.page_at(
+        view,
+        id,
+        &(Bound::Unbounded, Bound::Unbounded),
+        false,
+        usize::MAX,
+    )
 }
 
 /// The keyspace of this name that a database shows.
-fn shown_home<D: Disk>(core: &mut Database<D>, name: Slice) -> Result<Home> {
+fn shown_home<D: Disk>(core: &mut Database<D>, view: View, name: Slice) -> Result<Home> {
     let id = core.keyspace(&name)?;
-    let pairs = pairs(core, id)?;
+    let pairs = pairs(core, view, id)?;
     Ok(Home { name, id, pairs })
 }
 
-/// The keyspaces that a database shows, in the order in which it lists their names.
-pub fn shown<D: Disk>(alloc: Global, core: &mut Database<D>) -> Result<Vec<Home>> {
+/// The keyspaces that a database shows in a view, in the order in which it lists their names.
+pub fn shown<D: Disk>(alloc: Global, core: &mut Database<D>, view: View) -> Result<Vec<Home>> {
     let mut homes = Vec::new(alloc);
     for name in core.names()? {
-        homes.push(shown_home(core, name)?)?;
+        homes.push(shown_home(core, view, name)?)?;
     }
     Ok(homes)
 }

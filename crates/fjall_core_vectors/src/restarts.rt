@@ -142,14 +142,14 @@ fn the_first_opening_is_crashed_three_times(rt: HostRuntime) -> Result<(), Fail>
 
 #[test]
 fn openings_up_to_the_first_closing_are_crashed_three_times(rt: HostRuntime) -> Result<(), Fail> {
-    let count = check_restarts(rt.alloc(), 0, 16)?;
+    let count = check_restarts(rt.alloc(), 0, 20)?;
     assert!(rt; count > 550, "{count} openings");
     Ok(())
 }
 
 #[test]
 fn openings_behind_it_are_crashed_three_times(rt: HostRuntime) -> Result<(), Fail> {
-    let count = check_restarts(rt.alloc(), 16, usize::MAX)?;
+    let count = check_restarts(rt.alloc(), 20, usize::MAX)?;
     assert!(rt; count > 800, "{count} openings");
     Ok(())
 }

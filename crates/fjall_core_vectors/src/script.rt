@@ -1,9 +1,10 @@
 //! A script of calls, and what it must leave.
 
-use crate::database::{Database, opened};
-use crate::reference::{Command, Home, fold, shown};
+use crate::database::{Database, Item, opened, view_of};
+use crate::reference::{Change, Command, Home, are_seen, fold, shown};
+use crate::tickets::Tickets;
 use fjall_base::{Disk, Error, Refused, Result, Slice};
-use fjall_core::PersistMode;
+use fjall_core::{PersistMode, View};
 use std::alloc::{AllocError, AllocFailed, Global};
 
 /// A call of the script.
@@ -17,6 +18,13 @@ pub enum Line {
     Insert(u64, &'static str, &'static str),
     Remove(u64, &'static str),
     RemoveWeak(u64, &'static str),
+    /// The items of a batch, and how it is persisted.
+    Commit(&'static [Item], Option<PersistMode>),
+    Snapshot,
+    /// Of the ticket of this id.
+    CloneSnapshot(u64),
+    CloseSnapshot(u64),
+    Gc,
     Persist(PersistMode),
     /// The database is closed, and opened again.
     Reopen,
@@ -28,20 +36,31 @@ const SCRIPT: &[Line] = &[
     Line::Insert(1, "k", "1"),
     Line::Insert(2, "k", "2"),
     Line::Persist(PersistMode::SyncData),
+    Line::Snapshot,
     Line::Insert(1, "l", "333333333333333333333333333333"),
-    Line::Remove(1, "k"),
+    Line::Commit(&[(2, "k", Some("7")), (1, "k", None)], None),
     Line::Retain(1),
+    Line::CloneSnapshot(0),
     Line::Delete(1),
     Line::Insert(2, "l", "44"),
     Line::Release(1),
+    Line::CloseSnapshot(0),
     Line::Create("b"),
-    Line::Insert(3, "k", "5"),
+    Line::Commit(
+        &[(3, "k", Some("0")), (2, "k", None), (3, "k", Some("5"))],
+        Some(PersistMode::Buffer),
+    ),
     Line::RemoveWeak(2, "l"),
+    Line::Gc,
     Line::Persist(PersistMode::Buffer),
     Line::Reopen,
     Line::Insert(3, "m", "66"),
-    Line::Insert(2, "k", ""),
     Line::Persist(PersistMode::SyncAll),
+    Line::Snapshot,
+    Line::Commit(
+        &[(2, "k", Some("")), (3, "m", None)],
+        Some(PersistMode::SyncAll),
+    ),
     Line::Insert(2, "n", "888"),
     Line::Delete(2),
     Line::Insert(3, "k", "9"),
@@ -57,7 +76,7 @@ const SCRIPT: &[Line] = &[
     Line::Insert(5, "l", "3"),
 ];
 
-/// The script: keyspaces that are made, written and deleted, some of them made anew.
+/// The script: keyspaces that are made, written and deleted, some of them made anew, and snapshots of them.
 pub fn script() -> &'static [Line] {
     SCRIPT
 }
@@ -118,6 +137,7 @@ pub struct History {
     // how many commands were accepted
     accepted: usize,
     is_poisoned: bool,
+    tickets: Tickets,
 }
 
 /// A database shows the keyspaces that these commands make.
@@ -126,7 +146,7 @@ fn check_shown<D: Disk>(
     core: &mut Database<D>,
     commands: &[Command],
 ) -> Checked<()> {
-    let homes = shown(alloc, core)?;
+    let homes = shown(alloc, core, View::Present)?;
     if homes == fold(alloc, commands)? {
         Ok(())
     } else {
@@ -157,40 +177,70 @@ impl Line {
     fn is_sync(&self, is_command: bool) -> bool {
         match self {
             Line::Create(_) | Line::Delete(_) => is_command,
+            Line::Commit(_, Some(mode)) => is_command && !matches!(mode, PersistMode::Buffer),
             Line::Persist(mode) => !matches!(mode, PersistMode::Buffer),
             _ => false,
         }
     }
 
-    /// Asks for it, where it is of a key.
-    fn ask_of_key<D: Disk>(&self, core: &mut Database<D>) -> Result<()> {
+    /// Asks for it, where it is of keys.
+    fn ask_of_keys<D: Disk>(&self, core: &mut Database<D>) -> Result<()> {
         match self {
             Line::Insert(id, key, value) => core.insert(*id, key.as_bytes(), value.as_bytes()),
             Line::Remove(id, key) => core.remove(*id, key.as_bytes()),
             Line::RemoveWeak(id, key) => core.remove_weak(*id, key.as_bytes()),
+            Line::Commit(items, mode) => core.commit_batch(items, *mode),
             _ => Ok(()),
         }
     }
 
-    /// Asks for it, where it creates nothing.
+    /// Asks for it, where it answers nothing.
     fn ask_to_change<D: Disk>(&self, core: &mut Database<D>) -> Result<()> {
         match self {
             Line::Delete(id) => core.delete_keyspace(*id),
             Line::Retain(id) => core.retain(*id),
             Line::Release(id) => core.release(*id),
+            Line::CloseSnapshot(id) => core.close_snapshot(*id),
             Line::Persist(mode) => core.persist(*mode),
-            _ => self.ask_of_key(core),
+            _ => self.ask_of_keys(core),
         }
     }
 
-    /// Asks for it; answers the id of what it creates.
+    /// Asks for it; answers the id of what it makes or opens, or the watermark.
     pub fn ask<D: Disk>(&self, core: &mut Database<D>) -> Result<Option<u64>> {
-        if let Line::Create(name) = self {
-            return Ok(Some(core.keyspace(name.as_bytes())?));
+        match self {
+            Line::Create(name) => Ok(Some(core.keyspace(name.as_bytes())?)),
+            Line::Snapshot => Ok(Some(core.snapshot()?)),
+            Line::CloneSnapshot(id) => Ok(Some(core.clone_snapshot(*id)?)),
+            Line::Gc => Ok(Some(core.gc())),
+            _ => {
+                self.ask_to_change(core)?;
+                Ok(None)
+            }
         }
-        self.ask_to_change(core)?;
-        Ok(None)
     }
+}
+
+/// What a batch's item changes.
+fn change(alloc: Global, (id, key, value): Item) -> Result<Change> {
+    let key = Slice::new(alloc, key.as_bytes())?;
+    let value = match value {
+        Some(value) => Some(Slice::new(alloc, value.as_bytes())?),
+        None => None,
+    };
+    Ok((id, key, value))
+}
+
+/// The command of these items, where there is one and the keyspace of each lives.
+fn write(alloc: Global, homes: &[Home], items: &[Item]) -> Result<Option<Command>> {
+    let mut changes = Vec::new(alloc);
+    for item in items {
+        if !lives(homes, item.0) {
+            return Ok(None);
+        }
+        changes.push(change(alloc, *item)?)?;
+    }
+    Ok((!changes.is_empty()).then_some(Command::Write(changes)))
 }
 
 /// Whether a keyspace of this id lives.
@@ -222,13 +272,18 @@ impl History {
             at_fault: None,
             accepted: 0,
             is_poisoned: false,
+            tickets: Tickets::new(alloc),
         }
+    }
+
+    /// The keyspaces that so many commands make.
+    fn homes_behind(&self, alloc: Global, count: usize) -> Result<Vec<Home>> {
+        fold(alloc, self.tried.commands.get(..count).unwrap_or(&[]))
     }
 
     /// The keyspaces that the accepted commands make.
     fn homes(&self, alloc: Global) -> Result<Vec<Home>> {
-        let accepted = self.tried.commands.get(..self.accepted).unwrap_or(&[]);
-        fold(alloc, accepted)
+        self.homes_behind(alloc, self.accepted)
     }
 
     /// Which command a line is, where its keyspace lives or is to be made.
@@ -241,21 +296,39 @@ impl History {
                 is_new.then_some(Command::Create(name))
             }
             Line::Delete(id) if lives(&homes, id) => Some(Command::Delete(id)),
-            Line::Insert(id, key, value) if lives(&homes, id) => {
-                let key = Slice::new(alloc, key.as_bytes())?;
-                Some(Command::Put(id, key, Slice::new(alloc, value.as_bytes())?))
+            Line::Insert(id, key, value) => write(alloc, &homes, &[(id, key, Some(value))])?,
+            Line::Remove(id, key) | Line::RemoveWeak(id, key) => {
+                write(alloc, &homes, &[(id, key, None)])?
             }
-            Line::Remove(id, key) | Line::RemoveWeak(id, key) if lives(&homes, id) => {
-                Some(Command::Take(id, Slice::new(alloc, key.as_bytes())?))
-            }
+            Line::Commit(items, _) => write(alloc, &homes, items)?,
             _ => None,
         })
     }
 
+    /// Takes note of what a line does to snapshots; answers whether this is what it must answer.
+    fn note(&mut self, line: Line, answer: Option<u64>) -> Result<bool> {
+        Ok(match line {
+            Line::Snapshot => answer == Some(self.tickets.open(self.accepted)?),
+            Line::CloneSnapshot(id) => { answer.is_some() && answer == self.tickets.open_like(id)? }
+            Line::CloseSnapshot(id) => self.tickets.close(id),
+            Line::Gc => answer == Some(self.tickets.gc(self.accepted)),
+            _ => true,
+        })
+    }
+
+    /// Whether a line is of a ticket that isn't open.
+    fn is_of_closed(&self, line: Line) -> bool {
+        match line {
+            Line::CloneSnapshot(id) | Line::CloseSnapshot(id) => self.tickets.shown(id).is_none(),
+            _ => false,
+        }
+    }
+
     /// A call was done.
-    fn accept(&mut self, line: Line, command: Option<Command>) -> Checked<()> {
+    fn accept(&mut self, line: Line, answer: Option<u64>, command: Option<Command>) -> Checked<()> {
         let is_command = command.is_some();
-        if is_command && self.is_poisoned {
+        let is_due = self.note(line, answer)?;
+        if !is_due || is_command && self.is_poisoned {
             return Err(Wrong::Line(line));
         }
         self.tried.commands.extend(command)?;
@@ -286,6 +359,7 @@ impl History {
     fn refuse(&mut self, line: Line, error: Error, command: Option<Command>) -> Checked<()> {
         let is_due = match error {
             Error::Poisoned => self.is_poisoned,
+            Error::SnapshotClosed => self.is_of_closed(line),
             Error::UnknownKeyspace | Error::KeyspaceDeleted => {
                 command.is_none() && self.at_fault.is_some()
             }
@@ -298,16 +372,56 @@ impl History {
         }
     }
 
-    /// A database shows the keyspaces that the accepted commands make.
+    /// A database that has these keyspaces shows by a ticket what was accepted before it was opened, or refuses to, where
+    /// it isn't open.
+    fn is_view<D: Disk>(
+        &self,
+        alloc: Global,
+        core: &mut Database<D>,
+        homes: &[Home],
+        id: u64,
+    ) -> Result<bool> {
+        match self.tickets.shown(id) {
+            Some(count) => {
+                let then = self.homes_behind(alloc, count)?;
+                Ok(are_seen(&shown(alloc, core, view_of(id))?, homes, &then))
+            }
+            None => {
+                let refused = core.get_at(view_of(id), 1, b"k").err();
+                Ok(refused == Some(Error::SnapshotClosed))
+            }
+        }
+    }
+
+    /// It shows by each ticket what it must, and nothing by the next one.
+    fn are_views<D: Disk>(
+        &self,
+        alloc: Global,
+        core: &mut Database<D>,
+        homes: &[Home],
+    ) -> Result<bool> {
+        for id in 0..=self.tickets.next_id() {
+            if !self.is_view(alloc, core, homes, id)? {
+                return Ok(false);
+            }
+        }
+        Ok(true)
+    }
+
+    /// A database shows the keyspaces that the accepted commands make, and by each ticket what it must.
     fn is_shown<D: Disk>(&self, alloc: Global, core: &mut Database<D>) -> Result<bool> {
-        Ok(shown(alloc, core)? == self.homes(alloc)?)
+        let homes = self.homes(alloc)?;
+        if shown(alloc, core, View::Present)? != homes {
+            return Ok(false);
+        }
+        self.are_views(alloc, core, &homes)
     }
 
     /// Asks for what a line says.
     fn serve<D: Disk>(&mut self, alloc: Global, core: &mut Database<D>, line: Line) -> Checked<()> {
         let command = self.command(alloc, line)?;
         match line.ask(core) {
-            Ok(_) => self.accept(line, command)?,
+            Ok(answer) => self.accept(line, answer, command)?,
             Err(error) => self.refuse(line, error, command)?,
         }
         if self.is_shown(alloc, core)? {
@@ -336,6 +450,7 @@ impl History {
         self.tried.safe = count;
         self.accepted = count;
         self.is_poisoned = false;
+        self.tickets = Tickets::new(alloc);
         Ok(core)
     }
 

@@ -166,28 +166,28 @@ fn check_lines(alloc: Global, from: usize, end: usize) -> Checked<usize> {
 
 #[test]
 fn each_moment_of_the_first_lines_is_crashed(rt: HostRuntime) -> Result<(), Fail> {
-    let count = check_lines(rt.alloc(), 0, 9)?;
+    let count = check_lines(rt.alloc(), 0, 10)?;
     assert!(rt; count > 700, "{count} crashes");
     Ok(())
 }
 
 #[test]
 fn each_moment_up_to_the_first_closing_is_crashed(rt: HostRuntime) -> Result<(), Fail> {
-    let count = check_lines(rt.alloc(), 9, 16)?;
+    let count = check_lines(rt.alloc(), 10, 20)?;
     assert!(rt; count > 550, "{count} crashes");
     Ok(())
 }
 
 #[test]
 fn each_moment_up_to_the_second_closing_is_crashed(rt: HostRuntime) -> Result<(), Fail> {
-    let count = check_lines(rt.alloc(), 16, 24)?;
+    let count = check_lines(rt.alloc(), 20, 29)?;
     assert!(rt; count > 350, "{count} crashes");
     Ok(())
 }
 
 #[test]
 fn each_moment_of_the_last_lines_is_crashed(rt: HostRuntime) -> Result<(), Fail> {
-    let count = check_lines(rt.alloc(), 24, 33)?;
+    let count = check_lines(rt.alloc(), 29, 38)?;
     assert!(rt; count > 1000, "{count} crashes");
     Ok(())
 }
@@ -302,10 +302,10 @@ fn each_call_up_to_the_last_fails(rt: HostRuntime) -> Result<(), Fail> {
 }
 
 #[test]
-fn the_script_makes_24_commands_by_214_calls(rt: HostRuntime) -> Result<(), Fail> {
+fn the_script_makes_24_commands_by_215_calls(rt: HostRuntime) -> Result<(), Fail> {
     let (tried, log) = recorded(rt.alloc(), script())?;
     let counts = (tried.commands.len(), log.steps.len());
-    assert_eq!(rt; counts, (24, 214));
+    assert_eq!(rt; counts, (24, 215));
     Ok(())
 }
 

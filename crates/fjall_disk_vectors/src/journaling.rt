@@ -1,9 +1,9 @@
 //! The bytes of a journal that batches were written to.
 
 use crate::calls::holds;
-use fjall_base::Result;
+use fjall_base::{Result, Slice};
 use fjall_commit::{append_batch, sync_journal};
-use fjall_journal::{PersistMode, ValueType, Writer};
+use fjall_journal::{BatchItem, Op, PersistMode, ValueType, Writer, check_items};
 use fjall_memory::MemoryDisk;
 use std::alloc::Global;
 use std::mem;
@@ -23,6 +23,18 @@ const REMOVAL: &[u8] = &[
     0, 0, 107, 3, 4, 183, 118, 101, 197, 120, 60, 246, 70, 74, 76, 3,
 ];
 
+// Both of these under number 7, likewise.
+const BOTH: &[u8] = &[
+    1, 2, 0, 0, 0, 7, 0, 0, 0, 0, 0, 0, 0, 2, 0, 0, 3, 0, 0, 0, 0, 0, 0, 0, 1, 0, 2, 0, 0, 0, 2, 0,
+    0, 0, 107, 118, 49, 2, 1, 0, 3, 0, 0, 0, 0, 0, 0, 0, 1, 0, 0, 0, 0, 0, 0, 0, 0, 0, 107, 3, 55,
+    87, 170, 86, 92, 151, 128, 104, 70, 74, 76, 3,
+];
+
+/// What becomes of k in keyspace 3: it gets a value, or none.
+type Item = Option<&'static [u8]>;
+
+const PUT: Item = Some(b"v1");
+
 /// What is done to a journal.
 #[derive(Clone, Copy)]
 enum Step {
@@ -30,10 +42,8 @@ enum Step {
     New,
     /// Adds the insert, which waits.
     Wait,
-    /// Writes the insert, by hand or not.
-    Insert(bool),
-    /// Writes the removal.
-    Remove,
+    /// Writes these items as a batch of this number, persisted in this mode or in none.
+    Write(u64, &'static [Item], Option<PersistMode>),
     Persist(PersistMode),
     /// A crash leaves what is synced.
     Crash,
@@ -54,21 +64,52 @@ fn crash(alloc: Global, disk: &mut MemoryDisk) -> Result<()> {
     Ok(())
 }
 
+// What becomes of k.
+fn op_of(alloc: Global, item: Item) -> Result<Op> {
+    Ok(match item {
+        Some(value) => Op::Put(Slice::new(alloc, value)?),
+        None => Op::Remove,
+    })
+}
+
+// The items of a batch.
+fn items_of(alloc: Global, items: &[Item]) -> Result<Vec<BatchItem>> {
+    let mut batch = Vec::new(alloc);
+    for item in items {
+        let key = Slice::new(alloc, b"k")?;
+        batch.push((3, key, op_of(alloc, *item)?))?;
+    }
+    Ok(batch)
+}
+
+// Writes a batch of this number, where it has items, and ones that a batch may have.
+fn write(
+    disk: &mut MemoryDisk,
+    journal: &mut Writer,
+    number: u64,
+    items: &[BatchItem],
+    mode: Option<PersistMode>,
+) -> Result<()> {
+    check_items(items)?;
+    if items.is_empty() {
+        return Ok(());
+    }
+    append_batch(journal, disk, mode, items, number)
+}
+
+// Adds the insert, which waits.
+fn wait(disk: &mut MemoryDisk, journal: &mut Writer) -> Result<()> {
+    journal.write_raw(disk, 3, b"k", b"v1", ValueType::Value, 5)?;
+    Ok(())
+}
+
 // Takes a step.
 fn take(alloc: Global, disk: &mut MemoryDisk, journal: &mut Writer, step: Step) -> Result<()> {
     match step {
         New => begin(alloc, disk, journal),
-        Wait => {
-            journal.write_raw(disk, 3, b"k", b"v1", ValueType::Value, 5)?;
-            Ok(())
-        }
-        Insert(by_hand) => {
-            append_batch(journal, disk, by_hand, 3, b"k", b"v1", ValueType::Value, 5)?;
-            Ok(())
-        }
-        Remove => {
-            append_batch(journal, disk, false, 3, b"k", b"", ValueType::Tombstone, 6)?;
-            Ok(())
+        Wait => wait(disk, journal),
+        Write(number, items, mode) => {
+            write(disk, journal, number, &items_of(alloc, items)?, mode)
         }
         Persist(mode) => sync_journal(journal, disk, mode),
         Crash => crash(alloc, disk),
@@ -84,17 +125,32 @@ fn joined(alloc: Global, parts: &[&[u8]]) -> Result<Vec<u8>> {
     Ok(text)
 }
 
+const BUFFER: Option<PersistMode> = Some(PersistMode::Buffer);
+
+const SYNC_DATA: Option<PersistMode> = Some(PersistMode::SyncData);
+
+const SYNC_ALL: Option<PersistMode> = Some(PersistMode::SyncAll);
+
 // A step, the journal's length and its place then, and the parts of its file.
 const ROWS: &[(Step, u64, u64, &[&[u8]])] = &[
     // A batch follows what waits.
     (New, 0, 0, &[]),
     (Wait, 0, 50, &[]),
-    (Remove, 98, 98, &[INSERT, REMOVAL]),
-    // A batch by hand waits.
+    (Write(6, &[None], BUFFER), 98, 98, &[INSERT, REMOVAL]),
+    // A batch without a mode waits.
     (New, 0, 0, &[]),
-    (Insert(true), 0, 50, &[]),
-    (Insert(true), 0, 100, &[]),
-    (Insert(false), 150, 150, &[INSERT, INSERT, INSERT]),
+    (Write(5, &[PUT], None), 0, 50, &[]),
+    (Write(7, &[PUT, None], None), 0, 122, &[]),
+    (Write(5, &[PUT], BUFFER), 172, 172, &[INSERT, BOTH, INSERT]),
+    (Crash, 172, 172, &[]),
+    // One in a mode that syncs is kept, with all before it.
+    (New, 0, 0, &[]),
+    (Write(5, &[PUT], None), 0, 50, &[]),
+    (Write(7, &[PUT, None], SYNC_DATA), 122, 122, &[INSERT, BOTH]),
+    (Crash, 122, 122, &[INSERT, BOTH]),
+    (New, 0, 0, &[]),
+    (Write(7, &[PUT, None], SYNC_ALL), 72, 72, &[BOTH]),
+    (Crash, 72, 72, &[BOTH]),
     // A sync keeps all.
     (New, 0, 0, &[]),
     (Wait, 0, 50, &[]),

@@ -1,17 +1,20 @@
 -- The calls before the first crash or reopening.
-use Rattle.std.proofs.Common.{◌≡◌, ℕ, zero, suc, ◌≤◌, Bool, true, false, List, [], ◌∷◌, ◌++◌, length, take, drop, Option, unwrap_or, refl, sym, ◌∙◌, arith, inl, inr, ◌⊎◌}
+use Rattle.std.proofs.Common.{◌≡◌, ℕ, zero, suc, ◌+◌, ◌≤◌, Bool, true, false, List, [], ◌∷◌, ◌++◌, length, take, drop, Option, unwrap_or, refl, sym, ap, ◌∙◌, arith, inl, inr, ◌⊎◌}
 use Rattle.std.specs.Prelude.{All}
 use Rattle.std.specs.List.{position, position_or_len}
 use Rattle.std.proofs.lemmas.Bool.{cases_lt}
 use Rattle.std.proofs.lemmas.List.{take-append-drop}
 use Rattle.std.proofs.lemmas.List.Elements.{All-nil, All-cons}
+use Rattle.fjall_history.specs.declared.reply.Reply.{Reply}
 use Rattle.fjall_state.specs.declared.call.Call.{Call}
-use Rattle.fjall_state.specs.declared.call.Reply.{Reply}
-use Rattle.fjall_script.specs.declared.command.Command.{Command}
+use Rattle.fjall_state.specs.Places.{resolved_all}
+use Rattle.fjall_lines.specs.declared.command.Command.{Command}
 use Rattle.fjall_script.specs.Answers.{text_of}
 use Rattle.fjall_core.specs.Holding.{Held}
 use Rattle.fjall_script.specs.Machine.{RunsCalls}
-use Rattle.fjall_script.specs.Sessions.{answers_to, calls_of, is_stop, IsAtStop, RunsFront}
+use Rattle.fjall_script.specs.Requests.{AreCalls, is_stop, snapshots_in}
+use Rattle.fjall_script.specs.Sessions.{AnsweredFront, answers_to, IsAtStop}
+use Rattle.fjall_script.proofs.Counts.{counted}
 
 either : (v : Bool) → (v ≡ true) ⊎ (v ≡ false)
 either true = inl refl
@@ -57,18 +60,28 @@ end_is commands stop h =
       | inr past ↦ let last : length commands ≡ position_or_len is_stop commands = omega arith in grind (arith, h, last)
     ]
 
-pub runs_front : (honest : Bool) (commands front rest : List (Option Command)) (stop : Option ℕ) (end : ℕ) (core after : Held) (calls : List Call) (replies shown : List Reply) (old new : List ℕ)
+pub answered_front : (honest : Bool) (earlier : ℕ) (commands front rest : List (Option Command)) (stop : Option ℕ) (end : ℕ) (core after : Held) (calls : List Call) (replies shown : List Reply) (text : List ℕ) (asked : ℕ)
     → stop ≡ position is_stop commands → end ≡ unwrap_or stop (length commands) → front ≡ take end commands → rest ≡ drop end commands
-    → calls ≡ calls_of front → RunsCalls honest core calls replies after → shown ≡ replies → new ≡ old ++ text_of (answers_to front shown)
-    → RunsFront honest commands rest core after old new
-runs_front honest commands front rest stop end core after calls replies shown old new found at before behind made runs same text =
+    → AreCalls earlier front calls → RunsCalls honest core (resolved_all calls replies) replies after → shown ≡ replies → text ≡ text_of (answers_to earlier front shown) → asked ≡ earlier + snapshots_in front
+    → AnsweredFront honest earlier commands rest core after text asked
+answered_front honest earlier commands front rest stop end core after calls replies shown text asked found at before behind are runs same said count =
     let end' = at ∙ end_is commands stop found in
-    let parts = front_at commands end end' in record {
-      lines = front;
-      replies = replies;
-      split = rw (before, behind) (sym (take-append-drop end commands));
-      calls_alone = rw before parts.0;
-      stop = rw behind parts.1;
-      runs = rw made at runs;
-      text = rw same at text;
+    let parts = front_at commands end end' in
+    let split : commands ≡ front ++ rest = rw (before, behind) (sym (take-append-drop end commands)) in
+    let all : snapshots_in commands ≡ snapshots_in front + snapshots_in rest = ap snapshots_in split ∙ counted front rest in
+    record {
+      printed = answers_to earlier front replies;
+      ran = record {
+        lines = front;
+        calls = calls;
+        replies = replies;
+        split = split;
+        calls_alone = rw before parts.0;
+        stop = rw behind parts.1;
+        asked = are;
+        runs = runs;
+        printed_are = refl;
+      };
+      text_is = said ∙ ap (λ (r : List Reply). text_of (answers_to earlier front r)) same;
+      asked_is = omega (arith, count, all);
     }

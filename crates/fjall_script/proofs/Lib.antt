@@ -1,6 +1,5 @@
-mod Bytes
-mod Spellings
-mod Cuts
+mod Counts
+mod Calling
 mod Fronts
 mod Passing
 mod Restarting

@@ -1,11 +1,11 @@
 -- A session over a disk that returns what it holds comes to lives of engines one after another.
-use Rattle.std.proofs.Common.{◌≡◌, inl, inr, ℕ, suc, ◌+◌, Bool, true, false, IsTrue, List, [], ◌∷◌, ◌++◌, length, length-append, codes, Option, Some, None, Result, Ok, Err, refl, sym, ◌∙◌, ap, subst, append_assoc, arith, map}
+use Rattle.std.proofs.Common.{◌≡◌, ℕ, suc, ◌+◌, Bool, true, false, IsTrue, List, [], ◌∷◌, ◌++◌, length, length-append, Option, Some, None, Result, Ok, Err, refl, sym, ◌∙◌, ap, subst, append_assoc, arith, map}
 use Rattle.std.proofs.lemmas.Bool.{true≢false}
 use Rattle.std.proofs.lemmas.List.{append-nil, map-append}
-use Rattle.std.proofs.lemmas.List.Elements.{All-head, All-nil, All-tail, All-append, filter_map-append}
+use Rattle.std.proofs.lemmas.List.Elements.{All-nil, filter_map-append}
 use Rattle.std.proofs.lemmas.List.Splits.{slice_split_at, slice_split_none}
 use Rattle.std.proofs.lemmas.Grind.{flat_map-append}
-use Rattle.std.specs.List.{flat_map, slice_split}
+use Rattle.std.specs.List.{AllZip, flat_map, slice_split}
 use Rattle.std.specs.Prelude.{All}
 use Rattle.fjall_base.specs.Store.{Store, fold, kept}
 use Rattle.fjall_base.specs.Store as store
@@ -15,9 +15,10 @@ use Rattle.fjall_base.specs.declared.error.Error.{Error}
 use Rattle.fjall_meta.specs.Keyspaces.{no_keyspaces}
 use Rattle.fjall_versions.specs.Replays.{bare}
 use Rattle.fjall_recovery.specs.Amid.{HoldsAmid}
+use Rattle.fjall_history.specs.declared.reply.Reply.{Reply}
 use Rattle.fjall_state.specs.declared.call.Call.{Call}
-use Rattle.fjall_state.specs.declared.call.Reply.{Reply}
 use Rattle.fjall_state.specs.Machine.{present}
+use Rattle.fjall_state.specs.Places.{id_opened, resolved_all, resolved_behind}
 use Rattle.fjall_core.specs.Holding.{Held}
 use Rattle.fjall_core.specs.Lives.{Closed, CutBehind, Ended, Life, Lives, NoLife, OneMore, Opened, Served, Unclosed, begun, start_of}
 use Rattle.fjall_core.specs.Openings.{OpensAmid}
@@ -27,13 +28,16 @@ use Rattle.fjall_core.proofs.CrashedDisks.{new_disk_tidy}
 use Rattle.fjall_core.proofs.Lives.{lives_blame, lives_hold, lives_open}
 use Rattle.fjall_core.proofs.Reopening.{holds_store_amid}
 use Rattle.fjall_core.proofs.RunsOverCrashes.{no_run, runs_behind}
-use Rattle.fjall_script.specs.declared.command.Command.{Command}
-use Rattle.fjall_script.specs.declared.command.Command.TheVariants.{Crash, Delete, Get, Insert, Keyspace, Len, Persist, Remove, RemoveWeak, Reopen, Scan}
-use Rattle.fjall_script.specs.Answers.{bad_line, reply_text}
-use Rattle.fjall_script.specs.Lived.{HasLived, HasLivedIfAny, answers_through}
+use Rattle.fjall_lines.specs.declared.command.Command.{Command}
+use Rattle.fjall_lines.specs.declared.command.Command.TheVariants.{Ask, Crash, Reopen}
+use Rattle.fjall_lines.specs.declared.command.Request.{Request}
+use Rattle.fjall_script.specs.Answers.{bad_line, ok_line, reply_text}
+use Rattle.fjall_script.specs.Lived.{AreServed, HasLived, IsServed, served_in}
 use Rattle.fjall_script.specs.Machine.{Begins, Closes, Crashes, OpenedOn, RunsCalls, new_disk}
+use Rattle.fjall_script.specs.Requests.{AreCalls, asked_with, asks_snapshot, is_stop, request_of, requests_of, snapshots_before, snapshots_in}
 use Rattle.fjall_script.specs.Sessions as sessions
-use Rattle.fjall_script.specs.Sessions.{Ends, Fails, Restarts, Session, answers_to, calls_of, is_stop, not_begun, no_memory, not_closed, not_restarted}
+use Rattle.fjall_script.specs.Sessions.{Restarts, Session, answers_to}
+use Rattle.fjall_script.proofs.Counts.{asked_before, counted, none_asked, one_asked, stops_ask_none}
 use Rattle.fjall_script.proofs.Restarting.{bare_holds}
 
 abbrev IsCall : Option Command → Type 0
@@ -41,122 +45,149 @@ IsCall found = is_stop found ≡ false
 
 -- ---- what is printed
 
-through-append : (front more : List (Option Command)) (replies others : List Reply) → length (calls_of front) ≡ length replies → answers_through (front ++ more) (replies ++ others) ≡ answers_through front replies ++ answers_through more others
-through-append [] more [] others all = refl
-through-append [] more (reply ∷ replies) others all = absurd (omega (arith, all))
-through-append (None ∷ front) more replies others all = ap (λ (l : List (List ℕ)). bad_line ∷ l) (through-append front more replies others all)
-through-append (Some (Crash keep) ∷ front) more replies others all = ap (λ (l : List (List ℕ)). codes "ok" ∷ l) (through-append front more replies others all)
-through-append (Some Reopen ∷ front) more replies others all = ap (λ (l : List (List ℕ)). codes "ok" ∷ l) (through-append front more replies others all)
-through-append (Some (Keyspace name) ∷ front) more [] others all = absurd (omega (arith, all))
-through-append (Some (Keyspace name) ∷ front) more (reply ∷ replies) others all = ap (λ (l : List (List ℕ)). reply_text (Keyspace name) reply ∷ l) (through-append front more replies others (omega (arith, all)))
-through-append (Some (Delete id) ∷ front) more [] others all = absurd (omega (arith, all))
-through-append (Some (Delete id) ∷ front) more (reply ∷ replies) others all = ap (λ (l : List (List ℕ)). reply_text (Delete id) reply ∷ l) (through-append front more replies others (omega (arith, all)))
-through-append (Some (Insert id key value) ∷ front) more [] others all = absurd (omega (arith, all))
-through-append (Some (Insert id key value) ∷ front) more (reply ∷ replies) others all = ap (λ (l : List (List ℕ)). reply_text (Insert id key value) reply ∷ l) (through-append front more replies others (omega (arith, all)))
-through-append (Some (Remove id key) ∷ front) more [] others all = absurd (omega (arith, all))
-through-append (Some (Remove id key) ∷ front) more (reply ∷ replies) others all = ap (λ (l : List (List ℕ)). reply_text (Remove id key) reply ∷ l) (through-append front more replies others (omega (arith, all)))
-through-append (Some (RemoveWeak id key) ∷ front) more [] others all = absurd (omega (arith, all))
-through-append (Some (RemoveWeak id key) ∷ front) more (reply ∷ replies) others all = ap (λ (l : List (List ℕ)). reply_text (RemoveWeak id key) reply ∷ l) (through-append front more replies others (omega (arith, all)))
-through-append (Some (Get id key) ∷ front) more [] others all = absurd (omega (arith, all))
-through-append (Some (Get id key) ∷ front) more (reply ∷ replies) others all = ap (λ (l : List (List ℕ)). reply_text (Get id key) reply ∷ l) (through-append front more replies others (omega (arith, all)))
-through-append (Some (Len id) ∷ front) more [] others all = absurd (omega (arith, all))
-through-append (Some (Len id) ∷ front) more (reply ∷ replies) others all = ap (λ (l : List (List ℕ)). reply_text (Len id) reply ∷ l) (through-append front more replies others (omega (arith, all)))
-through-append (Some (Scan id) ∷ front) more [] others all = absurd (omega (arith, all))
-through-append (Some (Scan id) ∷ front) more (reply ∷ replies) others all = ap (λ (l : List (List ℕ)). reply_text (Scan id) reply ∷ l) (through-append front more replies others (omega (arith, all)))
-through-append (Some Persist ∷ front) more [] others all = absurd (omega (arith, all))
-through-append (Some Persist ∷ front) more (reply ∷ replies) others all = ap (λ (l : List (List ℕ)). reply_text Persist reply ∷ l) (through-append front more replies others (omega (arith, all)))
-
--- between two stops it is what the calls are answered
-through_calls : (lines : List (Option Command)) (replies : List Reply) → All IsCall lines → answers_to lines replies ≡ answers_through lines replies
-through_calls [] replies alone = refl
-through_calls (None ∷ lines) replies alone = ap (λ (l : List (List ℕ)). bad_line ∷ l) (through_calls lines replies (All-tail IsCall None lines alone))
-through_calls (Some (Crash keep) ∷ lines) replies alone = absurd (true≢false (All-head IsCall (Some (Crash keep)) lines alone))
-through_calls (Some Reopen ∷ lines) replies alone = absurd (true≢false (All-head IsCall (Some Reopen) lines alone))
-through_calls (Some (Keyspace name) ∷ lines) [] alone = refl
-through_calls (Some (Keyspace name) ∷ lines) (reply ∷ replies) alone = ap (λ (l : List (List ℕ)). reply_text (Keyspace name) reply ∷ l) (through_calls lines replies (All-tail IsCall (Some (Keyspace name)) lines alone))
-through_calls (Some (Delete id) ∷ lines) [] alone = refl
-through_calls (Some (Delete id) ∷ lines) (reply ∷ replies) alone = ap (λ (l : List (List ℕ)). reply_text (Delete id) reply ∷ l) (through_calls lines replies (All-tail IsCall (Some (Delete id)) lines alone))
-through_calls (Some (Insert id key value) ∷ lines) [] alone = refl
-through_calls (Some (Insert id key value) ∷ lines) (reply ∷ replies) alone = ap (λ (l : List (List ℕ)). reply_text (Insert id key value) reply ∷ l) (through_calls lines replies (All-tail IsCall (Some (Insert id key value)) lines alone))
-through_calls (Some (Remove id key) ∷ lines) [] alone = refl
-through_calls (Some (Remove id key) ∷ lines) (reply ∷ replies) alone = ap (λ (l : List (List ℕ)). reply_text (Remove id key) reply ∷ l) (through_calls lines replies (All-tail IsCall (Some (Remove id key)) lines alone))
-through_calls (Some (RemoveWeak id key) ∷ lines) [] alone = refl
-through_calls (Some (RemoveWeak id key) ∷ lines) (reply ∷ replies) alone = ap (λ (l : List (List ℕ)). reply_text (RemoveWeak id key) reply ∷ l) (through_calls lines replies (All-tail IsCall (Some (RemoveWeak id key)) lines alone))
-through_calls (Some (Get id key) ∷ lines) [] alone = refl
-through_calls (Some (Get id key) ∷ lines) (reply ∷ replies) alone = ap (λ (l : List (List ℕ)). reply_text (Get id key) reply ∷ l) (through_calls lines replies (All-tail IsCall (Some (Get id key)) lines alone))
-through_calls (Some (Len id) ∷ lines) [] alone = refl
-through_calls (Some (Len id) ∷ lines) (reply ∷ replies) alone = ap (λ (l : List (List ℕ)). reply_text (Len id) reply ∷ l) (through_calls lines replies (All-tail IsCall (Some (Len id)) lines alone))
-through_calls (Some (Scan id) ∷ lines) [] alone = refl
-through_calls (Some (Scan id) ∷ lines) (reply ∷ replies) alone = ap (λ (l : List (List ℕ)). reply_text (Scan id) reply ∷ l) (through_calls lines replies (All-tail IsCall (Some (Scan id)) lines alone))
-through_calls (Some Persist ∷ lines) [] alone = refl
-through_calls (Some Persist ∷ lines) (reply ∷ replies) alone = ap (λ (l : List (List ℕ)). reply_text Persist reply ∷ l) (through_calls lines replies (All-tail IsCall (Some Persist) lines alone))
+through-append : (earlier : ℕ) (front more : List (Option Command)) (replies others : List Reply) → length (requests_of front) ≡ length replies
+    → answers_to earlier (front ++ more) (replies ++ others) ≡ answers_to earlier front replies ++ answers_to (earlier + snapshots_in front) more others
+through-append k [] more [] others all = ap (λ (n : ℕ). answers_to n more others) (omega arith)
+through-append k [] more (reply ∷ replies) others all = absurd (omega (arith, all))
+through-append k (None ∷ front) more replies others all =
+    ap (λ (l : List (List ℕ)). bad_line ∷ l) (through-append k front more replies others all ∙ ap (λ (n : ℕ). answers_to k front replies ++ answers_to (k + n) more others) (sym (none_asked None front refl)))
+through-append k (Some (Crash keep) ∷ front) more replies others all =
+    ap (λ (l : List (List ℕ)). ok_line ∷ l) (through-append k front more replies others all ∙ ap (λ (n : ℕ). answers_to k front replies ++ answers_to (k + n) more others) (sym (none_asked (Some (Crash keep)) front refl)))
+through-append k (Some Reopen ∷ front) more replies others all =
+    ap (λ (l : List (List ℕ)). ok_line ∷ l) (through-append k front more replies others all ∙ ap (λ (n : ℕ). answers_to k front replies ++ answers_to (k + n) more others) (sym (none_asked (Some Reopen) front refl)))
+through-append k (Some (Ask request) ∷ front) more [] others all = absurd (omega (arith, all))
+through-append k (Some (Ask request) ∷ front) more (reply ∷ replies) others all =
+    ap (λ (l : List (List ℕ)). reply_text (k + 1) request reply ∷ l)
+    (through-append (asked_with k request) front more replies others (omega (arith, all)) ∙ ap (λ (n : ℕ). answers_to (asked_with k request) front replies ++ answers_to n more others) (one_asked k request front))
 
 -- each call has a reply
-replied : (old new : Held) (calls : List Call) (replies : List Reply) → OwesAll old calls replies new → length calls ≡ length replies
-replied old new [] [] owes = refl
-replied old new [] (reply ∷ replies) owes = absurd owes
-replied old new (call ∷ calls) [] owes = absurd owes
-replied old new (call ∷ calls) (reply ∷ replies) owes = ap suc (replied owes.0 new calls replies owes.2)
+replied : (ids : List (Option ℕ)) (old new : Held) (calls : List Call) (replies : List Reply) → OwesAll old (resolved_behind ids calls replies) replies new → length calls ≡ length replies
+replied ids old new [] [] owes = refl
+replied ids old new [] (reply ∷ replies) owes = absurd owes
+replied ids old new (call ∷ calls) [] owes = absurd owes
+replied ids old new (call ∷ calls) (reply ∷ replies) owes = ap suc (replied (ids ++ id_opened reply ∷ []) owes.0 new calls replies owes.2)
+
+as_many : {X Y : Type 0} (P : X → Y → Type 0) (xs : List X) (ys : List Y) → AllZip P xs ys → length xs ≡ length ys
+as_many P [] [] h = refl
+as_many P [] (y ∷ ys) h = absurd h
+as_many P (x ∷ xs) [] h = absurd h
+as_many P (x ∷ xs) (y ∷ ys) h = ap suc (as_many P xs ys h.1)
 
 -- ---- lives so far
 
+-- how many snapshots lists of lines ask for
+abbrev total : List (List (Option Command)) → ℕ
+total [] = 0
+total (lines ∷ lists) = snapshots_in lines + total lists
+
+total-append : (a b : List (List (Option Command))) → total (a ++ b) ≡ total a + total b
+total-append [] b = omega arith
+total-append (lines ∷ a) b = let more = total-append a b in omega (arith, more)
+
+served-append : (earlier : ℕ) (a b : List (List (Option Command))) (x y : List (List Call × List Reply)) → AreServed earlier a x → AreServed (earlier + total a) b y → AreServed earlier (a ++ b) (x ++ y)
+served-append k [] b [] y h g = let same : k + 0 ≡ k = omega arith in subst (λ (n : ℕ). AreServed n b y) same g
+served-append k [] b (life ∷ x) y h g = absurd h
+served-append k (lines ∷ a) b [] y h g = absurd h
+served-append k (lines ∷ a) b (life ∷ x) y h g =
+    let same : k + (snapshots_in lines + total a) ≡ (k + snapshots_in lines) + total a = omega arith in
+    (h.0, served-append (k + snapshots_in lines) a b x y h.1 (subst (λ (n : ℕ). AreServed n b y) same g))
+
 -- The lines up to here: those that each life ended behind, and those behind the last crash or reopening. However the lines go
 -- on, a crash or reopening ends the running part.
-record Parts (front : List (Option Command)) (lives : List Life) (calls : List Call) : Type 0 where
+record Parts (front : List (Option Command)) (lives : List Life) (calls : List Call) (replies : List Reply) : Type 0 where
   pub ended : List (List (Option Command))
   pub running : List (Option Command)
   pub alone : All IsCall running
   pub split : (more : List (Option Command)) → slice_split is_stop (front ++ more) ≡ ended ++ slice_split is_stop (running ++ more)
-  pub ended_are : map calls_of ended ≡ map (λ (life : Life). life.calls) lives
-  pub running_are : calls_of running ≡ calls
+  pub counted : snapshots_in front ≡ total ended + snapshots_in running
+  pub ended_are : AreServed 0 ended (map served_in lives)
+  pub running_are : IsServed (total ended) running calls replies
 
-no_parts : Parts [] [] []
-no_parts = record {
-  ended = [];
-  running = [];
-  alone = All-nil IsCall;
-  split = λ more. refl;
-  ended_are = refl;
-  running_are = refl;
-}
+-- no call was served
+none_served : (earlier : ℕ) → IsServed earlier [] [] []
+none_served earlier = record { made = []; are = tt; is = refl }
 
--- more calls are of the running part
-parts_run : (front lines : List (Option Command)) (lives : List Life) (calls : List Call) → Parts front lives calls → All IsCall lines → Parts (front ++ lines) lives (calls ++ calls_of lines)
-parts_run front lines lives calls p alone = record {
-  ended = p.ended;
-  running = p.running ++ lines;
-  alone = All-append IsCall p.running lines p.alone alone;
-  split = λ more. ap (slice_split is_stop) (append_assoc front lines more) ∙ p.split (lines ++ more)
-      ∙ ap (λ (l : List (Option Command)). p.ended ++ slice_split is_stop l) (sym (append_assoc p.running lines more));
-  ended_are = p.ended_are;
-  running_are = filter_map-append sessions.call_of p.running lines ∙ ap (λ (l : List Call). l ++ calls_of lines) p.running_are;
-}
+-- parts of which the running one has no line
+abbrev FreshParts : List (Option Command) → List Life → Type 0
+FreshParts front lives = (p : Parts front lives [] []) × (p.running ≡ [])
+
+no_parts : FreshParts [] []
+no_parts = (
+  record {
+    ended = [];
+    running = [];
+    alone = All-nil IsCall;
+    split = λ more. refl;
+    counted = refl;
+    ended_are = tt;
+    running_are = none_served 0;
+  },
+  refl,
+)
+
+-- the running part behind those that ended
+with_running : (lists : List (List (Option Command))) (lines : List (Option Command)) (lives : List Life) (calls : List Call) (replies : List Reply) → AreServed 0 lists (map served_in lives) → IsServed (total lists) lines calls replies
+    → AreServed 0 (lists ++ lines ∷ []) (map served_in lives ++ (calls, replies) ∷ [])
+with_running lists lines lives calls replies ended running =
+    let same : total lists ≡ 0 + total lists = omega arith in
+    served-append 0 lists (lines ∷ []) (map served_in lives) ((calls, replies) ∷ []) ended (subst (λ (n : ℕ). IsServed n lines calls replies) same running, tt)
+
+-- the calls of the running part
+parts_run : (front lines : List (Option Command)) (lives : List Life) (old_calls : List Call) (old_replies : List Reply) (made : List Call) (replies : List Reply) (p : Parts front lives old_calls old_replies) → p.running ≡ [] → All IsCall lines
+    → AreCalls (snapshots_in front) lines made → Parts (front ++ lines) lives (resolved_all made replies) replies
+parts_run front lines lives old_calls old_replies made replies p fresh alone are =
+    let so_far : snapshots_in front ≡ total p.ended = p.counted ∙ ap (λ (l : List (Option Command)). total p.ended + snapshots_in l) fresh ∙ omega arith in
+    record {
+      ended = p.ended;
+      running = lines;
+      alone = alone;
+      split = λ more. ap (slice_split is_stop) (append_assoc front lines more) ∙ p.split (lines ++ more)
+          ∙ ap (λ (l : List (Option Command)). p.ended ++ slice_split is_stop (l ++ (lines ++ more))) fresh;
+      counted = counted front lines ∙ ap (λ n. n + snapshots_in lines) so_far;
+      ended_are = p.ended_are;
+      running_are = record { made = made; are = subst (λ (n : ℕ). AreCalls n lines made) so_far are; is = refl };
+    }
 
 -- a crash or a reopening ends it
-parts_stop : (front : List (Option Command)) (stop : Option Command) (lives : List Life) (life : Life) → Parts front lives life.calls → is_stop stop ≡ true → Parts (front ++ stop ∷ []) (lives ++ life ∷ []) []
-parts_stop front stop lives life p stops = record {
-  ended = p.ended ++ p.running ∷ [];
-  running = [];
-  alone = All-nil IsCall;
-  split = λ more. ap (slice_split is_stop) (append_assoc front (stop ∷ []) more) ∙ p.split (stop ∷ more)
-      ∙ ap (λ (l : List (List (Option Command))). p.ended ++ l) (slice_split_at is_stop p.running stop more p.alone stops)
-      ∙ sym (append_assoc p.ended (p.running ∷ []) (slice_split is_stop more));
-  ended_are = map-append calls_of p.ended (p.running ∷ []) ∙ ap (λ (l : List (List Call)). l ++ calls_of p.running ∷ []) p.ended_are
-      ∙ ap (λ (c : List Call). map (λ (l : Life). l.calls) lives ++ c ∷ []) p.running_are
-      ∙ sym (map-append (λ (l : Life). l.calls) lives (life ∷ []));
-  running_are = refl;
-}
+parts_stop : (front : List (Option Command)) (stop : Option Command) (lives : List Life) (life : Life) → Parts front lives life.calls life.replies → is_stop stop ≡ true → asks_snapshot stop ≡ false
+    → FreshParts (front ++ stop ∷ []) (lives ++ life ∷ [])
+parts_stop front stop lives life p stops asks = (
+  record {
+    ended = p.ended ++ p.running ∷ [];
+    running = [];
+    alone = All-nil IsCall;
+    split = λ more. ap (slice_split is_stop) (append_assoc front (stop ∷ []) more) ∙ p.split (stop ∷ more)
+        ∙ ap (λ (l : List (List (Option Command))). p.ended ++ l) (slice_split_at is_stop p.running stop more p.alone stops)
+        ∙ sym (append_assoc p.ended (p.running ∷ []) (slice_split is_stop more));
+    counted =
+        let all = counted front (stop ∷ []) in
+        let none = none_asked stop [] asks in
+        let so_far = p.counted in
+        let parts = total-append p.ended (p.running ∷ []) in
+        omega (arith, all, none, so_far, parts);
+    ended_are = subst (AreServed 0 (p.ended ++ p.running ∷ [])) (sym (map-append served_in lives (life ∷ [])))
+        (with_running p.ended p.running lives life.calls life.replies p.ended_are p.running_are);
+    running_are = none_served (total (p.ended ++ p.running ∷ []));
+  },
+  refl,
+)
 
 -- each part has the calls of a life
-parts_are : (front : List (Option Command)) (lives : List Life) (calls : List Call) → Parts front lives calls → map calls_of (slice_split is_stop front) ≡ map (λ (life : Life). life.calls) lives ++ calls ∷ []
-parts_are front lives calls p =
+parts_are : (front : List (Option Command)) (lives : List Life) (calls : List Call) (replies : List Reply) → Parts front lives calls replies → AreServed 0 (slice_split is_stop front) (map served_in lives ++ (calls, replies) ∷ [])
+parts_are front lives calls replies p =
     let whole : slice_split is_stop front ≡ p.ended ++ p.running ∷ [] = ap (slice_split is_stop) (sym (append-nil front)) ∙ p.split []
     ∙ ap (λ (l : List (Option Command)). p.ended ++ slice_split is_stop l) (append-nil p.running)
     ∙ ap (λ (l : List (List (Option Command))). p.ended ++ l) (slice_split_none is_stop p.running p.alone) in
-    ap (map calls_of) whole ∙ map-append calls_of p.ended (p.running ∷ []) ∙ ap (λ (l : List (List Call)). l ++ calls_of p.running ∷ []) p.ended_are
-    ∙ ap (λ (c : List Call). map (λ (l : Life). l.calls) lives ++ c ∷ []) p.running_are
+    subst (λ (l : List (List (Option Command))). AreServed 0 l (map served_in lives ++ (calls, replies) ∷ [])) (sym whole)
+    (with_running p.ended p.running lives calls replies p.ended_are p.running_are)
 
-record LivedSo (commands rest : List (Option Command)) (printed : List (List ℕ)) (core : Held) : Type 0 where
+-- no line was run since the last crash or reopening
+record IsFresh (running : List (Option Command)) (calls : List Call) (replies : List Reply) : Type 0 where
+  pub no_lines : running ≡ []
+  pub no_calls : calls ≡ []
+  pub no_replies : replies ≡ []
+
+record LivedSo (commands rest : List (Option Command)) (ran : Bool) (printed : List (List ℕ)) (core : Held) : Type 0 where
   pub front : List (Option Command)
   pub split : commands ≡ front ++ rest
   pub lives : List Life
@@ -169,9 +200,10 @@ record LivedSo (commands rest : List (Option Command)) (printed : List (List ℕ
   pub calls : List Call
   pub replies : List Reply
   pub run : Served first (kept (fold base opened.front)) opened.opens calls replies core
-  pub parts : Parts front lives calls
-  pub printed_are : printed ≡ answers_through front (flat_map (λ life. life.replies) lives ++ replies)
-  pub all : length (calls_of front) ≡ length (flat_map (λ life. life.replies) lives ++ replies)
+  pub parts : Parts front lives calls replies
+  pub fresh : ran ≡ false → IsFresh parts.running calls replies
+  pub printed_are : printed ≡ answers_to 0 front (flat_map (λ life. life.replies) lives ++ replies)
+  pub all : length (requests_of front) ≡ length (flat_map (λ life. life.replies) lives ++ replies)
 
 start_holds : HoldsAmid (state_in new_disk) (bare no_keyspaces) []
 start_holds = holds_store_amid (state_in new_disk) (bare no_keyspaces) bare_holds
@@ -182,7 +214,7 @@ just_opened disk core base pending opened =
     let store = kept (fold base opened.front) in
     no_run core (start_of core store opened.opens) (begun core store) opened.opens.state opened.opens.base
 
-begins : (commands : List (Option Command)) (core : Held) → Begins true core → LivedSo commands commands [] core
+begins : (commands : List (Option Command)) (core : Held) → Begins true core → LivedSo commands commands false [] core
 begins commands core h =
     let same = h.fresh refl in
     let opened = h.opened.amid refl (bare no_keyspaces) [] (subst (λ (m : Meaning). HoldsAmid (state_in m) (bare no_keyspaces) []) (sym same) start_holds) in
@@ -199,19 +231,28 @@ begins commands core h =
       calls = [];
       replies = [];
       run = just_opened h.disk core (bare no_keyspaces) [] opened;
-      parts = no_parts;
+      parts = no_parts.0;
+      fresh = λ h. record { no_lines = no_parts.1; no_calls = refl; no_replies = refl };
       printed_are = refl;
       all = refl;
     }
 
--- more calls
-runs : (commands lines rest : List (Option Command)) (old new : Held) (printed : List (List ℕ)) (replies : List Reply) → LivedSo commands (lines ++ rest) printed old → All IsCall lines → RunsCalls true old (calls_of lines) replies new
-    → LivedSo commands rest (printed ++ answers_to lines replies) new
-runs commands lines rest old new printed replies s alone run =
+-- the calls up to the next crash or reopening
+runs : (commands lines rest : List (Option Command)) (old new : Held) (printed : List (List ℕ)) (made : List Call) (replies : List Reply) → LivedSo commands (lines ++ rest) false printed old → All IsCall lines
+    → AreCalls (snapshots_before commands (lines ++ rest)) lines made → RunsCalls true old (resolved_all made replies) replies new
+    → LivedSo commands rest true (printed ++ answers_to (snapshots_before commands (lines ++ rest)) lines replies) new
+runs commands lines rest old new printed made replies s alone are run =
     let store = kept (fold s.base s.opened.front) in
+    let opens = s.opened.opens in
+    let calls = resolved_all made replies in
+    let fresh = s.fresh refl in
     let lived = flat_map (λ (life : Life). life.replies) s.lives in
-    let same : (lived ++ s.replies) ++ replies ≡ lived ++ (s.replies ++ replies) = append_assoc lived s.replies replies in
-    let counted : length (calls_of lines) ≡ length replies = replied old new (calls_of lines) replies run.owes in
+    let so_far : lived ++ s.replies ≡ lived = ap (λ (l : List Reply). lived ++ l) fresh.no_replies ∙ append-nil lived in
+    let earlier = asked_before commands s.front (lines ++ rest) s.split in
+    let whole = runs_behind s.first old new (start_of s.first store opens) (begun s.first store) s.calls calls s.replies replies opens.base s.run (run.safe refl) in
+    let behind = subst (λ (r : List Reply). Served s.first store opens (s.calls ++ calls) (r ++ replies) new) fresh.no_replies whole in
+    let each : length (requests_of lines) ≡ length replies = as_many _ (requests_of lines) made are ∙ replied [] old new made replies run.owes in
+    let all : length (requests_of s.front) ≡ length lived = s.all ∙ ap length so_far in
     record {
       front = s.front ++ lines;
       split = s.split ∙ sym (append_assoc s.front lines rest);
@@ -222,36 +263,37 @@ runs commands lines rest old new printed replies s alone run =
       before = s.before;
       first = s.first;
       opened = s.opened;
-      calls = s.calls ++ calls_of lines;
-      replies = s.replies ++ replies;
-      run = runs_behind s.first old new (start_of s.first store s.opened.opens) (begun s.first store) s.calls (calls_of lines) s.replies replies s.opened.opens.base s.run (run.safe refl);
-      parts = parts_run s.front lines s.lives s.calls s.parts alone;
-      printed_are = ap (λ (l : List (List ℕ)). l ++ answers_to lines replies) s.printed_are
-          ∙ ap (λ (l : List (List ℕ)). answers_through s.front (lived ++ s.replies) ++ l) (through_calls lines replies alone)
-          ∙ sym (through-append s.front lines (lived ++ s.replies) replies s.all) ∙ ap (answers_through (s.front ++ lines)) same;
-      all = ap length (filter_map-append sessions.call_of s.front lines) ∙ length-append (calls_of s.front) (calls_of lines)
-          ∙ ap (λ n. n + length (calls_of lines)) s.all ∙ ap (λ n. length (lived ++ s.replies) + n) counted
-          ∙ sym (length-append (lived ++ s.replies) replies) ∙ ap length same;
+      calls = calls;
+      replies = replies;
+      run = subst (λ (c : List Call). Served s.first store opens (c ++ calls) replies new) fresh.no_calls behind;
+      parts = parts_run s.front lines s.lives s.calls s.replies made replies s.parts fresh.no_lines alone (subst (λ (n : ℕ). AreCalls n lines made) earlier are);
+      fresh = λ h. absurd (true≢false h);
+      printed_are = ap (λ (l : List (List ℕ)). l ++ answers_to (snapshots_before commands (lines ++ rest)) lines replies) (s.printed_are ∙ ap (answers_to 0 s.front) so_far)
+          ∙ ap (λ (n : ℕ). answers_to 0 s.front lived ++ answers_to n lines replies) (earlier ∙ omega arith)
+          ∙ sym (through-append 0 s.front lines lived replies all);
+      all = ap length (filter_map-append request_of s.front lines) ∙ length-append (requests_of s.front) (requests_of lines)
+          ∙ ap (λ n. n + length (requests_of lines)) all ∙ ap (λ n. length lived + n) each ∙ sym (length-append lived replies);
     }
 
 -- the life that ended with the old core's
-abbrev life_of : (commands rest : List (Option Command)) (printed : List (List ℕ)) (old : Held) → LivedSo commands rest printed old → List store.Command → Life
+abbrev life_of : (commands rest : List (Option Command)) (printed : List (List ℕ)) (old : Held) → LivedSo commands rest true printed old → List store.Command → Life
 life_of commands rest printed old s synced = record { calls = s.calls; replies = s.replies; tried = s.run.tried; synced = synced }
 
 -- one life more, of a core that ended so, and another opened on what it left
-again : (commands : List (Option Command)) (stop : Option Command) (rest : List (Option Command)) (printed : List (List ℕ)) (old new : Held) (s : LivedSo commands (stop ∷ rest) printed old) → is_stop stop ≡ true
+again : (commands : List (Option Command)) (stop : Option Command) (rest : List (Option Command)) (printed : List (List ℕ)) (old new : Held) (s : LivedSo commands (stop ∷ rest) true printed old) → is_stop stop ≡ true
     → (synced : List store.Command) (end : State) (next : Store) (waits : List store.Command) → Ended s.first old (kept (fold s.base s.opened.front)) s.calls s.replies s.opened.opens s.run synced end next waits
-    → (disk : Meaning) → state_in disk ≡ end → OpenedOn true disk new → LivedSo commands rest (printed ++ codes "ok" ∷ []) new
+    → (disk : Meaning) → state_in disk ≡ end → OpenedOn true disk new → LivedSo commands rest false (printed ++ ok_line ∷ []) new
 again commands stop rest printed old new s stops synced end next waits ended disk same o =
     let life = life_of commands (stop ∷ rest) printed old s synced in
     let lives = s.lives ++ life ∷ [] in
+    let parts : FreshParts (s.front ++ stop ∷ []) lives = parts_stop s.front stop s.lives life s.parts stops (stops_ask_none stop stops) in
     let one = OneMore s.lives life s.disk s.base s.pending end next waits s.before (Opened s.first old s.calls s.replies synced end next waits s.opened s.run ended) in
     let before : Lives (state_in new_disk) (bare no_keyspaces) lives (state_in disk) next waits = subst (λ (st : State). Lives (state_in new_disk) (bare no_keyspaces) lives st next waits) (sym same) one in
     let opened = o.amid refl next waits (lives_hold (state_in new_disk) (bare no_keyspaces) lives (state_in disk) next waits start_holds before).amid in
     let lived = flat_map (λ (l : Life). l.replies) s.lives in
     let replies : lived ++ s.replies ≡ flat_map (λ (l : Life). l.replies) lives ++ [] =
     ap (λ (l : List Reply). lived ++ l) (sym (append-nil s.replies)) ∙ sym (flat_map-append (λ (l : Life). l.replies) s.lives (life ∷ [])) ∙ sym (append-nil (flat_map (λ (l : Life). l.replies) lives)) in
-    let none : calls_of (s.front ++ stop ∷ []) ≡ calls_of s.front = filter_map-append sessions.call_of s.front (stop ∷ []) ∙ ap (λ (l : List Call). calls_of s.front ++ l) (no_call stop stops) ∙ append-nil (calls_of s.front) in
+    let none : requests_of (s.front ++ stop ∷ []) ≡ requests_of s.front = filter_map-append request_of s.front (stop ∷ []) ∙ ap (λ (l : List Request). requests_of s.front ++ l) (no_call stop stops) ∙ append-nil (requests_of s.front) in
     record {
       front = s.front ++ stop ∷ [];
       split = s.split ∙ sym (append_assoc s.front (stop ∷ []) rest);
@@ -265,45 +307,30 @@ again commands stop rest printed old new s stops synced end next waits ended dis
       calls = [];
       replies = [];
       run = just_opened disk new next waits opened;
-      parts = parts_stop s.front stop s.lives life s.parts stops;
-      printed_are = ap (λ (l : List (List ℕ)). l ++ codes "ok" ∷ []) s.printed_are
-          ∙ ap (λ (l : List (List ℕ)). answers_through s.front (lived ++ s.replies) ++ l) (sym (ok_said stop stops))
-          ∙ sym (through-append s.front (stop ∷ []) (lived ++ s.replies) [] s.all)
-          ∙ ap (answers_through (s.front ++ stop ∷ [])) (append-nil (lived ++ s.replies) ∙ replies);
+      parts = parts.0;
+      fresh = λ h. record { no_lines = parts.1; no_calls = refl; no_replies = refl };
+      printed_are = ap (λ (l : List (List ℕ)). l ++ ok_line ∷ []) s.printed_are
+          ∙ ap (λ (l : List (List ℕ)). answers_to 0 s.front (lived ++ s.replies) ++ l) (sym (ok_said (0 + snapshots_in s.front) stop stops))
+          ∙ sym (through-append 0 s.front (stop ∷ []) (lived ++ s.replies) [] s.all)
+          ∙ ap (answers_to 0 (s.front ++ stop ∷ [])) (append-nil (lived ++ s.replies) ∙ replies);
       all = ap length none ∙ s.all ∙ ap length replies;
     }
   where
-    no_call : (found : Option Command) → is_stop found ≡ true → calls_of (found ∷ []) ≡ []
+    no_call : (found : Option Command) → is_stop found ≡ true → requests_of (found ∷ []) ≡ []
     no_call (Some (Crash keep)) is = refl
     no_call (Some Reopen) is = refl
     no_call None is = absurd (true≢false (sym is))
-    no_call (Some (Keyspace name)) is = absurd (true≢false (sym is))
-    no_call (Some (Delete id)) is = absurd (true≢false (sym is))
-    no_call (Some (Insert id key value)) is = absurd (true≢false (sym is))
-    no_call (Some (Remove id key)) is = absurd (true≢false (sym is))
-    no_call (Some (RemoveWeak id key)) is = absurd (true≢false (sym is))
-    no_call (Some (Get id key)) is = absurd (true≢false (sym is))
-    no_call (Some (Len id)) is = absurd (true≢false (sym is))
-    no_call (Some (Scan id)) is = absurd (true≢false (sym is))
-    no_call (Some Persist) is = absurd (true≢false (sym is))
+    no_call (Some (Ask request)) is = absurd (true≢false (sym is))
 
-    ok_said : (found : Option Command) → is_stop found ≡ true → answers_through (found ∷ []) [] ≡ codes "ok" ∷ []
-    ok_said (Some (Crash keep)) is = refl
-    ok_said (Some Reopen) is = refl
-    ok_said None is = absurd (true≢false (sym is))
-    ok_said (Some (Keyspace name)) is = absurd (true≢false (sym is))
-    ok_said (Some (Delete id)) is = absurd (true≢false (sym is))
-    ok_said (Some (Insert id key value)) is = absurd (true≢false (sym is))
-    ok_said (Some (Remove id key)) is = absurd (true≢false (sym is))
-    ok_said (Some (RemoveWeak id key)) is = absurd (true≢false (sym is))
-    ok_said (Some (Get id key)) is = absurd (true≢false (sym is))
-    ok_said (Some (Len id)) is = absurd (true≢false (sym is))
-    ok_said (Some (Scan id)) is = absurd (true≢false (sym is))
-    ok_said (Some Persist) is = absurd (true≢false (sym is))
+    ok_said : (earlier : ℕ) (found : Option Command) → is_stop found ≡ true → answers_to earlier (found ∷ []) [] ≡ ok_line ∷ []
+    ok_said earlier (Some (Crash keep)) is = refl
+    ok_said earlier (Some Reopen) is = refl
+    ok_said earlier None is = absurd (true≢false (sym is))
+    ok_said earlier (Some (Ask request)) is = absurd (true≢false (sym is))
 
 -- a reopening, whether the closing was refused or not
-reopened : (commands rest : List (Option Command)) (printed : List (List ℕ)) (old new : Held) (s : LivedSo commands (Some Reopen ∷ rest) printed old) (closing : Result Unit Error) (closed : Meaning) → Closes true old closing closed → (disk : Meaning) → disk ≡ closed
-    → OpenedOn true disk new → LivedSo commands rest (printed ++ codes "ok" ∷ []) new
+reopened : (commands rest : List (Option Command)) (printed : List (List ℕ)) (old new : Held) (s : LivedSo commands (Some Reopen ∷ rest) true printed old) (closing : Result Unit Error) (closed : Meaning) → Closes true old closing closed → (disk : Meaning) → disk ≡ closed
+    → OpenedOn true disk new → LivedSo commands rest false (printed ++ ok_line ∷ []) new
 reopened commands rest printed old new s (Ok _) closed closes disk same o =
     again commands (Some Reopen) rest printed old new s refl s.run.tried (state_in closed) (kept (present s.run.state)) [] (Closed closed closes.owes (closes.safe refl)) disk (ap state_in same) o
 reopened commands rest printed old new s (Err error) closed closes disk same o =
@@ -313,7 +340,7 @@ reopened commands rest printed old new s (Err error) closed closes disk same o =
     again commands (Some Reopen) rest printed old new s refl last.0 (state_in closed) after.base after.pending (Unclosed last.0 error closed last.1 safely) disk (ap state_in same) o
 
 -- what a crash leaves
-crashes : (commands rest : List (Option Command)) (printed : List (List ℕ)) (old new : Held) (keep : ℕ) (s : LivedSo commands (Some (Crash keep) ∷ rest) printed old) → Crashes true keep old new → LivedSo commands rest (printed ++ codes "ok" ∷ []) new
+crashes : (commands rest : List (Option Command)) (printed : List (List ℕ)) (old new : Held) (keep : ℕ) (s : LivedSo commands (Some (Crash keep) ∷ rest) true printed old) → Crashes true keep old new → LivedSo commands rest false (printed ++ ok_line ∷ []) new
 crashes commands rest printed old new keep s h =
     let d = s.run.durable in
     let image = crashed keep (state_in old.disk) in
@@ -323,30 +350,23 @@ crashes commands rest printed old new keep s h =
     let left = kept (fold d.base amid.front) in
     again commands (Some (Crash keep)) rest printed old new s refl last.0 (disk_of image) left [] (CutBehind last.0 image left last.1 is amid.stands) h.disk (h.left refl) h.opened
 
-restarts : (stop : Option Command) (commands rest : List (Option Command)) (printed : List (List ℕ)) (old new : Held) → LivedSo commands (stop ∷ rest) printed old → Restarts true stop old new → LivedSo commands rest (printed ++ codes "ok" ∷ []) new
+restarts : (stop : Option Command) (commands rest : List (Option Command)) (printed : List (List ℕ)) (old new : Held) → LivedSo commands (stop ∷ rest) true printed old → Restarts true stop old new → LivedSo commands rest false (printed ++ ok_line ∷ []) new
 restarts (Some (Crash keep)) commands rest printed old new s h = crashes commands rest printed old new keep s h
 restarts (Some Reopen) commands rest printed old new s h = reopened commands rest printed old new s h.closing h.closed h.closes h.disk (h.same refl) h.opened
 restarts None commands rest printed old new s h = absurd h
-restarts (Some (Keyspace name)) commands rest printed old new s h = absurd h
-restarts (Some (Delete id)) commands rest printed old new s h = absurd h
-restarts (Some (Insert id key value)) commands rest printed old new s h = absurd h
-restarts (Some (Remove id key)) commands rest printed old new s h = absurd h
-restarts (Some (RemoveWeak id key)) commands rest printed old new s h = absurd h
-restarts (Some (Get id key)) commands rest printed old new s h = absurd h
-restarts (Some (Len id)) commands rest printed old new s h = absurd h
-restarts (Some (Scan id)) commands rest printed old new s h = absurd h
-restarts (Some Persist) commands rest printed old new s h = absurd h
+restarts (Some (Ask request)) commands rest printed old new s h = absurd h
 
 -- ---- a session
 
-lived_so : (commands rest : List (Option Command)) (core : Held) (printed : List (List ℕ)) → Session true commands core printed rest → LivedSo commands rest printed core
-lived_so commands _ _ _ (sessions.begun core h) = begins commands core h
-lived_so commands _ _ _ (sessions.run old new printed lines rest replies s alone stop calls) = runs commands lines rest old new printed replies (lived_so commands (lines ++ rest) old printed s) alone calls
-lived_so commands _ _ _ (sessions.restarted old new printed stop rest s h) = restarts stop commands rest printed old new (lived_so commands (stop ∷ rest) old printed s) h
+lived_so : (commands rest : List (Option Command)) (ran : Bool) (core : Held) (printed : List (List ℕ)) → Session true commands ran core printed rest → LivedSo commands rest ran printed core
+lived_so commands _ _ _ _ (sessions.begun core h) = begins commands core h
+lived_so commands _ _ _ _ (sessions.run old new printed lines rest made replies s alone stop are calls) =
+    runs commands lines rest old new printed made replies (lived_so commands (lines ++ rest) false old printed s) alone are calls
+lived_so commands _ _ _ _ (sessions.restarted old new printed stop rest s h) = restarts stop commands rest printed old new (lived_so commands (stop ∷ rest) true old printed s) h
 
-has_lived : (commands rest : List (Option Command)) (core : Held) (printed : List (List ℕ)) → Session true commands core printed rest → HasLived commands rest printed core
-has_lived commands rest core printed session =
-    let s = lived_so commands rest core printed session in
+has_lived : (commands rest : List (Option Command)) (ran : Bool) (core : Held) (printed : List (List ℕ)) → Session true commands ran core printed rest → HasLived commands rest printed core
+has_lived commands rest ran core printed session =
+    let s = lived_so commands rest ran core printed session in
     let behind = lives_open (state_in new_disk) (bare no_keyspaces) s.lives s.disk s.base s.pending s.first start_holds s.before s.opened in
     record {
       front = s.front;
@@ -362,7 +382,7 @@ has_lived commands rest core printed session =
       replies = s.replies;
       run = s.run;
       device = lives_blame (state_in new_disk) (bare no_keyspaces) s.lives s.disk s.base s.pending s.first core s.calls s.replies (new_disk_tidy (state_in new_disk) (λ name. refl)) s.before s.opened s.run;
-      calls_are = parts_are s.front s.lives s.calls s.parts;
+      calls_are = parts_are s.front s.lives s.calls s.replies s.parts;
       printed_are = s.printed_are;
       fronts = behind.0;
       left = behind.1;
@@ -370,19 +390,6 @@ has_lived commands rest core printed session =
     }
 
 -- over a disk that returns what it holds
-pub session_lived : (honest : Bool) (commands rest : List (Option Command)) (core : Held) (printed : List (List ℕ)) → Session honest commands core printed rest → IsTrue honest → HasLived commands rest printed core
-session_lived true commands rest core printed s h = has_lived commands rest core printed s
-session_lived false commands rest core printed s h = absurd (true≢false (sym h))
-
-failed_lived : (commands rest : List (Option Command)) (printed : List (List ℕ)) (error : Error) → Fails true commands printed rest error → HasLivedIfAny commands rest printed
-failed_lived commands _ _ _ (not_begun error h) = inl refl
-failed_lived commands _ _ _ (no_memory core printed rest s) = inr (core, has_lived commands rest core printed s)
-failed_lived commands _ _ _ (not_restarted core printed stop rest error s stops h) = inr (core, has_lived commands (stop ∷ rest) core printed s)
-failed_lived commands _ _ _ (not_closed core printed error disk s h) = inr (core, has_lived commands [] core printed s)
-
-pub ended_lived : (honest : Bool) (commands rest : List (Option Command)) (printed : List (List ℕ)) (ended : Result Unit Error) → Ends honest commands printed rest ended → IsTrue honest → HasLivedIfAny commands rest printed
-ended_lived true commands rest printed (Ok done) h is =
-    let at : HasLived commands [] printed h.0 = has_lived commands [] h.0 printed h.1 in
-    inr (h.0, subst (λ (l : List (Option Command)). HasLived commands l printed h.0) (sym h.3) at)
-ended_lived true commands rest printed (Err error) h is = failed_lived commands rest printed error h
-ended_lived false commands rest printed ended h is = absurd (true≢false (sym is))
+pub session_lived : (honest : Bool) (commands rest : List (Option Command)) (ran : Bool) (core : Held) (printed : List (List ℕ)) → Session honest commands ran core printed rest → IsTrue honest → HasLived commands rest printed core
+session_lived true commands rest ran core printed s h = has_lived commands rest ran core printed s
+session_lived false commands rest ran core printed s h = absurd (true≢false (sym h))

@@ -1,13 +1,16 @@
 -- One more answer is printed.
 use Rattle.std.proofs.Common.{◌≡◌, ℕ, ◌+◌, ◌<◌, List, [], ◌∷◌, ◌++◌, length, drop, get_or, Option, Some, None, sym, ap, ◌∙◌, append_assoc}
 use Rattle.std.proofs.lemmas.List.{drop_more}
-use Rattle.fjall_state.specs.declared.call.Reply.{Reply}
-use Rattle.fjall_script.specs.declared.command.Command.{Command}
-use Rattle.fjall_script.specs.Answers.{reply_text, bad_line, text_of}
+use Rattle.fjall_history.specs.declared.reply.Reply.{Reply}
+use Rattle.fjall_lines.specs.declared.command.Command.{Command}
+use Rattle.fjall_lines.specs.declared.command.Command.TheVariants.{Ask, Crash, Reopen}
+use Rattle.fjall_lines.specs.declared.command.Request.{Request}
+use Rattle.fjall_script.specs.Answers.{reply_text, bad_line, ok_line, text_of}
+use Rattle.fjall_script.specs.Requests.{asked_with}
 use Rattle.fjall_script.specs.Sessions.{answers_to}
 
 -- the commands to come, the first of them apart
-next_is : (commands : List (Option Command)) (i : ℕ) (found : Option Command) → i < length commands → found ≡ get_or commands i found
+pub next_is : (commands : List (Option Command)) (i : ℕ) (found : Option Command) → i < length commands → found ≡ get_or commands i found
     → drop i commands ≡ found ∷ drop (i + 1) commands
 next_is commands i found lt e =
     drop_more commands i found lt ∙ ap (λ (f : Option Command). f ∷ drop (i + 1) commands) (sym e)
@@ -16,20 +19,32 @@ add_line : (text line rest : List ℕ) → ((text ++ line) ++ (10 ∷ [])) ++ re
 add_line text line rest =
     append_assoc (text ++ line) (10 ∷ []) rest ∙ append_assoc text line ((10 ∷ []) ++ rest) ∙ ap (λ (t : List ℕ). text ++ t) (sym (append_assoc line (10 ∷ []) rest))
 
-pub bad_step : (commands : List (Option Command)) (i : ℕ) (found : Option Command) (left later : List Reply) (text mid after whole : List ℕ)
-    → i < length commands → found ≡ get_or commands i found → found ≡ None → later ≡ left → mid ≡ text ++ bad_line → after ≡ mid ++ 10 ∷ []
-    → text ++ text_of (answers_to (drop i commands) left) ≡ whole
-    → after ++ text_of (answers_to (drop (i + 1) commands) later) ≡ whole
-bad_step commands i found left later text mid after whole lt at none same first last h =
+-- a line whose answer asks for no call
+pub plain_step : (earlier asked : ℕ) (commands : List (Option Command)) (i : ℕ) (found : Option Command) (line : List ℕ) (left later : List Reply) (text mid after whole : List ℕ)
+    → ((rest : List (Option Command)) → answers_to earlier (found ∷ rest) left ≡ line ∷ answers_to earlier rest left)
+    → i < length commands → found ≡ get_or commands i found → asked ≡ earlier → later ≡ left → mid ≡ text ++ line → after ≡ mid ++ 10 ∷ []
+    → text ++ text_of (answers_to earlier (drop i commands) left) ≡ whole
+    → after ++ text_of (answers_to asked (drop (i + 1) commands) later) ≡ whole
+plain_step earlier asked commands i found line left later text mid after whole said lt at count same first last h =
     let next = next_is commands i found lt at in
-    let here : text ++ text_of (answers_to (None ∷ drop (i + 1) commands) left) ≡ whole = rw (next, none) at h in
-    rw (last, first, same) (add_line text bad_line (text_of (answers_to (drop (i + 1) commands) left)) ∙ here)
+    let answer = said (drop (i + 1) commands) in
+    let here : text ++ text_of (line ∷ answers_to earlier (drop (i + 1) commands) left) ≡ whole = rw (next, answer) at h in
+    rw (last, first, same, count) (add_line text line (text_of (answers_to earlier (drop (i + 1) commands) left)) ∙ here)
 
-pub reply_step : (commands : List (Option Command)) (i : ℕ) (found : Option Command) (command : Command) (left later : List Reply) (reply : Reply) (text mid after whole : List ℕ)
-    → i < length commands → found ≡ get_or commands i found → found ≡ Some command → left ≡ reply ∷ later → mid ≡ text ++ reply_text command reply → after ≡ mid ++ 10 ∷ []
-    → text ++ text_of (answers_to (drop i commands) left) ≡ whole
-    → after ++ text_of (answers_to (drop (i + 1) commands) later) ≡ whole
-reply_step commands i found command left later reply text mid after whole lt at some split first last h =
+pub bad_said : (earlier : ℕ) (found : Option Command) (left : List Reply) → found ≡ None → (rest : List (Option Command)) → answers_to earlier (found ∷ rest) left ≡ bad_line ∷ answers_to earlier rest left
+bad_said earlier found left none rest = ap (λ (f : Option Command). answers_to earlier (f ∷ rest) left) none
+
+pub crash_said : (earlier : ℕ) (found : Option Command) (left : List Reply) (keep : ℕ) → found ≡ Some (Crash keep) → (rest : List (Option Command)) → answers_to earlier (found ∷ rest) left ≡ ok_line ∷ answers_to earlier rest left
+crash_said earlier found left keep is rest = ap (λ (f : Option Command). answers_to earlier (f ∷ rest) left) is
+
+pub reopen_said : (earlier : ℕ) (found : Option Command) (left : List Reply) → found ≡ Some Reopen → (rest : List (Option Command)) → answers_to earlier (found ∷ rest) left ≡ ok_line ∷ answers_to earlier rest left
+reopen_said earlier found left is rest = ap (λ (f : Option Command). answers_to earlier (f ∷ rest) left) is
+
+pub reply_step : (earlier asked number : ℕ) (commands : List (Option Command)) (i : ℕ) (found : Option Command) (request : Request) (left later : List Reply) (reply : Reply) (text mid after whole : List ℕ)
+    → i < length commands → found ≡ get_or commands i found → found ≡ Some (Ask request) → left ≡ reply ∷ later → number ≡ earlier + 1 → asked ≡ asked_with earlier request → mid ≡ text ++ reply_text number request reply → after ≡ mid ++ 10 ∷ []
+    → text ++ text_of (answers_to earlier (drop i commands) left) ≡ whole
+    → after ++ text_of (answers_to asked (drop (i + 1) commands) later) ≡ whole
+reply_step earlier asked number commands i found request left later reply text mid after whole lt at some split counted more first last h =
     let next = next_is commands i found lt at in
-    let here : text ++ text_of (answers_to (Some command ∷ drop (i + 1) commands) (reply ∷ later)) ≡ whole = rw (next, some, split) at h in
-    rw (last, first) (add_line text (reply_text command reply) (text_of (answers_to (drop (i + 1) commands) later)) ∙ here)
+    let here : text ++ text_of (answers_to earlier (Some (Ask request) ∷ drop (i + 1) commands) (reply ∷ later)) ≡ whole = rw (next, some, split) at h in
+    rw (last, first, counted, more) (add_line text (reply_text (earlier + 1) request reply) (text_of (answers_to (asked_with earlier request) (drop (i + 1) commands) later)) ∙ here)

@@ -13,7 +13,7 @@ use Rattle.fjall_repair.proofs.Begun.{settled_comes_back}
 use Rattle.fjall_core.specs.Holding.{Held}
 use Rattle.fjall_core.specs.Standing.{HoldsStore}
 use Rattle.fjall_script.specs.Machine.{Begins, IsNew, IsNoDisk, NotBegun, OpenedOn, RefusedOn}
-use Rattle.fjall_script.specs.declared.command.Command.{Command}
+use Rattle.fjall_lines.specs.declared.command.Command.{Command}
 use Rattle.fjall_script.specs.Sessions.{NotRestarted, OpensAgain}
 
 -- nothing stands anywhere

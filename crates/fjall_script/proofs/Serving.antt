@@ -3,105 +3,79 @@ use Rattle.std.proofs.Common.{◌≡◌, refl, ℕ, Bool, true, false, List, [],
 use Rattle.std.specs.Prelude.{IfErr, IfSome, OnOk}
 use Rattle.std.specs.List.{AllZip}
 use Rattle.std.specs.Str.{bytes_eq}
-use Rattle.std.specs.Io.KnownBytes.{Appends}
 use Rattle.std.proofs.KnownBytes.{Keeps-refl}
 use Rattle.std.specs.declared.io.ErrorKind.{ErrorKind}
 use Rattle.fjall_base.specs.declared.error.Error.{Error}
 use Rattle.fjall_base.specs.declared.error.Error.TheVariants.{Io, OutOfMemory}
-use Rattle.fjall_script.specs.declared.command.Command.{Command}
-use Rattle.fjall_script.specs.Answers.{text_of}
-use Rattle.fjall_script.specs.Lines.{lines_of}
-use Rattle.fjall_script.specs.Runs.{AnswersInput, AppendsFront, FailsInput, unread, refused, unwritten, Hears, IsIo, IsIoOrMemory, RunsInput, is_memory}
-use Rattle.fjall_script.proofs.Answered.{all_answered, ended_answers}
-use Rattle.fjall_script.proofs.Living.{ended_lived, session_lived}
-use Rattle.fjall_script.specs.Sessions.{Ends, PrintsAll, PrintsUntil}
+use Rattle.fjall_lines.specs.declared.command.Command.{Command}
+use Rattle.fjall_lines.specs.Hearing.{Hears}
+use Rattle.fjall_lines.specs.Lines.{lines_of}
+use Rattle.fjall_script.specs.Machine.{NotBegun}
+use Rattle.fjall_script.specs.Outputs.{IsIo, IsIoOrMemory}
+use Rattle.fjall_script.specs.Runs.{AnswersInput, FailsInput, unopened, unread, refused, is_memory}
+use Rattle.fjall_script.specs.Sessions.{PrintsAll, PrintsUntil}
+use Rattle.fjall_script.proofs.Answered.{all_answered, answered}
+use Rattle.fjall_script.proofs.Living.{session_lived}
 
--- the commands of an input were run, and these are the answers
-pub record Ran (honest : Bool) (text : List ℕ) (ended : Result Unit Error) (answers : List ℕ) : Type 0 where
-  commands : List (Option Command)
-  reads : AllZip (Hears honest) (lines_of text) commands
-  all : OnOk ended (PrintsAll honest commands [] answers)
-  until : IfErr ended (λ error. PrintsUntil honest commands error [] answers)
+-- the lines of what was read are those of the whole input
+same_text : (known start text slice : List ℕ) → start ≡ [] → text ≡ start ++ known → slice ≡ text → slice ≡ known
+same_text known start text slice none added shown = shown ∙ added ∙ ap (λ (t : List ℕ). t ++ known) none
 
-pub ran : (honest : Bool) (known : Option (List ℕ)) (start text slice : List ℕ) (commands given : List (Option Command)) (empty answers : List ℕ) (ended : Result Unit Error)
-    → start ≡ [] → IfSome known (λ xs. text ≡ start ++ xs) → slice ≡ text → AllZip (Hears honest) (lines_of slice) commands
-    → given ≡ commands → empty ≡ [] → OnOk ended (PrintsAll honest given empty answers) → IfErr ended (λ error. PrintsUntil honest given error empty answers)
-    → IfSome known (λ xs. Ran honest xs ended answers)
-ran honest None start text slice commands given empty answers ended none known shown reads same no_answers all until = tt
-ran honest (Some xs) start text slice commands given empty answers ended none known shown reads same no_answers all until =
-    let whole : slice ≡ xs = shown ∙ known ∙ ap (λ (t : List ℕ). t ++ xs) none in
-    let All : List (Option Command) → List ℕ → Type 0 = λ cs t. OnOk ended (PrintsAll honest cs t answers) in
-    let Until : List (Option Command) → List ℕ → Type 0 = λ cs t. IfErr ended (λ error. PrintsUntil honest cs error t answers) in
-    record {
+-- all of an input was answered
+input_answered : (honest : Bool) (text : List ℕ) (commands : List (Option Command)) (old new : Option (List ℕ)) → AllZip (Hears honest) (lines_of text) commands → PrintsAll honest commands old new → AnswersInput honest text old new
+input_answered honest text commands old new reads all = record {
+  commands = commands;
+  core = all.core;
+  printed = all.printed;
+  reads = reads;
+  session = all.session;
+  closed = all.closed;
+  lived = session_lived honest commands [] true all.core all.printed all.session;
+  answers = all_answered honest commands true all.core all.printed all.session;
+  appends = all.appends;
+}
+
+-- a refusal ended its session
+input_failed : (honest : Bool) (text : List ℕ) (commands : List (Option Command)) (error : Error) (old new : Option (List ℕ)) → AllZip (Hears honest) (lines_of text) commands → PrintsUntil honest commands error old new
+    → FailsInput honest text old new error
+input_failed honest text commands error old new reads until =
+    let parts = answered honest commands until.rest until.ran until.core until.printed until.session in
+    refused error
+    (record {
       commands = commands;
-      reads = subst (λ (t : List ℕ). AllZip (Hears honest) (lines_of t) commands) whole reads;
-      all = subst (λ (t : List ℕ). All commands t) no_answers (subst (λ (cs : List (Option Command)). All cs empty) same all);
-      until = subst (λ (t : List ℕ). Until commands t) no_answers (subst (λ (cs : List (Option Command)). Until cs empty) same until);
-    }
+      front = parts.0;
+      rest = until.rest;
+      ran = until.ran;
+      core = until.core;
+      printed = until.printed;
+      reads = reads;
+      split = parts.1;
+      session = until.session;
+      answers = parts.2;
+      lived = session_lived honest commands until.rest until.ran until.core until.printed until.session;
+    })
+    until.ends
 
--- how its session ended
-ran_ends : (honest : Bool) (text : List ℕ) (ended : Result Unit Error) (answers : List ℕ) → Ran honest text ended answers
-    → (printed : List (List ℕ)) × RunsInput honest text ended printed × (answers ≡ text_of printed)
-ran_ends honest text ended answers r =
-    let how = ends ended r.all r.until in
-    let parts = ended_answers honest r.commands how.1 how.0 ended how.2 in
-    (how.0, record { commands = r.commands; front = parts.0; rest = how.1; reads = r.reads; split = parts.1; answers = parts.2; ends = how.2; lived = ended_lived honest r.commands how.1 how.0 ended how.2 }, how.3)
-  where
-    ends : (e : Result Unit Error) → OnOk e (PrintsAll honest r.commands [] answers) → IfErr e (λ error. PrintsUntil honest r.commands error [] answers)
-        → (printed : List (List ℕ)) × (rest : List (Option Command)) × Ends honest r.commands printed rest e × (answers ≡ text_of printed)
-    ends (Ok done) all until = (all.prints.printed, [], (all.core, all.prints.session, all.closed, refl), all.prints.text)
-    ends (Err error) all until = (until.printed, until.rest, until.fails, until.text)
+-- what was read was run to its end, or until a refusal
+pub all_run : (honest heard : Bool) (known : Option (List ℕ)) (start text slice : List ℕ) (commands given : List (Option Command)) (ended : Result Unit Error) (old new : Option (List ℕ))
+    → start ≡ [] → IfSome known (λ xs. text ≡ start ++ xs) → slice ≡ text → heard ≡ honest → AllZip (Hears heard) (lines_of slice) commands → given ≡ commands
+    → OnOk ended (PrintsAll honest given old new) → OnOk ended (IfSome known (λ xs. AnswersInput honest xs old new))
+all_run honest heard known start text slice commands given (Err error) old new none added shown same reads is all = tt
+all_run honest heard None start text slice commands given (Ok done) old new none added shown same reads is all = tt
+all_run honest heard (Some xs) start text slice commands given (Ok done) old new none added shown same reads is all =
+    let whole = same_text xs start text slice none added shown in
+    let here = subst (λ (t : List ℕ). AllZip (Hears honest) (lines_of t) commands) whole (subst (λ (b : Bool). AllZip (Hears b) (lines_of slice) commands) same reads) in
+    input_answered honest xs commands old new here (subst (λ (cs : List (Option Command)). PrintsAll honest cs old new) is all)
 
-input_answered : (honest : Bool) (text : List ℕ) (ended : Result Unit Error) (answers : List ℕ) (old new : Option (List ℕ)) → Ran honest text ended answers → Appends old new answers
-    → OnOk ended (AnswersInput honest text old new)
-input_answered honest text (Err error) answers old new r h = tt
-input_answered honest text (Ok done) answers old new r h =
-    let all : PrintsAll honest r.commands [] answers = r.all in
-    record {
-      commands = r.commands;
-      core = all.core;
-      printed = all.prints.printed;
-      reads = r.reads;
-      session = all.prints.session;
-      closed = all.closed;
-      lived = session_lived honest r.commands [] all.core all.prints.printed all.prints.session;
-      answers = all_answered honest r.commands all.core all.prints.printed all.prints.session;
-      appends = subst (λ (t : List ℕ). Appends old new t) all.prints.text h;
-    }
-
-input_failed : (honest : Bool) (text : List ℕ) (ended : Result Unit Error) (answers : List ℕ) (old new : Option (List ℕ)) → Ran honest text ended answers → Appends old new answers
-    → IfErr ended (λ error. FailsInput honest text old new error)
-input_failed honest text (Ok done) answers old new r h = tt
-input_failed honest text (Err error) answers old new r h =
-    let how = ran_ends honest text (Err error) answers r in
-    refused error how.0 how.1 (subst (λ (t : List ℕ). Appends old new t) how.2 h)
-
--- all of the answers were written
-pub all_written : (honest : Bool) (known : Option (List ℕ)) (ended : Result Unit Error) (answers bytes : List ℕ) (old new : Option (List ℕ))
-    → IfSome known (λ text. Ran honest text ended answers) → bytes ≡ answers → Appends old new bytes
-    → OnOk ended (IfSome known (λ text. AnswersInput honest text old new))
-all_written honest known (Err error) answers bytes old new r same h = tt
-all_written honest None (Ok done) answers bytes old new r same h = tt
-all_written honest (Some text) (Ok done) answers bytes old new r same h =
-    input_answered honest text (Ok done) answers old new r (subst (λ (t : List ℕ). Appends old new t) same h)
-
--- all of the answers were written before a refusal was told
-pub until_written : (honest : Bool) (known : Option (List ℕ)) (ended : Result Unit Error) (answers bytes : List ℕ) (old new : Option (List ℕ))
-    → IfSome known (λ text. Ran honest text ended answers) → bytes ≡ answers → Appends old new bytes
-    → IfErr ended (λ error. IfSome known (λ text. FailsInput honest text old new error))
-until_written honest known (Ok done) answers bytes old new r same h = tt
-until_written honest None (Err error) answers bytes old new r same h = tt
-until_written honest (Some text) (Err error) answers bytes old new r same h =
-    input_failed honest text (Err error) answers old new r (subst (λ (t : List ℕ). Appends old new t) same h)
-
--- the output failed
-pub not_written : (honest : Bool) (known : Option (List ℕ)) (ended : Result Unit Error) (answers bytes : List ℕ) (old new : Option (List ℕ)) (error : Error)
-    → IfSome known (λ text. Ran honest text ended answers) → bytes ≡ answers → AppendsFront old new bytes → IsIo error
-    → IfSome known (λ text. FailsInput honest text old new error)
-not_written honest None ended answers bytes old new error r same h io = tt
-not_written honest (Some text) ended answers bytes old new error r same h io =
-    let how = ran_ends honest text ended answers r in
-    unwritten error ended how.0 io how.1 (subst (λ (t : List ℕ). AppendsFront old new t) (same ∙ how.2) h)
+pub run_until : (honest heard : Bool) (known : Option (List ℕ)) (start text slice : List ℕ) (commands given : List (Option Command)) (ended : Result Unit Error) (old new : Option (List ℕ))
+    → start ≡ [] → IfSome known (λ xs. text ≡ start ++ xs) → slice ≡ text → heard ≡ honest → AllZip (Hears heard) (lines_of slice) commands → given ≡ commands
+    → IfErr ended (λ error. PrintsUntil honest given error old new) → IfErr ended (λ error. IfSome known (λ xs. FailsInput honest xs old new error))
+run_until honest heard known start text slice commands given (Ok done) old new none added shown same reads is until = tt
+run_until honest heard None start text slice commands given (Err error) old new none added shown same reads is until = tt
+run_until honest heard (Some xs) start text slice commands given (Err error) old new none added shown same reads is until =
+    let whole = same_text xs start text slice none added shown in
+    let here = subst (λ (t : List ℕ). AllZip (Hears honest) (lines_of t) commands) whole (subst (λ (b : Bool). AllZip (Hears b) (lines_of slice) commands) same reads) in
+    input_failed honest xs commands error old new here (subst (λ (cs : List (Option Command)). PrintsUntil honest cs error old new) is until)
 
 -- the input or the output failed
 pub io_is : (error : Error) (kind : ErrorKind) → error ≡ Io kind → IsIo error × IsIoOrMemory error
@@ -110,6 +84,11 @@ io_is error kind same = rw same (tt, tt)
 -- memory ran out
 pub memory_is : (error : Error) → error ≡ OutOfMemory → IsIoOrMemory error
 memory_is error same = rw same tt
+
+-- no core was opened
+pub not_opened : (honest : Bool) (known old : Option (List ℕ)) (error : Error) → NotBegun honest error → IfSome known (λ text. FailsInput honest text old old error)
+not_opened honest None old error h = tt
+not_opened honest (Some text) old error h = unopened error h (Keeps-refl old)
 
 -- nothing was run
 pub not_read : (honest : Bool) (known old : Option (List ℕ)) (error : Error) → IsIoOrMemory error → IfSome known (λ text. FailsInput honest text old old error)

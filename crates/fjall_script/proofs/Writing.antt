@@ -4,7 +4,7 @@ use Rattle.std.specs.Prelude.{OnOk, OnErr}
 use Rattle.std.specs.Io.KnownBytes.{Appends, Keeps}
 use Rattle.std.proofs.KnownBytes.{Appends-kept, Appends-nil, Appends-trans}
 use Rattle.std.proofs.lemmas.List.{append-nil, take-append-drop}
-use Rattle.fjall_script.specs.Runs.{AppendsFront}
+use Rattle.fjall_script.specs.Outputs.{AppendsFront}
 
 -- a beginning of the text was written, and this is left of it
 pub record Wrote (old new : Option (List ℕ)) (whole rest : List ℕ) : Type 0 where

@@ -1,31 +1,21 @@
 -- What the program writes for an input.
-use Rattle.std.specs.Prelude.{◌≡◌, ℕ, Bool, false, codes, List, [], ◌++◌, Option, Some, None, IfSome, IsTrue, Result, Err, map, String, string_bytes}
+use Rattle.std.specs.Prelude.{◌≡◌, ℕ, Bool, true, codes, List, [], ◌++◌, Option, IfSome, IsTrue, map, String, string_bytes}
 use Rattle.std.specs.List.{AllZip, list_all}
 use Rattle.std.specs.Str.{bytes_eq}
 use Rattle.std.specs.Io.KnownBytes.{Appends, Keeps}
 use Rattle.fjall_base.specs.declared.error.Error.{Error}
-use Rattle.fjall_base.specs.declared.error.Error.TheVariants.{Io, OutOfMemory}
-use Rattle.fjall_script.specs.declared.command.Command.{Command}
-use Rattle.fjall_script.specs.declared.command.Command.TheVariants.{Crash}
+use Rattle.fjall_lines.specs.declared.command.Command.{Command}
+use Rattle.fjall_lines.specs.Hearing.{Hears}
+use Rattle.fjall_lines.specs.Lines.{lines_of}
 use Rattle.fjall_script.specs.declared.program.Status.{Status}
 use Rattle.fjall_script.specs.declared.program.Status.TheVariants.{Failure}
 use Rattle.fjall_script.specs.Statuses.{status_code}
-use Rattle.fjall_script.specs.Lines.{lines_of, Reads}
 use Rattle.fjall_script.specs.Answers.{refusal_line, text_of}
+use Rattle.fjall_script.specs.Outputs.{IsIoOrMemory}
 use Rattle.fjall_core.specs.Holding.{Held}
-use Rattle.fjall_script.specs.Lived.{HasLived, HasLivedIfAny}
-use Rattle.fjall_script.specs.Machine.{IsClosed}
-use Rattle.fjall_script.specs.Sessions.{Ends, IsAnswer, Session}
-
--- What a line asks for. Over a disk of which nothing is known, as a folder, a crash can't be asked for, and its line is no
--- command.
-abbrev pub heard : Bool → Option Command → Option Command
-heard false (Some (Crash keep)) = None
-heard honest found = found
-
--- the line asks for this
-abbrev pub Hears : Bool → List ℕ → Option Command → Type 0
-Hears honest line found = (read : Option Command) × (Reads line read × (found ≡ heard honest read))
+use Rattle.fjall_script.specs.Lived.{HasLived}
+use Rattle.fjall_script.specs.Machine.{IsClosed, NotBegun}
+use Rattle.fjall_script.specs.Sessions.{EndsBy, IsAnswer, Session}
 
 -- Each line of the text is read as a command or as none, a session of these came to its end, the core was
 -- closed, and what was printed was added: an answer for each. Over a disk that returns what it holds the session came to lives
@@ -35,47 +25,34 @@ pub record AnswersInput (honest : Bool) (text : List ℕ) (old new : Option (Lis
   pub core : Held
   pub printed : List (List ℕ)
   pub reads : AllZip (Hears honest) (lines_of text) commands
-  pub session : Session honest commands core printed []
+  pub session : Session honest commands true core printed []
   pub closed : IsClosed honest core
   pub lived : IsTrue honest → HasLived commands [] printed core
   pub answers : AllZip IsAnswer commands printed
   pub appends : Appends old new (text_of printed)
 
--- Each line of the text is read as a command or as none, and a session of these ended so. What it printed are the answers to
--- the commands of a beginning, one for each; the rest has none. Over a disk that returns what it holds it came to lives of
--- engines one after another, where it printed anything.
-pub record RunsInput (honest : Bool) (text : List ℕ) (ended : Result Unit Error) (printed : List (List ℕ)) : Type 0 where
+-- Each line of the text is read as a command or as none, and a session of these has come so far. What it printed are the
+-- answers to the commands of a beginning, one for each; the rest has none. Over a disk that returns what it holds it came to
+-- lives of engines one after another.
+pub record RunsInput (honest : Bool) (text : List ℕ) : Type 0 where
   pub commands : List (Option Command)
   pub front : List (Option Command)
   pub rest : List (Option Command)
+  pub ran : Bool
+  pub core : Held
+  pub printed : List (List ℕ)
   pub reads : AllZip (Hears honest) (lines_of text) commands
   pub split : commands ≡ front ++ rest
+  pub session : Session honest commands ran core printed rest
   pub answers : AllZip IsAnswer front printed
-  pub ends : Ends honest commands printed rest ended
-  pub lived : IsTrue honest → HasLivedIfAny commands rest printed
+  pub lived : IsTrue honest → HasLived commands rest printed core
 
--- the input or the output failed
-abbrev pub IsIo : Error → Type 0
-IsIo (Io kind) = Unit {0}
-IsIo error = ⊥
-
--- the same, or memory ran out
-abbrev pub IsIoOrMemory : Error → Type 0
-IsIoOrMemory OutOfMemory = Unit {0}
-IsIoOrMemory error = IsIo error
-
--- a beginning of these bytes was added
-abbrev pub AppendsFront : Option (List ℕ) → Option (List ℕ) → List ℕ → Type 0
-AppendsFront old new bytes = (front : List ℕ) × (rest : List ℕ) × (bytes ≡ front ++ rest) × Appends old new front
-
--- What is printed for an input that fails with this refusal. Where it could not be read, nothing; where the session was
--- refused, all that it answered before; where the output failed, a beginning of what the session answered.
+-- What is printed for an input that fails with this refusal. Where no core could be opened, or the input could not be read,
+-- nothing; where the session was refused, all that it answered before; where the output failed, a beginning of that.
 pub data FailsInput (honest : Bool) (text : List ℕ) (old new : Option (List ℕ)) : Error → Type 0 where
+  unopened : (error : Error) → NotBegun honest error → Keeps old new → FailsInput honest text old new error
   unread : (error : Error) → IsIoOrMemory error → Keeps old new → FailsInput honest text old new error
-  refused : (error : Error) (printed : List (List ℕ)) → RunsInput honest text (Err error) printed → Appends old new (text_of printed)
-      → FailsInput honest text old new error
-  unwritten : (error : Error) (ended : Result Unit Error) (printed : List (List ℕ)) → IsIo error → RunsInput honest text ended printed
-      → AppendsFront old new (text_of printed) → FailsInput honest text old new error
+  refused : (error : Error) (r : RunsInput honest text) → EndsBy honest r.core r.ran r.rest r.printed old new error → FailsInput honest text old new error
 
 -- How the program fails: one refusal ended it, for which the output is as it should be, and its line was added to `errors`,
 -- but for a failure of `errors` itself, which has a status of its own.

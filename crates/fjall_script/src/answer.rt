@@ -1,12 +1,12 @@
 //! The text of an answer.
 
 ghost use Rattle.std.specs.Prelude.{◌≡◌, IfOk, Some, string_bytes};
-ghost use Rattle.fjall_script.specs.Lines.{hex_word};
+ghost use Rattle.fjall_lines.specs.Lines.{hex_word};
 ghost use Rattle.fjall_script.specs.Answers.{pairs_text, refusal_text, reply_text};
 
-use crate::command::Command;
 use fjall_base::{Error, KvPair, Slice};
 use fjall_core::Reply;
+use fjall_lines::Request;
 use std::alloc::{AllocError, Global};
 use std::fmt;
 
@@ -51,9 +51,14 @@ fn pairs_text(alloc: Global, pairs: &[KvPair]) -> Result<String, AllocError>
     Ok(text)
 }
 
-/// What a command is answered, by the reply to its call.
-pub fn answer(alloc: Global, command: &Command, reply: &Reply) -> Result<String, AllocError>
-    ensures { IfOk result (λ text. string_bytes text ≡ reply_text command.now reply.now) }
+/// What a request is answered, by the reply to its call, where a snapshot that it opens gets this number.
+pub fn answer(
+    alloc: Global,
+    request: &Request,
+    reply: &Reply,
+    number: usize,
+) -> Result<String, AllocError>
+    ensures { IfOk result (λ text. string_bytes text ≡ reply_text number request.now reply.now) }
 {
     match reply {
         Reply::Done => String::from_str(alloc, "ok"),
@@ -62,16 +67,17 @@ pub fn answer(alloc: Global, command: &Command, reply: &Reply) -> Result<String,
             let word = hex_word(alloc, value)?;
             format!(in alloc; "value {word}")
         }
-        Reply::Pairs(pairs) => match command {
-            Command::Len(_) => {
+        Reply::Pairs(pairs) => match request {
+            Request::Len(_) => {
                 let count = pairs.len();
                 format!(in alloc; "count {count}")
             }
             _ => pairs_text(alloc, pairs.as_slice()),
         },
-        Reply::Number(number) => match command {
-            Command::Keyspace(_) => format!(in alloc; "keyspace {number}"),
-            _ => format!(in alloc; "count {number}"),
+        Reply::Number(count) => match request {
+            Request::Keyspace(_) => format!(in alloc; "keyspace {count}"),
+            Request::Gc => format!(in alloc; "watermark {count}"),
+            _ => format!(in alloc; "count {count}"),
         },
         Reply::Names(names) => {
             let count = names.len();
@@ -79,6 +85,7 @@ pub fn answer(alloc: Global, command: &Command, reply: &Reply) -> Result<String,
         }
         Reply::Flag(true) => String::from_str(alloc, "true"),
         Reply::Flag(false) => String::from_str(alloc, "false"),
+        Reply::Opened(_) => format!(in alloc; "snapshot {number}"),
         Reply::Refused(error) => Refusal(*error).to_string(alloc),
     }
 }

@@ -1,14 +1,13 @@
-//! Scripts of commands: their lines are read, run over the engine in memory or in a folder, and answered.
+//! Sessions: the commands of a script run over the engine in memory or in a folder, and each line is answered.
 #![tactic(auto)]
 
 mod answer;
-mod command;
-mod parse;
+mod calls;
+mod output;
 mod place;
 mod program;
-mod script;
 mod session;
 
-pub use command::Command;
+pub use fjall_lines::Command;
 pub use place::{Folder, Memory, Place};
 pub use program::{Status, fail, run, run_folder, run_memory, run_over, usage};

@@ -4,9 +4,9 @@ ghost use Rattle.std.specs.Prelude.{◌≡◌, IsTrue, IfErr, IfOk};
 ghost use Rattle.fjall_script.specs.Machine.{IsNew, IsNoDisk};
 ghost use Rattle.fjall_script.specs.Sessions.{Leaves};
 
-use crate::command::Command;
 use fjall_base::{Disk, Result};
 use fjall_folder::FolderDisk;
+use fjall_lines::Command;
 use fjall_memory::MemoryDisk;
 use std::alloc::Global;
 

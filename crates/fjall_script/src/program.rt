@@ -1,20 +1,20 @@
-//! The program: all of an input is read, run and answered.
+//! The program: the engine of a place is opened, and then all of an input is read, run and answered.
 
-ghost use Rattle.std.specs.Prelude.{◌≡◌, true, false, ◌≢◌, ◌↔◌, IfErr, OnErr, OnOk, length};
+ghost use Rattle.std.specs.Prelude.{◌≡◌, true, false, ◌≢◌, ◌↔◌, IfErr, OnOk, length};
 ghost use Rattle.std.specs.Io.KnownBytes.{Appends};
 ghost use Rattle.fjall_script.specs.Answers.{refusal_line};
 ghost use Rattle.std.specs.Process.{exit_status};
-ghost use Rattle.fjall_script.specs.Runs.{AnswersKnown, AppendsFront, FailsKnown, IfFails, in_memory};
+ghost use Rattle.fjall_script.specs.Runs.{AnswersKnown, FailsKnown, IfFails, in_memory};
 ghost use Rattle.fjall_script.specs.Statuses.{status_code};
 
 use crate::answer::Refusal;
 use crate::place::{Folder, Memory, Place};
-use crate::script::commands;
-use crate::session::run_session;
+use crate::session::{begun, run_session};
 use fjall_base::{Error, Result};
+use fjall_lines::commands;
 use std::alloc::Global;
 use std::io;
-use std::io::{ErrorKind, Read, Write};
+use std::io::{Read, Write};
 use std::process::ExitCode;
 
 /// What wrong arguments are answered.
@@ -73,28 +73,8 @@ pub fn fail<E: Write>(error: Error, errors: &mut E) -> Status
     }
 }
 
-// Writes all of a text. Where that fails, a beginning of it was written.
-fn write_text<W: Write>(text: &[u8], output: &mut W) -> io::Result<()>
-    ensures ok { OnOk result (Appends (W.contents output.old) (W.contents output.new) text.now) }
-    ensures err { OnErr result (AppendsFront (W.contents output.old) (W.contents output.new) text.now) }
-{
-    let mut rest = text;
-    for _ in 0..usize::MAX {
-        if rest.is_empty() {
-            return output.flush();
-        }
-        match output.write(rest) {
-            Ok(0) => break,
-            Ok(count) => rest = &rest[count..],
-            Err(error) if error.kind() == ErrorKind::Interrupted => {}
-            Err(error) => return Err(error),
-        }
-    }
-    Err(io::Error::from(ErrorKind::WriteZero))
-}
-
-// Reads all of an input, runs it, and writes the answers. Where the session is refused, the answers before that are
-// written first.
+// Opens the engine of a place, reads all of an input, and runs it: the answers to each list of calls are written as soon as it
+// has run.
 fn serve<P: Place, R: Read, W: Write>(
     alloc: Global,
     place: &P,
@@ -104,13 +84,11 @@ fn serve<P: Place, R: Read, W: Write>(
     ensures answered { OnOk result (AnswersKnown P.Disk.honest (R.remaining input.old) W.contents output.old output.new) }
     ensures failed { IfErr result (FailsKnown P.Disk.honest (R.remaining input.old) W.contents output.old output.new) }
 {
+    let core = begun(alloc, place)?;
     let mut text = Vec::new(alloc);
     input.read_to_end(&mut text)?;
     let commands = commands(alloc, text.as_slice(), place.hears_crashes())?;
-    let mut answers = String::new(alloc);
-    let ended = run_session(alloc, place, commands.as_slice(), &mut answers);
-    write_text(answers.as_bytes(), output)?;
-    ended
+    run_session(alloc, place, core, commands.as_slice(), output)
 }
 
 // Runs the commands of an input over the engine of a place, and tells of a refusal.
@@ -134,9 +112,10 @@ pub fn run_over<P: Place, R: Read, W: Write, E: Write>(
 
 /// Runs the commands of an input over an engine in memory, and prints a line for each.
 ///
-/// All of the input is read first. Where the session is refused (see [`run_session`]), the answers before that are
-/// printed; where the output fails, a beginning of the answers; where the input fails, none. Each time `errors` gets the
-/// refusal's line.
+/// The engine is opened, and then all of the input is read. The lines up to each crash or reopening, and up to the end, are one
+/// list of calls, whose answers are written as soon as it has run. Where the session is refused (see [`run_session`]), the
+/// answers before that are printed; where the output fails, a beginning of the answers; where the opening or the input fails,
+/// none. Each time `errors` gets the refusal's line.
 pub fn run_memory<R: Read, W: Write, E: Write>(
     alloc: Global,
     input: &mut R,

@@ -1,19 +1,21 @@
-//! Runs commands over a core, and gathers what is to be printed.
+//! Runs commands over a core, list by list, and prints the answers of each as soon as it has run.
 
-ghost use Rattle.std.specs.Prelude.{◌≡◌, true, IfErr, IfOk, IsOkUnless, OnOk, OnErr, string_bytes};
+ghost use Rattle.std.specs.Prelude.{◌≡◌, ◌<◌, ◌+◌, ◌^◌, true, IfErr, IfOk, IsOkUnless, OnOk, length, string_bytes};
 ghost use Rattle.std.specs.List.{position};
 ghost use Rattle.fjall_script.specs.Answers.{text_of};
 ghost use Rattle.fjall_script.specs.Machine.{Begins, NotBegun, OpenedOn, RefusedOn};
-ghost use Rattle.fjall_script.specs.Sessions.{all_pairs, answers_to, call_of, calls_of, is_stop, NotRestarted, PrintsAll, PrintsUntil, Restarts, RunsFront};
+ghost use Rattle.fjall_script.specs.Requests.{is_stop};
+ghost use Rattle.fjall_script.specs.Sessions.{AnsweredFront, answers_to, FrontFails, NotRestarted, PrintsAll, PrintsUntil, Restarts, RunsFront};
 
 use crate::answer::{BAD_LINE, answer};
-use crate::command::Command;
+use crate::calls::{asked_in, asked_with, calls_of};
+use crate::output::write_text;
 use crate::place::Place;
 use fjall_base::{Disk, Error, Result};
-use fjall_core::{Call, Config, Core, PersistMode, Reply, View};
-use fjall_options::KeyspaceCreateOptions;
+use fjall_core::{Config, Core, Reply};
+use fjall_lines::Command;
 use std::alloc::{AllocError, Global};
-use std::ops::Bound;
+use std::io::Write;
 
 fn is_stop(found: &Option<Command>) -> bool
     ensures { result ≡ is_stop found.now }
@@ -28,93 +30,75 @@ fn first_stop(commands: &[Option<Command>]) -> Option<usize>
     commands.iter().position(|found| is_stop(found))
 }
 
-// The call for all pairs of a keyspace.
-fn all_pairs(id: u64) -> Call
-    ensures { result ≡ all_pairs id }
-{
-    let everywhere = (Bound::Unbounded, Bound::Unbounded);
-    Call::PageAt(View::Present, id, everywhere, false, usize::MAX)
-}
-
-fn call_of(alloc: Global, found: &Option<Command>) -> Result<Option<Call>>
-    ensures ok { IfOk result (λ call. call ≡ call_of found.now) }
-    ensures only { IsOkUnless result Error.OutOfMemory }
-{
-    match found {
-        Some(Command::Keyspace(name)) => {
-            let options = KeyspaceCreateOptions::default(alloc)?;
-            Ok(Some(Call::Keyspace(name.clone()?, options)))
-        }
-        Some(Command::Delete(id)) => Ok(Some(Call::DeleteKeyspace(*id))),
-        Some(Command::Insert(id, key, value)) => {
-            Ok(Some(Call::Insert(*id, key.clone()?, value.clone()?)))
-        }
-        Some(Command::Remove(id, key)) => Ok(Some(Call::Remove(*id, key.clone()?))),
-        Some(Command::RemoveWeak(id, key)) => Ok(Some(Call::RemoveWeak(*id, key.clone()?))),
-        Some(Command::Len(id) | Command::Scan(id)) => Ok(Some(all_pairs(*id))),
-        Some(Command::Get(id, key)) => Ok(Some(Call::GetAt(View::Present, *id, key.clone()?))),
-        Some(Command::Persist) => Ok(Some(Call::Persist(PersistMode::SyncAll))),
-        _ => Ok(None),
-    }
-}
-
-fn calls_of(alloc: Global, commands: &[Option<Command>]) -> Result<Vec<Call>>
-    ensures ok { IfOk result (λ calls. calls.items ≡ calls_of commands.now) }
-    ensures only { IsOkUnless result Error.OutOfMemory }
-{
-    let mut calls = Vec::new(alloc);
-    for found in commands {
-        if let Some(call) = call_of(alloc, found)? {
-            calls.push(call)?;
-        }
-    }
-    Ok(calls)
-}
-
-// The answers to calls, a line for each, and to the lines between them that are no commands.
+// The answers to lines, a line for each, where so many snapshots were asked for before.
 fn answers_to(
     alloc: Global,
     commands: &[Option<Command>],
     replies: &[Reply],
+    earlier: usize,
 ) -> std::result::Result<String, AllocError>
-    ensures { IfOk result (λ text. string_bytes text ≡ text_of (answers_to commands.now replies.now)) }
+    requires { earlier + length commands.now < 2 ^ 63 }
+    ensures { IfOk result (λ text. string_bytes text ≡ text_of (answers_to earlier commands.now replies.now)) }
 {
     let mut text = String::new(alloc);
     let mut left = replies;
+    let mut asked = earlier;
     for found in commands {
         match found {
             None => text.push_str(BAD_LINE)?,
-            Some(command) => {
-                let Some((reply, more)) = left.split_first() else {
-                    return Ok(text);
-                };
-                text.push_str(answer(alloc, command, reply)?.as_str())?;
-                left = more;
-            }
+            Some(command) => match command {
+                Command::Ask(request) => {
+                    let Some((reply, more)) = left.split_first() else {
+                        return Ok(text);
+                    };
+                    text.push_str(answer(alloc, request, reply, asked + 1)?.as_str())?;
+                    asked = asked_with(asked, request);
+                    left = more;
+                }
+                Command::Crash(_) => text.push_str("ok")?,
+                Command::Reopen => text.push_str("ok")?,
+            },
         }
         text.push_str("\n")?;
     }
     Ok(text)
 }
 
-// Runs the calls before the first crash or reopening as one list, adds their answers, and returns the
-// commands from there on.
-fn run_front<'a, D: Disk>(
+// Runs the calls before the first crash or reopening as one list. It returns the commands from there on, the answers, and
+// how many snapshots were asked for up to there.
+fn answer_front<'a, D: Disk>(
     alloc: Global,
     core: &mut Core<D>,
     commands: &'a [Option<Command>],
-    answers: &mut String,
-) -> Result<&'a [Option<Command>]>
-    ensures ok { IfOk result (λ rest. RunsFront D.honest commands.now rest.now core.old core.new (string_bytes answers.old) (string_bytes answers.new)) }
-    ensures err { OnErr result (string_bytes answers.new ≡ string_bytes answers.old) }
+    earlier: usize,
+) -> Result<(&'a [Option<Command>], String, usize)>
+    requires { earlier + length commands.now < 2 ^ 63 }
+    ensures ok { IfOk result (λ front. AnsweredFront D.honest earlier commands.now front.0.now core.old core.new (string_bytes front.1) front.2) }
     ensures only { IsOkUnless result Error.OutOfMemory }
 {
     let end = first_stop(commands).unwrap_or(commands.len());
     let (front, rest) = commands.split_at(end);
-    let replies = core.run(calls_of(alloc, front)?)?;
-    let text = answers_to(alloc, front, replies.as_slice())?;
-    answers.push_str(text.as_str())?;
-    Ok(rest)
+    let replies = core.run(calls_of(alloc, front, earlier)?)?;
+    let text = answers_to(alloc, front, replies.as_slice(), earlier)?;
+    Ok((rest, text, asked_in(earlier, front)))
+}
+
+// Runs the calls before the first crash or reopening as one list, and prints their answers. It returns the commands from there
+// on, and how many snapshots were asked for up to there.
+fn run_front<'a, D: Disk, W: Write>(
+    alloc: Global,
+    core: &mut Core<D>,
+    commands: &'a [Option<Command>],
+    earlier: usize,
+    output: &mut W,
+) -> Result<(&'a [Option<Command>], usize)>
+    requires { earlier + length commands.now < 2 ^ 63 }
+    ensures ok { IfOk result (λ front. RunsFront D.honest earlier commands.now front.0.now core.old core.new (W.contents output.old) (W.contents output.new) front.1) }
+    ensures err { IfErr result (FrontFails D.honest earlier commands.now core.old core.new (W.contents output.old) (W.contents output.new)) }
+{
+    let (rest, text, asked) = answer_front(alloc, core, commands, earlier)?;
+    write_text(text.as_bytes(), output)?;
+    Ok((rest, asked))
 }
 
 fn opened<D: Disk + Drop>(alloc: Global, config: Config, disk: D) -> Result<Core<D>>
@@ -127,7 +111,8 @@ fn opened<D: Disk + Drop>(alloc: Global, config: Config, disk: D) -> Result<Core
     }
 }
 
-fn begun<P: Place>(alloc: Global, place: &P) -> Result<Core<P::Disk>>
+/// The core that a session begins with, on the disk of a place.
+pub(crate) fn begun<P: Place>(alloc: Global, place: &P) -> Result<Core<P::Disk>>
     ensures ok { IfOk result (λ core. Begins P.Disk.honest core) }
     ensures err { IfErr result (NotBegun P.Disk.honest) }
 {
@@ -152,23 +137,26 @@ fn restarted<P: Place>(
     opened(alloc, Config::new(alloc, "")?, place.restart(disk, stop)?)
 }
 
-/// Runs commands over the engine of a place, and adds to a text what they print, a line for each. A refused opening, a
-/// list of calls that is refused as a whole and a refused closing at the end end it.
-pub fn run_session<P: Place>(
+/// Runs commands over a core that was opened on the disk of a place, and prints a line for each. The calls up to a crash, a
+/// reopening or the end are one list, whose answers are written as soon as it has run. A list of calls that is refused as a
+/// whole, an opening that is refused, an output that fails and a refused closing at the end end it.
+pub(crate) fn run_session<P: Place, W: Write>(
     alloc: Global,
     place: &P,
+    core: Core<P::Disk>,
     commands: &[Option<Command>],
-    answers: &mut String,
+    output: &mut W,
 ) -> Result<()>
-    ensures ok { OnOk result (PrintsAll P.Disk.honest commands.now (string_bytes answers.old) (string_bytes answers.new)) }
-    ensures err { IfErr result (λ error. PrintsUntil P.Disk.honest commands.now error (string_bytes answers.old) (string_bytes answers.new)) }
+    requires { Begins P.Disk.honest core }
+    ensures ok { OnOk result (PrintsAll P.Disk.honest commands.now (W.contents output.old) (W.contents output.new)) }
+    ensures err { IfErr result (λ error. PrintsUntil P.Disk.honest commands.now error (W.contents output.old) (W.contents output.new)) }
 {
-    let mut core = begun(alloc, place)?;
-    let mut rest = run_front(alloc, &mut core, commands, answers)?;
+    let mut core = core;
+    let (mut rest, mut asked) = run_front(alloc, &mut core, commands, 0, output)?;
     while let Some((stop, after)) = rest.split_first() {
         core = restarted(alloc, place, core, stop)?;
-        answers.push_str("ok\n")?;
-        rest = run_front(alloc, &mut core, after, answers)?;
+        write_text(b"ok\n", output)?;
+        (rest, asked) = run_front(alloc, &mut core, after, asked, output)?;
     }
     core.close().1
 }

@@ -1,16 +1,18 @@
 -- Where no refusal is due, no cause of one holds.
-use Rattle.std.proofs.Common.{◌≡◌, ◌≢◌, ℕ, ◌<◌, ◌-◌, ◌^◌, ◌==◌, ◌||◌, ◌&&◌, not, nat_le, Bool, true, false, List, [], ◌∷◌, length, None, refl, sym, ap, arith}
+use Rattle.std.proofs.Common.{◌≡◌, ◌≢◌, ℕ, ◌<◌, ◌-◌, ◌^◌, ◌==◌, ◌||◌, ◌&&◌, not, nat_le, Bool, true, false, if◌then◌else◌, List, [], ◌∷◌, All, Option, None, Some, refl, sym, ap, arith}
 use Rattle.std.proofs.lemmas.Bool.{true≢false}
 use Rattle.std.proofs.lemmas.Bool.Decides.{nat_tests}
+use Rattle.std.proofs.lemmas.List.Elements.{All-cons, All-nil}
 use Rattle.std.proofs.lemmas.Option.{none-some}
-use Rattle.std.specs.List.{AllByRecursion}
+use Rattle.std.specs.List.{AllByRecursion, list_any}
 use Rattle.fjall_base.specs.Pairs.{Bytes}
 use Rattle.fjall_base.specs.declared.error.Error.{Error}
-use Rattle.fjall_base.specs.declared.error.Error.TheVariants.{UnknownKeyspace}
+use Rattle.fjall_base.specs.declared.error.Error.TheVariants.{KeyEmpty, KeyTooLong, TooManyItems, ValueTooLong}
+use Rattle.fjall_journal.specs.Ops.{BatchItem}
 use Rattle.fjall_meta.specs.Keyspaces.{is_name}
-use Rattle.fjall_state.specs.declared.call.Call.TheVariants.{Release}
-use Rattle.fjall_state.specs.Machine.{is_unknown, Facts, creation_refusals, deletion_refusals, due_in, first_due, handles_of, has_name, is_living, write_refusals}
-use Rattle.fjall_state.specs.Allowed.{MayCreate, MayDelete, MayWrite}
+use Rattle.fjall_state.specs.Shapes.{OneLess}
+use Rattle.fjall_state.specs.Machine.{Facts, change_refusals, creation_refusals, deletion_refusals, first_due, handle_refusals, handles_of, has_name, is_living}
+use Rattle.fjall_state.specs.Allowed.{MayChange, MayCreate, MayDelete}
 
 pub none_due : (refusals : List (Bool × Error)) → first_due refusals ≡ None → AllByRecursion (λ refusal. refusal.0 ≡ false) refusals
 none_due [] none = tt
@@ -38,16 +40,23 @@ differs a b e = grind (arith, nat_tests)
 positive : (a : ℕ) → (a == 0) ≡ false → 0 < a
 positive a e = grind (arith, nat_tests)
 
-pub may_write : (f : Facts) (id : ℕ) (key value : Bytes) → first_due (write_refusals f id key value) ≡ None → MayWrite f id key value
-may_write f id key value none =
-    let causes = none_due (write_refusals f id key value) none in
+none_of : {X : Type 0} (test : X → Bool) (xs : List X) → list_any (λ x. not (test x)) xs ≡ false → All (λ x. test x ≡ true) xs
+none_of test [] none = All-nil (λ x. test x ≡ true)
+none_of test (x ∷ xs) none =
+    let apart = neither (not (test x)) (list_any (λ y. not (test y)) xs) none in
+    All-cons (λ y. test y ≡ true) x xs (is_so (test x) apart.0) (none_of test xs apart.1)
+
+abbrev refusal_by : Bool → Bool → Bool → Bool → Option Error
+refusal_by empty key value many = if empty then Some KeyEmpty else (if key then Some KeyTooLong else (if value then Some ValueTooLong else (if many then Some TooManyItems else None)))
+
+pub may_change : (f : Facts) (items : List BatchItem) → first_due (change_refusals f items) ≡ None → MayChange f items
+may_change f items none =
+    let causes = none_due (change_refusals f items) none in
     record {
-      living = is_so (is_living f.store id) causes.1.1.1.1.0;
+      living = none_of (λ (item : BatchItem). is_living f.store item.0) items causes.1.1.1.1.0;
       well = causes.1.1.1.1.1.0;
-      numbered = below f.next (2 ^ 63) causes.1.1.1.1.1.1.0;
-      filled = positive (length key) causes.0;
-      key_fits = below (length key) (2 ^ 16) causes.1.0;
-      value_fits = below (length value) (2 ^ 32) causes.1.1.0;
+      numbered = below f.next (2 ^ 63) causes.1.1.1.1.1.1.1.0;
+      fits = λ i. refusal_by (causes.0 i) (causes.1.0 i) (causes.1.1.0 i) (causes.1.1.1.1.1.1.0 i);
     }
 
 pub may_create : (f : Facts) (name : Bytes) → first_due (creation_refusals f name) ≡ None → MayCreate f name
@@ -81,5 +90,5 @@ may_delete f id none =
           };
     }
 
-pub is_counted : (f : Facts) (id : ℕ) → due_in f (Release id) ≡ None → 0 < handles_of f.handles id
-is_counted f id none = let causes = none_due ((is_unknown f.store id, UnknownKeyspace) ∷ (handles_of f.handles id == 0, UnknownKeyspace) ∷ []) none in positive (handles_of f.handles id) causes.1.0
+pub is_counted : (f : Facts) (id : ℕ) → first_due (handle_refusals f OneLess id) ≡ None → 0 < handles_of f.handles id
+is_counted f id none = let causes = none_due (handle_refusals f OneLess id) none in positive (handles_of f.handles id) causes.1.0

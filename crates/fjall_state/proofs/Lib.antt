@@ -1,7 +1,9 @@
 pub mod Counting
 pub mod Facts
+pub mod Viewing
 pub mod Lawful
 pub mod Standing
 pub mod Dues
 pub mod Refusing
+pub mod Moving
 pub mod ByHand

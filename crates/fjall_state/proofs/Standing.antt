@@ -1,188 +1,237 @@
 -- What calls make of what is held stands for what they make of states.
-use Rattle.std.proofs.Common.{◌≡◌, ◌≢◌, ℕ, ◌+◌, ◌-◌, ◌<◌, ◌^◌, ◌==◌, ◌||◌, ◌&&◌, ◌↔◌, not, nat_le, Bool, true, false, cond, if◌then◌else◌, List, [], ◌∷◌, ◌++◌, length, map, All, Option, None, Some, unwrap_or, refl, sym, ap, subst, ◌∙◌, arith, length-append}
+use Rattle.std.proofs.Common.{◌≡◌, ◌≢◌, ◌⊎◌, ⊎_elim, inl, inr, ℕ, ◌+◌, ◌-◌, ◌<◌, ◌≤◌, ◌^◌, ◌==◌, ◌||◌, ◌&&◌, ◌↔◌, not, nat_le, Bool, true, false, cond, if◌then◌else◌, List, [], ◌∷◌, ◌++◌, length, map, All, Option, None, Some, unwrap_or, refl, sym, ap, subst, ◌∙◌, arith}
 use Rattle.std.proofs.lemmas.Bool.{true≢false, false_from_ne_true}
 use Rattle.std.proofs.lemmas.Bool.Decides.{nat_tests}
-use Rattle.std.proofs.lemmas.List.Elements.{All-filter, All-head, All-nil, All-push, All-tail, All-weaker, filter_passes}
-use Rattle.std.specs.FinMap.{FinMap, contains_key, empty, get, insert, len, values}
+use Rattle.std.proofs.lemmas.List.Elements.{All-cons, All-filter, All-nil, All-weaker}
+use Rattle.std.proofs.lemmas.Option.{none-some}
+use Rattle.std.specs.FinMap.{FinMap, contains_key, empty, get, get-empty, insert, len, values}
 use Rattle.std.specs.Ordering.{nat_cmp}
 use Rattle.std.specs.Option.{is_some}
-use Rattle.fjall_base.specs.Pairs.{Bytes, Pairs, altered, lookup}
-use Rattle.fjall_base.specs.Store.{Command, Create, Delete, Store, apply, fold, kept, map_at}
-use Rattle.fjall_base.specs.declared.error.Error.TheVariants.{KeyspaceDeleted, Storage, UnknownKeyspace}
+use Rattle.fjall_base.specs.Pairs.{Bytes, Pairs}
+use Rattle.fjall_base.specs.Store.{Command, Create, Delete, Store, apply, kept, map_at}
+use Rattle.fjall_base.specs.declared.error.Error.{Error}
+use Rattle.fjall_base.specs.declared.error.Error.TheVariants.{KeyspaceDeleted, SnapshotClosed, Storage, UnknownKeyspace}
 use Rattle.fjall_base.specs.declared.error.StorageError.TheVariants.{TableDamaged}
-use Rattle.fjall_meta.specs.Keyspaces.{Keyspaces, id_of, is_name}
+use Rattle.fjall_journal.specs.Ops.{BatchItem, write_of}
+use Rattle.fjall_meta.specs.declared.living.LivingKeyspace.{LivingKeyspace}
+use Rattle.fjall_meta.specs.Keyspaces.{Keyspaces, id_of, is_name, keyspace_at}
 use Rattle.fjall_options.specs.Options.{AreOptions}
 use Rattle.fjall_versions.specs.declared.version.Version.{Version}
 use Rattle.fjall_versions.specs.Replays.{bare, option_pairs}
-use Rattle.fjall_versions.specs.Versions.{command_of, newest, pairs_after, pairs_in, store_of}
+use Rattle.fjall_versions.specs.Versions.{before, pairs_in, store_of, version_made}
 use Rattle.fjall_versions.proofs.Creating.{creation_of_versions}
 use Rattle.fjall_versions.proofs.Keeping.{deletion_of_versions}
-use Rattle.fjall_versions.proofs.Kept.{kept_along, kept_map, same_kept}
-use Rattle.fjall_versions.proofs.Naming.{names_answer, rest_is_bare}
-use Rattle.fjall_versions.proofs.Newest.{a_keyspace_reads, pairs_newest}
-use Rattle.fjall_versions.proofs.Replaying.{one_more_version}
-use Rattle.fjall_versions.proofs.Slots.{fold-append, get_put, same_id, slot-filter, slot_after, slot_at}
-use Rattle.fjall_state.specs.declared.call.Call.{Call}
-use Rattle.fjall_state.specs.declared.call.Call.TheVariants.{Keyspace, DeleteKeyspace, Retain, Release, Insert, Remove, RemoveWeak, GetAt, PageAt, Persist, KeyspaceCount, ListKeyspaceNames, KeyspaceExists, Seqno, VisibleSeqno, JournalDiskSpace}
-use Rattle.fjall_state.specs.Ops.{Op, value_in}
+use Rattle.fjall_versions.proofs.Kept.{kept_along, same_kept}
+use Rattle.fjall_versions.proofs.Living.{found_other, found_without}
+use Rattle.fjall_versions.proofs.Naming.{living_names, names_answer, rest_is_bare}
+use Rattle.fjall_versions.proofs.Newest.{a_keyspace_reads}
+use Rattle.fjall_versions.proofs.Seen.{all_seen, later_unseen, no_pair, others_pairs}
+use Rattle.fjall_versions.proofs.Writes.{items_map, items_store}
+use Rattle.fjall_versions.proofs.Slots.{get_put, same_id, slot-filter, slot_after, slot_at}
+use Rattle.fjall_history.specs.declared.ticket.View.{View}
+use Rattle.fjall_history.specs.declared.ticket.View.TheVariants.{Present, At}
+use Rattle.fjall_history.specs.Histories.{grown, latest, number, plain, view}
+use Rattle.fjall_history.specs.Tickets.{Tickets, closed, collected, is_open, no_tickets, opened}
+use Rattle.fjall_state.specs.Shapes.{OfChange, OfCount, OfCreation, OfDeletion, OfHandle, OfPersist, OfRead, OfTickets, OneLess, OneMore, Persistence, Shape}
 use Rattle.fjall_state.specs.Machine as machine
-use Rattle.fjall_state.specs.Machine.{Facts, IsPoisoned, Parts, State, accepted, created, deleted, due, due_in, facts, first_due, handles_of, has_name, is_among, is_deleted, is_living, is_read, is_unknown, one_less, one_more, opened_state, present, read_refusals, without, write_of}
-use Rattle.fjall_state.specs.Remembered.{IsLawful, Remembered, StandsFor, facts_of, is_last, poisoned, released, retained, version_of, versions_without, with_creation, with_deletion, with_version}
+use Rattle.fjall_state.specs.Machine.{Facts, IsPoisoned, Parts, State, accepted, created, deleted, due, due_in, facts, first_due, handles_of, has_name, instant_of, is_among, is_deleted, is_living, is_read, is_unknown, maps_in, one_less, one_more, opened_state, present, read_refusals, view_refusals, without}
+use Rattle.fjall_state.specs.Remembered.{IsLawful, IsReadAt, Remembered, StandsFor, facts_of, is_held, is_last, poisoned, released, retained, versions_in, versions_without, with_creation, with_deletion, with_items, with_tickets}
 use Rattle.fjall_state.proofs.Facts.{counted_is, named_is, names_are, none_named}
-use Rattle.fjall_state.proofs.Lawful.{after_release, creation_is_lawful, deletion_is_lawful, poisoned_is_lawful, released_is_lawful, retained_is_lawful, version_is_lawful}
+use Rattle.fjall_state.proofs.Lawful.{after_release, creation_is_lawful, deletion_is_lawful, items_are_lawful, poisoned_is_lawful, released_is_lawful, retained_is_lawful, tickets_are_lawful, IsTime, time_closed, time_collected, time_opened}
+use Rattle.fjall_state.proofs.Viewing.{GoesOn, among-append, among_without, Ways, held_by, it_lasts, it_lives, it_waits, latest_grown, number_grown, present_map, view_latest, views_go_on, ways}
 
 -- ---- what refusals look at
 
 -- they look at nothing that isn't kept
-kept_due : (f : Facts) (call : Call) → due_in f call ≡ due_in (record f { store = kept f.store }) call
-kept_due f (Keyspace name options) = refl
-kept_due f (DeleteKeyspace id) = refl
-kept_due f (Retain id) = refl
-kept_due f (Release id) = refl
-kept_due f (Insert id key value) = refl
-kept_due f (Remove id key) = refl
-kept_due f (RemoveWeak id key) = refl
-kept_due f (GetAt view id key) = refl
-kept_due f (PageAt view id range back max) = refl
-kept_due f (Persist mode) = refl
-kept_due f KeyspaceCount = refl
-kept_due f ListKeyspaceNames = refl
-kept_due f (KeyspaceExists name) = refl
-kept_due f Seqno = refl
-kept_due f VisibleSeqno = refl
-kept_due f JournalDiskSpace = refl
+kept_due : (f : Facts) (shape : Shape) → due_in f shape ≡ due_in (record f { store = kept f.store }) shape
+kept_due f (OfChange [] how) = refl
+kept_due f (OfChange (item ∷ items) how) = refl
+kept_due f (OfCreation name options) = refl
+kept_due f (OfDeletion id) = refl
+kept_due f (OfHandle OneMore id) = refl
+kept_due f (OfHandle OneLess id) = refl
+kept_due f (OfRead Present id query) = refl
+kept_due f (OfRead (At ticket) id query) = refl
+kept_due f (OfTickets call) = refl
+kept_due f (OfPersist mode) = refl
+kept_due f (OfCount count) = refl
 
-pub facts_agree : (m : Remembered) (table : ℕ) (s : State) → StandsFor m table s → (call : Call) → due s call ≡ due_in (facts_of m table) call
-facts_agree m table s stands call =
-    kept_due (facts s) call
-    ∙ (λ i. due_in (record { store = stands.present i; next = stands.number i; poisoned = stands.poisoned i; lasting = stands.lasting i; damaged = stands.damaged i; handles = stands.handles i; table = stands.next_table i }) call)
-    ∙ sym (kept_due (facts_of m table) call)
+pub facts_agree : (m : Remembered) (table : ℕ) (s : State) → StandsFor m table s → (shape : Shape) → due s shape ≡ due_in (facts_of m table) shape
+facts_agree m table s stands shape =
+    kept_due (facts s) shape
+    ∙ (λ i. due_in (record { store = stands.present i; next = stands.number i; poisoned = stands.poisoned i; lasting = stands.lasting i; damaged = stands.damaged i; handles = stands.handles i; tickets = stands.tickets i; table = stands.next_table i }) shape)
+    ∙ sym (kept_due (facts_of m table) shape)
 
 same_names : (m : Remembered) (table : ℕ) (s : State) → StandsFor m table s → (present s).names ≡ (store_of m.keyspaces m.versions).names
 same_names m table s stands = ap (λ (t : Store). t.names) stands.present
 
 -- ---- one command more
 
-after_one : (s : State) (c : Command) → fold s.history.opened (s.history.commands ++ c ∷ []) ≡ apply (present s) c
-after_one s c = fold-append s.history.opened s.history.commands (c ∷ [])
+kept_after : (m : Remembered) (table : ℕ) (s : State) → StandsFor m table s → (c : Command) → kept (latest (grown s.history (plain c))) ≡ kept (apply (store_of m.keyspaces m.versions) c)
+kept_after m table s stands c = ap kept (latest_grown s.history (plain c)) ∙ kept_along (present s) (store_of m.keyspaces m.versions) (c ∷ []) stands.present
 
-kept_after : (m : Remembered) (table : ℕ) (s : State) → StandsFor m table s → (c : Command) → kept (fold s.history.opened (s.history.commands ++ c ∷ [])) ≡ kept (apply (store_of m.keyspaces m.versions) c)
-kept_after m table s stands c = ap kept (after_one s c) ∙ kept_along (present s) (store_of m.keyspaces m.versions) (c ∷ []) stands.present
+one_number_more : (m : Remembered) (table : ℕ) (s : State) → StandsFor m table s → (c : Command) → number (grown s.history (plain c)) ≡ m.next + 1
+one_number_more m table s stands c = number_grown s.history (plain c) ∙ ap (λ n. n + 1) stands.number
 
-one_number_more : (m : Remembered) (table : ℕ) (s : State) → StandsFor m table s → (c : Command) → s.history.base + length (s.history.commands ++ c ∷ []) ≡ m.next + 1
-one_number_more m table s stands c = omega (arith, length-append s.history.commands (c ∷ []), stands.number)
+-- ---- a change
 
--- the map that a command leaves at an id
-map_after : (s : State) (c : Command) (id : ℕ) → map_at (fold s.history.opened (s.history.commands ++ c ∷ [])).maps id ≡ map_at (apply (present s) c).maps id
-map_after s c id = ap (λ (t : Store). map_at t.maps id) (after_one s c)
+made_below : (items : List BatchItem) (n : ℕ) → All (λ v. n ≤ v.seqno) (map (version_made n) items)
+made_below [] n = All-nil (λ (v : Version). n ≤ v.seqno)
+made_below (item ∷ items) n = All-cons (λ (v : Version). n ≤ v.seqno) (version_made n item) (map (version_made n) items) (omega arith) (made_below items n)
 
--- ---- a write
+changed_goes_on : (m : Remembered) (table : ℕ) (s : State) (stands : StandsFor m table s) (items : List BatchItem) → IsLawful (with_items items m) → GoesOn m (with_items items m) table s stands (write_of items)
+changed_goes_on m table s stands items is = record {
+  next = refl;
+  tickets = refl;
+  held = λ id held. held;
+  early = λ instant id le held. ap (pairs_in id) (later_unseen m.versions (map (version_made m.next) items) instant (All-weaker (λ (v : Version). m.next ≤ v.seqno) (λ v. instant ≤ v.seqno) (λ v h. omega arith) (map (version_made m.next) items) (made_below items m.next)));
+  late = λ id held. items_map (present s) m.versions items m.next id (present_map m table s stands id held);
+  below = is.below;
+}
 
-pairs-append : (front behind : List Version) (pairs : Pairs) (id : ℕ) → pairs_after pairs id (front ++ behind) ≡ pairs_after (pairs_after pairs id front) id behind
-pairs-append [] behind pairs id = refl
-pairs-append (v ∷ front) behind pairs id = pairs-append front behind (if id == v.keyspace_id then altered pairs v.key v.value else pairs) id
-
-in_slot : (b : Bool) (pairs : Pairs) (slot : Option Pairs) → unwrap_or (cond b (Some pairs) slot) empty ≡ cond b pairs (unwrap_or slot empty)
-in_slot true pairs slot = refl
-in_slot false pairs slot = refl
-
-written_map : (t : Store) (v : Version) (versions : List Version) (id : ℕ) → map_at t.maps id ≡ pairs_in id versions → map_at (apply t (command_of v)).maps id ≡ pairs_in id (versions ++ v ∷ [])
-written_map t v versions id same =
-    ap (λ slot. unwrap_or slot empty) (slot_at (v ∷ []) t id) ∙ in_slot (id == v.keyspace_id) (altered (map_at t.maps id) v.key v.value) (get t.maps id)
-    ∙ ap (λ pairs. pairs_after pairs id (v ∷ [])) same ∙ sym (pairs-append versions (v ∷ []) empty id)
-
-pub a_write_stands : (m : Remembered) (table : ℕ) (s : State) → StandsFor m table s → (id : ℕ) (key : Bytes) (o : Op) → is_living (store_of m.keyspaces m.versions) id ≡ true
-    → StandsFor (with_version (version_of m.next id key o) m) table (accepted s id key o)
-a_write_stands m table s stands id key o lives =
-    let version = version_of m.next id key o in
-    let c = write_of id key (value_in o) in
+pub changed_stands : (m : Remembered) (table : ℕ) (s : State) → StandsFor m table s → (items : List BatchItem) (parts : Parts) → parts.table ≡ s.parts.table → All (λ item. is_living (store_of m.keyspaces m.versions) item.0 ≡ true) items
+    → StandsFor (with_items items m) table (record s { history = grown s.history (plain (write_of items)); parts = parts })
+changed_stands m table s stands items parts same living =
+    let is = items_are_lawful items m stands.lawful living in
     record {
-      last_maps = All-weaker (λ i. map_at (present s).maps i ≡ pairs_in i m.versions) (λ i. map_at (present (accepted s id key o)).maps i ≡ pairs_in i (m.versions ++ version ∷ []))
-          (λ i same. map_after s c i ∙ written_map (present s) version m.versions i same) m.lasting stands.last_maps;
-      present = kept_after m table s stands c ∙ ap kept (sym (one_more_version m.keyspaces m.versions version));
-      number = one_number_more m table s stands c;
+      present = kept_after m table s stands (write_of items) ∙ ap kept (sym (items_store m.keyspaces m.versions items m.next));
+      views = views_go_on m (with_items items m) table s stands (write_of items) (changed_goes_on m table s stands items is);
+      number = one_number_more m table s stands (write_of items);
       poisoned = stands.poisoned;
       handles = stands.handles;
       lasting = stands.lasting;
       damaged = stands.damaged;
-      next_table = stands.next_table;
-      lawful = version_is_lawful version m stands.lawful lives;
+      tickets = stands.tickets;
+      jobs = stands.jobs;
+      next_job = stands.next_job;
+      next_table = same ∙ stands.next_table;
+      lawful = is;
     }
+
+pub a_change_stands : (m : Remembered) (table : ℕ) (s : State) → StandsFor m table s → (items : List BatchItem) (how : Persistence) → items ≢ [] → All (λ item. is_living (store_of m.keyspaces m.versions) item.0 ≡ true) items
+    → StandsFor (with_items items m) table (accepted s items how)
+a_change_stands m table s stands [] how some living = absurd (some refl)
+a_change_stands m table s stands (item ∷ items) how some living = changed_stands m table s stands (item ∷ items) (accepted s (item ∷ items) how).parts refl living
 
 -- ---- a creation
 
-untouched : (versions : List Version) (next : ℕ) (pairs : Pairs) → All (λ v. v.keyspace_id < next) versions → pairs_after pairs next versions ≡ pairs
-untouched [] next pairs below = refl
-untouched (v ∷ versions) next pairs below =
-    let lt : v.keyspace_id < next = All-head (λ (w : Version). w.keyspace_id < next) v versions below in
-    let other : (next == v.keyspace_id) ≡ false = grind (arith, nat_tests) in
-    ap (λ b. pairs_after (if b then altered pairs v.key v.value else pairs) next versions) other ∙ untouched versions next pairs (All-tail (λ (w : Version). w.keyspace_id < next) v versions below)
-
-created_map : (maps : FinMap nat_cmp Pairs) (next : ℕ) (versions : List Version) → All (λ v. v.keyspace_id < next) versions → (id : ℕ) → map_at maps id ≡ pairs_in id versions → map_at (insert maps next empty) id ≡ pairs_in id versions
-created_map maps next versions below id same =
-    ap (λ slot. unwrap_or slot empty) (get_put maps next empty id) ∙ in_slot (id == next) empty (get maps id) ∙ either (id == next) refl
+created_map : (maps : FinMap nat_cmp Pairs) (next : ℕ) (versions : List Version) → pairs_in next versions ≡ empty → (id : ℕ) → map_at maps id ≡ pairs_in id versions → map_at (insert maps next empty) id ≡ pairs_in id versions
+created_map maps next versions none id same =
+    ap (λ slot. unwrap_or slot empty) (get_put maps next empty id) ∙ in_slot (id == next) (get maps id) ∙ either (id == next) refl
   where
+    in_slot : (b : Bool) (slot : Option Pairs) → unwrap_or (cond b (Some empty) slot) empty ≡ cond b empty (unwrap_or slot empty)
+    in_slot true slot = refl
+    in_slot false slot = refl
+
     either : (b : Bool) → (id == next) ≡ b → cond b empty (map_at maps id) ≡ pairs_in id versions
-    either true e = sym (untouched versions next empty below) ∙ ap (λ i. pairs_in i versions) (sym (same_id id next e))
+    either true e = sym none ∙ ap (λ i. pairs_in i versions) (sym (same_id id next e))
     either false e = same
 
-pub a_creation_stands : (m : Remembered) (table : ℕ) (s : State) → StandsFor m table s → (name : Bytes) (options : List Bytes) → is_name name ≡ true → has_name (store_of m.keyspaces m.versions) name ≡ false
-    → AreOptions options → m.keyspaces.next ≢ 2 ^ 64 - 1 → StandsFor (with_creation name options m) (table + 1) (created s name options)
-a_creation_stands m table s stands name options named fresh are free =
-    let is = stands.lawful in
-    let c = Create name (option_pairs options) in
-    let next : (present s).next ≡ m.keyspaces.next = ap (λ (t : Store). t.next) stands.present ∙ (rest_is_bare m.keyspaces m.versions).2 in
-    record {
-      last_maps = All-weaker (λ i. map_at (present s).maps i ≡ pairs_in i m.versions) (λ i. map_at (present (created s name options)).maps i ≡ pairs_in i m.versions)
-          (λ i same. map_after s c i ∙ ap (λ n. map_at (insert (present s).maps n empty) i) next ∙ created_map (present s).maps m.keyspaces.next m.versions is.given i same) m.lasting stands.last_maps;
-      present = kept_after m table s stands c ∙ ap kept (sym (creation_of_versions name options m.next m.keyspaces is.keyspaces m.versions is.given));
-      number = one_number_more m table s stands c;
-      poisoned = stands.poisoned;
-      handles = stands.handles;
-      lasting = stands.lasting;
-      damaged = stands.damaged;
-      next_table = ap (λ n. n + 1) stands.next_table;
-      lawful = creation_is_lawful name options m is named (none_named m.keyspaces is.keyspaces m.versions name fresh) are free;
-    }
+module _ (m : Remembered) (table : ℕ) (s : State) (stands : StandsFor m table s) (name : Bytes) (options : List Bytes) where
+  abbrev k : LivingKeyspace
+  k = record { id = m.keyspaces.next; number = m.next; name = name; options = options }
+
+  created_ways : (id : ℕ) → Ways (with_creation name options m) id → Ways m id
+  created_ways id (it_lives e) = either (m.keyspaces.next == id) refl
+    where
+      either : (b : Bool) → (m.keyspaces.next == id) ≡ b → Ways m id
+      either true same = it_waits (let at = same_id m.keyspaces.next id same in omega (arith, at))
+      either false other = it_lives (ap is_some (sym (found_other m.keyspaces.living k id other)) ∙ e)
+  created_ways id (it_lasts e) = it_lasts e
+  created_ways id (it_waits le) = it_waits (omega (arith, le))
+
+  created_goes_on : IsLawful (with_creation name options m) → GoesOn m (with_creation name options m) table s stands (Create name (option_pairs options))
+  created_goes_on is =
+      let next : (present s).next ≡ m.keyspaces.next = ap (λ (t : Store). t.next) stands.present ∙ (rest_is_bare m.keyspaces m.versions).2 in
+      let none = ap (pairs_in m.keyspaces.next) (sym (all_seen m.versions m.next stands.lawful.below)) ∙ no_pair m.versions m.keyspaces.next m.keyspaces.next stands.lawful.given (omega arith) m.next in
+      let held = λ (id : ℕ) (h : is_held (with_creation name options m) id ≡ true). held_by m id (created_ways id (ways (with_creation name options m) id h)) in
+      record {
+        next = refl;
+        tickets = refl;
+        held = held;
+        early = λ instant id le h. refl;
+        late = λ id h. ap (λ n. map_at (insert (present s).maps n empty) id) next ∙ created_map (present s).maps m.keyspaces.next m.versions none id (present_map m table s stands id (held id h));
+        below = is.below;
+      }
+
+  pub a_creation_stands : is_name name ≡ true → has_name (store_of m.keyspaces m.versions) name ≡ false → AreOptions options → m.keyspaces.next ≢ 2 ^ 64 - 1 → StandsFor (with_creation name options m) (table + 1) (created s name options)
+  a_creation_stands named fresh are free =
+      let is = stands.lawful in
+      let c = Create name (option_pairs options) in
+      let lawful = creation_is_lawful name options m is named (none_named m.keyspaces is.keyspaces m.versions name fresh) are free in
+      record {
+        present = kept_after m table s stands c ∙ ap kept (sym (creation_of_versions name options m.next m.keyspaces is.keyspaces m.versions is.given));
+        views = views_go_on m (with_creation name options m) table s stands c (created_goes_on lawful);
+        number = one_number_more m table s stands c;
+        poisoned = stands.poisoned;
+        handles = stands.handles;
+        lasting = stands.lasting;
+        damaged = stands.damaged;
+        tickets = stands.tickets;
+        jobs = stands.jobs;
+        next_job = stands.next_job;
+        next_table = ap (λ n. n + 1) stands.next_table;
+        lawful = lawful;
+      }
 
 -- ---- a deletion
 
--- the map of a living keyspace is what versions make of it
-living_map : (m : Remembered) (table : ℕ) (s : State) → StandsFor m table s → (id : ℕ) → is_living (store_of m.keyspaces m.versions) id ≡ true → map_at (present s).maps id ≡ pairs_in id m.versions
-living_map m table s stands id lives =
-    let here : contains_key (present s).names id ≡ true = ap (λ n. contains_key n id) (same_names m table s stands) ∙ lives in
-    sym (kept_map (present s) id here) ∙ ap (λ (t : Store). map_at t.maps id) stands.present ∙ kept_map (store_of m.keyspaces m.versions) id lives ∙ a_keyspace_reads m.keyspaces m.versions id
+module _ (m : Remembered) (table : ℕ) (s : State) (stands : StandsFor m table s) (id : ℕ) (living : is_living (store_of m.keyspaces m.versions) id ≡ true) where
+  deleted_ways : (q : ℕ) → Ways (with_deletion id m) q → Ways m q
+  deleted_ways q (it_lives e) = it_lives (either (q == id) (ap is_some (sym (found_without m.keyspaces.living id q)) ∙ e))
+    where
+      either : (b : Bool) → is_some (cond b None (keyspace_at q m.keyspaces.living)) ≡ true → is_some (keyspace_at q m.keyspaces.living) ≡ true
+      either true f = absurd (true≢false (sym f))
+      either false f = f
+  deleted_ways q (it_lasts e) = ⊎_elim (λ f. it_lasts f) (λ same. it_lives (subst (λ i. is_some (keyspace_at i m.keyspaces.living) ≡ true) same (sym (living_names m.keyspaces m.versions id) ∙ living))) (among-append m.lasting id q e)
+  deleted_ways q (it_waits le) = it_waits le
 
-pub a_deletion_stands : (m : Remembered) (table : ℕ) (s : State) → StandsFor m table s → (id : ℕ) → is_living (store_of m.keyspaces m.versions) id ≡ true
-    → StandsFor (with_deletion id m) (if nat_le 2 (len (store_of m.keyspaces m.versions).names) then table + 1 else table) (deleted s id)
-a_deletion_stands m table s stands id lives =
-    let c = Delete id in
-    let names = same_names m table s stands in
-    let P : ℕ → Type 0 = λ i. map_at (present (deleted s id)).maps i ≡ pairs_in i m.versions in
-    record {
-      last_maps = All-push P m.lasting id (All-weaker (λ i. map_at (present s).maps i ≡ pairs_in i m.versions) P (λ i same. map_after s c i ∙ same) m.lasting stands.last_maps)
-          (map_after s c id ∙ living_map m table s stands id lives);
-      present = kept_after m table s stands c ∙ sym (deletion_of_versions id m.keyspaces m.versions);
-      number = one_number_more m table s stands c;
-      poisoned = stands.poisoned;
-      handles = stands.handles;
-      lasting = ap (λ l. l ++ id ∷ []) stands.lasting;
-      damaged = stands.damaged;
-      next_table = λ i. if nat_le 2 (len (names i)) then stands.next_table i + 1 else stands.next_table i;
-      lawful = deletion_is_lawful id m stands.lawful;
-    }
+  deleted_goes_on : IsLawful (with_deletion id m) → GoesOn m (with_deletion id m) table s stands (Delete id)
+  deleted_goes_on is =
+      let held = λ (q : ℕ) (h : is_held (with_deletion id m) q ≡ true). held_by m q (deleted_ways q (ways (with_deletion id m) q h)) in
+      record {
+        next = refl;
+        tickets = refl;
+        held = held;
+        early = λ instant q le h. refl;
+        late = λ q h. present_map m table s stands q (held q h);
+        below = is.below;
+      }
+
+  pub a_deletion_stands : StandsFor (with_deletion id m) (if nat_le 2 (len (store_of m.keyspaces m.versions).names) then table + 1 else table) (deleted s id)
+  a_deletion_stands =
+      let c = Delete id in
+      let names = same_names m table s stands in
+      let is = deletion_is_lawful id m stands.lawful in
+      record {
+        present = kept_after m table s stands c ∙ sym (deletion_of_versions id m.keyspaces m.versions);
+        views = views_go_on m (with_deletion id m) table s stands c (deleted_goes_on is);
+        number = one_number_more m table s stands c;
+        poisoned = stands.poisoned;
+        handles = stands.handles;
+        lasting = ap (λ l. l ++ id ∷ []) stands.lasting;
+        damaged = stands.damaged;
+        tickets = stands.tickets;
+        jobs = stands.jobs;
+        next_job = stands.next_job;
+        next_table = λ i. if nat_le 2 (len (names i)) then stands.next_table i + 1 else stands.next_table i;
+        lawful = is;
+      }
 
 -- ---- handles
 
 pub a_retained_stands : (m : Remembered) (table : ℕ) (s : State) → StandsFor m table s → (id : ℕ) → StandsFor (retained id m) table (record s { handles = one_more s.handles id })
 a_retained_stands m table s stands id = record {
-  last_maps = stands.last_maps;
   present = stands.present;
+  views = stands.views;
   number = stands.number;
   poisoned = stands.poisoned;
   handles = ap (λ h. one_more h id) stands.handles;
   lasting = stands.lasting;
   damaged = stands.damaged;
+  tickets = stands.tickets;
+  jobs = stands.jobs;
+  next_job = stands.next_job;
   next_table = stands.next_table;
   lawful = retained_is_lawful id m stands.lawful;
 }
@@ -194,10 +243,6 @@ slot_without versions id q slot other = slot-filter versions (λ k. not (k == id
 get_without : (s : Keyspaces) (versions : List Version) (id q : ℕ) → (q == id) ≡ false → get (store_of s (versions_without id versions)).maps q ≡ get (store_of s versions).maps q
 get_without s versions id q other =
     slot_at (versions_without id versions) (bare s) q ∙ slot_without versions id q (get (bare s).maps q) other ∙ sym (slot_at versions (bare s) q)
-
-pairs_without : (s : Keyspaces) (versions : List Version) (id q : ℕ) → (q == id) ≡ false → pairs_in q (versions_without id versions) ≡ pairs_in q versions
-pairs_without s versions id q other =
-    sym (a_keyspace_reads s (versions_without id versions) q) ∙ ap (λ slot. unwrap_or slot empty) (get_without s versions id q other) ∙ a_keyspace_reads s versions q
 
 -- without the versions of a deleted keyspace the same is kept
 kept_without : (s : Keyspaces) (versions : List Version) (id : ℕ) → is_deleted (store_of s versions) id ≡ true → kept (store_of s versions) ≡ kept (store_of s (versions_without id versions))
@@ -216,20 +261,32 @@ kept_without s versions id gone =
     other : (q : ℕ) → contains_key (store_of s versions).names q ≡ true → (q == id) ≡ false
     other q lives = false_from_ne_true (q == id) (λ e. clash (contains_key (store_of s versions).names id) (subst (λ i. contains_key (store_of s versions).names i ≡ true) (same_id q id e) lives) gone)
 
-passed : (b : Bool) → not b ≡ true → b ≡ false
-passed true e = absurd (true≢false (sym e))
-passed false e = refl
+itself : (id : ℕ) → (id == id) ≡ true
+itself id = grind (arith, nat_tests)
 
 module _ (m : Remembered) (table : ℕ) (s : State) (stands : StandsFor m table s) (id : ℕ) where
-  abbrev Lasts : List Version → ℕ → Type 0
-  Lasts versions i = map_at (present s).maps i ≡ pairs_in i versions
+  -- what is held then was held before, and is of another keyspace, or was never made
+  left_ways : is_deleted (store_of m.keyspaces m.versions) id ≡ true → (q : ℕ) → Ways (after_release m id true) q → (is_held m q ≡ true) × (((q == id) ≡ false) ⊎ (m.keyspaces.next ≤ q))
+  left_ways gone q (it_lives e) = (held_by m q (it_lives e), inl (false_from_ne_true (q == id) (λ same. clash _ (living_names m.keyspaces m.versions id ∙ subst (λ i. is_some (keyspace_at i m.keyspaces.living) ≡ true) (same_id q id same) e) gone)))
+    where
+      clash : (b : Bool) → b ≡ true → not b ≡ true → ⊥
+      clash true f g = true≢false (sym g)
+      clash false f g = true≢false (sym f)
+  left_ways gone q (it_lasts e) = let rest = among_without m.lasting id q e in (held_by m q (it_lasts rest.0), inl rest.1)
+  left_ways gone q (it_waits le) = (held_by m q (it_waits le), inr le)
 
-  maps_left : (last : Bool) → All (Lasts (if last then versions_without id m.versions else m.versions)) (if last then without m.lasting id else m.lasting)
-  maps_left false = stands.last_maps
-  maps_left true = λ i d within.
-      let test = λ (q : ℕ). not (q == id) in
-      let other = passed _ (filter_passes test m.lasting i d within) in
-      All-filter test (Lasts m.versions) m.lasting stands.last_maps i d within ∙ sym (pairs_without m.keyspaces m.versions id _ other)
+  same_left : (instant q : ℕ) → ((q == id) ≡ false) ⊎ (m.keyspaces.next ≤ q) → pairs_in q (before instant (versions_without id m.versions)) ≡ pairs_in q (before instant m.versions)
+  same_left instant q (inl other) = others_pairs id q (λ same. true≢false (sym (itself id) ∙ ap (λ i. i == id) same ∙ other)) m.versions instant
+  same_left instant q (inr le) =
+      no_pair (versions_without id m.versions) m.keyspaces.next q (All-filter (λ (v : Version). not (v.keyspace_id == id)) (λ v. v.keyspace_id < m.keyspaces.next) m.versions stands.lawful.given) le instant
+      ∙ sym (no_pair m.versions m.keyspaces.next q stands.lawful.given le instant)
+
+  views_left : (last : Bool) → (last ≡ true → is_deleted (store_of m.keyspaces m.versions) id ≡ true) → (instant : ℕ) → IsReadAt (after_release m id last) instant → (q : ℕ) → is_held (after_release m id last) q ≡ true
+      → map_at (view s.history instant).maps q ≡ pairs_in q (before instant (after_release m id last).versions)
+  views_left false gone instant at q held = stands.views instant at q held
+  views_left true gone instant at q held =
+      let left = left_ways (gone refl) q (ways (after_release m id true) q held) in
+      stands.views instant at q left.0 ∙ sym (same_left instant q left.1)
 
   present_left : (last : Bool) → (last ≡ true → is_deleted (store_of m.keyspaces m.versions) id ≡ true) → kept (present s) ≡ kept (store_of m.keyspaces (if last then versions_without id m.versions else m.versions))
   present_left false gone = stands.present
@@ -240,13 +297,16 @@ module _ (m : Remembered) (table : ℕ) (s : State) (stands : StandsFor m table 
 
   released_stands : (last : Bool) → (last ≡ true → is_deleted (store_of m.keyspaces m.versions) id ≡ true) → IsLawful (after_release m id last) → StandsFor (after_release m id last) table (released_as last)
   released_stands last gone is = record {
-    last_maps = maps_left last;
     present = present_left last gone;
+    views = views_left last gone;
     number = stands.number;
     poisoned = stands.poisoned;
     handles = ap (λ h. one_less h id) stands.handles;
     lasting = ap (λ l. if last then without l id else l) stands.lasting;
     damaged = stands.damaged;
+    tickets = stands.tickets;
+    jobs = stands.jobs;
+    next_job = stands.next_job;
     next_table = stands.next_table;
     lawful = is;
   }
@@ -263,33 +323,77 @@ module _ (m : Remembered) (table : ℕ) (s : State) (stands : StandsFor m table 
       first true b e = refl
       first false b e = e
 
--- ---- faults, and the journal
+-- ---- tickets
 
-pub a_fault_stands : (m : Remembered) (table : ℕ) (s : State) → StandsFor m table s → (parts : Parts) → StandsFor (poisoned m) parts.table (record s { poisoned = true; parts = parts })
-a_fault_stands m table s stands parts = record {
-  last_maps = stands.last_maps;
+-- of these tickets each reads where one read before, or at the next number
+with_tickets_stands : (m : Remembered) (table : ℕ) (s : State) → StandsFor m table s → (tickets : Tickets) → IsTime m tickets → StandsFor (with_tickets tickets m) table (record s { tickets = tickets })
+with_tickets_stands m table s stands tickets times = record {
   present = stands.present;
-  number = stands.number;
-  poisoned = refl;
-  handles = stands.handles;
-  lasting = stands.lasting;
-  damaged = stands.damaged;
-  next_table = refl;
-  lawful = poisoned_is_lawful m stands.lawful;
-}
-
-pub a_fault_poisons : (s : State) (parts : Parts) → IsPoisoned s (record s { poisoned = true; parts = parts })
-a_fault_poisons s parts = record { history = refl; poisoned = refl; handles = refl; lasting = refl; damaged = refl }
-
-pub other_parts_stand : (m : Remembered) (table : ℕ) (s : State) → StandsFor m table s → (parts : Parts) → parts.table ≡ table → StandsFor m table (record s { parts = parts })
-other_parts_stand m table s stands parts is = record {
-  last_maps = stands.last_maps;
-  present = stands.present;
+  views = λ instant at id held. stands.views instant (where_read instant at) id held;
   number = stands.number;
   poisoned = stands.poisoned;
   handles = stands.handles;
   lasting = stands.lasting;
   damaged = stands.damaged;
+  tickets = refl;
+  jobs = stands.jobs;
+  next_job = stands.next_job;
+  next_table = stands.next_table;
+  lawful = tickets_are_lawful m tickets stands.lawful times;
+}
+  where
+    where_read : (instant : ℕ) → IsReadAt (with_tickets tickets m) instant → IsReadAt m instant
+    where_read instant (inl is) = inl is
+    where_read instant (inr (ticket, there)) = times.reads ticket instant there
+
+on_state : (m : Remembered) (table : ℕ) (s : State) (f : Tickets → Tickets) → StandsFor m table s → StandsFor (with_tickets (f m.tickets) m) table (record s { tickets = f m.tickets }) → StandsFor (with_tickets (f m.tickets) m) table (record s { tickets = f s.tickets })
+on_state m table s f stands after = subst (λ t. StandsFor (with_tickets (f m.tickets) m) table (record s { tickets = f t })) (sym stands.tickets) after
+
+pub opened_stands : (m : Remembered) (table : ℕ) (s : State) → StandsFor m table s → StandsFor (with_tickets (opened m.next m.tickets) m) table (record s { tickets = opened m.next s.tickets })
+opened_stands m table s stands = on_state m table s (opened m.next) stands (with_tickets_stands m table s stands (opened m.next m.tickets) (time_opened m stands.lawful m.next (inl refl)))
+
+pub cloned_stands : (m : Remembered) (table : ℕ) (s : State) → StandsFor m table s → (id instant : ℕ) → get m.tickets.instants id ≡ Some instant → StandsFor (with_tickets (opened instant m.tickets) m) table (record s { tickets = opened instant s.tickets })
+cloned_stands m table s stands id instant there = on_state m table s (opened instant) stands (with_tickets_stands m table s stands (opened instant m.tickets) (time_opened m stands.lawful instant (inr (id, there))))
+
+pub closed_stands : (m : Remembered) (table : ℕ) (s : State) → StandsFor m table s → (id : ℕ) → StandsFor (with_tickets (closed m.next id m.tickets) m) table (record s { tickets = closed m.next id s.tickets })
+closed_stands m table s stands id = on_state m table s (closed m.next id) stands (with_tickets_stands m table s stands (closed m.next id m.tickets) (time_closed m stands.lawful id))
+
+pub collected_stands : (m : Remembered) (table : ℕ) (s : State) → StandsFor m table s → StandsFor (with_tickets (collected m.next m.tickets) m) table (record s { tickets = collected m.next s.tickets })
+collected_stands m table s stands = on_state m table s (collected m.next) stands (with_tickets_stands m table s stands (collected m.next m.tickets) (time_collected m stands.lawful))
+
+-- ---- faults, and the journal
+
+pub a_fault_stands : (m : Remembered) (table : ℕ) (s : State) → StandsFor m table s → (parts : Parts) → StandsFor (poisoned m) parts.table (record s { poisoned = true; parts = parts })
+a_fault_stands m table s stands parts = record {
+  present = stands.present;
+  views = stands.views;
+  number = stands.number;
+  poisoned = refl;
+  handles = stands.handles;
+  lasting = stands.lasting;
+  damaged = stands.damaged;
+  tickets = stands.tickets;
+  jobs = stands.jobs;
+  next_job = stands.next_job;
+  next_table = refl;
+  lawful = poisoned_is_lawful m stands.lawful;
+}
+
+pub a_fault_poisons : (s : State) (parts : Parts) → IsPoisoned s (record s { poisoned = true; parts = parts })
+a_fault_poisons s parts = refl
+
+pub other_parts_stand : (m : Remembered) (table : ℕ) (s : State) → StandsFor m table s → (parts : Parts) → parts.table ≡ table → StandsFor m table (record s { parts = parts })
+other_parts_stand m table s stands parts is = record {
+  present = stands.present;
+  views = stands.views;
+  number = stands.number;
+  poisoned = stands.poisoned;
+  handles = stands.handles;
+  lasting = stands.lasting;
+  damaged = stands.damaged;
+  tickets = stands.tickets;
+  jobs = stands.jobs;
+  next_job = stands.next_job;
   next_table = is;
   lawful = stands.lawful;
 }
@@ -301,24 +405,35 @@ none_refused true among damaged none = absurd (true≢false (ap is_some none))
 none_refused false true damaged none = refl
 none_refused false false damaged none = absurd (true≢false (ap is_some none))
 
-among_has : (P : ℕ → Type 0) (ids : List ℕ) (id : ℕ) → All P ids → is_among ids id ≡ true → P id
-among_has P [] id all e = absurd (true≢false (sym e))
-among_has P (other ∷ ids) id all e = either (other == id) refl e (among_has P ids id (All-tail P other ids all))
-  where
-    either : (b : Bool) → (other == id) ≡ b → (b || is_among ids id) ≡ true → (is_among ids id ≡ true → P id) → P id
-    either true same found rest = subst P (same_id other id same) (All-head P other ids all)
-    either false apart found rest = rest found
-
-pub pairs_agree : (m : Remembered) (table : ℕ) (s : State) → StandsFor m table s → (id : ℕ) → first_due (read_refusals (facts_of m table) id) ≡ None → pairs_in id m.versions ≡ map_at (present s).maps id
-pairs_agree m table s stands id none =
+-- what is read is held
+read_held : (m : Remembered) (table id : ℕ) → first_due (read_refusals (facts_of m table) id) ≡ None → is_held m id ≡ true
+read_held m table id none =
     either (is_living (store_of m.keyspaces m.versions) id) refl (none_refused (is_unknown (store_of m.keyspaces m.versions) id) (is_read (facts_of m table) id) (is_among m.damaged id) none)
   where
-    either : (b : Bool) → is_living (store_of m.keyspaces m.versions) id ≡ b → (b || is_among m.lasting id) ≡ true → pairs_in id m.versions ≡ map_at (present s).maps id
-    either true lives found = sym (living_map m table s stands id lives)
-    either false gone found = sym (among_has (λ i. map_at (present s).maps i ≡ pairs_in i m.versions) m.lasting id stands.last_maps found)
+    either : (b : Bool) → is_living (store_of m.keyspaces m.versions) id ≡ b → (b || is_among m.lasting id) ≡ true → is_held m id ≡ true
+    either true here found = held_by m id (it_lives (sym (living_names m.keyspaces m.versions id) ∙ here))
+    either false gone found = held_by m id (it_lasts found)
 
-pub keys_agree : (m : Remembered) (table : ℕ) (s : State) → StandsFor m table s → (id : ℕ) → first_due (read_refusals (facts_of m table) id) ≡ None → (key : Bytes) → newest m.versions id key ≡ lookup (map_at (present s).maps id) key
-keys_agree m table s stands id none key = sym (pairs_newest id m.versions key) ∙ ap (λ pairs. lookup pairs key) (pairs_agree m table s stands id none)
+-- a ticket that isn't refused is open
+open_then : (b : Bool) (others : List (Bool × Error)) → first_due ((not b, SnapshotClosed) ∷ others) ≡ None → (b ≡ true) × (first_due others ≡ None)
+open_then true others none = (refl, none)
+open_then false others none = absurd (true≢false (ap is_some none))
+
+reads_there : (m : Remembered) (id : ℕ) → is_open m.tickets id ≡ true → get m.tickets.instants id ≡ Some (instant_of m.tickets id)
+reads_there m id there = some (get m.tickets.instants id) there
+  where
+    some : (o : Option ℕ) → is_some o ≡ true → o ≡ Some (unwrap_or o 0)
+    some (Some instant) e = refl
+    some None e = absurd (true≢false (sym e))
+
+pub pairs_agree : (m : Remembered) (table : ℕ) (s : State) → StandsFor m table s → (view : View) (id : ℕ) → first_due (view_refusals (facts_of m table) view id) ≡ None → pairs_in id (versions_in m view) ≡ map_at (maps_in s view) id
+pairs_agree m table s stands Present id none =
+    let n = stands.number in
+    sym (stands.views m.next (inl refl) id (read_held m table id none)) ∙ ap (λ (t : Store). map_at t.maps id) (view_latest s.history m.next (omega (arith, n)))
+pairs_agree m table s stands (At ticket) id none =
+    let two = open_then (is_open m.tickets ticket.id) (read_refusals (facts_of m table) id) none in
+    sym (stands.views (instant_of m.tickets ticket.id) (inr (ticket.id, reads_there m ticket.id two.0)) id (read_held m table id two.1))
+    ∙ ap (λ (t : Tickets). map_at (view s.history (instant_of t ticket.id)).maps id) (sym stands.tickets)
 
 -- ---- names
 
@@ -349,18 +464,25 @@ module _ (m : Remembered) (table : ℕ) (s : State) (stands : StandsFor m table 
 
 -- ---- an opening
 
-pub an_opening_stands : (m : Remembered) → IsLawful m → m.handles ≡ empty → m.lasting ≡ [] → m.poisoned ≡ false
+pub an_opening_stands : (m : Remembered) → IsLawful m → m.handles ≡ empty → m.lasting ≡ [] → m.poisoned ≡ false → m.tickets ≡ no_tickets
     → (table : ℕ) (parts : Parts) → parts.table ≡ table → StandsFor m table (opened_state (store_of m.keyspaces m.versions) m.damaged m.next parts)
-an_opening_stands m is handles lasting well table parts at =
-    let P : ℕ → Type 0 = λ id. map_at (store_of m.keyspaces m.versions).maps id ≡ pairs_in id m.versions in
-    record {
-      last_maps = subst (λ ids. All P ids) (sym lasting) (All-nil P);
-      present = refl;
-      number = omega arith;
-      poisoned = sym well;
-      handles = sym handles;
-      lasting = sym lasting;
-      damaged = refl;
-      next_table = at;
-      lawful = is;
-    }
+an_opening_stands m is handles lasting well tickets table parts at = record {
+  present = refl;
+  views = shown;
+  number = omega arith;
+  poisoned = sym well;
+  handles = sym handles;
+  lasting = sym lasting;
+  damaged = refl;
+  tickets = sym tickets;
+  jobs = refl;
+  next_job = refl;
+  next_table = at;
+  lawful = is;
+}
+  where
+    shown : (instant : ℕ) → IsReadAt m instant → (id : ℕ) → is_held m id ≡ true → map_at (view (opened_state (store_of m.keyspaces m.versions) m.damaged m.next parts).history instant).maps id ≡ pairs_in id (before instant m.versions)
+    shown instant (inl same) id held =
+        ap (λ (t : Store). map_at t.maps id) (view_latest (opened_state (store_of m.keyspaces m.versions) m.damaged m.next parts).history instant (omega (arith, same)))
+        ∙ a_keyspace_reads m.keyspaces m.versions id ∙ ap (pairs_in id) (sym (all_seen m.versions m.next is.below) ∙ ap (λ i. before i m.versions) (sym same))
+    shown instant (inr (ticket, there)) id held = absurd (none-some instant (sym (get-empty nat_cmp ticket) ∙ ap (λ (t : Tickets). get t.instants ticket) (sym tickets) ∙ there))

@@ -1,18 +1,17 @@
 -- What holds where nothing refuses a call.
-use Rattle.std.specs.Prelude.{◌≡◌, ◌≢◌, ℕ, ◌<◌, ◌-◌, ◌^◌, true, false, nat_le, length}
+use Rattle.std.specs.Prelude.{◌≡◌, ◌≢◌, ℕ, ◌<◌, ◌-◌, ◌^◌, true, false, nat_le, List, All, None}
 use Rattle.std.specs.FinMap.{len}
 use Rattle.fjall_base.specs.Pairs.{Bytes}
+use Rattle.fjall_journal.specs.Ops.{BatchItem, items_refusal}
 use Rattle.fjall_meta.specs.Keyspaces.{is_name}
 use Rattle.fjall_state.specs.Machine.{Facts, has_name, is_living, is_unknown}
 
--- The keyspace lives, no fault has poisoned the engine, a number is left, and key and value have lengths that are written.
-pub record MayWrite (f : Facts) (id : ℕ) (key value : Bytes) : Type 0 where
-  pub living : is_living f.store id ≡ true
+-- The keyspaces of the items live, no fault has poisoned the engine, a number is left, and a batch has these items.
+pub record MayChange (f : Facts) (items : List BatchItem) : Type 0 where
+  pub living : All (λ item. is_living f.store item.0 ≡ true) items
   pub well : f.poisoned ≡ false
   pub numbered : f.next < 2 ^ 63
-  pub filled : 0 < length key
-  pub key_fits : length key < 2 ^ 16
-  pub value_fits : length value < 2 ^ 32
+  pub fits : items_refusal items ≡ None
 
 -- No fault has poisoned the engine, and a number, an id for a table and an id for a keyspace are left.
 pub record HasRoom (f : Facts) : Type 0 where

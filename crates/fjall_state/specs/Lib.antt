@@ -1,6 +1,6 @@
-pub mod Histories
-pub mod Ops
-pub mod Changes
+pub mod Shapes
+pub mod Jobs
 pub mod Machine
 pub mod Remembered
 pub mod Allowed
+pub mod Places

@@ -1,27 +1,34 @@
 -- The engine as a machine: what each call may answer, and the state after it.
-use Rattle.std.specs.Prelude.{◌≡◌, ◌⊎◌, ℕ, ◌+◌, ◌-◌, ◌≤◌, Any, Bool, true, false, nat_le, not, ◌==◌, ◌||◌, ◌&&◌, ◌^◌, if◌then◌else◌, List, [], ◌∷◌, ◌++◌, codes, filter, length, Option, None, Some, unwrap_or, IsPermutation, IsSorted}
+use Rattle.std.specs.Prelude.{◌≡◌, ◌⊎◌, ℕ, ◌+◌, ◌-◌, ◌≤◌, Any, Bool, true, false, nat_le, not, ◌==◌, ◌||◌, ◌&&◌, ◌^◌, if◌then◌else◌, List, [], ◌∷◌, ◌++◌, codes, filter, length, Option, None, Some, is_none, unwrap_or, IsPermutation, IsSorted, Vec}
 use Rattle.std.specs.List.{list_any}
 use Rattle.std.specs.Str.{bytes_eq}
 use Rattle.std.specs.Ordering.{nat_cmp}
 use Rattle.std.specs.FinMap.{FinMap, contains_key, empty, get, insert, len, remove, values}
-use Rattle.fjall_base.specs.Pairs.{Bytes, byte_order, lookup, pairs_between, page}
-use Rattle.fjall_base.specs.Store.{Store, Command, Options, Write, Create, Delete, apply, kept, map_at}
+use Rattle.std.specs.declared.alloc.Global.{Global}
+use Rattle.fjall_base.specs.Pairs.{Bytes, Pairs, byte_order}
+use Rattle.fjall_base.specs.Store.{Store, Options, Create, Delete, apply, kept, map_at}
 use Rattle.fjall_base.specs.declared.error.Error.{Error}
-use Rattle.fjall_base.specs.declared.error.Error.TheVariants.{Io, Storage, Poisoned, KeyspaceDeleted, KeyEmpty, KeyTooLong, ValueTooLong, InvalidName, OutOfMemory, NumbersUsedUp, UnknownKeyspace}
+use Rattle.fjall_base.specs.declared.error.Error.TheVariants.{Io, Storage, Poisoned, KeyspaceDeleted, KeyEmpty, KeyTooLong, ValueTooLong, InvalidName, OutOfMemory, NumbersUsedUp, UnknownKeyspace, SnapshotClosed, TooManyItems}
 use Rattle.fjall_base.specs.declared.error.StorageError.TheVariants.{TableDamaged}
+use Rattle.fjall_journal.specs.declared.persist_mode.PersistMode.{PersistMode}
+use Rattle.fjall_journal.specs.declared.persist_mode.PersistMode.TheVariants.{Buffer}
 use Rattle.fjall_journal.specs.Writer.{counted, goes_out}
+use Rattle.fjall_journal.specs.Ops.{BatchItem, are_too_many, items_text, some_key_empty, some_key_too_long, some_value_too_long, write_of}
 use Rattle.fjall_options.specs.Options.{is_set, value_of}
 use Rattle.fjall_meta.specs.Keyspaces.{is_name}
 use Rattle.fjall_versions.specs.Replays.{option_pairs}
-use Rattle.fjall_state.specs.declared.call.View.{View}
-use Rattle.fjall_state.specs.declared.call.View.TheVariants.{Present}
+use Rattle.fjall_history.specs.declared.ticket.View.{View}
+use Rattle.fjall_history.specs.declared.ticket.View.TheVariants.{Present, At}
+use Rattle.fjall_history.specs.declared.reply.Reply.{Reply}
+use Rattle.fjall_history.specs.declared.reply.Reply.TheVariants.{Done, Number, Names, Flag, Opened, Refused}
+use Rattle.fjall_history.specs.Histories.{History, grown, latest, number, plain, view}
+use Rattle.fjall_history.specs.Tickets.{Tickets, cloning_refusal, closed, closing_refusal, collected, is_open, no_tickets, opened, opening_refusal}
+use Rattle.fjall_history.specs.Moves.{Times}
+use Rattle.fjall_history.specs.Queries.{Tells}
 use Rattle.fjall_state.specs.declared.call.Call.{Call}
-use Rattle.fjall_state.specs.declared.call.Call.TheVariants.{Keyspace, DeleteKeyspace, Retain, Release, Insert, Remove, RemoveWeak, GetAt, PageAt, Persist, KeyspaceCount, ListKeyspaceNames, KeyspaceExists, Seqno, VisibleSeqno, JournalDiskSpace}
-use Rattle.fjall_state.specs.declared.call.Reply.{Reply}
-use Rattle.fjall_state.specs.declared.call.Reply.TheVariants.{Done, Value, Pairs, Number, Names, Flag, Refused}
-use Rattle.fjall_state.specs.Ops.{Op, value_in, op_text}
-use Rattle.fjall_state.specs.Ops as op
-use Rattle.fjall_state.specs.Histories.{History, number, grown, latest}
+use Rattle.fjall_state.specs.Shapes.{AsKeyspace, ByMode, Clone, Close, Collect, Count, Exists, HandleCall, JournalSpace, Keyspaces, Next, OfChange, OfCount, OfCreation, OfDeletion, OfHandle, OfPersist, OfRead, OfTickets, OneLess, OneMore, Open, OpenTickets, Persistence, Shape, TicketCall, Visible, shape_of}
+use Rattle.fjall_state.specs.Shapes as shapes
+use Rattle.fjall_state.specs.Jobs.{Job}
 
 -- How many bytes the journal's file has, how many wait in the buffer, and the id that tree 0's next table gets.
 pub record Parts : Type 0 where
@@ -31,23 +38,30 @@ pub record Parts : Type 0 where
 
 -- The history, whether a fault of the disk has poisoned the engine, how many handles of each keyspace are counted, the
 -- deleted keyspaces whose last maps are still read, the keyspaces that have a table with a wrong block, which are not
--- read, and the parts that its counts speak of. No call changes which keyspaces are damaged: an id is never given anew.
+-- read, the tickets, the jobs that are out, in the order in which they began, with the next one's id, and the parts that its
+-- counts speak of. No call changes which keyspaces are damaged: an id is never given anew.
 pub record State : Type 0 where
   pub history : History
   pub poisoned : Bool
   pub handles : FinMap nat_cmp ℕ
   pub lasting : List ℕ
   pub damaged : List ℕ
+  pub tickets : Tickets
+  pub jobs : List Job
+  pub next_job : ℕ
   pub parts : Parts
 
 -- just opened, where these keyspaces have a table with a wrong block
 abbrev pub opened_state : Store → List ℕ → ℕ → Parts → State
 opened_state store damaged base parts = record {
-  history = record { opened = store; base = base; commands = [] };
+  history = record { opened = store; base = base; accepted = [] };
   poisoned = false;
   handles = empty;
   lasting = [];
   damaged = damaged;
+  tickets = no_tickets;
+  jobs = [];
+  next_job = 0;
   parts = parts;
 }
 
@@ -55,9 +69,18 @@ opened_state store damaged base parts = record {
 abbrev pub present : State → Store
 present s = latest s.history
 
--- the store that a view shows
-abbrev pub view_at : State → View → Store
-view_at s Present = present s
+-- its history and its tickets
+abbrev pub times : State → Times
+times s = record { history = s.history; tickets = s.tickets }
+
+-- the instant at which an open ticket reads
+abbrev pub instant_of : Tickets → ℕ → ℕ
+instant_of tickets id = unwrap_or (get tickets.instants id) 0
+
+-- the maps that a view shows: those of the present, or after the commands numbered below the ticket's instant
+abbrev pub maps_in : State → View → FinMap nat_cmp Pairs
+maps_in s Present = (present s).maps
+maps_in s (At ticket) = (view s.history (instant_of s.tickets ticket.id)).maps
 
 -- all that waited is in the file, with some bytes more
 abbrev pub written_out : Parts → ℕ → Parts
@@ -69,10 +92,6 @@ written out parts more = record parts {
   journal = if out then counted (parts.journal + (parts.buffer + more)) else parts.journal;
   buffer = if out then 0 else parts.buffer + more;
 }
-
--- the write of one key
-abbrev pub write_of : ℕ → Bytes → Option Bytes → Command
-write_of id key value = Write (record { id = id; key = key; value = value } ∷ [])
 
 -- ---- keyspaces
 
@@ -122,7 +141,8 @@ persists_by_hand s id = is_living s id && is_by_hand (unwrap_or (get s.options i
 -- ---- what refuses a call
 
 -- What refusals look at: the store, the next number, whether the engine is poisoned, the deleted keyspaces that are
--- still read, those that have a table with a wrong block, how many handles are counted, and the id of tree 0's next table.
+-- still read, those that have a table with a wrong block, how many handles are counted, the tickets, and the id of tree 0's
+-- next table.
 pub record Facts : Type 0 where
   pub store : Store
   pub next : ℕ
@@ -130,26 +150,35 @@ pub record Facts : Type 0 where
   pub lasting : List ℕ
   pub damaged : List ℕ
   pub handles : FinMap nat_cmp ℕ
+  pub tickets : Tickets
   pub table : ℕ
 
 abbrev pub facts : State → Facts
-facts s = record { store = present s; next = number s.history; poisoned = s.poisoned; lasting = s.lasting; damaged = s.damaged; handles = s.handles; table = s.parts.table }
+facts s = record { store = present s; next = number s.history; poisoned = s.poisoned; lasting = s.lasting; damaged = s.damaged; handles = s.handles; tickets = s.tickets; table = s.parts.table }
 
 -- the first refusal whose cause holds
 abbrev pub first_due : List (Bool × Error) → Option Error
 first_due [] = None
 first_due (refusal ∷ refusals) = if refusal.0 then Some refusal.1 else first_due refusals
 
--- The refusals of a write of one item, in their order: keys have 1 to 65,535 bytes, values at most 4,294,967,295, and
--- numbers lie below 2^63.
-abbrev pub write_refusals : Facts → ℕ → Bytes → Bytes → List (Bool × Error)
-write_refusals f id key value =
-    (length key == 0, KeyEmpty)
-    ∷ (nat_le (2 ^ 16) (length key), KeyTooLong)
-    ∷ (nat_le (2 ^ 32) (length value), ValueTooLong)
-    ∷ (is_unknown f.store id, UnknownKeyspace)
-    ∷ (is_deleted f.store id, KeyspaceDeleted)
+-- some item is of a keyspace that never was, or that lives no more
+abbrev pub some_unknown : Store → List BatchItem → Bool
+some_unknown s items = list_any (λ item. is_unknown s item.0) items
+
+abbrev pub some_deleted : Store → List BatchItem → Bool
+some_deleted s items = list_any (λ item. is_deleted s item.0) items
+
+-- The refusals of a change of these items, cause by cause over all of them: keys have 1 to 65,535 bytes, values at most
+-- 4,294,967,295, a batch has at most 4,294,967,295 items, and numbers lie below 2^63.
+abbrev pub change_refusals : Facts → List BatchItem → List (Bool × Error)
+change_refusals f items =
+    (some_key_empty items, KeyEmpty)
+    ∷ (some_key_too_long items, KeyTooLong)
+    ∷ (some_value_too_long items, ValueTooLong)
+    ∷ (some_unknown f.store items, UnknownKeyspace)
+    ∷ (some_deleted f.store items, KeyspaceDeleted)
     ∷ (f.poisoned, Poisoned)
+    ∷ (are_too_many items, TooManyItems)
     ∷ (nat_le (2 ^ 63) f.next, NumbersUsedUp)
     ∷ []
 
@@ -157,9 +186,14 @@ write_refusals f id key value =
 abbrev pub is_read : Facts → ℕ → Bool
 is_read f id = is_living f.store id || is_among f.lasting id
 
--- the refusals of a read
+-- the refusals of a read of a keyspace
 abbrev pub read_refusals : Facts → ℕ → List (Bool × Error)
 read_refusals f id = (is_unknown f.store id, UnknownKeyspace) ∷ (not (is_read f id), KeyspaceDeleted) ∷ (is_among f.damaged id, Storage TableDamaged) ∷ []
+
+-- before these, that of a ticket that isn't open
+abbrev pub view_refusals : Facts → View → ℕ → List (Bool × Error)
+view_refusals f Present id = read_refusals f id
+view_refusals f (At ticket) id = (not (is_open f.tickets ticket.id), SnapshotClosed) ∷ read_refusals f id
 
 -- Numbers end at 2^63, and ids at the greatest u64. Where a keyspace is left, a change of the keyspaces takes an id for
 -- the table of all of them.
@@ -182,127 +216,135 @@ deletion_refusals f id =
     ∷ (is_living f.store id && are_used_up f (nat_le 2 (len f.store.names)), NumbersUsedUp)
     ∷ []
 
--- The refusal that is due for a call, before memory or the disk is asked for anything.
-abbrev pub due_in : Facts → Call → Option Error
-due_in f (Keyspace name options) = first_due (creation_refusals f name)
-due_in f (DeleteKeyspace id) = first_due (deletion_refusals f id)
-due_in f (Retain id) = first_due ((is_unknown f.store id, UnknownKeyspace) ∷ (not (is_read f id), KeyspaceDeleted) ∷ (handles_of f.handles id == 2 ^ 64 - 1, NumbersUsedUp) ∷ [])
-due_in f (Release id) = first_due ((is_unknown f.store id, UnknownKeyspace) ∷ (handles_of f.handles id == 0, UnknownKeyspace) ∷ [])
-due_in f (Insert id key value) = first_due (write_refusals f id key value)
-due_in f (Remove id key) = first_due (write_refusals f id key [])
-due_in f (RemoveWeak id key) = first_due (write_refusals f id key [])
-due_in f (GetAt view id key) = first_due (read_refusals f id)
-due_in f (PageAt view id range back max) = first_due (read_refusals f id)
-due_in f (Persist mode) = first_due ((f.poisoned, Poisoned) ∷ [])
-due_in f KeyspaceCount = None
-due_in f ListKeyspaceNames = None
-due_in f (KeyspaceExists name) = None
-due_in f Seqno = None
-due_in f VisibleSeqno = None
-due_in f JournalDiskSpace = None
+-- the refusals of counting a handle more, or less
+abbrev pub handle_refusals : Facts → HandleCall → ℕ → List (Bool × Error)
+handle_refusals f OneMore id = (is_unknown f.store id, UnknownKeyspace) ∷ (not (is_read f id), KeyspaceDeleted) ∷ (handles_of f.handles id == 2 ^ 64 - 1, NumbersUsedUp) ∷ []
+handle_refusals f OneLess id = (is_unknown f.store id, UnknownKeyspace) ∷ (handles_of f.handles id == 0, UnknownKeyspace) ∷ []
 
-abbrev pub due : State → Call → Option Error
-due s call = due_in (facts s) call
+-- the refusal of a call on tickets
+abbrev pub ticket_refusal : Tickets → TicketCall → Option Error
+ticket_refusal t Open = opening_refusal t
+ticket_refusal t (Clone id) = cloning_refusal id t
+ticket_refusal t (Close id) = closing_refusal id t
+ticket_refusal t Collect = None
 
--- A call that takes memory. Each call is listed, so that none is forgotten that is added.
-abbrev pub TakesMemory : Call → Type 0
-TakesMemory (Keyspace name options) = Unit {0}
-TakesMemory (DeleteKeyspace id) = Unit {0}
-TakesMemory (Retain id) = Unit {0}
-TakesMemory (Release id) = Unit {0}
-TakesMemory (Insert id key value) = Unit {0}
-TakesMemory (Remove id key) = Unit {0}
-TakesMemory (RemoveWeak id key) = Unit {0}
-TakesMemory (GetAt view id key) = Unit {0}
-TakesMemory (PageAt view id range back max) = Unit {0}
-TakesMemory (Persist mode) = ⊥
-TakesMemory KeyspaceCount = ⊥
-TakesMemory ListKeyspaceNames = Unit {0}
-TakesMemory (KeyspaceExists name) = ⊥
-TakesMemory Seqno = ⊥
-TakesMemory VisibleSeqno = ⊥
-TakesMemory JournalDiskSpace = ⊥
+-- The refusal that is due for a call, before memory or the disk is asked for anything. A change of no items is refused by
+-- nothing.
+abbrev pub due_in : Facts → Shape → Option Error
+due_in f (OfChange [] how) = None
+due_in f (OfChange (item ∷ items) how) = first_due (change_refusals f (item ∷ items))
+due_in f (OfCreation name options) = first_due (creation_refusals f name)
+due_in f (OfDeletion id) = first_due (deletion_refusals f id)
+due_in f (OfHandle call id) = first_due (handle_refusals f call id)
+due_in f (OfRead view id query) = first_due (view_refusals f view id)
+due_in f (OfTickets call) = ticket_refusal f.tickets call
+due_in f (OfPersist mode) = first_due ((f.poisoned, Poisoned) ∷ [])
+due_in f (OfCount count) = None
 
--- the write of a key leaves the journal's buffer, in which so many bytes wait: its keyspace doesn't persist by hand, or
--- 8,192 bytes or more wait with it
-abbrev pub leaves_buffer : Facts → ℕ → ℕ → Bytes → Op → Bool
-leaves_buffer f waiting id key o = goes_out (persists_by_hand f.store id) (waiting + length (op_text id key o f.next))
+abbrev pub due : State → Shape → Option Error
+due s shape = due_in (facts s) shape
+
+-- a question that takes memory: the answer is a list
+abbrev pub IsListed : Count → Type 0
+IsListed Keyspaces = ⊥
+IsListed shapes.Names = Unit {0}
+IsListed (Exists name) = ⊥
+IsListed Next = ⊥
+IsListed Visible = ⊥
+IsListed JournalSpace = ⊥
+IsListed OpenTickets = ⊥
+
+abbrev pub OpensTicket : TicketCall → Type 0
+OpensTicket Open = Unit {0}
+OpensTicket (Clone id) = Unit {0}
+OpensTicket (Close id) = ⊥
+OpensTicket Collect = ⊥
+
+-- a call that takes memory
+abbrev pub TakesMemory : Shape → Type 0
+TakesMemory (OfChange [] how) = ⊥
+TakesMemory (OfChange (item ∷ items) how) = Unit {0}
+TakesMemory (OfCreation name options) = Unit {0}
+TakesMemory (OfDeletion id) = Unit {0}
+TakesMemory (OfHandle call id) = Unit {0}
+TakesMemory (OfRead view id query) = Unit {0}
+TakesMemory (OfTickets call) = OpensTicket call
+TakesMemory (OfPersist mode) = ⊥
+TakesMemory (OfCount count) = IsListed count
+
+-- The mode of a change: the one that it was given or, for a write of one key, none where its keyspace persists by hand, and
+-- else the one that hands the buffer to the system.
+abbrev pub mode_in : Store → Persistence → Option PersistMode
+mode_in s (AsKeyspace id) = if persists_by_hand s id then None else Some Buffer
+mode_in s (ByMode mode) = mode
+
+-- a change leaves the journal's buffer, in which so many bytes wait: it has a mode, or 8,192 bytes or more wait with it
+abbrev pub leaves_buffer : Facts → ℕ → List BatchItem → Persistence → Bool
+leaves_buffer f waiting items how = goes_out (is_none (mode_in f.store how)) (waiting + length (items_text items f.next))
 
 -- a call that changes the disk, where so many bytes wait in the journal's buffer
-abbrev pub ChangesDisk : Facts → ℕ → Call → Type 0
-ChangesDisk f waiting (Keyspace name options) = Unit {0}
-ChangesDisk f waiting (DeleteKeyspace id) = Unit {0}
-ChangesDisk f waiting (Retain id) = ⊥
-ChangesDisk f waiting (Release id) = Unit {0}
-ChangesDisk f waiting (Insert id key value) = leaves_buffer f waiting id key (op.Put value) ≡ true
-ChangesDisk f waiting (Remove id key) = leaves_buffer f waiting id key op.Remove ≡ true
-ChangesDisk f waiting (RemoveWeak id key) = leaves_buffer f waiting id key op.RemoveWeak ≡ true
-ChangesDisk f waiting (GetAt view id key) = ⊥
-ChangesDisk f waiting (PageAt view id range back max) = ⊥
-ChangesDisk f waiting (Persist mode) = Unit {0}
-ChangesDisk f waiting KeyspaceCount = ⊥
-ChangesDisk f waiting ListKeyspaceNames = ⊥
-ChangesDisk f waiting (KeyspaceExists name) = ⊥
-ChangesDisk f waiting Seqno = ⊥
-ChangesDisk f waiting VisibleSeqno = ⊥
-ChangesDisk f waiting JournalDiskSpace = ⊥
+abbrev pub ChangesDisk : Facts → ℕ → Shape → Type 0
+ChangesDisk f waiting (OfChange [] how) = ⊥
+ChangesDisk f waiting (OfChange (item ∷ items) how) = leaves_buffer f waiting (item ∷ items) how ≡ true
+ChangesDisk f waiting (OfCreation name options) = Unit {0}
+ChangesDisk f waiting (OfDeletion id) = Unit {0}
+ChangesDisk f waiting (OfHandle OneMore id) = ⊥
+ChangesDisk f waiting (OfHandle OneLess id) = Unit {0}
+ChangesDisk f waiting (OfRead view id query) = ⊥
+ChangesDisk f waiting (OfTickets call) = ⊥
+ChangesDisk f waiting (OfPersist mode) = Unit {0}
+ChangesDisk f waiting (OfCount count) = ⊥
 
 -- after a fault in a call that changes the disk the engine is poisoned, and its parts are not known
-pub record IsPoisoned (old new : State) : Type 0 where
-  pub history : new.history ≡ old.history
-  pub poisoned : new.poisoned ≡ true
-  pub handles : new.handles ≡ old.handles
-  pub lasting : new.lasting ≡ old.lasting
-  pub damaged : new.damaged ≡ old.damaged
+abbrev pub IsPoisoned : State → State → Type 0
+IsPoisoned old new = new ≡ record old { poisoned = true; parts = new.parts }
 
 -- the settings of some keyspace have a value of 2^32 bytes or more, for which no table has room
 abbrev pub HasLongOption : Store → Type 0
 HasLongOption s = (id : ℕ) × (options : Options) × (get s.options id ≡ Some options) × Any (λ pair. 2 ^ 32 ≤ length pair.1) options
 
 -- a creation or a deletion writes the settings of all keyspaces that live after it
-abbrev pub TooLong : Store → Call → Type 0
-TooLong s (Keyspace name options) = HasLongOption (kept (apply s (Create name (option_pairs options))))
-TooLong s (DeleteKeyspace id) = HasLongOption (kept (apply s (Delete id)))
-TooLong s (Retain id) = ⊥
-TooLong s (Release id) = ⊥
-TooLong s (Insert id key value) = ⊥
-TooLong s (Remove id key) = ⊥
-TooLong s (RemoveWeak id key) = ⊥
-TooLong s (GetAt view id key) = ⊥
-TooLong s (PageAt view id range back max) = ⊥
-TooLong s (Persist mode) = ⊥
-TooLong s KeyspaceCount = ⊥
-TooLong s ListKeyspaceNames = ⊥
-TooLong s (KeyspaceExists name) = ⊥
-TooLong s Seqno = ⊥
-TooLong s VisibleSeqno = ⊥
-TooLong s JournalDiskSpace = ⊥
+abbrev pub TooLong : Store → Shape → Type 0
+TooLong s (OfChange items how) = ⊥
+TooLong s (OfCreation name options) = HasLongOption (kept (apply s (Create name (option_pairs options))))
+TooLong s (OfDeletion id) = HasLongOption (kept (apply s (Delete id)))
+TooLong s (OfHandle call id) = ⊥
+TooLong s (OfRead view id query) = ⊥
+TooLong s (OfTickets call) = ⊥
+TooLong s (OfPersist mode) = ⊥
+TooLong s (OfCount count) = ⊥
+
+-- What a refused call leaves. None of these takes anything with it.
+abbrev pub let_go : State → Shape → State
+let_go s shape = s
 
 -- where none is due, memory may run out, the disk fail, or an option's value be too long to be stored
-abbrev pub MayFail : Call → Error → State → State → Type 0
-MayFail call (Io kind) old new = ChangesDisk (facts old) old.parts.buffer call × IsPoisoned old new
-MayFail call OutOfMemory old new = TakesMemory call × (new ≡ old)
-MayFail call ValueTooLong old new = TooLong (present old) call × (new ≡ old)
-MayFail call error old new = ⊥
+abbrev pub MayFail : Shape → Error → State → State → Type 0
+MayFail shape (Io kind) old new = ChangesDisk (facts old) old.parts.buffer shape × IsPoisoned (let_go old shape) new
+MayFail shape OutOfMemory old new = TakesMemory shape × (new ≡ let_go old shape)
+MayFail shape ValueTooLong old new = TooLong (present old) shape × (new ≡ let_go old shape)
+MayFail shape error old new = ⊥
 
 -- a refusal is the one that is due, and changes nothing
-abbrev pub Refuses : Option Error → Call → Error → State → State → Type 0
-Refuses (Some first) call error old new = (error ≡ first) × (new ≡ old)
-Refuses None call error old new = MayFail call error old new
+abbrev pub Refuses : Option Error → Shape → Error → State → State → Type 0
+Refuses (Some first) shape error old new = (error ≡ first) × (new ≡ let_go old shape)
+Refuses None shape error old new = MayFail shape error old new
 
 -- ---- what a call does
 
--- A write was accepted: it is the next command, and its batch is in the journal's file with all that waited, or waits too.
-abbrev pub accepted : State → ℕ → Bytes → Op → State
-accepted s id key o = record s {
-  history = grown s.history (write_of id key (value_in o));
-  parts = written (leaves_buffer (facts s) s.parts.buffer id key o) s.parts (length (op_text id key o (number s.history)));
+-- A change was accepted: it is the next command, and its batch is in the journal's file with all that waited, or waits too.
+-- A change of no items is none.
+abbrev pub accepted : State → List BatchItem → Persistence → State
+accepted s [] how = s
+accepted s (item ∷ items) how = record s {
+  history = grown s.history (plain (write_of (item ∷ items)));
+  parts = written (leaves_buffer (facts s) s.parts.buffer (item ∷ items) how) s.parts (length (items_text (item ∷ items) (number s.history)));
 }
 
 -- a keyspace of this name was made: that is the next command; the journal is written out, and tree 0 has a new table
 abbrev pub created : State → Bytes → List Bytes → State
 created s name options = record s {
-  history = grown s.history (Create name (option_pairs options));
+  history = grown s.history (plain (Create name (option_pairs options)));
   parts = record (written_out s.parts 0) { table = s.parts.table + 1 };
 }
 
@@ -310,7 +352,7 @@ created s name options = record s {
 -- new table.
 abbrev pub deleted : State → ℕ → State
 deleted s id = record s {
-  history = grown s.history (Delete id);
+  history = grown s.history (plain (Delete id));
   lasting = s.lasting ++ id ∷ [];
   parts = record (written_out s.parts 0) { table = if nat_le 2 (len (present s).names) then s.parts.table + 1 else s.parts.table };
 }
@@ -323,34 +365,54 @@ is_last s id = is_deleted (present s) id && (handles_of s.handles id == 1)
 abbrev pub released : State → ℕ → State
 released s id = record s { handles = one_less s.handles id; lasting = if is_last s id then without s.lasting id else s.lasting }
 
+abbrev pub handled : HandleCall → State → ℕ → State
+handled OneMore s id = record s { handles = one_more s.handles id }
+handled OneLess s id = released s id
+
+-- a name that a keyspace has answers its id; another one's keyspace gets the next id
+abbrev pub CreatesOrFinds : State → Bytes → List Bytes → ℕ → State → Type 0
+CreatesOrFinds old name options id new =
+    ((has_name (present old) name ≡ true) × (get (present old).names id ≡ Some name) × (new ≡ old))
+    ⊎ ((has_name (present old) name ≡ false) × (id ≡ (present old).next) × (new ≡ created old name options))
+
+-- The next ticket reads at the visible number, or where another one does. A closed one is named by none any more. The
+-- watermark that was raised is told.
+abbrev pub TurnsTickets : ℕ → Tickets → TicketCall → Reply → Tickets → Type 0
+TurnsTickets visible old Open reply new = (reply ≡ Opened (record { id = old.next; instant = visible })) × (new ≡ opened visible old)
+TurnsTickets visible old (Clone id) reply new =
+    (instant : ℕ) × (get old.instants id ≡ Some instant) × (reply ≡ Opened (record { id = old.next; instant = instant })) × (new ≡ opened instant old)
+TurnsTickets visible old (Close id) reply new = (reply ≡ Done) × (new ≡ closed visible id old)
+TurnsTickets visible old Collect reply new = (reply ≡ Number new.watermark) × (new ≡ collected visible old)
+
+-- counts are functions of the state
+abbrev pub CountIs : State → Count → Reply → Type 0
+CountIs s Keyspaces reply = reply ≡ Number (len (present s).names)
+CountIs s shapes.Names reply = (names : Vec Bytes Global) × (reply ≡ Names names) × IsPermutation (values (present s).names) names.items × IsSorted byte_order names.items
+CountIs s (Exists name) reply = reply ≡ Flag (has_name (present s) name)
+CountIs s Next reply = reply ≡ Number (number s.history)
+CountIs s Visible reply = reply ≡ Number (number s.history)
+CountIs s JournalSpace reply = reply ≡ Number s.parts.journal
+CountIs s OpenTickets reply = reply ≡ Number (len s.tickets.instants)
+
+-- where nothing refuses it, a call may give this reply, and leaves this
+abbrev pub Answers : State → Shape → Reply → State → Type 0
+Answers old (OfChange items how) reply new = (reply ≡ Done) × (new ≡ accepted old items how)
+Answers old (OfCreation name options) reply new = (id : ℕ) × (reply ≡ Number id) × CreatesOrFinds old name options id new
+Answers old (OfDeletion id) reply new = (reply ≡ Done) × (new ≡ (if is_living (present old) id then deleted old id else old))
+Answers old (OfHandle call id) reply new = (reply ≡ Done) × (new ≡ handled call old id)
+Answers old (OfRead view id query) reply new = Tells query (map_at (maps_in old view) id) reply × (new ≡ old)
+Answers old (OfTickets call) reply new = TurnsTickets (number old.history) old.tickets call reply new.tickets × (new ≡ record old { tickets = new.tickets })
+Answers old (OfPersist mode) reply new = (reply ≡ Done) × (new ≡ record old { parts = written_out old.parts 0 })
+Answers old (OfCount count) reply new = CountIs old count reply × (new ≡ old)
+
+-- one step of a call of this shape
+abbrev pub StepOf : State → Shape → Reply → State → Type 0
+StepOf old shape (Refused error) new = Refuses (due old shape) shape error old new
+StepOf old shape reply new = (due old shape ≡ None) × Answers old shape reply new
+
 -- From old, the engine may give this reply, and go on to new.
 abbrev pub Step : State → Call → Reply → State → Type 0
-Step old call (Refused error) new = Refuses (due old call) call error old new
--- a name that a keyspace has answers its id; another one's keyspace gets the next id
-Step old (Keyspace name options) (Number id) new =
-    (due old (Keyspace name options) ≡ None)
-    × (((has_name (present old) name ≡ true) × (get (present old).names id ≡ Some name) × (new ≡ old))
-    ⊎ ((has_name (present old) name ≡ false) × (id ≡ (present old).next) × (new ≡ created old name options)))
-Step old (DeleteKeyspace id) Done new = (due old (DeleteKeyspace id) ≡ None) × (new ≡ (if is_living (present old) id then deleted old id else old))
-Step old (Retain id) Done new = (due old (Retain id) ≡ None) × (new ≡ record old { handles = one_more old.handles id })
-Step old (Release id) Done new = (due old (Release id) ≡ None) × (new ≡ released old id)
-Step old (Insert id key value) Done new = (due old (Insert id key value) ≡ None) × (new ≡ accepted old id key (op.Put value))
-Step old (Remove id key) Done new = (due old (Remove id key) ≡ None) × (new ≡ accepted old id key op.Remove)
-Step old (RemoveWeak id key) Done new = (due old (RemoveWeak id key) ≡ None) × (new ≡ accepted old id key op.RemoveWeak)
-Step old (GetAt view id key) (Value found) new =
-    (due old (GetAt view id key) ≡ None) × (found ≡ lookup (map_at (view_at old view).maps id) key) × (new ≡ old)
-Step old (PageAt view id range back max) (Pairs found) new =
-    (due old (PageAt view id range back max) ≡ None)
-    × (found.items ≡ page back max (pairs_between range (map_at (view_at old view).maps id))) × (new ≡ old)
-Step old (Persist mode) Done new = (due old (Persist mode) ≡ None) × (new ≡ record old { parts = written_out old.parts 0 })
-Step old KeyspaceCount (Number n) new = (n ≡ len (present old).names) × (new ≡ old)
-Step old ListKeyspaceNames (Names names) new = IsPermutation (values (present old).names) names.items × IsSorted byte_order names.items × (new ≡ old)
-Step old (KeyspaceExists name) (Flag exists) new = (exists ≡ has_name (present old) name) × (new ≡ old)
-Step old Seqno (Number n) new = (n ≡ number old.history) × (new ≡ old)
-Step old VisibleSeqno (Number n) new = (n ≡ number old.history) × (new ≡ old)
-Step old JournalDiskSpace (Number n) new = (n ≡ old.parts.journal) × (new ≡ old)
--- no other reply is given
-Step old call reply new = ⊥
+Step old call reply new = StepOf old (shape_of call) reply new
 
 -- these replies to these calls, one step after another
 abbrev pub Run : State → List Call → List Reply → State → Type 0

@@ -1,18 +1,13 @@
-//! The calls of a core as values, and their replies.
+//! The calls of a core as values.
 
-use fjall_base::{Error, KvPair, Slice, UserKey, UserValue};
-use fjall_journal::PersistMode;
+use fjall_base::{Slice, UserKey, UserValue};
+use fjall_history::{Ticket, View};
+use fjall_journal::{BatchItem, PersistMode};
 use fjall_options::KeyspaceCreateOptions;
 use fjall_versions::KeyRange;
 
-/// What a read shows.
-#[derive(Clone, Copy, Debug, PartialEq, Eq)]
-pub enum View {
-    /// All that was accepted.
-    Present,
-}
-
-/// One call of a core, for [`run`](crate::Core::run).
+/// One call of a core, for [`run`](crate::Core::run). Within a list of calls a ticket is named by the place of the call that
+/// opened it.
 #[derive(Debug, Drop)]
 pub enum Call {
     /// `keyspace`: name and options.
@@ -29,10 +24,20 @@ pub enum Call {
     Remove(u64, UserKey),
     /// `remove_weak`: keyspace id and key.
     RemoveWeak(u64, UserKey),
+    /// `commit_batch`: the items, and how they are persisted.
+    CommitBatch(Vec<BatchItem>, Option<PersistMode>),
     /// `get_at`: view, keyspace id and key.
     GetAt(View, u64, UserKey),
     /// `page_at`: view, keyspace id, range of keys, whether from behind, and how many pairs at most.
     PageAt(View, u64, KeyRange, bool, usize),
+    /// `snapshot`.
+    Snapshot,
+    /// `clone_snapshot`: ticket.
+    CloneSnapshot(Ticket),
+    /// `close_snapshot`: ticket.
+    CloseSnapshot(Ticket),
+    /// `gc`.
+    Gc,
     /// `persist`.
     Persist(PersistMode),
     /// `keyspace_count`.
@@ -47,23 +52,6 @@ pub enum Call {
     VisibleSeqno,
     /// `journal_disk_space`.
     JournalDiskSpace,
-}
-
-/// The reply to one call.
-#[derive(Debug, Drop)]
-pub enum Reply {
-    /// It is done, and there is nothing to tell.
-    Done,
-    /// The value of a key, where it has one.
-    Value(Option<UserValue>),
-    /// Pairs in the order of their keys.
-    Pairs(Vec<KvPair>),
-    /// A count, a number or an id.
-    Number(u64),
-    /// Names of keyspaces, in the order of their bytes.
-    Names(Vec<Slice>),
-    /// Whether it is so.
-    Flag(bool),
-    /// It was refused.
-    Refused(Error),
+    /// `open_snapshots`.
+    OpenSnapshots,
 }

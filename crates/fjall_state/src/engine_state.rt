@@ -2,33 +2,38 @@
 //! of ids that were given out.
 
 ghost use Rattle.std.specs.Prelude.{◌≡◌, ◌≢◌, ◌<◌, ◌+◌, ◌-◌, ◌^◌, ◌++◌, ◌∷◌, [], ℕ, List, All, None, is_some, not, true, false, length, map, IfOk, IfErr, OnOk, OnErr, IsOkUnless, IsPermutation, IsSorted};
-ghost use Rattle.std.specs.FinMap.{empty, from_entries, len, values};
+ghost use Rattle.std.specs.FinMap.{empty, from_entries, get, len, values};
 ghost use Rattle.std.specs.Option.{option_copied};
 ghost use Rattle.fjall_base.specs.Pairs.{Bytes, byte_order, page, pairs_between};
 ghost use Rattle.fjall_base.specs.declared.error.Error.TheVariants.{KeyspaceDeleted, UnknownKeyspace};
 ghost use Rattle.fjall_meta.specs.Keyspaces.{id_of, is_name};
+ghost use Rattle.fjall_journal.specs.Ops.{BatchItem as Item};
 ghost use Rattle.fjall_versions.specs.declared.version.Version.{Version};
-ghost use Rattle.fjall_versions.specs.Versions.{newest, pairs_in, store_of};
-ghost use Rattle.fjall_state.specs.declared.call.Call.TheVariants.{Retain};
-ghost use Rattle.fjall_state.specs.Machine.{due_in, first_due, handles_of, has_name, is_among, is_living, is_read, is_unknown, one_less, persists_by_hand, read_refusals};
-ghost use Rattle.fjall_state.specs.Remembered.{IsDueOrMemory, IsLawful, Remembered, facts_of, is_last, let_go, poisoned, released, remembered, retained, with_creation, with_deletion, with_version};
+ghost use Rattle.fjall_versions.specs.Versions.{before, newest, pairs_in, store_of};
+ghost use Rattle.fjall_history.specs.Tickets.{closed, closing_refusal, cloning_refusal, collected, is_open as is_open_in, opened, opening_refusal};
+ghost use Rattle.fjall_state.specs.Machine.{first_due, handle_refusals, handles_of, has_name, is_among, is_living, is_read, is_unknown, one_less, persists_by_hand, read_refusals, view_refusals};
+ghost use Rattle.fjall_state.specs.Shapes.{OneMore};
+ghost use Rattle.fjall_state.specs.Remembered.{IsDueOrMemory, IsLawful, Remembered, facts_of, is_last, let_go, poisoned, released, remembered, retained, versions_in, with_creation, with_deletion, with_items, with_tickets};
 
 use fjall_base::{Error, KvPair, Result, Slice, StorageError, UserValue};
+use fjall_history::{Ticket, Tickets, View};
+use fjall_journal::BatchItem;
 use fjall_meta::{LivingKeyspace, MetaKeyspace};
 use fjall_options::KeyspaceCreateOptions;
-use fjall_versions::{KeyRange, Version, newest_value, page};
+use fjall_versions::{KeyRange, Version, newest_value, page, push_items};
 use std::alloc::Global;
 use std::collections::BTreeMap;
 use std::marker::Model;
 
-/// What an engine holds in memory: the keyspaces that live, the versions of all keyspaces, oldest first, the next
-/// number, whether a fault has poisoned it, how many handles of each keyspace are counted, the deleted keyspaces
-/// that are still read, and the keyspaces that aren't read since a block of one of their tables is wrong.
-#[derive(Debug, Drop)]
+/// What an engine holds in memory: the keyspaces that live, the versions of all keyspaces, oldest first, the tickets of
+/// snapshots with the next number, at which a new one reads, whether a fault has poisoned it, how many handles of each
+/// keyspace are counted, the deleted keyspaces that are still read, and the keyspaces that aren't read since a block of one
+/// of their tables is wrong.
+#[derive(Drop)]
 pub struct EngineState {
     keyspaces: MetaKeyspace,
     versions: Vec<Version>,
-    next: u64,
+    tickets: Tickets,
     poisoned: bool,
     handles: BTreeMap<u64, u64>,
     lasting: Vec<u64>,
@@ -47,21 +52,23 @@ impl Model for EngineState {
     ghost view = { λ m. record {
       keyspaces = m.keyspaces;
       versions = m.versions.items;
-      next = m.next;
+      next = m.tickets.visible;
       poisoned = m.poisoned;
       handles = from_entries m.handles.entries;
       lasting = m.lasting.items;
       damaged = m.damaged.items;
+      tickets = m.tickets.tickets;
     } };
 
     ghost invariant = { λ m. IsLawful (record {
       keyspaces = m.keyspaces;
       versions = m.versions.items;
-      next = m.next;
+      next = m.tickets.visible;
       poisoned = m.poisoned;
       handles = from_entries m.handles.entries;
       lasting = m.lasting.items;
       damaged = m.damaged.items;
+      tickets = m.tickets.tickets;
     }) };
 }
 
@@ -108,12 +115,13 @@ impl EngineState {
     ) -> EngineState
         requires made { All (λ k. k.number < next) keyspaces.living }
         requires given { All (λ v. v.keyspace_id < keyspaces.next) versions.items }
+        requires below { All (λ v. v.seqno < next) versions.items }
         ensures { result ≡ remembered keyspaces versions.items damaged.items next }
     {
         EngineState {
             keyspaces,
             versions,
-            next,
+            tickets: Tickets::new(alloc, next),
             poisoned: false,
             handles: BTreeMap::new(alloc),
             lasting: Vec::new(alloc),
@@ -147,7 +155,7 @@ impl EngineState {
     pub fn seqno(&self) -> u64
         ensures { result ≡ self.now.next }
     {
-        self.next
+        self.tickets.seqno()
     }
 
     /// The id that the next keyspace gets.
@@ -286,43 +294,121 @@ fn read_refusal(memory: &EngineState, id: u64) -> Option<Error>
 }
 
 impl EngineState {
-    /// The value that a key of a keyspace has, where it has one. A deleted keyspace is read as long as handles of
-    /// it are counted.
-    ///
-    /// Refusals: `UnknownKeyspace`, `KeyspaceDeleted`, `Storage(TableDamaged)` where a block of one of its tables is
-    /// wrong, `OutOfMemory`.
-    pub fn get(&self, id: u64, key: &[u8]) -> Result<Option<UserValue>>
-        ensures due { OnOk result (first_due (read_refusals (facts_of self.now 0) id) ≡ None) }
-        ensures ok { IfOk result (λ found. found ≡ newest self.now.versions id key.now) }
-        ensures cause { IfErr result (IsDueOrMemory (first_due (read_refusals (facts_of self.now 0) id))) }
+    // The instant at which a view reads; 0 where its ticket isn't open.
+    fn instant_of(&self, view: View) -> u64
+        ensures { versions_in self.now view ≡ before result self.now.versions }
     {
-        match read_refusal(self, id) {
-            Some(error) => Err(error),
-            None => shared_value(newest_value(&self.versions, id, key)),
+        match view {
+            View::Present => self.seqno(),
+            View::At(ticket) => self.tickets.instant_of(ticket.id).unwrap_or(0),
         }
     }
 
-    /// The first or, from behind, the last pairs of a keyspace between the bounds, at most `max`, in the keys'
+    // What refuses a read of the keyspace of this id in a view.
+    fn view_refusal(&self, view: View, id: u64) -> Option<Error>
+        ensures { result ≡ first_due (view_refusals (facts_of self.now 0) view id) }
+    {
+        if let View::At(ticket) = view
+            && !self.tickets.is_open(ticket.id)
+        {
+            return Some(Error::SnapshotClosed);
+        }
+        read_refusal(self, id)
+    }
+
+    /// The value that a key of a keyspace has in a view, where it has one. A deleted keyspace is read as long as handles
+    /// of it are counted.
+    ///
+    /// Refusals: `SnapshotClosed`, `UnknownKeyspace`, `KeyspaceDeleted`, `Storage(TableDamaged)` where a block of one of
+    /// its tables is wrong, `OutOfMemory`.
+    pub fn get(&self, view: View, id: u64, key: &[u8]) -> Result<Option<UserValue>>
+        ensures due { OnOk result (first_due (view_refusals (facts_of self.now 0) view id) ≡ None) }
+        ensures ok { IfOk result (λ found. found ≡ newest (versions_in self.now view) id key.now) }
+        ensures cause { IfErr result (IsDueOrMemory (first_due (view_refusals (facts_of self.now 0) view id))) }
+    {
+        match self.view_refusal(view, id) {
+            Some(error) => Err(error),
+            None => shared_value(newest_value(&self.versions, self.instant_of(view), id, key)),
+        }
+    }
+
+    /// The first or, from behind, the last pairs of a keyspace between the bounds in a view, at most `max`, in the keys'
     /// order.
     ///
-    /// Refusals: `UnknownKeyspace`, `KeyspaceDeleted`, `Storage(TableDamaged)` where a block of one of its tables is
-    /// wrong, `OutOfMemory`.
+    /// Refusals: `SnapshotClosed`, `UnknownKeyspace`, `KeyspaceDeleted`, `Storage(TableDamaged)` where a block of one of
+    /// its tables is wrong, `OutOfMemory`.
     pub fn page(
         &self,
         alloc: Global,
+        view: View,
         id: u64,
         range: &KeyRange,
         back: bool,
         max: usize,
     ) -> Result<Vec<KvPair>>
-        ensures due { OnOk result (first_due (read_refusals (facts_of self.now 0) id) ≡ None) }
-        ensures ok { IfOk result (λ found. found.items ≡ page back max (pairs_between range.now (pairs_in id self.now.versions))) }
-        ensures cause { IfErr result (IsDueOrMemory (first_due (read_refusals (facts_of self.now 0) id))) }
+        ensures due { OnOk result (first_due (view_refusals (facts_of self.now 0) view id) ≡ None) }
+        ensures ok { IfOk result (λ found. found.items ≡ page back max (pairs_between range.now (pairs_in id (versions_in self.now view)))) }
+        ensures cause { IfErr result (IsDueOrMemory (first_due (view_refusals (facts_of self.now 0) view id))) }
     {
-        if let Some(error) = read_refusal(self, id) {
+        if let Some(error) = self.view_refusal(view, id) {
             return Err(error);
         }
-        page(alloc, &self.versions, id, range, back, max)
+        let instant = self.instant_of(view);
+        page(alloc, &self.versions, instant, id, range, back, max)
+    }
+}
+
+impl EngineState {
+    /// Opens a ticket, which reads at the next number.
+    ///
+    /// Refusals: `NumbersUsedUp`, `OutOfMemory`. After each of them nothing has changed.
+    pub fn open_ticket(&mut self) -> Result<Ticket>
+        ensures due { OnOk result (opening_refusal self.old.tickets ≡ None) }
+        ensures ticket { IfOk result (λ ticket. ticket ≡ record { id = self.old.tickets.next; instant = self.old.next }) }
+        ensures ok { OnOk result (self.new ≡ with_tickets (opened self.old.next self.old.tickets) self.old) }
+        ensures unchanged { OnErr result (self.new ≡ self.old) }
+        ensures cause { IfErr result (IsDueOrMemory (opening_refusal self.old.tickets)) }
+    {
+        self.tickets.open()
+    }
+
+    /// Opens a ticket that reads where the one of this id does.
+    ///
+    /// Refusals: `SnapshotClosed`, `NumbersUsedUp`, `OutOfMemory`. After each of them nothing has changed.
+    pub fn clone_ticket(&mut self, id: u64) -> Result<Ticket>
+        ensures due { OnOk result (cloning_refusal id self.old.tickets ≡ None) }
+        ensures ok { IfOk result (λ ticket. (ticket.id ≡ self.old.tickets.next) × (get self.old.tickets.instants id ≡ Some ticket.instant)
+            × (self.new ≡ with_tickets (opened ticket.instant self.old.tickets) self.old)) }
+        ensures unchanged { OnErr result (self.new ≡ self.old) }
+        ensures cause { IfErr result (IsDueOrMemory (cloning_refusal id self.old.tickets)) }
+    {
+        self.tickets.clone_ticket(id)
+    }
+
+    /// Closes the ticket of this id, or refuses with `SnapshotClosed`, after which nothing has changed.
+    pub fn close_ticket(&mut self, id: u64) -> Result<()>
+        ensures due { OnOk result (closing_refusal id self.old.tickets ≡ None) }
+        ensures ok { OnOk result (self.new ≡ with_tickets (closed self.old.next id self.old.tickets) self.old) }
+        ensures unchanged { OnErr result (self.new ≡ self.old) }
+        ensures cause { IfErr result (λ error. closing_refusal id self.old.tickets ≡ Some error) }
+    {
+        self.tickets.close(id)
+    }
+
+    /// Raises the watermark to one below the least number at which an open ticket reads or, with none open, the next
+    /// number, and answers it. It never falls.
+    pub fn gc(&mut self) -> u64
+        ensures value { result ≡ (collected self.old.next self.old.tickets).watermark }
+        ensures raised { self.new ≡ with_tickets (collected self.old.next self.old.tickets) self.old }
+    {
+        self.tickets.gc()
+    }
+
+    /// How many tickets are open.
+    pub fn open_snapshots(&self) -> u64
+        ensures { result ≡ len self.now.tickets.instants }
+    {
+        self.tickets.open_snapshots()
     }
 }
 
@@ -334,28 +420,28 @@ impl EngineState {
         self.poisoned = true;
     }
 
-    /// Keeps one version more, which takes the next number. After a refusal, for want of memory alone, nothing has
+    /// Keeps a version of each item, all of the next number. After a refusal, for want of memory alone, nothing has
     /// changed.
-    pub fn push_version(&mut self, version: Version) -> Result<()>
-        requires living { is_living (store_of self.old.keyspaces self.old.versions) version.keyspace_id ≡ true }
+    pub fn push_items(&mut self, items: &[BatchItem]) -> Result<()>
+        requires living { All (λ item. is_living (store_of self.old.keyspaces self.old.versions) item.0 ≡ true) items.now }
         requires numbered { self.old.next < 2 ^ 63 }
-        ensures ok { OnOk result (self.new ≡ with_version version self.old) }
+        ensures ok { OnOk result (self.new ≡ with_items items.now self.old) }
         ensures lawful { IsLawful self.old }
         ensures unchanged { OnErr result (self.new ≡ self.old) }
         ensures only { IsOkUnless result Error.OutOfMemory }
     {
-        self.versions.push(version)?;
-        self.next += 1;
+        push_items(&mut self.versions, items, self.tickets.seqno())?;
+        self.tickets.publish();
         Ok(())
     }
 
-    /// Takes back the version that it was given last, and its number.
-    pub fn pop_version(&mut self)
-        requires { (version : Version) × (m : Remembered) × IsLawful m × (self.old ≡ with_version version m) }
-        ensures { (version : Version) (m : Remembered) → self.old ≡ with_version version m → self.new ≡ m }
+    /// Takes back the versions of so many items, which it was given last, and their number.
+    pub fn take_items(&mut self, count: usize)
+        requires { (items : List Item) × (m : Remembered) × IsLawful m × (length items ≡ count) × (self.old ≡ with_items items m) }
+        ensures { (items : List Item) (m : Remembered) → IsLawful m → length items ≡ count → self.old ≡ with_items items m → self.new ≡ m }
     {
-        self.versions.pop();
-        self.next -= 1;
+        self.versions.truncate(self.versions.len() - count);
+        self.tickets.retract();
     }
 
     /// Makes a keyspace of this name with these options, under the next number, and answers its id. After a
@@ -371,8 +457,9 @@ impl EngineState {
         ensures unchanged { OnErr result (self.new ≡ self.old) }
         ensures only { IsOkUnless result Error.OutOfMemory }
     {
-        let id = self.keyspaces.create_keyspace(name, options, self.next)?;
-        self.next += 1;
+        let number = self.tickets.seqno();
+        let id = self.keyspaces.create_keyspace(name, options, number)?;
+        self.tickets.publish();
         Ok(id)
     }
 
@@ -383,7 +470,7 @@ impl EngineState {
         ensures { (name : Bytes) (options : List Bytes) (m : Remembered) → IsLawful m → self.old ≡ with_creation name options m → self.new ≡ m }
     {
         self.keyspaces.take_back();
-        self.next -= 1;
+        self.tickets.retract();
     }
 
     /// The deleted keyspaces that are still read once this one is deleted too, for [`delete`](EngineState::delete).
@@ -406,7 +493,7 @@ impl EngineState {
         ensures { self.new ≡ with_deletion id self.old }
     {
         self.keyspaces.remove_keyspace(id);
-        self.next += 1;
+        self.tickets.publish();
         self.lasting = lasting;
     }
 
@@ -415,10 +502,10 @@ impl EngineState {
     /// Refusals: `UnknownKeyspace`, `KeyspaceDeleted` where it isn't read any more, `NumbersUsedUp`, `OutOfMemory`.
     /// After each of them nothing has changed.
     pub fn retain(&mut self, id: u64) -> Result<()>
-        ensures due { OnOk result (due_in (facts_of self.old 0) (Retain id) ≡ None) }
+        ensures due { OnOk result (first_due (handle_refusals (facts_of self.old 0) OneMore id) ≡ None) }
         ensures ok { OnOk result (self.new ≡ retained id self.old) }
         ensures unchanged { OnErr result (self.new ≡ self.old) }
-        ensures cause { IfErr result (IsDueOrMemory (due_in (facts_of self.old 0) (Retain id))) }
+        ensures cause { IfErr result (IsDueOrMemory (first_due (handle_refusals (facts_of self.old 0) OneMore id))) }
     {
         if let Some(error) = handle_refusal(self, id) {
             return Err(error);

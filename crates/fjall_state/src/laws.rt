@@ -1,40 +1,45 @@
 //! What holds of the definitions.
 
-ghost use Rattle.std.specs.Prelude.{◌≡◌, ◌≢◌, ◌<◌, ◌+◌, ◌-◌, ◌^◌, ◌↔◌, [], true, false, nat_le, if◌then◌else◌, ℕ, List, None, Some, is_some, length, map};
+ghost use Rattle.std.specs.Prelude.{◌≡◌, ◌≢◌, ◌<◌, ◌+◌, ◌-◌, ◌^◌, ◌↔◌, [], All, true, false, nat_le, if◌then◌else◌, ℕ, List, None, Some, is_some, length, map};
 ghost use Rattle.std.specs.FinMap.{empty, get, len, values};
-ghost use Rattle.fjall_base.specs.Pairs.{Bytes, lookup};
-ghost use Rattle.fjall_base.specs.Store.{map_at};
+ghost use Rattle.fjall_base.specs.Pairs.{Bytes};
+ghost use Rattle.fjall_base.specs.Store.{Store, map_at};
 ghost use Rattle.fjall_base.specs.declared.error.Error.{Error};
+ghost use Rattle.fjall_journal.specs.Ops.{BatchItem as Item};
 ghost use Rattle.fjall_meta.specs.Keyspaces.{id_of, is_name};
 ghost use Rattle.fjall_options.specs.Options.{AreOptions};
-ghost use Rattle.fjall_versions.specs.Versions.{newest, pairs_in, store_of};
-ghost use Rattle.fjall_state.specs.declared.call.Call.{Call};
-ghost use Rattle.fjall_state.specs.declared.call.Call.TheVariants.{Release};
-ghost use Rattle.fjall_state.specs.declared.call.Reply.TheVariants.{Refused};
-ghost use Rattle.fjall_state.specs.Ops.{Op};
-ghost use Rattle.fjall_state.specs.Allowed.{MayCreate, MayDelete, MayWrite};
+ghost use Rattle.fjall_versions.specs.Versions.{pairs_in, store_of};
+ghost use Rattle.fjall_history.specs.declared.ticket.View.{View as Seen};
+ghost use Rattle.fjall_history.specs.declared.reply.Reply.{Reply as Told};
+ghost use Rattle.fjall_history.specs.declared.reply.Reply.TheVariants.{Refused};
+ghost use Rattle.fjall_history.specs.Histories.{view};
+ghost use Rattle.fjall_history.specs.Moves.{AreSound, Moves};
+ghost use Rattle.fjall_history.specs.Tickets.{closed, collected, no_tickets, opened};
+ghost use Rattle.fjall_state.specs.declared.call.Call.{Call as Asked};
+ghost use Rattle.fjall_state.specs.Allowed.{MayChange, MayCreate, MayDelete};
+ghost use Rattle.fjall_state.specs.Shapes.{OneLess, Persistence, Shape};
 ghost use Rattle.fjall_state.specs.Machine as machine;
-ghost use Rattle.fjall_state.specs.Machine.{Facts, IsPoisoned, Parts, State, Step, TakesMemory, accepted, created, creation_refusals, deleted, deletion_refusals, due, due_in, first_due, handles_of, has_name, is_living, one_more, opened_state, persists_by_hand, present, read_refusals, write_refusals};
-ghost use Rattle.fjall_state.specs.Remembered.{IsDueOrMemory, IsLawful, Remembered, StandsFor, facts_of, poisoned, released, retained, version_of, with_creation, with_deletion, with_version};
+ghost use Rattle.fjall_state.specs.Machine.{Facts, IsPoisoned, Parts, Run, State, Step, StepOf, TakesMemory, accepted, change_refusals, created, creation_refusals, deleted, deletion_refusals, due, due_in, first_due, handle_refusals, handles_of, has_name, is_living, maps_in, one_more, opened_state, persists_by_hand, present, times, view_refusals};
+ghost use Rattle.fjall_state.specs.Remembered.{IsDueOrMemory, IsLawful, Remembered, StandsFor, facts_of, poisoned, released, retained, versions_in, with_creation, with_deletion, with_items, with_tickets};
 
 /// What is held tells which refusal is due in each state that it stands for.
 pub fn facts_agree()
-    ensures { (m : Remembered) (table : ℕ) (s : State) → StandsFor m table s → (call : Call) → due s call ≡ due_in (facts_of m table) call }
+    ensures { (m : Remembered) (table : ℕ) (s : State) → StandsFor m table s → (shape : Shape) → due s shape ≡ due_in (facts_of m table) shape }
 {}
 
 /// A refusal that is due, or want of memory where none is, is a step of the machine that changes nothing.
 pub fn a_refusal_is_a_step()
-    ensures due { (m : Remembered) (table : ℕ) (s : State) → StandsFor m table s → (call : Call) (error : Error) → due_in (facts_of m table) call ≡ Some error
-        → Step s call (Refused error) s }
-    ensures memory { (m : Remembered) (table : ℕ) (s : State) → StandsFor m table s → (call : Call) (error : Error) → TakesMemory call
-        → IsDueOrMemory (due_in (facts_of m table) call) error → Step s call (Refused error) s }
+    ensures due { (m : Remembered) (table : ℕ) (s : State) → StandsFor m table s → (shape : Shape) (error : Error) → due_in (facts_of m table) shape ≡ Some error
+        → StepOf s shape (Refused error) s }
+    ensures memory { (m : Remembered) (table : ℕ) (s : State) → StandsFor m table s → (shape : Shape) (error : Error) → TakesMemory shape
+        → IsDueOrMemory (due_in (facts_of m table) shape) error → StepOf s shape (Refused error) s }
 {}
 
-/// One version more is an accepted write.
-pub fn a_write_stands()
-    ensures { (m : Remembered) (table : ℕ) (s : State) → StandsFor m table s → (id : ℕ) (key : Bytes) (o : Op)
-        → is_living (store_of m.keyspaces m.versions) id ≡ true
-        → StandsFor (with_version (version_of m.next id key o) m) table (accepted s id key o) }
+/// A version of each item more is an accepted change.
+pub fn a_change_stands()
+    ensures { (m : Remembered) (table : ℕ) (s : State) → StandsFor m table s → (items : List Item) (how : Persistence) → items ≢ []
+        → All (λ item. is_living (store_of m.keyspaces m.versions) item.0 ≡ true) items
+        → StandsFor (with_items items m) table (accepted s items how) }
 {}
 
 /// A keyspace more is a creation.
@@ -74,12 +79,38 @@ pub fn other_parts_stand()
         → StandsFor m table (record s { parts = parts }) }
 {}
 
-/// Where no refusal of a read is due, versions tell what the present has.
+/// Where no refusal of a read is due, versions tell what the view has.
 pub fn reads_agree()
-    ensures key { (m : Remembered) (table : ℕ) (s : State) → StandsFor m table s → (id : ℕ) → first_due (read_refusals (facts_of m table) id) ≡ None
-        → (key : Bytes) → newest m.versions id key ≡ lookup (map_at (present s).maps id) key }
-    ensures pairs { (m : Remembered) (table : ℕ) (s : State) → StandsFor m table s → (id : ℕ) → first_due (read_refusals (facts_of m table) id) ≡ None
-        → pairs_in id m.versions ≡ map_at (present s).maps id }
+    ensures { (m : Remembered) (table : ℕ) (s : State) → StandsFor m table s → (view : Seen) (id : ℕ) → first_due (view_refusals (facts_of m table) view id) ≡ None
+        → pairs_in id (versions_in m view) ≡ map_at (maps_in s view) id }
+{}
+
+/// Tickets that are opened, closed or collected are the state's: a new one reads at the next number, or where another one
+/// does.
+pub fn tickets_stand()
+    ensures opened { (m : Remembered) (table : ℕ) (s : State) → StandsFor m table s
+        → StandsFor (with_tickets (opened m.next m.tickets) m) table (record s { tickets = opened m.next s.tickets }) }
+    ensures cloned { (m : Remembered) (table : ℕ) (s : State) → StandsFor m table s → (id instant : ℕ) → get m.tickets.instants id ≡ Some instant
+        → StandsFor (with_tickets (opened instant m.tickets) m) table (record s { tickets = opened instant s.tickets }) }
+    ensures closed { (m : Remembered) (table : ℕ) (s : State) → StandsFor m table s → (id : ℕ)
+        → StandsFor (with_tickets (closed m.next id m.tickets) m) table (record s { tickets = closed m.next id s.tickets }) }
+    ensures collected { (m : Remembered) (table : ℕ) (s : State) → StandsFor m table s
+        → StandsFor (with_tickets (collected m.next m.tickets) m) table (record s { tickets = collected m.next s.tickets }) }
+{}
+
+/// Each step of the machine is one small move of its history and its tickets.
+pub fn a_step_moves()
+    ensures { (s t : State) (call : Asked) (reply : Told) → Step s call reply t → Moves (times s) (times t) }
+{}
+
+/// Whatever calls come after, a ticket that stays open reads at the instant at which it was opened, and its view is what was
+/// accepted up to then.
+pub fn a_snapshot_keeps_its_view()
+    ensures view { (s t : State) (calls : List Asked) (replies : List Told) → Run s calls replies t → AreSound (times s)
+        → (ticket before after : ℕ) → get s.tickets.instants ticket ≡ Some before → get t.tickets.instants ticket ≡ Some after
+        → (before ≡ after) × (view t.history after ≡ view s.history before) }
+    ensures sound { (s t : State) (calls : List Asked) (replies : List Told) → Run s calls replies t → AreSound (times s) → AreSound (times t) }
+    ensures opened { (store : Store) (damaged : List ℕ) (base : ℕ) (parts : Parts) → AreSound (times (opened_state store damaged base parts)) }
 {}
 
 /// The present's keyspaces are those that are held.
@@ -103,14 +134,14 @@ pub fn options_agree()
 
 /// What was just opened stands for the state just opened, whichever keyspaces are damaged.
 pub fn an_opening_stands()
-    ensures { (m : Remembered) → IsLawful m → m.handles ≡ empty → m.lasting ≡ [] → m.poisoned ≡ false
+    ensures { (m : Remembered) → IsLawful m → m.handles ≡ empty → m.lasting ≡ [] → m.poisoned ≡ false → m.tickets ≡ no_tickets
         → (table : ℕ) (parts : Parts) → parts.table ≡ table → StandsFor m table (opened_state (store_of m.keyspaces m.versions) m.damaged m.next parts) }
 {}
 
 /// Where nothing refuses a call, what it asks for is there.
 pub fn nothing_refused()
-    ensures write { (f : Facts) (id : ℕ) (key value : Bytes) → first_due (write_refusals f id key value) ≡ None → MayWrite f id key value }
+    ensures change { (f : Facts) (items : List Item) → first_due (change_refusals f items) ≡ None → MayChange f items }
     ensures creation { (f : Facts) (name : Bytes) → first_due (creation_refusals f name) ≡ None → MayCreate f name }
     ensures deletion { (f : Facts) (id : ℕ) → first_due (deletion_refusals f id) ≡ None → MayDelete f id }
-    ensures release { (f : Facts) (id : ℕ) → due_in f (Release id) ≡ None → 0 < handles_of f.handles id }
+    ensures release { (f : Facts) (id : ℕ) → first_due (handle_refusals f OneLess id) ≡ None → 0 < handles_of f.handles id }
 {}

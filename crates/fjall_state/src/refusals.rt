@@ -1,38 +1,57 @@
 //! What refuses a call before memory or the disk is asked for anything: the first refusal whose cause holds.
 
 ghost use Rattle.std.specs.Prelude.{◌≡◌, ◌==◌, ◌||◌, ◌-◌, ◌^◌, true};
-ghost use Rattle.fjall_state.specs.declared.call.Call.TheVariants.{Release};
-ghost use Rattle.fjall_state.specs.Machine.{are_used_up, creation_refusals, deletion_refusals, due_in, first_due, write_refusals};
+ghost use Rattle.fjall_state.specs.Machine.{are_used_up, change_refusals, creation_refusals, deletion_refusals, first_due, handle_refusals, some_deleted, some_unknown};
+ghost use Rattle.fjall_state.specs.Shapes.{OneLess};
 ghost use Rattle.fjall_state.specs.Remembered.{facts_of};
 
 use crate::engine_state::EngineState;
 use fjall_base::Error;
+use fjall_journal::{BatchItem, has_empty_key, has_key_too_long, has_value_too_long};
 
 /// Sequence numbers lie below this one.
 const SEQNO_LIMIT: u64 = 1 << 63;
 
+/// How many items a batch has at most.
+const BATCH_LIMIT: usize = 4_294_967_295;
+
 impl EngineState {
-    /// What refuses a write of this item.
-    pub fn write_refusal(&self, id: u64, key: &[u8], value: &[u8]) -> Option<Error>
-        ensures { result ≡ first_due (write_refusals (facts_of self.now 0) id key.now value.now) }
+    fn has_unknown(&self, items: &[BatchItem]) -> bool
+        ensures { result ≡ some_unknown (facts_of self.now 0).store items.now }
     {
-        if key.is_empty() {
+        items.iter().any(|item| self.is_unknown(item.0))
+    }
+
+    fn has_deleted(&self, items: &[BatchItem]) -> bool
+        ensures { result ≡ some_deleted (facts_of self.now 0).store items.now }
+    {
+        items.iter().any(|item| !self.is_living(item.0))
+    }
+
+    /// What refuses a change of these items, cause by cause over all of them.
+    pub fn change_refusal(&self, items: &[BatchItem]) -> Option<Error>
+        ensures { result ≡ first_due (change_refusals (facts_of self.now 0) items.now) }
+    {
+        if has_empty_key(items) {
             return Some(Error::KeyEmpty);
         }
-        if key.len() > 65_535 {
+        if has_key_too_long(items) {
             return Some(Error::KeyTooLong);
         }
-        if value.len() > 4_294_967_295 {
+        if has_value_too_long(items) {
             return Some(Error::ValueTooLong);
         }
-        if self.is_unknown(id) {
+        if self.has_unknown(items) {
             return Some(Error::UnknownKeyspace);
         }
-        if !self.is_living(id) {
+        if self.has_deleted(items) {
             return Some(Error::KeyspaceDeleted);
         }
         if self.is_poisoned() {
             return Some(Error::Poisoned);
+        }
+        if items.len() > BATCH_LIMIT {
+            return Some(Error::TooManyItems);
         }
         if self.seqno() >= SEQNO_LIMIT {
             return Some(Error::NumbersUsedUp);
@@ -94,7 +113,7 @@ impl EngineState {
 
     /// What refuses to count a handle less.
     pub fn release_refusal(&self, id: u64) -> Option<Error>
-        ensures { result ≡ due_in (facts_of self.now 0) (Release id) }
+        ensures { result ≡ first_due (handle_refusals (facts_of self.now 0) OneLess id) }
     {
         if self.is_unknown(id) || self.handle_count(id) == 0 {
             return Some(Error::UnknownKeyspace);

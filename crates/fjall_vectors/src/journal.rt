@@ -2,8 +2,8 @@
 
 use fjall_base::{CompressionType, Disk, Error, JournalRecoveryError, Result, Slice};
 use fjall_journal::{
-    Batch, Entry, JOURNAL_BUFFER_BYTES, JournalBatchReader, PersistMode, RecoveryMode, Tail,
-    ValueType, Writer, read_journal, serialize_marker_item,
+    Batch, BatchItem, Entry, JOURNAL_BUFFER_BYTES, JournalBatchReader, Op, PersistMode,
+    RecoveryMode, Tail, ValueType, Writer, read_journal, serialize_marker_item,
 };
 use fjall_memory::MemoryDisk;
 use std::alloc::Global;
@@ -157,6 +157,53 @@ fn lengths(rt: HostRuntime) {
             (Ok((item_len, file_len)), 8_192),
             "{key_len}, {value_len}"
         );
+    }
+}
+
+/// An item with a key of this length that gets a value of this length.
+fn item_of(alloc: Global, key: usize, value: usize) -> Result<BatchItem> {
+    let key = vec![in alloc; 7u8; key]?;
+    let value = vec![in alloc; 9u8; value]?;
+    let op = Op::Put(Slice::new(alloc, &value)?);
+    Ok((1, Slice::new(alloc, &key)?, op))
+}
+
+fn items_of(alloc: Global, items: &[(usize, usize)]) -> Result<Vec<BatchItem>> {
+    let mut batch = Vec::new(alloc);
+    for (key, value) in items {
+        batch.push(item_of(alloc, *key, *value)?)?;
+    }
+    Ok(batch)
+}
+
+fn write_items(disk: &mut MemoryDisk, writer: &mut Writer, items: &[BatchItem]) -> Result<usize> {
+    writer.write_batch(disk, items, 1)
+}
+
+/// The length of a batch of these items, and the file's and the writer's behind it.
+fn batch_lengths(alloc: Global, items: &[(usize, usize)]) -> Result<(usize, u64, u64)> {
+    let items = items_of(alloc, items)?;
+    let mut disk = MemoryDisk::new(alloc);
+    let mut writer = writer_on(alloc, &mut disk)?;
+    let count = write_items(&mut disk, &mut writer, &items)?;
+    Ok((count, writer.len(), writer.pos()))
+}
+
+// Lengths of keys and values, and of a batch of them, of the file and of what was written.
+const BATCHES: &[(&[(usize, usize)], Result<(usize, u64, u64)>)] = &[
+    (&[], Ok((0, 0, 0))),
+    (&[(1, 1)], Ok((49, 0, 49))),
+    (&[(1, 1), (1, 1), (1, 0)], Ok((94, 0, 94))),
+    (&[(1, 1), (1, 8_120)], Ok((8_191, 0, 8_191))),
+    (&[(1, 1), (1, 8_121)], Ok((8_192, 8_192, 8_192))),
+    (&[(1, 1), (65_536, 0)], Err(Error::KeyTooLong)),
+    (&[(65_536, 0), (0, 1)], Err(Error::KeyEmpty)),
+];
+
+#[test]
+fn lengths_of_batches(rt: HostRuntime) {
+    for (row, &(items, answer)) in BATCHES.iter().enumerate() {
+        assert_eq!(rt; batch_lengths(rt.alloc(), items), answer, "row {row}");
     }
 }
 

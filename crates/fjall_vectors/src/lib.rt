@@ -12,8 +12,12 @@ mod machine;
 #[cfg(test)]
 mod meta;
 #[cfg(test)]
+mod reading;
+#[cfg(test)]
 mod tree;
 #[cfg(test)]
 mod tx;
 #[cfg(test)]
 mod versions;
+#[cfg(test)]
+mod writes;

@@ -1,10 +1,10 @@
 //! What an engine holds in memory: keyspaces made, written, deleted and read, and refusals in their order.
 
 use fjall_base::{Error, KvPair, Result, Slice, StorageError};
-use fjall_journal::{PersistMode, ValueType};
+use fjall_journal::{BatchItem, Op, PersistMode, ValueType};
 use fjall_meta::MetaKeyspace;
 use fjall_options::KeyspaceCreateOptions;
-use fjall_state::{Call, Change, EngineState, Reply, View};
+use fjall_state::{Call, EngineState, Reply, Ticket, View};
 use std::alloc::Global;
 use std::fmt::Debug;
 use std::ops::Bound;
@@ -21,19 +21,48 @@ fn create(alloc: Global, memory: &mut EngineState, name: &[u8]) -> Result<u64> {
     memory.create(Slice::new(alloc, name)?, options)
 }
 
-/// Changes a key of a keyspace, where nothing refuses it.
-fn change(
-    alloc: Global,
-    memory: &mut EngineState,
-    id: u64,
-    key: &[u8],
-    change: Change<'_>,
-) -> Result<()> {
-    if let Some(error) = memory.write_refusal(id, key, change.bytes()) {
+/// What becomes of a key.
+#[derive(Clone, Copy)]
+enum Change {
+    Put(&'static [u8]),
+    Remove,
+    RemoveWeak,
+}
+
+fn op_of(alloc: Global, change: Change) -> Result<Op> {
+    Ok(match change {
+        Change::Put(value) => Op::Put(Slice::new(alloc, value)?),
+        Change::Remove => Op::Remove,
+        Change::RemoveWeak => Op::RemoveWeak,
+    })
+}
+
+/// An item of a batch: a keyspace, a key, and what becomes of it.
+type Item = (u64, &'static [u8], Change);
+
+fn item_of(alloc: Global, (id, key, change): Item) -> Result<BatchItem> {
+    let key = Slice::new(alloc, key)?;
+    Ok((id, key, op_of(alloc, change)?))
+}
+
+fn items_of(alloc: Global, items: &[Item]) -> Result<Vec<BatchItem>> {
+    let mut batch = Vec::new(alloc);
+    for item in items {
+        batch.push(item_of(alloc, *item)?)?;
+    }
+    Ok(batch)
+}
+
+/// Changes keys of keyspaces by these items, where nothing refuses it.
+fn push(memory: &mut EngineState, items: &[BatchItem]) -> Result<()> {
+    if let Some(error) = memory.change_refusal(items) {
         return Err(error);
     }
-    let version = change.version(alloc, id, memory.seqno(), key)?;
-    memory.push_version(version)
+    memory.push_items(items)
+}
+
+fn write(alloc: Global, memory: &mut EngineState, items: &[Item]) -> Result<()> {
+    push(memory, &items_of(alloc, items)?)
 }
 
 /// Deletes a keyspace, where nothing refuses it.
@@ -96,7 +125,7 @@ fn two_empty(alloc: Global) -> Result<EngineState> {
 /// The same, where k=v in the first one.
 fn two(alloc: Global) -> Result<EngineState> {
     let mut memory = two_empty(alloc)?;
-    change(alloc, &mut memory, 1, b"k", Change::Put(b"v"))?;
+    write(alloc, &mut memory, &[(1, b"k", Change::Put(b"v"))])?;
     Ok(memory)
 }
 
@@ -115,24 +144,43 @@ enum Step {
     /// The same, where the first one will be damaged.
     NewDamaged,
     Create(&'static [u8]),
-    Change(u64, &'static [u8], Change<'static>),
+    Write(&'static [Item]),
     Delete(u64),
     Retain(u64),
     Release(u64),
+    Open,
+    /// Of the ticket of this id.
+    Clone(u64),
+    Close(u64),
+    Collect,
     Ask,
 }
 
-/// Takes a step, and answers the id that a creation answers, else 0.
+/// Takes a step of tickets, and answers the id of the one that it opens, or the watermark.
+fn take_ticket(memory: &mut EngineState, step: Step) -> Result<u64> {
+    match step {
+        Step::Open => Ok(memory.open_ticket()?.id),
+        Step::Clone(id) => Ok(memory.clone_ticket(id)?.id),
+        Step::Close(id) => {
+            memory.close_ticket(id)?;
+            Ok(0)
+        }
+        Step::Collect => Ok(memory.gc()),
+        _ => Ok(0),
+    }
+}
+
+/// Takes a step, and answers the id that a creation answers or that of a ticket, or the watermark, else 0.
 fn take(alloc: Global, memory: &mut EngineState, step: Step) -> Result<u64> {
     match step {
         Step::New => *memory = empty(alloc),
         Step::NewDamaged => *memory = first_damaged(alloc)?,
         Step::Create(name) => return create(alloc, memory, name),
-        Step::Change(id, key, what) => change(alloc, memory, id, key, what)?,
+        Step::Write(items) => write(alloc, memory, items)?,
         Step::Delete(id) => delete(alloc, memory, id)?,
         Step::Retain(id) => retain(memory, id)?,
         Step::Release(id) => release(memory, id)?,
-        Step::Ask => {}
+        _ => return take_ticket(memory, step),
     }
     Ok(0)
 }
@@ -180,11 +228,11 @@ fn state_of(memory: &EngineState, id: u64) -> State {
 
 fn page_of(alloc: Global, memory: &EngineState, id: u64) -> Result<Vec<KvPair>> {
     let everywhere = (Bound::Unbounded, Bound::Unbounded);
-    memory.page(alloc, id, &everywhere, false, 9)
+    memory.page(alloc, View::Present, id, &everywhere, false, 9)
 }
 
 fn value_of(memory: &EngineState, id: u64, key: &[u8]) -> Result<Option<Slice>> {
-    memory.get(id, key)
+    memory.get(View::Present, id, key)
 }
 
 /// The value of a key, and how many keys its keyspace has.
@@ -214,11 +262,18 @@ fn is_read(alloc: Global, memory: &EngineState, id: u64, wanted: Bytes<'_>) -> b
     bytes_of(&found) == wanted
 }
 
-const PUT_V: Step = Step::Change(1, b"k", Change::Put(b"v"));
+const PUT_V: Step = Step::Write(&[(1, b"k", Change::Put(b"v"))]);
 
-const PUT_W: Step = Step::Change(1, b"k", Change::Put(b"w"));
+const PUT_W: Step = Step::Write(&[(1, b"k", Change::Put(b"w"))]);
 
-const AWAY: Step = Step::Change(1, b"k", Change::RemoveWeak);
+const AWAY: Step = Step::Write(&[(1, b"k", Change::RemoveWeak)]);
+
+// The last item of a key counts, and all have one number.
+const BATCH: Step = Step::Write(&[
+    (1, b"k", Change::Put(b"v")),
+    (2, b"k", Change::Put(b"w")),
+    (1, b"k", Change::Remove),
+]);
 
 const UNKNOWN: Bytes<'static> = Err(Error::UnknownKeyspace);
 
@@ -299,6 +354,24 @@ const ROWS: &[Row] = &[
         Ok((None, 0)),
     ),
     (AWAY, Ok(0), (2, 3, 6, 3, 42), BOTH, 1, LIVES, Ok((None, 0))),
+    (
+        BATCH,
+        Ok(0),
+        (2, 3, 7, 6, 42),
+        BOTH,
+        1,
+        LIVES,
+        Ok((None, 0)),
+    ),
+    (
+        Step::Ask,
+        Ok(0),
+        (2, 3, 7, 6, 42),
+        BOTH,
+        2,
+        LIVES,
+        Ok((Some(b"w"), 1)),
+    ),
     // A deleted keyspace goes with its last handle.
     (Step::New, Ok(0), (0, 1, 1, 0, 0), &[], 1, GONE, UNKNOWN),
     (
@@ -450,6 +523,73 @@ fn a_memory_goes_by_its_steps(rt: HostRuntime) {
     }
 }
 
+const CLOSED: Result<Option<&[u8]>> = Err(Error::SnapshotClosed);
+
+// A step and its answer; how many tickets are open then; a ticket, and what is read by it in keyspace 1 at "k".
+const VIEWS: &[(Step, Result<u64>, u64, u64, Result<Option<&[u8]>>)] = &[
+    (Step::Create(b"b"), Ok(1), 0, 0, CLOSED),
+    (PUT_V, Ok(0), 0, 0, CLOSED),
+    (Step::Open, Ok(0), 1, 0, Ok(Some(b"v"))),
+    (PUT_W, Ok(0), 1, 0, Ok(Some(b"v"))),
+    (Step::Clone(0), Ok(1), 2, 1, Ok(Some(b"v"))),
+    (Step::Open, Ok(2), 3, 2, Ok(Some(b"w"))),
+    (AWAY, Ok(0), 3, 2, Ok(Some(b"w"))),
+    (Step::Open, Ok(3), 4, 3, Ok(None)),
+    (Step::Collect, Ok(2), 4, 0, Ok(Some(b"v"))),
+    (Step::Close(0), Ok(0), 3, 0, CLOSED),
+    (
+        Step::Close(0),
+        Err(Error::SnapshotClosed),
+        3,
+        1,
+        Ok(Some(b"v")),
+    ),
+    (
+        Step::Clone(0),
+        Err(Error::SnapshotClosed),
+        3,
+        1,
+        Ok(Some(b"v")),
+    ),
+    (Step::Close(1), Ok(0), 2, 2, Ok(Some(b"w"))),
+    (Step::Collect, Ok(3), 2, 2, Ok(Some(b"w"))),
+    (Step::Close(2), Ok(0), 1, 3, Ok(None)),
+    (Step::Close(3), Ok(0), 0, 3, CLOSED),
+    (Step::Collect, Ok(4), 0, u64::MAX, CLOSED),
+];
+
+/// What is read by a ticket in keyspace 1 at "k".
+fn seen_by(memory: &EngineState, id: u64) -> Result<Option<Slice>> {
+    memory.get(View::At(Ticket::of_call(id)), 1, b"k")
+}
+
+/// Whether this is what is read by a ticket.
+fn is_seen(memory: &EngineState, id: u64, wanted: Result<Option<&[u8]>>) -> bool {
+    let found = seen_by(memory, id);
+    match (&found, wanted) {
+        (Ok(Some(value)), Ok(Some(bytes))) => value.as_slice() == bytes,
+        (Ok(None), Ok(None)) => true,
+        (Err(error), Err(refusal)) => *error == refusal,
+        _ => false,
+    }
+}
+
+#[test]
+fn tickets_keep_their_views(rt: HostRuntime) {
+    let mut memory = empty(rt.alloc());
+    for (row, &(step, answer, count, id, value)) in VIEWS.iter().enumerate() {
+        assert_eq!(rt;
+            (
+                take(rt.alloc(), &mut memory, step),
+                memory.open_snapshots(),
+                is_seen(&memory, id, value)
+            ),
+            (answer, count, true),
+            "row {row}"
+        );
+    }
+}
+
 /// A memory that a row names: with two keyspaces; with one of them deleted; the same poisoned; one whose numbers are
 /// used up.
 #[derive(Clone, Copy)]
@@ -482,8 +622,8 @@ fn memory_of(alloc: Global, named: Given) -> Result<EngineState> {
 /// A refusal that a row asks for.
 #[derive(Clone, Copy)]
 enum Asked {
-    /// Of a write to this keyspace with a key of this length.
-    Write(u64, usize),
+    /// Of a batch that takes keys of these lengths away in these keyspaces.
+    Write(&'static [(u64, usize)]),
     /// Of a creation and a deletion, with this number of the next table.
     Creation(&'static [u8], u64),
     Deletion(u64, u64),
@@ -491,22 +631,61 @@ enum Asked {
 
 use Asked::*;
 
+/// An item that takes a key of this length away.
+fn removal(alloc: Global, id: u64, len: usize) -> Result<BatchItem> {
+    let key = vec![in alloc; b'k'; len]?;
+    Ok((id, Slice::new(alloc, &key)?, Op::Remove))
+}
+
+fn removals(alloc: Global, keys: &[(u64, usize)]) -> Result<Vec<BatchItem>> {
+    let mut batch = Vec::new(alloc);
+    for (id, len) in keys {
+        batch.push(removal(alloc, *id, *len)?)?;
+    }
+    Ok(batch)
+}
+
 fn refusal(alloc: Global, memory: &EngineState, asked: Asked) -> Result<Option<Error>> {
     Ok(match asked {
-        Write(id, len) => memory.write_refusal(id, &vec![in alloc; b'k'; len]?, b""),
+        Write(keys) => memory.change_refusal(&removals(alloc, keys)?),
         Creation(name, next_table_id) => memory.creation_refusal(name, next_table_id),
         Deletion(id, next_table_id) => memory.deletion_refusal(id, next_table_id),
     })
 }
 
 const REFUSALS: &[(Given, Asked, Option<Error>)] = &[
-    // Refusals of writes come in this order.
-    (Given::Poisoned, Write(9, 0), Some(Error::KeyEmpty)),
-    (Given::Poisoned, Write(9, 65_536), Some(Error::KeyTooLong)),
-    (Given::Poisoned, Write(9, 1), Some(Error::UnknownKeyspace)),
-    (Given::Poisoned, Write(0, 1), Some(Error::UnknownKeyspace)),
-    (Given::Poisoned, Write(1, 1), Some(Error::KeyspaceDeleted)),
-    (Given::Poisoned, Write(2, 1), Some(Error::Poisoned)),
+    // Refusals of batches come in this order, each looked for in all items.
+    (
+        Given::Poisoned,
+        Write(&[(9, 1), (1, 65_536), (2, 0)]),
+        Some(Error::KeyEmpty),
+    ),
+    (
+        Given::Poisoned,
+        Write(&[(9, 1), (1, 1), (2, 65_536)]),
+        Some(Error::KeyTooLong),
+    ),
+    (
+        Given::Poisoned,
+        Write(&[(1, 1), (2, 1), (9, 1)]),
+        Some(Error::UnknownKeyspace),
+    ),
+    (
+        Given::Poisoned,
+        Write(&[(1, 1), (0, 1)]),
+        Some(Error::UnknownKeyspace),
+    ),
+    (
+        Given::Poisoned,
+        Write(&[(2, 1), (1, 1)]),
+        Some(Error::KeyspaceDeleted),
+    ),
+    (
+        Given::Poisoned,
+        Write(&[(2, 1), (2, 1)]),
+        Some(Error::Poisoned),
+    ),
+    (Given::OneDeleted, Write(&[(2, 1), (2, 65_535)]), None),
     // So do those of changes of keyspaces.
     (
         Given::OneDeleted,
@@ -562,11 +741,17 @@ fn refusals_come_in_order(rt: HostRuntime) {
     }
 }
 
-const CHANGES: &[(Change<'static>, &[u8], ValueType)] = &[
+const CHANGES: &[(Change, &[u8], ValueType)] = &[
     (Change::Put(b"v"), b"v", ValueType::Value),
     (Change::Remove, b"", ValueType::Tombstone),
     (Change::RemoveWeak, b"", ValueType::WeakTombstone),
 ];
+
+/// Whether a change has these bytes in a journal, and its type there.
+fn written(alloc: Global, change: Change, bytes: &[u8]) -> Result<(bool, ValueType)> {
+    let op = op_of(alloc, change)?;
+    Ok((op.bytes() == bytes, op.value_type()))
+}
 
 fn is_printed<T: Debug>(alloc: Global, value: &T, text: &str) -> Result<bool> {
     let printed = format!(in alloc; "{value:?}")?;
@@ -597,8 +782,8 @@ fn changes_and_calls_say_what_they_are(rt: HostRuntime) {
     let printed = are_printed(rt.alloc());
     for &(change, bytes, value_type) in CHANGES {
         assert_eq!(rt;
-            (change.bytes(), change.value_type(), printed),
-            (bytes, value_type, Ok((true, true, true)))
+            (written(rt.alloc(), change, bytes), printed),
+            (Ok((true, value_type)), Ok((true, true, true)))
         );
     }
 }

@@ -162,10 +162,10 @@ fn range_of(alloc: Global, start: Bound<&[u8]>, end: Bound<&[u8]>) -> Result<Key
     Ok((bound_of(alloc, start)?, bound_of(alloc, end)?))
 }
 
-fn page_of(alloc: Global, versions: &[Version], asked: Asked) -> Result<Vec<KvPair>> {
+fn page_of(alloc: Global, versions: &[Version], instant: u64, asked: Asked) -> Result<Vec<KvPair>> {
     let (id, start, end, back, max) = asked;
     let range = range_of(alloc, start, end)?;
-    page(alloc, versions, id, &range, back, max)
+    page(alloc, versions, instant, id, &range, back, max)
 }
 
 /// Whether pairs have just these keys.
@@ -178,20 +178,35 @@ fn are_keys(pairs: &[KvPair], keys: &[&[u8]]) -> bool {
     pairs.len() == keys.len()
 }
 
-/// Whether the page has just these keys.
-fn has_keys(alloc: Global, versions: &[Version], asked: Asked, keys: &[&[u8]]) -> Result<bool> {
-    let pairs = page_of(alloc, versions, asked)?;
+/// Whether the page at an instant has just these keys.
+fn has_keys(
+    alloc: Global,
+    versions: &[Version],
+    instant: u64,
+    asked: Asked,
+    keys: &[&[u8]],
+) -> Result<bool> {
+    let pairs = page_of(alloc, versions, instant, asked)?;
     Ok(are_keys(&pairs, keys))
 }
 
-/// Whether this is the newest value of a key, or it has none.
-fn is_newest(versions: &[Version], id: u64, key: &[u8], wanted: Option<&[u8]>) -> bool {
-    let found = match newest_value(versions, id, key) {
+/// Whether this is the newest value of a key at an instant, or it has none.
+fn is_newest(
+    versions: &[Version],
+    instant: u64,
+    id: u64,
+    key: &[u8],
+    wanted: Option<&[u8]>,
+) -> bool {
+    let found = match newest_value(versions, instant, id, key) {
         Some(value) => Some(value.as_slice()),
         None => None,
     };
     found == wanted
 }
+
+// An instant behind each version.
+const BEHIND: u64 = u64::MAX;
 
 // Each step and its answer; the keyspaces and numbers of the versions then; a keyspace and all its keys; and a key
 // there and its value.
@@ -283,8 +298,8 @@ fn versions_go_by_their_steps(rt: HostRuntime) {
             (
                 take(rt.alloc(), &mut keyspaces, &mut versions, step),
                 are_of(&versions, ids),
-                has_keys(rt.alloc(), &versions, all, keys),
-                is_newest(&versions, id, key, value)
+                has_keys(rt.alloc(), &versions, BEHIND, all, keys),
+                is_newest(&versions, BEHIND, id, key, value)
             ),
             (Ok(answer), true, Ok(true), true),
             "row {row}"
@@ -311,54 +326,91 @@ fn versions_of_two(alloc: Global) -> Result<Vec<Version>> {
     Ok(versions)
 }
 
-// A page and its keys; and a key of the page's keyspace and its newest value.
-const PAGES: &[(Asked, &[&[u8]], &[u8], Option<&[u8]>)] = &[
+// An instant; a page and its keys then; and a key of the page's keyspace and its newest value then.
+const PAGES: &[(u64, Asked, &[&[u8]], &[u8], Option<&[u8]>)] = &[
     (
+        BEHIND,
         (1, Bound::Unbounded, Bound::Unbounded, false, 2),
         &[b"a", b"c"],
         b"a",
         Some(b"6"),
     ),
     (
+        BEHIND,
         (1, Bound::Unbounded, Bound::Unbounded, true, 2),
         &[b"c", b"d"],
         b"b",
         None,
     ),
     (
+        BEHIND,
         (2, Bound::Unbounded, Bound::Unbounded, true, 9),
         &[b"b"],
         b"b",
         Some(b"3"),
     ),
     (
+        BEHIND,
         (2, Bound::Unbounded, Bound::Unbounded, false, 9),
         &[b"b"],
         b"a",
         None,
     ),
     (
+        BEHIND,
         (3, Bound::Unbounded, Bound::Unbounded, true, 9),
         &[],
         b"a",
         None,
     ),
     (
+        BEHIND,
         (1, Bound::Included(b"a"), Bound::Excluded(b"d"), true, 9),
         &[b"a", b"c"],
         b"d",
         Some(b"1"),
     ),
     (
+        BEHIND,
         (1, Bound::Included(b"d"), Bound::Excluded(b"a"), false, 9),
         &[],
         b"c",
         Some(b"4"),
     ),
     (
+        BEHIND,
         (1, Bound::Unbounded, Bound::Unbounded, false, 9),
         &[b"a", b"c", b"d"],
         b"e",
+        None,
+    ),
+    // What was written under an instant's number, or later, is not seen then.
+    (
+        7,
+        (1, Bound::Unbounded, Bound::Unbounded, false, 9),
+        &[b"a", b"b", b"c", b"d"],
+        b"a",
+        Some(b"6"),
+    ),
+    (
+        6,
+        (1, Bound::Unbounded, Bound::Unbounded, true, 2),
+        &[b"c", b"d"],
+        b"b",
+        Some(b"5"),
+    ),
+    (
+        6,
+        (1, Bound::Unbounded, Bound::Unbounded, false, 9),
+        &[b"a", b"b", b"c", b"d"],
+        b"a",
+        Some(b"2"),
+    ),
+    (
+        1,
+        (1, Bound::Unbounded, Bound::Unbounded, false, 9),
+        &[],
+        b"d",
         None,
     ),
 ];
@@ -366,11 +418,11 @@ const PAGES: &[(Asked, &[&[u8]], &[u8], Option<&[u8]>)] = &[
 #[test]
 fn pages_and_newest_versions(rt: HostRuntime) -> std::result::Result<(), Fail> {
     let versions = versions_of_two(rt.alloc())?;
-    for (row, &(asked, keys, key, value)) in PAGES.iter().enumerate() {
+    for (row, &(instant, asked, keys, key, value)) in PAGES.iter().enumerate() {
         assert_eq!(rt;
             (
-                has_keys(rt.alloc(), &versions, asked, keys),
-                is_newest(&versions, asked.0, key, value)
+                has_keys(rt.alloc(), &versions, instant, asked, keys),
+                is_newest(&versions, instant, asked.0, key, value)
             ),
             (Ok(true), true),
             "row {row}"

@@ -1,5 +1,5 @@
 -- What a page gathers from versions is what they make of the keyspace's map.
-use Rattle.std.proofs.Common.{◌≡◌, ◌≢◌, ℕ, ◌-◌, Bool, true, false, cond, ◌==◌, ◌&&◌, if◌then◌else◌, List, [], ◌∷◌, map, length, take, drop, Option, Some, None, refl, sym, ◌∙◌, ap, subst, arith}
+use Rattle.std.proofs.Common.{◌≡◌, ◌≢◌, ℕ, ◌-◌, Bool, true, false, cond, ◌==◌, ◌&&◌, if◌then◌else◌, List, [], ◌∷◌, map, length, take, drop, Option, Some, None, nat_lt, refl, sym, ◌∙◌, ap, subst, arith}
 use Rattle.std.proofs.lemmas.Bool.{true≢false, false_from_ne_true}
 use Rattle.std.proofs.lemmas.List.{take_all, length-drop}
 use Rattle.std.proofs.lemmas.Slice.Eq.{bytes_eq-Decides}
@@ -20,7 +20,7 @@ use Rattle.std.specs.Map.{lookup}
 use Rattle.fjall_base.specs.Pairs.{Bytes, Pairs, KeyRange, byte_order, pairs_between, page}
 use Rattle.fjall_base.specs.Pairs as pairs
 use Rattle.fjall_versions.specs.declared.version.Version.{Version}
-use Rattle.fjall_versions.specs.Versions.{pairs_in, newest_after, newest}
+use Rattle.fjall_versions.specs.Versions.{before, pairs_in, newest_after, newest}
 use Rattle.fjall_versions.proofs.Newest.{pairs_newest}
 
 -- ---- a tree map as a finite map
@@ -102,6 +102,25 @@ one_outside range id m all rest v there so_far = record {
     not_other : (q : Bytes) → range_contains byte_order range.0 range.1 q ≡ true → ((id == v.keyspace_id) && bytes_eq q v.key) ≡ false
     not_other q within = not_both (id == v.keyspace_id) (bytes_eq q v.key)
         (λ of. bytes_ne q v.key (λ same. true≢false (sym within ∙ ap (range_contains byte_order range.0 range.1) same ∙ there of)))
+
+-- ---- below an instant
+
+-- the next version, where it is seen
+pub one_seen : (range : KeyRange) (id instant : ℕ) (m : BTreeMap Bytes Bytes) (all rest : List Version) (v : Version) → nat_lt v.seqno instant ≡ true
+    → Gathers range id m all (before instant (v ∷ rest)) → Gathers range id m all (v ∷ before instant rest)
+one_seen range id instant m all rest v seen so_far = subst (λ b. Gathers range id m all (cond b (v ∷ before instant rest) (before instant rest))) seen so_far
+
+-- and where it isn't, or isn't of the keyspace between the bounds
+pub one_left_out : (range : KeyRange) (id instant : ℕ) (m : BTreeMap Bytes Bytes) (all rest : List Version) (v : Version)
+    → (nat_lt v.seqno instant ≡ true → (id == v.keyspace_id) ≡ true → range_contains byte_order range.0 range.1 v.key ≡ false)
+    → Gathers range id m all (before instant (v ∷ rest)) → Gathers range id m all (before instant rest)
+one_left_out range id instant m all rest v there so_far = either (nat_lt v.seqno instant) refl so_far
+  where
+    either : (b : Bool) → nat_lt v.seqno instant ≡ b → Gathers range id m all (cond b (v ∷ before instant rest) (before instant rest)) → Gathers range id m all (before instant rest)
+    either true seen far = one_outside range id m all (before instant rest) v (there seen) far
+    either false unseen far = far
+
+-- ---- all of them
 
 -- before the first version
 pub none_yet : (range : KeyRange) (id : ℕ) (m : BTreeMap Bytes Bytes) (all : List Version) → IsOrdered byte_order m → m.entries ≡ [] → Gathers range id m all all

@@ -3,6 +3,8 @@ pub mod Slots
 pub mod Living
 pub mod Replaying
 pub mod Newest
+pub mod Seen
+pub mod Writes
 pub mod Behind
 pub mod Creating
 pub mod Kept

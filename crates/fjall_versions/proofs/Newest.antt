@@ -21,7 +21,7 @@ slot_pairs : (b : Bool) (pairs : Pairs) (slot : Option Pairs) → unwrap_or (con
 slot_pairs true pairs slot = refl
 slot_pairs false pairs slot = refl
 
-pairs_at : (versions : List Version) (slot : Option Pairs) (id : ℕ) → unwrap_or (slot_after slot id versions) empty ≡ pairs_after (unwrap_or slot empty) id versions
+pub pairs_at : (versions : List Version) (slot : Option Pairs) (id : ℕ) → unwrap_or (slot_after slot id versions) empty ≡ pairs_after (unwrap_or slot empty) id versions
 pairs_at [] slot id = refl
 pairs_at (v ∷ versions) slot id =
     let next = altered (unwrap_or slot empty) v.key v.value in

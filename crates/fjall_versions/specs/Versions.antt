@@ -1,5 +1,5 @@
 -- The versions that batches make of keyspaces, and what they say.
-use Rattle.std.specs.Prelude.{ℕ, ◌<◌, ◌==◌, ◌&&◌, Bool, not, if◌then◌else◌, List, [], ◌∷◌, ◌++◌, map, filter, All, Option, None}
+use Rattle.std.specs.Prelude.{ℕ, ◌<◌, ◌==◌, ◌&&◌, Bool, nat_lt, not, if◌then◌else◌, List, [], ◌∷◌, ◌++◌, map, filter, All, Option, None}
 use Rattle.std.specs.List.{list_any}
 use Rattle.std.specs.Str.{bytes_eq}
 use Rattle.std.specs.FinMap.{empty}
@@ -7,6 +7,7 @@ use Rattle.fjall_base.specs.Pairs.{Bytes, Pairs, altered}
 use Rattle.fjall_base.specs.Store.{Store, Command, Write, fold}
 use Rattle.fjall_journal.specs.declared.batch.ReadBatchItem.{ReadBatchItem}
 use Rattle.fjall_journal.specs.Batches.{Shown}
+use Rattle.fjall_journal.specs.Ops.{BatchItem, value_in}
 use Rattle.fjall_meta.specs.Keyspaces.{Keyspaces}
 use Rattle.fjall_versions.specs.declared.version.Version.{Version}
 use Rattle.fjall_versions.specs.Replays.{bare, counts, emptied, value_of}
@@ -20,6 +21,10 @@ command_of version = Write (record { id = version.keyspace_id; key = version.key
 -- the store that these versions make of these keyspaces
 abbrev pub store_of : Keyspaces → List Version → Store
 store_of s versions = fold (bare s) (map command_of versions)
+
+-- the versions numbered below an instant
+abbrev pub before : ℕ → List Version → List Version
+before instant versions = filter (λ v. nat_lt v.seqno instant) versions
 
 -- what these versions make of a keyspace's map, the last of a key being the newest
 abbrev pub pairs_after : Pairs → ℕ → List Version → Pairs
@@ -41,7 +46,7 @@ newest versions id key = newest_after None versions id key
 
 -- the value of a key after a version, which had this one before it
 abbrev pub value_after : Version → Bytes → Option Bytes → Option Bytes
-value_after version key before = if bytes_eq key version.key then version.value else before
+value_after version key old = if bytes_eq key version.key then version.value else old
 
 -- each version is of a keyspace whose id was given out
 abbrev pub AreGiven : Keyspaces → List Version → Type 0
@@ -52,6 +57,10 @@ AreGiven s versions = All (λ v. v.keyspace_id < s.next) versions
 -- the version that an item of a batch of that number makes
 abbrev pub version_of : ℕ → ReadBatchItem → Version
 version_of number item = record { keyspace_id = item.keyspace_id; seqno = number; key = item.key; value = value_of item.value_type item.value }
+
+-- the version that an item of a batch of that number makes
+abbrev pub version_made : ℕ → BatchItem → Version
+version_made number item = record { keyspace_id = item.0; seqno = number; key = item.1; value = value_in item.2 }
 
 -- the versions that the items make, of the keyspaces for which they count
 abbrev pub versions_in : Keyspaces → ℕ → List ReadBatchItem → List Version

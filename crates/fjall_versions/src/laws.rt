@@ -1,16 +1,18 @@
 //! What holds of the definitions.
 
-ghost use Rattle.std.specs.Prelude.{◌≡◌, ◌<◌, ◌≤◌, ◌^◌, ◌∷◌, [], ◌++◌, ◌↔◌, true, ℕ, List, length, map, All, Some, None, is_some};
+ghost use Rattle.std.specs.Prelude.{◌≡◌, ◌≢◌, ◌<◌, ◌≤◌, ◌^◌, ◌==◌, ◌∷◌, [], ◌++◌, ◌↔◌, true, false, not, ℕ, List, filter, length, map, All, Some, None, is_some};
 ghost use Rattle.std.specs.Option.{option_map, option_or};
-ghost use Rattle.std.specs.FinMap.{contains_key, get, len, values};
+ghost use Rattle.std.specs.FinMap.{contains_key, empty, get, len, values};
+ghost use Rattle.std.specs.List.{list_any};
 ghost use Rattle.fjall_base.specs.Pairs.{Bytes, lookup};
 ghost use Rattle.fjall_base.specs.Store.{Command, Create, Delete, Store, Write, apply, fold, kept, map_at};
 ghost use Rattle.fjall_journal.specs.Batches.{Shown, of_item, shown};
+ghost use Rattle.fjall_journal.specs.Ops.{BatchItem, of_items, write_of};
 ghost use Rattle.fjall_journal.specs.declared.entry.ValueType.{ValueType};
 ghost use Rattle.fjall_meta.specs.Keyspaces.{AreKeyspaces, Keyspaces, id_of, keyspace_at, with_keyspace, without_keyspace};
 ghost use Rattle.fjall_versions.specs.declared.version.Version.{Version};
-ghost use Rattle.fjall_versions.specs.Replays.{bare, commands_of, counts, first_fault, journal_commands, least_after, option_pairs, store_in, value_of};
-ghost use Rattle.fjall_versions.specs.Versions.{AreGiven, command_of, newest, pairs_in, store_of, versions_behind};
+ghost use Rattle.fjall_versions.specs.Replays.{bare, commands_of, counts, first_fault, is_indirect, journal_commands, least_after, option_pairs, store_in, value_of};
+ghost use Rattle.fjall_versions.specs.Versions.{AreGiven, before, command_of, newest, pairs_in, store_of, version_made, versions_behind};
 ghost use Rattle.fjall_versions.specs.Views.{clears_of, versions_of};
 ghost use Rattle.fjall_views.specs.Jobs.{AreBelow, AreFrom};
 ghost use Rattle.fjall_views.specs.Views.{IsView};
@@ -136,4 +138,44 @@ pub fn batches_make_their_versions()
     ensures below { (s : Keyspaces) (id bound : ℕ) (batches : List Shown) → All (λ b. b.number < bound) batches → AreBelow bound (versions_of s id batches) }
     ensures clears_below { (s : Keyspaces) (id bound : ℕ) (batches : List Shown) → All (λ b. b.number < bound) batches
         → All (λ n. n < bound) (clears_of s id batches) }
+{}
+
+/// An instant above the numbers of all versions sees all of them.
+pub fn an_instant_above_all_sees_all()
+    ensures { (versions : List Version) (instant : ℕ) → All (λ v. v.seqno < instant) versions → before instant versions ≡ versions }
+{}
+
+/// Versions that are added under the number of an instant or greater ones change nothing of what it sees.
+pub fn later_versions_are_not_seen()
+    ensures { (versions more : List Version) (instant : ℕ) → All (λ v. instant ≤ v.seqno) more → before instant (versions ++ more) ≡ before instant versions }
+{}
+
+/// Where the versions of one keyspace are dropped, every other one reads as before.
+pub fn other_keyspaces_are_as_before()
+    ensures { (id other : ℕ) → id ≢ other → (versions : List Version) (instant : ℕ)
+        → pairs_in other (before instant (filter (λ v. not (v.keyspace_id == id)) versions)) ≡ pairs_in other (before instant versions) }
+{}
+
+/// A keyspace whose id is above those of all versions has no pair.
+pub fn no_version_no_pair()
+    ensures { (versions : List Version) (next id : ℕ) → All (λ v. v.keyspace_id < next) versions → next ≤ id → (instant : ℕ)
+        → pairs_in id (before instant versions) ≡ empty }
+{}
+
+/// The versions that the items of a batch make are one write of all of them: of the map of a keyspace, in whatever store
+/// has what the versions before make of it, and of the store that the versions before stand for.
+pub fn items_are_one_write()
+    ensures map { (t : Store) (versions : List Version) (items : List BatchItem) (number id : ℕ) → map_at t.maps id ≡ pairs_in id versions
+        → map_at (apply t (write_of items)).maps id ≡ pairs_in id (versions ++ map (version_made number) items) }
+    ensures store { (s : Keyspaces) (versions : List Version) (items : List BatchItem) (number : ℕ)
+        → store_of s (versions ++ map (version_made number) items) ≡ apply (store_of s versions) (write_of items) }
+{}
+
+/// The batch of some items, all of which count, is one write of them: it clears nothing, and no item of it stands for a
+/// value elsewhere.
+pub fn a_batch_is_a_write()
+    ensures write { (s : Keyspaces) (items : List BatchItem) (number : ℕ) → items ≢ [] → All (λ item. counts s number item.0 ≡ true) items
+        → commands_of s (shown (of_items items number)) ≡ write_of items ∷ [] }
+    ensures direct { (items : List BatchItem) (number : ℕ) → list_any is_indirect (shown (of_items items number)).items ≡ false }
+    ensures clears { (items : List BatchItem) (number : ℕ) → (shown (of_items items number)).clears ≡ [] }
 {}

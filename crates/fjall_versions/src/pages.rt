@@ -4,7 +4,7 @@ ghost use Rattle.std.specs.Prelude.{◌≡◌, IfOk, OnOk, IsOkUnless};
 ghost use Rattle.std.specs.BTreeMap.{get, IsOrdered};
 ghost use Rattle.std.specs.BTreeMap.Range.{range_contains};
 ghost use Rattle.fjall_base.specs.Pairs.{Bytes, byte_order, pairs_between, page};
-ghost use Rattle.fjall_versions.specs.Versions.{pairs_in, value_after};
+ghost use Rattle.fjall_versions.specs.Versions.{before, pairs_in, value_after};
 
 use crate::version::Version;
 use fjall_base::{Error, KvPair, Result, UserKey, UserValue};
@@ -50,18 +50,20 @@ fn alter(
     Ok(())
 }
 
-// The pairs between the bounds that these versions make of a keyspace, the last version of a key being the newest.
+// The pairs between the bounds that the versions numbered below the instant make of a keyspace, the last version
+// of a key being the newest.
 fn newest_between(
     alloc: Global,
     versions: &[Version],
+    instant: u64,
     id: u64,
     range: &KeyRange,
 ) -> std::result::Result<BTreeMap<UserKey, UserValue>, AllocError>
-    ensures { IfOk result (λ pairs. pairs.entries ≡ pairs_between range.now (pairs_in id versions.now)) }
+    ensures { IfOk result (λ pairs. pairs.entries ≡ pairs_between range.now (pairs_in id (before instant versions.now))) }
 {
     let mut pairs = BTreeMap::new(alloc);
     for version in versions {
-        if id == version.keyspace_id && contains(range, &version.key) {
+        if version.seqno < instant && id == version.keyspace_id && contains(range, &version.key) {
             alter(&mut pairs, version)?;
         }
     }
@@ -69,19 +71,20 @@ fn newest_between(
 }
 
 /// The first or, from behind, the last pairs of a keyspace between the bounds, at most `max`, in the keys'
-/// order. Refuses for want of memory alone.
+/// order, as the versions numbered below `instant` make them. Refuses for want of memory alone.
 pub fn page(
     alloc: Global,
     versions: &[Version],
+    instant: u64,
     id: u64,
     range: &KeyRange,
     back: bool,
     max: usize,
 ) -> Result<Vec<KvPair>>
-    ensures ok { IfOk result (λ found. found.items ≡ page back max (pairs_between range.now (pairs_in id versions.now))) }
+    ensures ok { IfOk result (λ found. found.items ≡ page back max (pairs_between range.now (pairs_in id (before instant versions.now)))) }
     ensures only { IsOkUnless result Error.OutOfMemory }
 {
-    let pairs = newest_between(alloc, versions, id, range)?;
+    let pairs = newest_between(alloc, versions, instant, id, range)?;
     let skipped = if back {
         pairs.len().saturating_sub(max)
     } else {

@@ -2,7 +2,7 @@
 
 ghost use Rattle.std.specs.Prelude.{◌≡◌, IfOk, IsOkUnless};
 ghost use Rattle.std.specs.Option.{option_copied};
-ghost use Rattle.fjall_versions.specs.Versions.{newest};
+ghost use Rattle.fjall_versions.specs.Versions.{before, newest};
 
 use fjall_base::{Error, Result, Slice, UserKey, UserValue};
 use std::alloc::Global;
@@ -42,13 +42,19 @@ impl Version {
     }
 }
 
-/// The value that the newest of these versions of a keyspace's key gave it, the last being the newest.
-pub fn newest_value<'a>(versions: &'a [Version], id: u64, key: &[u8]) -> Option<&'a UserValue>
-    ensures { option_copied result ≡ newest versions.now id key.now }
+/// The value that the newest of the versions numbered below `instant` gave a keyspace's key, the last being the
+/// newest.
+pub fn newest_value<'a>(
+    versions: &'a [Version],
+    instant: u64,
+    id: u64,
+    key: &[u8],
+) -> Option<&'a UserValue>
+    ensures { option_copied result ≡ newest (before instant versions.now) id key.now }
 {
     let mut found = None;
     for version in versions {
-        if id == version.keyspace_id && key == version.key.as_slice() {
+        if version.seqno < instant && id == version.keyspace_id && key == version.key.as_slice() {
             found = version.value.as_ref();
         }
     }

@@ -1,8 +1,8 @@
 use Rattle.fjall_state.proofs.Dues as Dues
 use Rattle.fjall_state.proofs.laws.nothing_refused.Goals as goal
 
-pub returns-clause-write : goal.returns-clause-write
-returns-clause-write c = Dues.may_write
+pub returns-clause-change : goal.returns-clause-change
+returns-clause-change c = Dues.may_change
 
 pub returns-clause-creation : goal.returns-clause-creation
 returns-clause-creation c = Dues.may_create

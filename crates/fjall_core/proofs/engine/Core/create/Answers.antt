@@ -2,8 +2,8 @@ use Rattle.std.proofs.Common.{IsTrue, sym, ◌∙◌, ap, subst}
 use Rattle.std.proofs.lemmas.Result.{err_from_is_err_and}
 use Rattle.fjall_options.specs.Options.{AreOptions}
 use Rattle.fjall_base.specs.declared.error.Error.TheVariants.{OutOfMemory}
-use Rattle.fjall_state.specs.declared.call.Call.TheVariants.{Keyspace}
-use Rattle.fjall_state.specs.declared.call.Reply.TheVariants.{Refused}
+use Rattle.fjall_state.specs.Shapes.{OfCreation}
+use Rattle.fjall_history.specs.declared.reply.Reply.TheVariants.{Refused}
 use Rattle.fjall_core.specs.Holding.{Held}
 use Rattle.fjall_core.specs.Standing.{Serves}
 use Rattle.fjall_core.proofs.ServedCalls.{memory_serves}
@@ -13,7 +13,7 @@ use Rattle.fjall_core.proofs.engine.Core.create.Goals as goal
 pub returns-in_err-name-clause-serves : goal.returns-in_err-name-clause-serves
 returns-in_err-name-clause-serves g c = λ h.
     let p = err_from_is_err_and c.from_residual.result c.from_residual.ensures.1 in
-    rw (p.1, p.2) (memory_serves c.args.self.now (Keyspace c.args.name.now c.args.options) tt c.requires.due)
+    rw (p.1, p.2) (memory_serves c.args.self.now (OfCreation c.args.name.now c.args.options) tt c.requires.due)
 
 pub create-requires-clause-numbered : goal.create-requires-clause-numbered
 create-requires-clause-numbered g c = number_left c.self.view_is c.args.name.now c.args.options c.requires.due c.requires.unnamed
@@ -25,8 +25,8 @@ pub returns-in_err-id-clause-serves : goal.returns-in_err-id-clause-serves
 returns-in_err-id-clause-serves g c = λ h.
     let p = err_from_is_err_and c.from_residual-in_err-id.result c.from_residual-in_err-id.ensures.1 in
     let same = stays_whole c.self.view_is c.in_err-id.ensures.unchanged in
-    rw (p.1, p.2, c.in_err-id.ensures.only) (subst (λ (h : Held). Serves c.args.self.now (Keyspace c.args.name.now c.args.options) (Refused OutOfMemory) h) (sym same)
-    (memory_serves c.args.self.now (Keyspace c.args.name.now c.args.options) tt c.requires.due))
+    rw (p.1, p.2, c.in_err-id.ensures.only) (subst (λ (h : Held). Serves c.args.self.now (OfCreation c.args.name.now c.args.options) (Refused OutOfMemory) h) (sym same)
+    (memory_serves c.args.self.now (OfCreation c.args.name.now c.args.options) tt c.requires.due))
 
 pub take_back-requires : goal.take_back-requires
 take_back-requires g c =

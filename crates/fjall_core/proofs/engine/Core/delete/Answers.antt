@@ -1,6 +1,6 @@
 use Rattle.std.proofs.Common.{IsTrue, ap}
 use Rattle.std.proofs.lemmas.Result.{err_from_is_err_and}
-use Rattle.fjall_state.specs.declared.call.Call.TheVariants.{DeleteKeyspace}
+use Rattle.fjall_state.specs.Shapes.{OfDeletion}
 use Rattle.fjall_core.specs.Holding.{Held}
 use Rattle.fjall_core.proofs.ServedCalls.{memory_serves}
 use Rattle.fjall_core.proofs.Deletions.{deleted_owes, deleted_serves, deleted_whole, undeleted_owes, undeleted_serves}
@@ -9,7 +9,7 @@ use Rattle.fjall_core.proofs.engine.Core.delete.Goals as goal
 pub returns-in_err-lasting-clause-serves : goal.returns-in_err-lasting-clause-serves
 returns-in_err-lasting-clause-serves g c = λ h.
     let p = err_from_is_err_and c.from_residual.result c.from_residual.ensures.1 in
-    rw (p.1, p.2, c.in_err-lasting.ensures.only) (memory_serves c.args.self.now (DeleteKeyspace c.args.id) tt c.requires.due)
+    rw (p.1, p.2, c.in_err-lasting.ensures.only) (memory_serves c.args.self.now (OfDeletion c.args.id) tt c.requires.due)
 
 pub returns-in-Ok-clause-serves : goal.returns-in-Ok-clause-serves
 returns-in-Ok-clause-serves g c = λ h.

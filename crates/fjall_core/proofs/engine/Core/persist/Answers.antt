@@ -1,6 +1,6 @@
 use Rattle.std.proofs.Common.{refl, sym, ◌∙◌, ap, subst}
-use Rattle.fjall_state.specs.declared.call.Call.TheVariants.{Persist}
-use Rattle.fjall_state.specs.declared.call.Reply.TheVariants.{Done, Refused}
+use Rattle.fjall_state.specs.Shapes.{OfPersist}
+use Rattle.fjall_history.specs.declared.reply.Reply.TheVariants.{Done, Refused}
 use Rattle.fjall_base.specs.declared.error.Error.TheVariants.{Poisoned}
 use Rattle.fjall_core.specs.Holding.{Held}
 use Rattle.fjall_core.specs.Crashes.{BlamesDevice}
@@ -12,14 +12,14 @@ use Rattle.fjall_core.proofs.engine.Core.persist.Goals as goal
 
 pub returns-then-is_poisoned-clause-serves : goal.returns-then-is_poisoned-clause-serves
 returns-then-is_poisoned-clause-serves g c = λ h.
-    due_serves c.args.self.now (Persist c.args.mode) Poisoned (ill_due c.args.self.now c.args.mode (ap (λ (core : Held). core.memory.poisoned) (sym c.self.view_is) ∙ sym c.is_poisoned.ensures ∙ c.if-is_poisoned.true))
+    due_serves c.args.self.now (OfPersist c.args.mode) Poisoned (ill_due c.args.self.now c.args.mode (ap (λ (core : Held). core.memory.poisoned) (sym c.self.view_is) ∙ sym c.is_poisoned.ensures ∙ c.if-is_poisoned.true))
 
 pub returns-in-Ok-clause-serves : goal.returns-in-Ok-clause-serves
 returns-in-Ok-clause-serves g c = λ h.
     let m = g.D.Disk.meaning in
     let old : Held = record { disk = m c.self.inside.disk; journal = c.self.inside.journal; catalog = c.self.inside.catalog; memory = c.self.inside.memory } in
     let new : Held = record { disk = m c.sync_journal.new.disk; journal = c.sync_journal.new.journal; catalog = c.self.inside.catalog; memory = c.self.inside.memory } in
-    subst (λ (core : Held). Serves core (Persist c.args.mode) Done new) c.self.view_is
+    subst (λ (core : Held). Serves core (OfPersist c.args.mode) Done new) c.self.view_is
     (persisted_serves old new c.args.mode (sym c.is_poisoned.ensures ∙ c.if-is_poisoned.false) (record { memory_is = refl; catalog = refl; journal = c.in-Ok.ensures.ok; faults = c.in-Ok.ensures.cause.later }) (c.in-Ok.ensures.took h)
     (record { leaves = c.in-Ok.ensures.any_moment h; lies = λ _. c.in-Ok.ensures.lies h; elsewhere = c.in-Ok.ensures.elsewhere h; served = c.in-Ok.ensures.served h; kinds = c.in-Ok.ensures.kinds h }))
 
@@ -28,7 +28,7 @@ returns-in-Err-clause-serves g c = λ h.
     let m = g.D.Disk.meaning in
     let old : Held = record { disk = m c.self.inside.disk; journal = c.self.inside.journal; catalog = c.self.inside.catalog; memory = c.self.inside.memory } in
     let new : Held = record { disk = m c.sync_journal.new.disk; journal = c.sync_journal.new.journal; catalog = c.self.inside.catalog; memory = c.poison.new.self } in
-    subst (λ (core : Held). Serves core (Persist c.args.mode) (Refused c.in-Err.error) new) c.self.view_is
+    subst (λ (core : Held). Serves core (OfPersist c.args.mode) (Refused c.in-Err.error) new) c.self.view_is
     (unpersisted_serves old new c.args.mode c.in-Err.error (sym c.is_poisoned.ensures ∙ c.if-is_poisoned.false) c.poison.ensures c.in-Err.ensures.cause.cause (c.in-Err.ensures.left h)
     (record { leaves = c.in-Err.ensures.any_moment h; lies = λ e. let bad : ⊥ = cc in absurd bad; elsewhere = c.in-Err.ensures.elsewhere h; served = c.in-Err.ensures.served h; kinds = c.in-Err.ensures.kinds h }))
 

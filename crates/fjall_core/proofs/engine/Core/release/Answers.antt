@@ -1,6 +1,6 @@
 use Rattle.std.proofs.Common.{arith, ◌≡◌, ◌⊎◌, inl, inr, true, false, IsTrue, refl, sym, ◌∙◌, ap, subst}
-use Rattle.fjall_state.specs.declared.call.Call.TheVariants.{Release}
-use Rattle.fjall_state.specs.declared.call.Reply.TheVariants.{Done}
+use Rattle.fjall_state.specs.Shapes.{OfHandle, OneLess}
+use Rattle.fjall_history.specs.declared.reply.Reply.TheVariants.{Done}
 use Rattle.fjall_core.specs.Holding.{Held}
 use Rattle.fjall_core.specs.Standing.{Serves, held_due}
 use Rattle.fjall_core.proofs.ServedCalls.{due_serves}
@@ -12,7 +12,7 @@ use Rattle.fjall_core.proofs.engine.Core.release.Goals.{then-not-is_last-via-the
 
 pub returns-in-Some-clause-serves : goal.returns-in-Some-clause-serves
 returns-in-Some-clause-serves g c = λ h.
-    due_serves c.args.self.now (Release c.args.id) c.in-Some.error (ap (λ (core : Held). held_due core (Release c.args.id)) (sym c.self.view_is) ∙ sym c.release_refusal.ensures ∙ c.in-Some.is)
+    due_serves c.args.self.now (OfHandle OneLess c.args.id) c.in-Some.error (ap (λ (core : Held). held_due core (OfHandle OneLess c.args.id)) (sym c.self.view_is) ∙ sym c.release_refusal.ensures ∙ c.in-Some.is)
 
 pub returns-then-not-is_last-clause-serves : goal.returns-then-not-is_last-clause-serves
 returns-then-not-is_last-clause-serves g c = λ h.
@@ -23,13 +23,13 @@ returns-then-not-is_last-clause-serves g c = λ h.
       | then-not-is_last-via-then-not-is_last w ↦ inl (sym c.is_last.ensures ∙ w.if-not-is_last.true)
       | then-not-is_last-via-else-not-is_last+then-is_poisoned w ↦ inr (sym w.is_poisoned.ensures ∙ w.if-is_poisoned.true)
     ] in
-    subst (λ (core : Held). Serves core (Release c.args.id) Done new) c.self.view_is
+    subst (λ (core : Held). Serves core (OfHandle OneLess c.args.id) Done new) c.self.view_is
     (counted_serves old new c.args.id (sym c.release_refusal.ensures ∙ c.in_default.is) why (record { memory_is = c.release.ensures; catalog = refl; journal = refl; faults = omega arith }) refl)
 
 pub returns-in_err-remove_files-clause-serves : goal.returns-in_err-remove_files-clause-serves
 returns-in_err-remove_files-clause-serves g c = λ h.
     let old = c.args.self.now in
-    let none = ap (λ (core : Held). held_due core (Release c.args.id)) (sym c.self.view_is) ∙ sym c.release_refusal.ensures ∙ c.in_default.is in
+    let none = ap (λ (core : Held). held_due core (OfHandle OneLess c.args.id)) (sym c.self.view_is) ∙ sym c.release_refusal.ensures ∙ c.in_default.is in
     let last = ap (λ (core : Held). is_last core.memory c.args.id) (sym c.self.view_is) ∙ sym c.is_last.ensures ∙ c.if-not-is_last.false in
     let well = ap (λ (core : Held). core.memory.poisoned) (sym c.self.view_is) ∙ sym c.is_poisoned.ensures ∙ c.if-is_poisoned.false in
     let p = err_from_is_err_and c.from_residual.result c.from_residual.ensures.1 in
@@ -38,14 +38,14 @@ returns-in_err-remove_files-clause-serves g c = λ h.
 pub returns-in_err-remove_files-clause-owes : goal.returns-in_err-remove_files-clause-owes
 returns-in_err-remove_files-clause-owes g c =
     let old = c.args.self.now in
-    let none = ap (λ (core : Held). held_due core (Release c.args.id)) (sym c.self.view_is) ∙ sym c.release_refusal.ensures ∙ c.in_default.is in
+    let none = ap (λ (core : Held). held_due core (OfHandle OneLess c.args.id)) (sym c.self.view_is) ∙ sym c.release_refusal.ensures ∙ c.in_default.is in
     let p = err_from_is_err_and c.from_residual.result c.from_residual.ensures.1 in
     rw (p.1, p.2) (unremoved_owes (IsTrue g.D.Disk.honest) old c.remove_files.new.self c.args.id c.in_err-remove_files.field-0.0 none c.in_err-remove_files.ensures.removed)
 
 pub returns-clause-serves : goal.returns-clause-serves
 returns-clause-serves g c = λ h.
     let old = c.args.self.now in
-    let none = ap (λ (core : Held). held_due core (Release c.args.id)) (sym c.self.view_is) ∙ sym c.release_refusal.ensures ∙ c.in_default.is in
+    let none = ap (λ (core : Held). held_due core (OfHandle OneLess c.args.id)) (sym c.self.view_is) ∙ sym c.release_refusal.ensures ∙ c.in_default.is in
     let last = ap (λ (core : Held). is_last core.memory c.args.id) (sym c.self.view_is) ∙ sym c.is_last.ensures ∙ c.if-not-is_last.false in
     let well = ap (λ (core : Held). core.memory.poisoned) (sym c.self.view_is) ∙ sym c.is_poisoned.ensures ∙ c.if-is_poisoned.false in
     let m = g.D.Disk.meaning in

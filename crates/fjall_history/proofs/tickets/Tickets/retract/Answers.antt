@@ -1,4 +1,4 @@
-use Rattle.std.proofs.Common.{ℕ, ◌+◌, ◌<◌, All, subst, sym}
+use Rattle.std.proofs.Common.{◌<◌, All, subst, sym}
 use Rattle.std.specs.FinMap.{values}
 use Rattle.fjall_meta.specs.Trackers.{IsSoundTracker, Tracker}
 use Rattle.fjall_history.specs.Tickets.{AreTracked, Tracked}

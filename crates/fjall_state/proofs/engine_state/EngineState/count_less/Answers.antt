@@ -9,10 +9,11 @@ returns c =
     record {
       keyspaces = c.self.inside.keyspaces;
       versions = c.self.inside.versions.items;
-      next = c.self.inside.next;
+      next = c.self.inside.tickets.visible;
       poisoned = c.self.inside.poisoned;
       handles = c.count_less.ensures i;
       lasting = c.self.inside.lasting.items;
       damaged = c.self.inside.damaged.items;
+      tickets = c.self.inside.tickets.tickets;
     })
     ∙ ap (λ (m : Remembered). record m { handles = one_less m.handles c.args.id }) c.self.view_is

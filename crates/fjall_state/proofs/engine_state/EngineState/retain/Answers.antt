@@ -17,10 +17,11 @@ returns-clause-ok c =
     record {
       keyspaces = c.self.inside.keyspaces;
       versions = c.self.inside.versions.items;
-      next = c.self.inside.next;
+      next = c.self.inside.tickets.visible;
       poisoned = c.self.inside.poisoned;
       handles = more i;
       lasting = c.self.inside.lasting.items;
       damaged = c.self.inside.damaged.items;
+      tickets = c.self.inside.tickets.tickets;
     })
     ∙ ap (retained id) c.self.view_is

@@ -1,0 +1,4 @@
+pub mod Bytes
+pub mod Spellings
+pub mod Cuts
+pub mod Batches

@@ -1,0 +1,10 @@
+use Rattle.std.specs.Prelude.{length, map}
+use Rattle.fjall_lines.proofs.Batches.{Taken}
+use Rattle.fjall_lines.proofs.parsing.writes.Given as goal
+
+-- the writes so far, and the words that are left
+abbrev pub invariant-loop-rest : goal.invariant-loop-rest
+invariant-loop-rest l = Taken (map (λ word. word.now) l.fn.words) l.items.items (map (λ word. word.now) l.rest)
+
+abbrev pub decreases-loop-rest : goal.decreases-loop-rest
+decreases-loop-rest l = length l.rest

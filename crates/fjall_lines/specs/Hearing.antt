@@ -1,0 +1,14 @@
+-- What lines ask for, where crashes are heard or not.
+use Rattle.std.specs.Prelude.{◌≡◌, ℕ, Bool, false, List, Option, Some, None}
+use Rattle.fjall_lines.specs.declared.command.Command.{Command}
+use Rattle.fjall_lines.specs.declared.command.Command.TheVariants.{Crash}
+use Rattle.fjall_lines.specs.Lines.{Reads}
+
+-- Over a disk of which nothing is known, as a folder, a crash can't be asked for, and its line is no command.
+abbrev pub heard : Bool → Option Command → Option Command
+heard false (Some (Crash keep)) = None
+heard crashes found = found
+
+-- the line asks for this
+abbrev pub Hears : Bool → List ℕ → Option Command → Type 0
+Hears crashes line found = (read : Option Command) × (Reads line read × (found ≡ heard crashes read))

@@ -1,0 +1,118 @@
+-- The lines of an input, the words of a line, and how a command is spelled.
+use Rattle.std.specs.Prelude.{◌≡◌, ℕ, ◌==◌, ◌<◌, ◌^◌, if◌then◌else◌, false, All, List, [], ◌∷◌, codes, decimal, Option, IfSome, Some, None}
+use Rattle.std.specs.List.{flat_map, list_any, onto_first, join_with_byte}
+use Rattle.std.specs.Str.{IsUtf8}
+use Rattle.hex.specs.Hex.{encode_lower, IsBytes}
+use Rattle.fjall_base.specs.Pairs.{Bytes}
+use Rattle.fjall_lines.specs.declared.command.Command.{Command}
+use Rattle.fjall_lines.specs.declared.command.Command.TheVariants.{Ask, Crash, Reopen}
+use Rattle.fjall_lines.specs.declared.command.Request.{Request}
+use Rattle.fjall_lines.specs.declared.command.Request.TheVariants.{Keyspace, Delete, Insert, Remove, RemoveWeak, Batch, Get, Len, Scan, Snapshot, GetAt, CloseSnapshot, Gc, Persist}
+
+-- a line feed ends a line, and so does the end of the text
+abbrev pub lines_of : List ℕ → List (List ℕ)
+lines_of [] = []
+lines_of (b ∷ rest) = if b == 10 then [] ∷ lines_of rest else onto_first b (lines_of rest)
+
+-- bytes in lower-case hexadecimal, or a dash for none
+abbrev pub hex_word : List ℕ → List ℕ
+hex_word [] = codes "-"
+hex_word (b ∷ rest) = encode_lower (b ∷ rest)
+
+-- a write of a batch: the id of a keyspace, a key, and its new value, or none where it is removed
+abbrev pub Write : Type 0
+Write = ℕ × Bytes × Option Bytes
+
+-- a new value, or a tilde for none
+abbrev pub value_word : Option Bytes → List ℕ
+value_word (Some value) = hex_word value
+value_word None = codes "~"
+
+-- the three words of a write
+abbrev pub write_words : Write → List (List ℕ)
+write_words write = decimal write.0 ∷ hex_word write.1 ∷ value_word write.2 ∷ []
+
+-- the words of a batch behind its first
+abbrev pub writes_words : List Write → List (List ℕ)
+writes_words writes = flat_map write_words writes
+
+-- the words of a request: a keyspace's name is its word, byte for byte
+abbrev pub request_words : Request → List (List ℕ)
+request_words (Keyspace name) = codes "keyspace" ∷ name ∷ []
+request_words (Delete id) = codes "delete" ∷ decimal id ∷ []
+request_words (Insert id key value) = codes "insert" ∷ decimal id ∷ hex_word key ∷ hex_word value ∷ []
+request_words (Remove id key) = codes "remove" ∷ decimal id ∷ hex_word key ∷ []
+request_words (RemoveWeak id key) = codes "remove_weak" ∷ decimal id ∷ hex_word key ∷ []
+request_words (Batch writes) = codes "batch" ∷ writes_words writes
+request_words (Get id key) = codes "get" ∷ decimal id ∷ hex_word key ∷ []
+request_words (Len id) = codes "len" ∷ decimal id ∷ []
+request_words (Scan id) = codes "scan" ∷ decimal id ∷ []
+request_words Snapshot = codes "snapshot" ∷ []
+request_words (GetAt number id key) = codes "get_at" ∷ decimal number ∷ decimal id ∷ hex_word key ∷ []
+request_words (CloseSnapshot number) = codes "close_snapshot" ∷ decimal number ∷ []
+request_words Gc = codes "gc" ∷ []
+request_words Persist = codes "persist" ∷ []
+
+-- the words of a command
+abbrev pub words_of : Command → List (List ℕ)
+words_of (Ask request) = request_words request
+words_of (Crash keep) = codes "crash" ∷ decimal keep ∷ []
+words_of Reopen = codes "reopen" ∷ []
+
+-- a command is spelled by its words, parted by one space
+abbrev pub spelling : Command → List ℕ
+spelling command = join_with_byte 32 (words_of command)
+
+-- a write's id has 64 bits, its key and value are bytes
+abbrev pub IsWrite : Write → Type 0
+IsWrite write = (write.0 < 2 ^ 64) × IsBytes write.1 × IfSome write.2 IsBytes
+
+-- a name is UTF-8 without a space, numbers have 64 bits, keys and values are bytes
+abbrev pub IsRequest : Request → Type 0
+IsRequest (Keyspace name) = IsUtf8 name × (list_any (λ b. b == 32) name ≡ false)
+IsRequest (Delete id) = id < 2 ^ 64
+IsRequest (Insert id key value) = (id < 2 ^ 64) × IsBytes key × IsBytes value
+IsRequest (Remove id key) = (id < 2 ^ 64) × IsBytes key
+IsRequest (RemoveWeak id key) = (id < 2 ^ 64) × IsBytes key
+IsRequest (Batch writes) = All IsWrite writes
+IsRequest (Get id key) = (id < 2 ^ 64) × IsBytes key
+IsRequest (Len id) = id < 2 ^ 64
+IsRequest (Scan id) = id < 2 ^ 64
+IsRequest Snapshot = Unit {0}
+IsRequest (GetAt number id key) = (number < 2 ^ 64) × (id < 2 ^ 64) × IsBytes key
+IsRequest (CloseSnapshot number) = number < 2 ^ 64
+IsRequest Gc = Unit {0}
+IsRequest Persist = Unit {0}
+
+abbrev pub IsCommand : Command → Type 0
+IsCommand (Ask request) = IsRequest request
+IsCommand (Crash keep) = keep < 2 ^ 64
+IsCommand Reopen = Unit {0}
+
+-- the command that these words spell, or none where they spell none
+pub record Spells (words : List (List ℕ)) (found : Option Command) : Type 0 where
+  pub spelled : IfSome found (λ command. words ≡ words_of command)
+  pub all_found : (command : Command) → IsCommand command → words ≡ words_of command → found ≡ Some command
+
+-- whatever id and key two words spell, they are found
+abbrev pub FindsIdAndKey : List ℕ → List ℕ → Option (ℕ × List ℕ) → Type 0
+FindsIdAndKey id key found = (n : ℕ) (b : List ℕ) → n < 2 ^ 64 → IsBytes b → id ≡ decimal n → key ≡ hex_word b → found ≡ Some (n, b)
+
+-- whatever value a word spells, or a removal, it is found
+abbrev pub FindsValue : List ℕ → Option (Option Bytes) → Type 0
+FindsValue word found = (value : Option Bytes) → IfSome value IsBytes → word ≡ value_word value → found ≡ Some value
+
+-- the write that three words spell, or none where they spell none
+pub record SpellsWrite (id key value : List ℕ) (found : Option Write) : Type 0 where
+  pub spelled : IfSome found (λ write. id ∷ key ∷ value ∷ [] ≡ write_words write)
+  pub all_found : (write : Write) → IsWrite write → id ∷ key ∷ value ∷ [] ≡ write_words write → found ≡ Some write
+
+-- the writes that these words spell, or none where they spell none
+pub record SpellsWrites (words : List (List ℕ)) (found : Option (List Write)) : Type 0 where
+  pub spelled : IfSome found (λ writes. words ≡ writes_words writes)
+  pub all_found : (writes : List Write) → All IsWrite writes → words ≡ writes_words writes → found ≡ Some writes
+
+-- the command that a line spells, or none where it spells none
+pub record Reads (line : List ℕ) (found : Option Command) : Type 0 where
+  pub spelled : IfSome found (λ command. line ≡ spelling command)
+  pub all_found : (command : Command) → IsCommand command → line ≡ spelling command → found ≡ Some command

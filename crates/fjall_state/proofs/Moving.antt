@@ -1,0 +1,80 @@
+-- Each step of the machine is one small move of its history and its tickets.
+use Rattle.std.proofs.Common.{◌≡◌, inl, inr, ℕ, Bool, true, false, if◌then◌else◌, List, [], ◌∷◌, Option, None, Some, refl, sym, ap, subst, ◌∙◌}
+use Rattle.std.proofs.lemmas.Option.{none-some}
+use Rattle.fjall_base.specs.Pairs.{Bytes}
+use Rattle.fjall_base.specs.Store.{Create, Delete}
+use Rattle.fjall_base.specs.declared.error.Error.{Error}
+use Rattle.fjall_base.specs.declared.error.Error.TheVariants.{Io, OutOfMemory, SnapshotClosed, ValueTooLong}
+use Rattle.fjall_journal.specs.Ops.{write_of}
+use Rattle.fjall_versions.specs.Replays.{option_pairs}
+use Rattle.fjall_history.specs.declared.reply.Reply.{Reply}
+use Rattle.fjall_history.specs.declared.reply.Reply.TheVariants.{Refused}
+use Rattle.fjall_history.specs.Histories.{number, plain}
+use Rattle.fjall_history.specs.Moves.{Accepts, Closes, Collects, Moves, MovesOn, NoMove, OneMove, Opens, Rests}
+use Rattle.fjall_history.specs.Tickets.{Tickets, closing_refusal, is_open}
+use Rattle.fjall_state.specs.declared.call.Call.{Call}
+use Rattle.fjall_state.specs.Shapes.{Clone, Close, Collect, OfChange, OfCount, OfCreation, OfDeletion, OfHandle, OfPersist, OfRead, OfTickets, OneLess, OneMore, Open, Shape, TicketCall, shape_of}
+use Rattle.fjall_state.specs.Machine.{Answers, CreatesOrFinds, MayFail, Refuses, Run, State, Step, StepOf, TurnsTickets, deleted, due, is_living, present, ticket_refusal, times}
+
+still : (s t : State) → times t ≡ times s → Moves (times s) (times t)
+still s t same = Rests same
+
+as_it_was : (s t : State) → t ≡ s → Moves (times s) (times t)
+as_it_was s t same = Rests (ap times same)
+
+failure_moves : (s t : State) (shape : Shape) (error : Error) → MayFail shape error s t → Moves (times s) (times t)
+failure_moves s t shape (Io kind) (changes, fault) = still s t (ap times fault)
+failure_moves s t shape OutOfMemory (takes, same) = as_it_was s t same
+failure_moves s t shape ValueTooLong (long, same) = as_it_was s t same
+failure_moves s t shape error none = absurd none
+
+refusal_moves : (s t : State) (shape : Shape) (error : Error) (first : Option Error) → Refuses first shape error s t → Moves (times s) (times t)
+refusal_moves s t shape error (Some first) (is, same) = as_it_was s t same
+refusal_moves s t shape error None failure = failure_moves s t shape error failure
+
+created_moves : (s t : State) (name : Bytes) (options : List Bytes) (id : ℕ) → CreatesOrFinds s name options id t → Moves (times s) (times t)
+created_moves s t name options id (inl (had, found, same)) = as_it_was s t same
+created_moves s t name options id (inr (fresh, is, made)) = Accepts (plain (Create name (option_pairs options))) (ap times made)
+
+deleted_moves : (s t : State) (id : ℕ) (living : Bool) → t ≡ (if living then deleted s id else s) → Moves (times s) (times t)
+deleted_moves s t id true is = Accepts (plain (Delete id)) (ap times is)
+deleted_moves s t id false is = as_it_was s t is
+
+-- a ticket whose closing nothing refuses is open
+pub open_there : (t : Tickets) (id : ℕ) → closing_refusal id t ≡ None → is_open t id ≡ true
+open_there t id none = either (is_open t id) none
+  where
+    either : (b : Bool) → (if b then None else Some SnapshotClosed) ≡ None → b ≡ true
+    either true e = refl
+    either false e = absurd (none-some SnapshotClosed (sym e))
+
+tickets_move : (s t : State) (call : TicketCall) (reply : Reply) → ticket_refusal s.tickets call ≡ None → TurnsTickets (number s.history) s.tickets call reply t.tickets → t ≡ record s { tickets = t.tickets } → Moves (times s) (times t)
+tickets_move s t Open reply none (told, is) same = Opens (number s.history) (inl refl) (ap times same ∙ ap (λ (k : Tickets). record (times s) { tickets = k }) is)
+tickets_move s t (Clone id) reply none (instant, there, told, is) same = Opens instant (inr (id, there)) (ap times same ∙ ap (λ (k : Tickets). record (times s) { tickets = k }) is)
+tickets_move s t (Close id) reply none (told, is) same = Closes id (open_there s.tickets id none) (ap times same ∙ ap (λ (k : Tickets). record (times s) { tickets = k }) is)
+tickets_move s t Collect reply none (told, is) same = Collects (ap times same ∙ ap (λ (k : Tickets). record (times s) { tickets = k }) is)
+
+answer_moves : (s t : State) (shape : Shape) (reply : Reply) → due s shape ≡ None → Answers s shape reply t → Moves (times s) (times t)
+answer_moves s t (OfChange [] how) reply none (told, is) = as_it_was s t is
+answer_moves s t (OfChange (item ∷ items) how) reply none (told, is) = Accepts (plain (write_of (item ∷ items))) (ap times is)
+answer_moves s t (OfCreation name options) reply none (id, told, makes) = created_moves s t name options id makes
+answer_moves s t (OfDeletion id) reply none (told, is) = deleted_moves s t id (is_living (present s) id) is
+answer_moves s t (OfHandle OneMore id) reply none (told, is) = still s t (ap times is)
+answer_moves s t (OfHandle OneLess id) reply none (told, is) = still s t (ap times is)
+answer_moves s t (OfRead view id query) reply none (told, same) = as_it_was s t same
+answer_moves s t (OfTickets call) reply none (turns, same) = tickets_move s t call reply none turns same
+answer_moves s t (OfPersist mode) reply none (told, is) = still s t (ap times is)
+answer_moves s t (OfCount count) reply none (told, same) = as_it_was s t same
+
+shape_moves : (s t : State) (shape : Shape) (reply : Reply) → StepOf s shape reply t → Moves (times s) (times t)
+shape_moves s t shape (Refused error) refuses = refusal_moves s t shape error (due s shape) refuses
+shape_moves s t shape reply (none, answers) = answer_moves s t shape reply none answers
+
+pub step_moves : (s t : State) (call : Call) (reply : Reply) → Step s call reply t → Moves (times s) (times t)
+step_moves s t call reply step = shape_moves s t (shape_of call) reply step
+
+pub run_moves : (s t : State) (calls : List Call) (replies : List Reply) → Run s calls replies t → MovesOn (times s) (times t)
+run_moves s t [] [] run = subst (λ k. MovesOn (times s) (times k)) (sym run) (NoMove (times s))
+run_moves s t (call ∷ calls) (reply ∷ replies) (mid, step, run) = OneMove (times s) (times mid) (times t) (step_moves s mid call reply step) (run_moves mid t calls replies run)
+run_moves s t [] (reply ∷ replies) run = absurd run
+run_moves s t (call ∷ calls) [] run = absurd run

@@ -1,0 +1,76 @@
+-- Calls by their shape: what all that is said of calls speaks of.
+use Rattle.std.specs.Prelude.{ℕ, List, [], ◌∷◌, Option}
+use Rattle.fjall_base.specs.Pairs.{Bytes}
+use Rattle.fjall_journal.specs.Ops.{BatchItem}
+use Rattle.fjall_journal.specs.declared.op.Op.TheVariants as ops
+use Rattle.fjall_journal.specs.declared.persist_mode.PersistMode.{PersistMode}
+use Rattle.fjall_history.specs.declared.ticket.View.{View}
+use Rattle.fjall_history.specs.Queries.{Query, Get, Page}
+use Rattle.fjall_state.specs.declared.call.Call.{Call}
+use Rattle.fjall_state.specs.declared.call.Call.TheVariants.{Keyspace, DeleteKeyspace, Retain, Release, Insert, Remove, RemoveWeak, CommitBatch, GetAt, PageAt, Snapshot, CloneSnapshot, CloseSnapshot, Gc, Persist, KeyspaceCount, ListKeyspaceNames, KeyspaceExists, Seqno, VisibleSeqno, JournalDiskSpace, OpenSnapshots}
+
+-- How a change is persisted: as the option of the keyspace of this id says, or by a mode or none that came with it.
+pub data Persistence : Type 0 where
+  AsKeyspace : (id : ℕ) → Persistence
+  ByMode : (mode : Option PersistMode) → Persistence
+
+-- a handle of a keyspace more is counted, or one less
+pub data HandleCall : Type 0 where
+  OneMore : HandleCall
+  OneLess : HandleCall
+
+-- a ticket is opened, at the visible number or where another one reads, or closed; or the watermark is raised
+pub data TicketCall : Type 0 where
+  Open : TicketCall
+  Clone : (id : ℕ) → TicketCall
+  Close : (id : ℕ) → TicketCall
+  Collect : TicketCall
+
+-- what is counted, or is a plain function of the state
+pub data Count : Type 0 where
+  Keyspaces : Count
+  Names : Count
+  Exists : (name : Bytes) → Count
+  Next : Count
+  Visible : Count
+  JournalSpace : Count
+  OpenTickets : Count
+
+-- A change is one command with its batch; a read is a query on a keyspace's map in a view.
+pub data Shape : Type 0 where
+  OfChange : (items : List BatchItem) (how : Persistence) → Shape
+  OfCreation : (name : Bytes) (options : List Bytes) → Shape
+  OfDeletion : (id : ℕ) → Shape
+  OfHandle : (call : HandleCall) (id : ℕ) → Shape
+  OfRead : (view : View) (id : ℕ) (query : Query) → Shape
+  OfTickets : (call : TicketCall) → Shape
+  OfPersist : (mode : PersistMode) → Shape
+  OfCount : (count : Count) → Shape
+
+-- a write of one key, which is persisted as its keyspace says
+abbrev pub of_write : BatchItem → Shape
+of_write item = OfChange (item ∷ []) (AsKeyspace item.0)
+
+abbrev pub shape_of : Call → Shape
+shape_of (Keyspace name options) = OfCreation name options
+shape_of (DeleteKeyspace id) = OfDeletion id
+shape_of (Retain id) = OfHandle OneMore id
+shape_of (Release id) = OfHandle OneLess id
+shape_of (Insert id key value) = of_write (id, key, ops.Put value)
+shape_of (Remove id key) = of_write (id, key, ops.Remove)
+shape_of (RemoveWeak id key) = of_write (id, key, ops.RemoveWeak)
+shape_of (CommitBatch items mode) = OfChange items.items (ByMode mode)
+shape_of (GetAt view id key) = OfRead view id (Get key)
+shape_of (PageAt view id range back max) = OfRead view id (Page range back max)
+shape_of Snapshot = OfTickets Open
+shape_of (CloneSnapshot ticket) = OfTickets (Clone ticket.id)
+shape_of (CloseSnapshot ticket) = OfTickets (Close ticket.id)
+shape_of Gc = OfTickets Collect
+shape_of (Persist mode) = OfPersist mode
+shape_of KeyspaceCount = OfCount Keyspaces
+shape_of ListKeyspaceNames = OfCount Names
+shape_of (KeyspaceExists name) = OfCount (Exists name)
+shape_of Seqno = OfCount Next
+shape_of VisibleSeqno = OfCount Visible
+shape_of JournalDiskSpace = OfCount JournalSpace
+shape_of OpenSnapshots = OfCount OpenTickets

@@ -1,0 +1,172 @@
+//! Ranges of prefixes, and pairs from both ends of a range.
+
+ghost use Rattle.std.specs.Prelude.{◌-◌, ◌^◌, ⊤};
+ghost use Rattle.fjall_versions.specs.Versions.{before, pairs_in};
+
+use fjall_base::{KeyBounds, KvPair, Result, UserKey};
+use fjall_reading::{Cursor, KeyRange, Pages, bounds_of, prefix_to_range, prefixed_range};
+use fjall_versions::{Version, page};
+use std::alloc::Global;
+use std::ops::Bound::{self, Excluded, Included, Unbounded};
+use std::test::Fail;
+
+/// Whether these are the bounds.
+fn are_bounds(range: &KeyRange, wanted: KeyBounds<'_>) -> bool {
+    bounds_of(range) == wanted
+}
+
+/// Whether the keys that begin with a prefix lie between these bounds.
+fn is_prefix(alloc: Global, prefix: &[u8], wanted: KeyBounds<'_>) -> Result<bool> {
+    let range = prefix_to_range(alloc, prefix)?;
+    Ok(are_bounds(&range, wanted))
+}
+
+/// Whether those of a range lie between these ones behind a prefix.
+fn is_behind(
+    alloc: Global,
+    prefix: &[u8],
+    range: KeyBounds<'_>,
+    wanted: KeyBounds<'_>,
+) -> Result<bool> {
+    let range = prefixed_range(alloc, prefix, range)?;
+    Ok(are_bounds(&range, wanted))
+}
+
+/// Where a range begins, and where it ends.
+type Bounds = (Bound<&'static [u8]>, Bound<&'static [u8]>);
+
+const ALL: Bounds = (Unbounded, Unbounded);
+
+// A prefix, and its bounds.
+const PREFIXES: &[(&[u8], Bounds)] = &[
+    (b"\x61\xff", (Included(b"\x61\xff"), Excluded(b"\x62"))),
+    (b"\xff\xff", (Included(b"\xff\xff"), Unbounded)),
+    (b"", ALL),
+    (b"\x61", (Included(b"\x61"), Excluded(b"\x62"))),
+    (b"\xff\x00", (Included(b"\xff\x00"), Excluded(b"\xff\x01"))),
+];
+
+#[test]
+fn prefixes_have_bounds(rt: HostRuntime) {
+    for (row, &(prefix, bounds)) in PREFIXES.iter().enumerate() {
+        assert_eq!(rt;
+            (
+                is_prefix(rt.alloc(), prefix, bounds),
+                is_behind(rt.alloc(), prefix, ALL, bounds)
+            ),
+            (Ok(true), Ok(true)),
+            "row {row}"
+        );
+    }
+}
+
+// Bounds, and those behind the prefix "p".
+const BEHIND: &[(Bounds, Bounds)] = &[
+    (
+        (Included(b"a"), Excluded(b"b")),
+        (Included(b"pa"), Excluded(b"pb")),
+    ),
+    ((Excluded(b""), Unbounded), (Excluded(b"p"), Excluded(b"q"))),
+    (
+        (Unbounded, Included(b"\xff")),
+        (Included(b"p"), Included(b"p\xff")),
+    ),
+];
+
+#[test]
+fn ranges_lie_behind_prefixes(rt: HostRuntime) {
+    for (row, &(range, bounds)) in BEHIND.iter().enumerate() {
+        assert_eq!(rt;
+            is_behind(rt.alloc(), b"p", range, bounds),
+            Ok(true),
+            "row {row}"
+        );
+    }
+}
+
+/// Versions of keyspaces, as a reader shows them.
+#[derive(Drop)]
+struct Kept {
+    alloc: Global,
+    versions: Vec<Version>,
+}
+
+impl Pages for Kept {
+    ghost shows = { λ kept id. pairs_in id (before (2 ^ 64 - 1) kept.versions.items) };
+
+    ghost reads = { λ old error new. ⊤ };
+
+    fn alloc(&self) -> Global {
+        self.alloc
+    }
+
+    fn page(&mut self, id: u64, range: &KeyRange, back: bool, max: usize) -> Result<Vec<KvPair>> {
+        page(self.alloc, &self.versions, u64::MAX, id, range, back, max)
+    }
+
+    ghost reads_none = { λ pages. tt };
+
+    ghost reads_on = { λ old mid new error first second. tt };
+
+    ghost reads_short = { λ old new reads. tt };
+}
+
+/// The keys a, b, c and d of the keyspace 1.
+fn abcd(alloc: Global) -> Result<Kept> {
+    let mut versions = Vec::new(alloc);
+    for key in [b"a", b"b", b"c", b"d"] {
+        versions.push(Version::new(alloc, 1, 1, key, Some(b"v"))?)?;
+    }
+    Ok(Kept { alloc, versions })
+}
+
+/// The key of the next pair that is left, or of the last one.
+fn take(cursor: &mut Cursor, kept: &mut Kept, back: bool) -> Result<Option<UserKey>> {
+    let found = if back {
+        cursor.next_back(kept)
+    } else {
+        cursor.next(kept)
+    };
+    match found {
+        Some(pair) => Ok(Some(pair?.0)),
+        None => Ok(None),
+    }
+}
+
+/// Whether this is the key of the next pair that is left, or of the last one.
+fn is_next(
+    cursor: &mut Cursor,
+    kept: &mut Kept,
+    back: bool,
+    wanted: Option<&[u8]>,
+) -> Result<bool> {
+    Ok(match (take(cursor, kept, back)?, wanted) {
+        (Some(key), Some(bytes)) => key.as_slice() == bytes,
+        (None, None) => true,
+        _ => false,
+    })
+}
+
+// Whether a pair is taken from behind, and its key.
+const MIX: &[(bool, Option<&[u8]>)] = &[
+    (true, Some(b"d")),
+    (false, Some(b"a")),
+    (true, Some(b"c")),
+    (true, Some(b"b")),
+    (false, None),
+    (false, None),
+];
+
+#[test]
+fn pairs_are_taken_from_both_ends(rt: HostRuntime) -> std::result::Result<(), Fail> {
+    let mut kept = abcd(rt.alloc())?;
+    let mut cursor = Cursor::new(rt.alloc(), 1, (Unbounded, Unbounded));
+    for (row, &(back, key)) in MIX.iter().enumerate() {
+        assert_eq!(rt;
+            is_next(&mut cursor, &mut kept, back, key),
+            Ok(true),
+            "row {row}"
+        );
+    }
+    Ok(())
+}
