@@ -10,7 +10,10 @@ use Rattle.hex.specs.Hex.{IsBytes}
 use Rattle.hex.proofs.HexLemmas.{decode_of-ok}
 use Rattle.fjall_base.specs.Pairs.{Bytes}
 use Rattle.fjall_lines.proofs.Bytes.{words_are}
-use Rattle.fjall_lines.specs.Lines.{value_word, IsWrite, SpellsWrite, SpellsWrites, Write, write_words, writes_words}
+use Rattle.fjall_lines.specs.declared.command.Command.{Command}
+use Rattle.fjall_lines.specs.declared.command.Command.TheVariants.{Ask}
+use Rattle.fjall_lines.specs.declared.command.Request.TheVariants.{Batch}
+use Rattle.fjall_lines.specs.Lines.{value_word, words_of, IsCommand, IsWrite, Spells, SpellsWrite, SpellsWrites, Write, write_words, writes_words}
 
 -- Of these words a beginning spells some writes, and this is left; whatever writes they spell begin with those.
 pub record Taken (words : List (List ℕ)) (writes : List Write) (rest : List (List ℕ)) : Type 0 where
@@ -52,6 +55,10 @@ pub one_taken : (words : List (List ℕ)) (writes more : List Write) (id key val
 one_taken words writes more id key value rest after found write t split s is whole =
     subst (λ (l : List Write). Taken words l after) (sym whole) (one_more words writes id key value rest after write t split (subst (SpellsWrite id key value) is s))
 
+nothing : {X : Type 0} (l : List X) → (length l == 0) ≡ true → l ≡ []
+nothing [] h = refl
+nothing (x ∷ l) h = absurd (let none = eqb-true (length (x ∷ l)) 0 h in omega arith)
+
 -- all words were taken
 none_left : (words : List (List ℕ)) (writes : List Write) (rest : List (List ℕ)) → Taken words writes rest → rest ≡ [] → SpellsWrites words (Some writes)
 none_left words writes rest t none = record {
@@ -67,10 +74,6 @@ pub all_taken : {X : Type 0} (f : X → List ℕ) (words : List (List ℕ)) (wri
     → SpellsWrites words (Some found)
 all_taken f words writes xs empty found t is none same =
     subst (λ (l : List Write). SpellsWrites words (Some l)) (sym same) (none_left words writes (map f xs) t (ap (map f) (nothing xs (sym is ∙ none))))
-  where
-    nothing : {X : Type 0} (l : List X) → (length l == 0) ≡ true → l ≡ []
-    nothing [] h = refl
-    nothing (x ∷ l) h = absurd (let none = eqb-true (length (x ∷ l)) 0 h in omega arith)
 
 -- the next three words spell no write
 pub bad_words : (words : List (List ℕ)) (writes : List Write) (id key value : List ℕ) (rest after : List (List ℕ)) (found : Option Write) → Taken words writes rest → rest ≡ id ∷ key ∷ value ∷ after → SpellsWrite id key value found → found ≡ None
@@ -112,3 +115,17 @@ tilde_is word (Some bytes) tilde are is =
       | inl none ↦ absurd (let first = ap (λ (w : List ℕ). get_or w 0 0) (sym tilde ∙ none.1) in omega arith)
       | inr w ↦ absurd (let even = (decode_of-ok word bytes w.read).0 in let one = ap length tilde in omega (arith, even, one))
     ]
+
+-- ---- a batch of some words
+
+-- no words are no batch
+none_spelled : (words : List (List ℕ)) → words ≡ [] → Spells (codes "batch" ∷ words) None
+none_spelled words none = record { spelled = tt; some = tt; all_found = none_found }
+  where
+    none_found : (command : Command) → IsCommand command → codes "batch" ∷ words ≡ words_of command → None ≡ Some command
+    none_found (Ask (Batch [])) h e = absurd (h.0 refl)
+    none_found (Ask (Batch (write ∷ writes))) h e = absurd (let n = ap length e in let m = ap length none in omega (arith, n, m))
+    none_found command h e = cc
+
+pub no_batch : {X : Type 0} (f : X → List ℕ) (xs : List X) (empty : Bool) → empty ≡ (length xs == 0) → empty ≡ true → Spells (codes "batch" ∷ map f xs) None
+no_batch f xs empty is none = none_spelled (map f xs) (ap (map f) (nothing xs (sym is ∙ none)))

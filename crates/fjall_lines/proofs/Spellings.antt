@@ -156,7 +156,7 @@ request_are_words (Insert id key value) h =
     (more (hex_word key) (hex_word value) [] (bytes_word key h.1) (one (hex_word value) (bytes_word value h.2))))
 request_are_words (Remove id key) h = with_key (codes "remove") id key refl h
 request_are_words (RemoveWeak id key) h = with_key (codes "remove_weak") id key refl h
-request_are_words (Batch writes) h = batch_words (codes "batch") writes (plain (codes "batch") refl) h
+request_are_words (Batch writes) h = batch_words (codes "batch") writes (plain (codes "batch") refl) h.1
 request_are_words (Get id key) h = with_key (codes "get") id key refl h
 request_are_words (Len id) h = with_number (codes "len") id refl h
 request_are_words (Scan id) h = with_number (codes "scan") id refl h
@@ -182,6 +182,7 @@ text_of_command command h = text-join (words_of command) (are_words command h)
 reads_from_words : (line : List ℕ) (found : Option Command) → Spells (slice_split is_space line) found → Reads line found
 reads_from_words line found s = record {
   spelled = spelled found s.spelled;
+  some = s.some;
   all_found = λ command h e. s.all_found command h (ap (slice_split is_space) e ∙ split-join (words_of command) (are_words command h));
 }
   where
@@ -200,5 +201,6 @@ reads_line line text words (Err e) same cut h = tt
 pub reads_none : (line : List ℕ) → (IsUtf8 line → ⊥) → Reads line None
 reads_none line other = record {
   spelled = tt;
+  some = tt;
   all_found = λ command h e. absurd (other (rw e (text_of_command command h)));
 }

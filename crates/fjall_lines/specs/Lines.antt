@@ -1,5 +1,5 @@
 -- The lines of an input, the words of a line, and how a command is spelled.
-use Rattle.std.specs.Prelude.{◌≡◌, ℕ, ◌==◌, ◌<◌, ◌^◌, if◌then◌else◌, false, All, List, [], ◌∷◌, codes, decimal, Option, IfSome, Some, None}
+use Rattle.std.specs.Prelude.{◌≡◌, ◌≢◌, ℕ, ◌==◌, ◌<◌, ◌^◌, if◌then◌else◌, false, All, List, [], ◌∷◌, codes, decimal, Option, IfSome, Some, None}
 use Rattle.std.specs.List.{flat_map, list_any, onto_first, join_with_byte}
 use Rattle.std.specs.Str.{IsUtf8}
 use Rattle.hex.specs.Hex.{encode_lower, IsBytes}
@@ -67,14 +67,14 @@ spelling command = join_with_byte 32 (words_of command)
 abbrev pub IsWrite : Write → Type 0
 IsWrite write = (write.0 < 2 ^ 64) × IsBytes write.1 × IfSome write.2 IsBytes
 
--- a name is UTF-8 without a space, numbers have 64 bits, keys and values are bytes
+-- a name is UTF-8 without a space, numbers have 64 bits, keys and values are bytes, and a batch has some write
 abbrev pub IsRequest : Request → Type 0
 IsRequest (Keyspace name) = IsUtf8 name × (list_any (λ b. b == 32) name ≡ false)
 IsRequest (Delete id) = id < 2 ^ 64
 IsRequest (Insert id key value) = (id < 2 ^ 64) × IsBytes key × IsBytes value
 IsRequest (Remove id key) = (id < 2 ^ 64) × IsBytes key
 IsRequest (RemoveWeak id key) = (id < 2 ^ 64) × IsBytes key
-IsRequest (Batch writes) = All IsWrite writes
+IsRequest (Batch writes) = (writes ≢ []) × All IsWrite writes
 IsRequest (Get id key) = (id < 2 ^ 64) × IsBytes key
 IsRequest (Len id) = id < 2 ^ 64
 IsRequest (Scan id) = id < 2 ^ 64
@@ -89,9 +89,15 @@ IsCommand (Ask request) = IsRequest request
 IsCommand (Crash keep) = keep < 2 ^ 64
 IsCommand Reopen = Unit {0}
 
+-- a batch, where it is one, has some write
+abbrev pub HasWrites : Command → Type 0
+HasWrites (Ask (Batch writes)) = writes ≢ []
+HasWrites command = Unit {0}
+
 -- the command that these words spell, or none where they spell none
 pub record Spells (words : List (List ℕ)) (found : Option Command) : Type 0 where
   pub spelled : IfSome found (λ command. words ≡ words_of command)
+  pub some : IfSome found HasWrites
   pub all_found : (command : Command) → IsCommand command → words ≡ words_of command → found ≡ Some command
 
 -- whatever id and key two words spell, they are found
@@ -115,4 +121,5 @@ pub record SpellsWrites (words : List (List ℕ)) (found : Option (List Write)) 
 -- the command that a line spells, or none where it spells none
 pub record Reads (line : List ℕ) (found : Option Command) : Type 0 where
   pub spelled : IfSome found (λ command. line ≡ spelling command)
+  pub some : IfSome found HasWrites
   pub all_found : (command : Command) → IsCommand command → line ≡ spelling command → found ≡ Some command

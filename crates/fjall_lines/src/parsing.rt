@@ -123,9 +123,13 @@ fn writes(alloc: Global, words: &[&str]) -> Result<Option<Writes>, AllocError>
     Ok(Some(Writes::new(items)))
 }
 
+// A batch has some write.
 fn batch(alloc: Global, words: &[&str]) -> Result<Option<Command>, AllocError>
     ensures { IfOk result (λ found. Spells (codes "batch" ∷ map (λ word. word.now) words.now) found) }
 {
+    if words.is_empty() {
+        return Ok(None);
+    }
     let Some(writes) = writes(alloc, words)? else {
         return Ok(None);
     };
