@@ -1,8 +1,8 @@
-//! Batches of writes, and the count of bytes of write buffers.
+//! Batches of writes, bulk writes, the count of bytes of write buffers, and the queue of flushes.
 
 use fjall_base::{Error, Result, Slice};
 use fjall_journal::PersistMode;
-use fjall_writes::{OwnedWriteBatch, WriteBufferManager};
+use fjall_writes::{FlushManager, Ingestion, OwnedWriteBatch, WriteBufferManager};
 use std::alloc::Global;
 use std::test::Fail;
 
@@ -102,5 +102,92 @@ fn batches_take_writes(rt: HostRuntime) -> std::result::Result<(), Fail> {
         );
     }
     assert_eq!(rt; batch.into_items().len(), 4);
+    Ok(())
+}
+
+/// Adds a write to a bulk write.
+fn ingest(alloc: Global, ingestion: &mut Ingestion<()>, write: Write) -> Result<()> {
+    match write {
+        Write::Insert(key, value) => {
+            let key = slice(alloc, key)?;
+            ingestion.write(key, slice(alloc, value)?)
+        }
+        Write::Remove(key) => ingestion.write_tombstone(slice(alloc, key)?),
+        Write::RemoveWeak(key) => ingestion.write_weak_tombstone(slice(alloc, key)?),
+    }
+}
+
+// A write and its answer; how many items the bulk write has then.
+const INGESTED: &[(Write, Result<()>, usize)] = &[
+    (Write::Insert(b"", b"v"), Err(Error::KeyEmpty), 0),
+    (Write::Insert(&[0], b""), Ok(()), 1),
+    (Write::Insert(&[0], b""), Err(Error::KeyOrder), 1),
+    (Write::Remove(&[0, 0]), Ok(()), 2),
+    (Write::RemoveWeak(&[0]), Err(Error::KeyOrder), 2),
+    (Write::RemoveWeak(&[1]), Ok(()), 3),
+    (Write::Remove(&[0, 255]), Err(Error::KeyOrder), 3),
+    (Write::Remove(b""), Err(Error::KeyEmpty), 3),
+    (Write::Insert(&[1, 0], b"v"), Ok(()), 4),
+];
+
+#[test]
+fn keys_of_a_bulk_write_ascend(rt: HostRuntime) -> std::result::Result<(), Fail> {
+    let mut ingestion = Ingestion::new(rt.alloc(), ());
+    for (row, &(write, answer, count)) in INGESTED.iter().enumerate() {
+        assert_eq!(rt;
+            (
+                ingest(rt.alloc(), &mut ingestion, write),
+                ingestion.len(),
+                ingestion.is_empty()
+            ),
+            (answer, count, count == 0),
+            "row {row}"
+        );
+    }
+    assert_eq!(rt; ingestion.into_items().len(), 4);
+    Ok(())
+}
+
+/// A call of the queue of flushes.
+#[derive(Clone, Copy)]
+enum QueueCall {
+    Enqueue(u64),
+    Dequeue,
+    Clear,
+}
+
+/// Makes a call, and answers the keyspace that waits no more.
+fn call_queue(queue: &mut FlushManager, call: QueueCall) -> Result<Option<u64>> {
+    match call {
+        QueueCall::Enqueue(id) => queue.enqueue(id)?,
+        QueueCall::Dequeue => return Ok(queue.dequeue()),
+        QueueCall::Clear => queue.clear(),
+    }
+    Ok(None)
+}
+
+// A call and its answer; how many keyspaces wait then.
+const TURNS: &[(QueueCall, Option<u64>, usize)] = &[
+    (QueueCall::Dequeue, None, 0),
+    (QueueCall::Enqueue(1), None, 1),
+    (QueueCall::Enqueue(2), None, 2),
+    (QueueCall::Enqueue(1), None, 2),
+    (QueueCall::Dequeue, Some(1), 1),
+    (QueueCall::Enqueue(1), None, 2),
+    (QueueCall::Dequeue, Some(2), 1),
+    (QueueCall::Enqueue(3), None, 2),
+    (QueueCall::Clear, None, 0),
+];
+
+#[test]
+fn keyspaces_wait_for_a_flush_once(rt: HostRuntime) -> std::result::Result<(), Fail> {
+    let mut queue = FlushManager::new(rt.alloc());
+    for (row, &(call, answer, count)) in TURNS.iter().enumerate() {
+        assert_eq!(rt;
+            (call_queue(&mut queue, call)?, queue.len(), queue.is_empty()),
+            (answer, count, count == 0),
+            "row {row}"
+        );
+    }
     Ok(())
 }

@@ -1,1 +1,3 @@
+pub mod FlushQueues
+pub mod Ingestions
 pub mod WriteBatches

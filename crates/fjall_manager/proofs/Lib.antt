@@ -1,0 +1,4 @@
+pub mod Raising
+pub mod Going
+pub mod Evicting
+pub mod Rotating

@@ -1,0 +1,4 @@
+pub mod Marks
+pub mod Journals
+pub mod Evictions
+pub mod Rotations

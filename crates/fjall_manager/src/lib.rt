@@ -1,0 +1,14 @@
+//! The sealed journals of a database: which of them may be removed, their removal, and how the active journal becomes one.
+#![tactic(auto)]
+
+mod eviction;
+mod flushed;
+mod journal_manager;
+mod rotation;
+mod sealed_journal;
+mod watermarks;
+
+pub use flushed::Flushed;
+pub use journal_manager::JournalManager;
+pub use sealed_journal::SealedJournal;
+pub use watermarks::{EvictionWatermark, Watermarks};

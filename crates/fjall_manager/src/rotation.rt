@@ -1,0 +1,37 @@
+//! The way from one journal to the next one on the disk.
+
+ghost use Rattle.std.specs.Prelude.{◌≡◌, ◌≢◌, ◌⊎◌, [], OnErr, OnOk, IsTrue};
+ghost use Rattle.fjall_base.specs.Disk.{CanCreate, IsFile, IsNoFolder, OnlyFaults, Took, folder_of, state_in};
+ghost use Rattle.fjall_journal.specs.Writer.{MakingTook, written_out};
+ghost use Rattle.fjall_manager.specs.Rotations.{RotationTook, making_safe, rotating};
+
+use fjall_base::{Disk, Result};
+use fjall_journal::{PersistMode, Writer};
+
+/// Makes an empty file in the root, where none is there, and syncs it and the root: then it and its name are safe.
+///
+/// A call that fails may have made the file, and may have synced it.
+fn make_safe<D: Disk>(disk: &mut D, name: &str) -> Result<()>
+    ensures took { IsTrue D.honest → OnOk result (Took (D.meaning disk.old) (D.meaning disk.new) (making_safe (D.meaning disk.old) name.now)) }
+    ensures part { IsTrue D.honest → OnErr result (MakingTook (D.meaning disk.old) (D.meaning disk.new) name.now) }
+    ensures served { IsTrue D.honest → CanCreate (state_in (D.meaning disk.old)) name.now → (D.meaning disk.new).misuses ≡ (D.meaning disk.old).misuses }
+    ensures cause { OnlyFaults (D.meaning disk.old) (D.meaning disk.new) result }
+{
+    disk.create(name)?;
+    disk.sync(name)?;
+    disk.sync_folder("")
+}
+
+/// Appends the journal's buffer to its file and syncs that; then makes the next journal's file and syncs it and the root.
+pub(crate) fn rotate<D: Disk>(disk: &mut D, journal: &mut Writer, next: &str) -> Result<()>
+    ensures ok { OnOk result (journal.new ≡ written_out journal.old) }
+    ensures left { OnErr result ((journal.new ≡ journal.old) ⊎ (journal.new ≡ written_out journal.old)) }
+    ensures took { IsTrue D.honest → OnOk result (Took (D.meaning disk.old) (D.meaning disk.new) (rotating (D.meaning disk.old) journal.old next.now)) }
+    ensures part { IsTrue D.honest → OnErr result (RotationTook (D.meaning disk.old) (D.meaning disk.new) journal.old journal.new next.now) }
+    ensures served { IsTrue D.honest → folder_of next.now ≡ [] → next.now ≢ [] → IsFile (state_in (D.meaning disk.old) journal.old.name).now
+        → IsNoFolder (state_in (D.meaning disk.old) next.now).now → (D.meaning disk.new).misuses ≡ (D.meaning disk.old).misuses }
+    ensures cause { OnlyFaults (D.meaning disk.old) (D.meaning disk.new) result }
+{
+    journal.persist(disk, PersistMode::SyncAll)?;
+    make_safe(disk, next)
+}
