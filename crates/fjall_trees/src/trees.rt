@@ -1,0 +1,118 @@
+//! The trees of all keyspaces.
+
+ghost use Rattle.std.specs.Prelude.{◌≡◌, ◌≢◌, ◌++◌, ◌∷◌, ◌<◌, ◌≤◌, ◌^◌, [], List, All, length, map, not, IfOk, OnOk, OnErr, IsOkUnless, MatchOption, IsSomeAnd, Some, None, Ok, true, false, slice_get, unwrap_or};
+ghost use Rattle.std.specs.Option.{option_copied, option_map};
+ghost use Rattle.fjall_parts.specs.Parts.{holds_nothing};
+ghost use Rattle.fjall_lsm.specs.Shapes.{shape_of};
+ghost use Rattle.fjall_lsm.specs.Trees.{emptied, sealed_off};
+ghost use Rattle.fjall_trees.specs.Forests.{AreBefore, IsForest, altered_at, tree_at, without};
+ghost use Rattle.fjall_trees.specs.Views.{forest_of};
+
+use fjall_lsm::Tree;
+use std::alloc::{AllocError, Global};
+use std::marker::Model;
+
+/// The tree of one keyspace.
+#[derive(Drop)]
+pub struct KeyspaceTree {
+    pub(crate) id: u64,
+    pub(crate) tree: Tree,
+}
+
+/// The trees of keyspaces, each under its keyspace's id, by id ascending.
+#[derive(Drop)]
+pub struct Trees {
+    pub(crate) alloc: Global,
+    pub(crate) trees: Vec<KeyspaceTree>,
+}
+
+impl Model for Trees {
+    ghost use Rattle.fjall_trees.specs.Forests.{Forest, IsForest};
+    ghost use Rattle.fjall_trees.specs.Views.{forest_of};
+
+    ghost Value = { Forest };
+
+    ghost view = { λ t. forest_of t.trees.items };
+
+    ghost invariant = { λ t. IsForest (forest_of t.trees.items) };
+}
+
+// The place of the tree of a keyspace, where it has one.
+pub(crate) fn place_of(trees: &[KeyspaceTree], id: u64) -> Option<usize>
+    requires { IsForest (forest_of trees.now) }
+    ensures { MatchOption result (tree_at id (forest_of trees.now) ≡ None) (λ place. IsSomeAnd (slice_get trees.now place) (λ k. k.id ≡ id)) }
+{
+    match trees.binary_search_by_key(&id, |tree| tree.id) {
+        Ok(place) => Some(place),
+        Err(_) => None,
+    }
+}
+
+impl Trees {
+    /// No keyspace has a tree.
+    pub fn new(alloc: Global) -> Trees
+        ensures { result ≡ [] }
+    {
+        Trees {
+            alloc,
+            trees: Vec::new(alloc),
+        }
+    }
+
+    /// Adds the tree of a keyspace whose id is above all others. It is refused for want of memory alone, and an `Err` leaves
+    /// all as it was.
+    pub fn add(&mut self, id: u64, tree: Tree) -> Result<(), AllocError>
+        requires { All (λ k. k.id < id) self.old }
+        ensures ok { OnOk result (self.new ≡ self.old ++ record { id = id; shape = shape_of tree } ∷ []) }
+        ensures err { OnErr result (self.new ≡ self.old) }
+    {
+        self.trees.push(KeyspaceTree { id, tree })?;
+        Ok(())
+    }
+
+    /// Drops the tree of a keyspace, where it has one.
+    pub fn let_go(&mut self, id: u64)
+        ensures { self.new ≡ without id self.old }
+    {
+        self.trees.retain(|tree| tree.id != id);
+    }
+
+    /// The tree of a keyspace, where it has one.
+    pub fn tree(&self, id: u64) -> Option<&Tree>
+        ensures tree { option_map shape_of (option_copied result) ≡ tree_at id self.now }
+        ensures lawful { IsForest self.now }
+    {
+        match place_of(self.trees.as_slice(), id) {
+            Some(place) => Some(&self.trees[place].tree),
+            None => None,
+        }
+    }
+
+    /// Empties a keyspace by the change of that number, above all that its tree holds; without a tree nothing changes. It is
+    /// refused for want of memory alone, and an `Err` leaves all as it was.
+    pub fn clear(&mut self, id: u64, number: u64) -> Result<(), AllocError>
+        requires before { AreBefore number self.old }
+        requires small { number < 2 ^ 63 }
+        ensures ok { OnOk result (self.new ≡ altered_at id (emptied number) self.old) }
+        ensures err { OnErr result (self.new ≡ self.old) }
+    {
+        match place_of(self.trees.as_slice(), id) {
+            Some(place) => self.trees[place].tree.clear(number),
+            None => Ok(()),
+        }
+    }
+
+    /// Seals the active memtable of a keyspace, and begins an empty one; false where it holds nothing, or where the keyspace
+    /// has no tree, and then nothing changes. It is refused for want of memory alone, and an `Err` leaves all as it was.
+    pub fn rotate_memtable(&mut self, id: u64) -> Result<bool, AllocError>
+        ensures ok { IfOk result (λ is_sealed. is_sealed ≡ unwrap_or (option_map (λ shape. not (holds_nothing shape.memory.active)) (tree_at id self.old)) false) }
+        ensures sealed { result ≡ Ok true → self.new ≡ altered_at id sealed_off self.old }
+        ensures empty { result ≡ Ok false → self.new ≡ self.old }
+        ensures err { OnErr result (self.new ≡ self.old) }
+    {
+        match place_of(self.trees.as_slice(), id) {
+            Some(place) => self.trees[place].tree.rotate_memtable(),
+            None => Ok(false),
+        }
+    }
+}
