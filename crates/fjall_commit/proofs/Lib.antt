@@ -7,6 +7,7 @@ pub mod AppendsAndSyncs
 pub mod RootAfterWrites
 pub mod CrashesInWrites
 pub mod BatchAppends
+pub mod CommandAppends
 pub mod Results
 pub mod JournalFile
 pub mod TidyWrites

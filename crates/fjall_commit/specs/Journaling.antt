@@ -1,11 +1,11 @@
 -- The active journal of a database as it is written: batches go out behind those that stand, and are synced.
 use Rattle.std.specs.Prelude.{◌≡◌, ℕ, ◌<◌, ◌≤◌, ◌^◌, Bool, if◌then◌else◌, List, [], ◌∷◌, ◌++◌, length, map, take, true, Option, None, Some, is_none}
-use Rattle.fjall_base.specs.Disk.{State, Image, Survives, Meaning, Name, state_in}
+use Rattle.fjall_base.specs.Disk.{State, Image, Step, Survives, Meaning, Name, state_in}
 use Rattle.fjall_files.specs.Regions.{IsImageIn}
 use Rattle.fjall_journal.specs.declared.persist_mode.PersistMode.{PersistMode}
 use Rattle.fjall_journal.specs.declared.persist_mode.PersistMode.TheVariants.{Buffer, SyncData, SyncAll}
 use Rattle.fjall_journal.specs.Batches.{Written, shown, batch_text}
-use Rattle.fjall_journal.specs.Writer.{Journal, goes_out}
+use Rattle.fjall_journal.specs.Writer.{Journal, PersistTook, goes_out, persist_steps, written_out}
 use Rattle.fjall_files.specs.Names.{journal_name}
 use Rattle.fjall_versions.specs.Replays.{least_after}
 use Rattle.fjall_recovery.specs.Journals.{batches_in}
@@ -43,6 +43,21 @@ after_persist SyncAll j = synced j
 abbrev pub after_mode : Option PersistMode → Journaling → Journaling
 after_mode None j = j
 after_mode (Some mode) j = after_persist mode j
+
+-- the writer once all that waits went out, where there is a mode
+abbrev pub out_in : Option PersistMode → Journal → Journal
+out_in None writer = writer
+out_in (Some mode) writer = written_out writer
+
+-- what that does to the disk
+abbrev pub steps_in : Option PersistMode → Journal → List Step
+steps_in None writer = []
+steps_in (Some mode) writer = persist_steps writer mode
+
+-- and what it took where it was refused, which it never is without a mode
+abbrev pub TookIn : Option PersistMode → Journal → Journal → Meaning → Meaning → Type 0
+TookIn None writer now old new = ⊥
+TookIn (Some mode) writer now old new = PersistTook writer now mode old new
 
 -- the least number that a batch behind all of these may have
 abbrev pub next_number : Journaling → ℕ

@@ -1,11 +1,12 @@
 //! Batches on their way into the active journal: what a crash leaves is a beginning of them, behind all that was synced.
 
-ghost use Rattle.std.specs.Prelude.{◌≡◌, ◌⊎◌, ◌<◌, ◌++◌, [], ◌∷◌, false, length, IsTrue, OnOk, OnErr, IsErrOf, IsOk, IsOkUnless, None, is_none};
-ghost use Rattle.fjall_base.specs.Disk.{HasCause, LeavesOnly, OnlyFaults, Took, state_in};
+ghost use Rattle.std.specs.Prelude.{◌≡◌, ◌⊎◌, ◌<◌, ◌++◌, [], ◌∷◌, false, length, IsTrue, OnOk, OnErr, IsErrOf, IsOk, IsOkUnless, None, Ok, is_none};
+ghost use Rattle.fjall_base.specs.Disk.{HasCause, LeavesOnly, OnlyFaults, Took, TookOrNot, state_in};
 ghost use Rattle.fjall_journal.specs.Ops.{items_refusal, items_text, of_items};
-ghost use Rattle.fjall_journal.specs.Writer.{BatchTook, PersistTook, after_command, batch_steps, persist_steps, written_out};
+ghost use Rattle.fjall_journal.specs.Changes.{Emptied, change_text, of_change};
+ghost use Rattle.fjall_journal.specs.Writer.{BatchTook, PersistTook, ServesFile, after_command, batch_steps, persist_steps, syncing_mode, written_out};
 ghost use Rattle.fjall_files.specs.Tidy.{StaysTidy};
-ghost use Rattle.fjall_commit.specs.Journaling.{IsWriting, LeavesRoot, after_mode, after_persist, with_batch, ForFollowing, ForWriting, KeepsKeyspaces, is_out};
+ghost use Rattle.fjall_commit.specs.Journaling.{IsWriting, LeavesRoot, TookIn, after_mode, after_persist, out_in, steps_in, with_batch, ForFollowing, ForWriting, KeepsKeyspaces, is_out};
 
 use fjall_base::{Disk, Error, Result};
 use fjall_journal::{BatchItem, PersistMode, Writer};
@@ -48,6 +49,52 @@ pub fn append_batch<D: Disk>(
     ensures kinds { IsTrue D.honest → StaysTidy (D.meaning disk.old) (D.meaning disk.new) }
 {
     journal.write_batch(disk, items, seqno)?;
+    persist_in(journal, disk, mode)
+}
+
+/// Writes a batch that empties a keyspace behind what waits, as [`append_batch`] writes one of items: it waits and goes
+/// out, is refused, and outlives a crash, as that one does.
+pub fn append_clear<D: Disk>(
+    journal: &mut Writer,
+    disk: &mut D,
+    mode: Option<PersistMode>,
+    keyspace_id: u64,
+    seqno: u64,
+) -> Result<()>
+    ensures ok { OnOk result (journal.new ≡ after_command (is_none mode) journal.old (change_text (Emptied keyspace_id) seqno)) }
+    ensures memory { IsErrOf result Error.OutOfMemory → journal.new ≡ journal.old }
+    ensures untouched { IsErrOf result Error.OutOfMemory → D.meaning disk.new ≡ D.meaning disk.old }
+    ensures served { IsTrue D.honest → ForWriting (D.meaning disk.old) journal.old (λ j. (D.meaning disk.new).misuses ≡ (D.meaning disk.old).misuses) }
+    ensures cause { HasCause (D.meaning disk.old) (D.meaning disk.new) result }
+    ensures waits { is_out mode journal.old (of_change (Emptied keyspace_id) seqno) ≡ false → D.meaning disk.new ≡ D.meaning disk.old }
+    ensures faultless { is_out mode journal.old (of_change (Emptied keyspace_id) seqno) ≡ false → IsOkUnless result Error.OutOfMemory }
+    ensures took { IsTrue D.honest
+        → OnOk result (Took (D.meaning disk.old) (D.meaning disk.new) (batch_steps mode journal.old (change_text (Emptied keyspace_id) seqno))) }
+    ensures part { IsTrue D.honest
+        → OnErr result (BatchTook mode (D.meaning disk.old) (D.meaning disk.new) journal.old (change_text (Emptied keyspace_id) seqno)) }
+    ensures any_moment { IsTrue D.honest → ForFollowing (D.meaning disk.old) journal.old seqno (λ j.
+        LeavesOnly (D.meaning disk.old) (D.meaning disk.new) (LeavesRoot (state_in (D.meaning disk.old)) j (j.later ++ of_change (Emptied keyspace_id) seqno ∷ []))) }
+    ensures lies { IsTrue D.honest → ForFollowing (D.meaning disk.old) journal.old seqno (λ j.
+        let batch = of_change (Emptied keyspace_id) seqno in
+        OnOk result (IsWriting (state_in (D.meaning disk.new)) journal.new (after_mode mode (with_batch (is_out mode journal.old batch) j batch)))) }
+    ensures elsewhere { IsTrue D.honest → ForWriting (D.meaning disk.old) journal.old (λ j. KeepsKeyspaces (D.meaning disk.old) (D.meaning disk.new)) }
+    ensures kinds { IsTrue D.honest → StaysTidy (D.meaning disk.old) (D.meaning disk.new) }
+{
+    journal.write_clear(disk, keyspace_id, seqno)?;
+    persist_in(journal, disk, mode)
+}
+
+// Where there is a mode, hands all that waits to the disk and, in the two sync modes, syncs the journal.
+fn persist_in<D: Disk>(journal: &mut Writer, disk: &mut D, mode: Option<PersistMode>) -> Result<()>
+    ensures ok { OnOk result (journal.new ≡ out_in mode journal.old) }
+    ensures unasked { mode ≡ None → (result ≡ Ok tt) × (D.meaning disk.new ≡ D.meaning disk.old) }
+    ensures took { IsTrue D.honest → OnOk result (Took (D.meaning disk.old) (D.meaning disk.new) (steps_in mode journal.old)) }
+    ensures nothing { IsTrue D.honest → journal.old.buffer ≡ []
+        → OnErr result (TookOrNot (D.meaning disk.old) (D.meaning disk.new) (syncing_mode journal.old.name mode)) }
+    ensures left { IsTrue D.honest → OnErr result (TookIn mode journal.old journal.new (D.meaning disk.old) (D.meaning disk.new)) }
+    ensures served { IsTrue D.honest → ServesFile (D.meaning disk.old) (D.meaning disk.new) journal.old.name }
+    ensures cause { OnlyFaults (D.meaning disk.old) (D.meaning disk.new) result }
+{
     match mode {
         None => Ok(()),
         Some(mode) => journal.persist(disk, mode),

@@ -2,7 +2,7 @@
 
 use crate::calls::holds;
 use fjall_base::{Result, Slice};
-use fjall_commit::{append_batch, sync_journal};
+use fjall_commit::{append_batch, append_clear, sync_journal};
 use fjall_journal::{BatchItem, Op, PersistMode, ValueType, Writer, check_items};
 use fjall_memory::MemoryDisk;
 use std::alloc::Global;
@@ -30,6 +30,12 @@ const BOTH: &[u8] = &[
     87, 170, 86, 92, 151, 128, 104, 70, 74, 76, 3,
 ];
 
+// The clear of keyspace 3 under number 8, likewise.
+const CLEAR: &[u8] = &[
+    1, 1, 0, 0, 0, 8, 0, 0, 0, 0, 0, 0, 0, 4, 3, 0, 0, 0, 0, 0, 0, 0, 3, 62, 146, 88, 6, 52, 163,
+    92, 111, 70, 74, 76, 3,
+];
+
 /// What becomes of k in keyspace 3: it gets a value, or none.
 type Item = Option<&'static [u8]>;
 
@@ -44,6 +50,8 @@ enum Step {
     Wait,
     /// Writes these items as a batch of this number, persisted in this mode or in none.
     Write(u64, &'static [Item], Option<PersistMode>),
+    /// Writes a clear of keyspace 3 under this number, likewise.
+    Empty(u64, Option<PersistMode>),
     Persist(PersistMode),
     /// A crash leaves what is synced.
     Crash,
@@ -111,6 +119,7 @@ fn take(alloc: Global, disk: &mut MemoryDisk, journal: &mut Writer, step: Step) 
         Write(number, items, mode) => {
             write(disk, journal, number, &items_of(alloc, items)?, mode)
         }
+        Empty(number, mode) => append_clear(journal, disk, mode, 3, number),
         Persist(mode) => sync_journal(journal, disk, mode),
         Crash => crash(alloc, disk),
     }
@@ -151,6 +160,12 @@ const ROWS: &[(Step, u64, u64, &[&[u8]])] = &[
     (New, 0, 0, &[]),
     (Write(7, &[PUT, None], SYNC_ALL), 72, 72, &[BOTH]),
     (Crash, 72, 72, &[BOTH]),
+    // A clear waits, goes out and is kept as a batch of items is.
+    (New, 0, 0, &[]),
+    (Empty(8, None), 0, 35, &[]),
+    (Write(5, &[PUT], BUFFER), 85, 85, &[CLEAR, INSERT]),
+    (Empty(8, SYNC_ALL), 120, 120, &[CLEAR, INSERT, CLEAR]),
+    (Crash, 120, 120, &[CLEAR, INSERT, CLEAR]),
     // A sync keeps all.
     (New, 0, 0, &[]),
     (Wait, 0, 50, &[]),

@@ -6,8 +6,9 @@ ghost use Rattle.fjall_base.specs.Limits.{item_refusal};
 ghost use Rattle.fjall_journal.specs.Spelling.{spelling};
 ghost use Rattle.fjall_journal.specs.Batches.{of_item, item_text, IsChange, IsWritten};
 ghost use Rattle.fjall_journal.specs.Ops.{entry_of, items_refusal, items_text, of_items};
+ghost use Rattle.fjall_journal.specs.Changes.{Emptied, change_text, of_change};
 
-use crate::encoding::{put_end, put_start, serialize_marker_item};
+use crate::encoding::{put_clear, put_end, put_start, serialize_marker_item};
 use crate::entry::ValueType;
 use crate::op::BatchItem;
 use fjall_base::{CompressionType, Error, Result, check_item, checksum};
@@ -109,6 +110,35 @@ pub(crate) fn put_items(out: &mut Vec<u8>, items: &[BatchItem], seqno: u64) -> R
 {
     let before = out.len();
     if let Err(error) = put_items_batch(out, items, seqno) {
+        out.truncate(before);
+        return Err(error);
+    }
+    Ok(out.len() - before)
+}
+
+fn put_emptying_batch(out: &mut Vec<u8>, keyspace_id: u64, seqno: u64) -> Result<()>
+    ensures ok { OnOk result (out.new.items ≡ out.old.items ++ change_text (Emptied keyspace_id) seqno) }
+    ensures fits { IsWritten (of_change (Emptied keyspace_id) seqno) }
+    ensures kept { take (length out.old.items) out.new.items ≡ out.old.items }
+    ensures only { IsOkUnless result Error.OutOfMemory }
+{
+    let before = out.len();
+    put_start(out, 1, seqno)?;
+    put_clear(out, keyspace_id)?;
+    let sum = checksum(&out[before..]);
+    put_end(out, &sum)
+}
+
+/// Adds the text of a batch that empties a keyspace, and answers its length. An `Err` adds nothing.
+pub(crate) fn put_emptying(out: &mut Vec<u8>, keyspace_id: u64, seqno: u64) -> Result<usize>
+    ensures ok { OnOk result (out.new.items ≡ out.old.items ++ change_text (Emptied keyspace_id) seqno) }
+    ensures fits { IsWritten (of_change (Emptied keyspace_id) seqno) }
+    ensures count { IfOk result (λ n. n ≡ length (change_text (Emptied keyspace_id) seqno)) }
+    ensures err { OnErr result (out.new.items ≡ out.old.items) }
+    ensures only { IsOkUnless result Error.OutOfMemory }
+{
+    let before = out.len();
+    if let Err(error) = put_emptying_batch(out, keyspace_id, seqno) {
         out.truncate(before);
         return Err(error);
     }

@@ -5,9 +5,10 @@ ghost use Rattle.fjall_base.specs.Disk.{CanCreate, Took, TookOrNot, TookPart, Ha
 ghost use Rattle.fjall_base.specs.Limits.{item_refusal};
 ghost use Rattle.fjall_journal.specs.Batches.{of_item, item_text, IsWritten};
 ghost use Rattle.fjall_journal.specs.Ops.{HasBatchCause, items_refusal, items_text, of_items};
+ghost use Rattle.fjall_journal.specs.Changes.{Emptied, change_text, of_change};
 ghost use Rattle.fjall_journal.specs.Writer.{counted, full_out, full_steps, syncing, written_out, appending, after_write, persist_steps, Waits, WroteText, WroteNone, HasWriteCause, IsIo, ServesFile, PersistTook, making_synced, MakingTook};
 
-use crate::batch_text::{put_batch, put_items};
+use crate::batch_text::{put_batch, put_emptying, put_items};
 use crate::entry::ValueType;
 use crate::op::{BatchItem, check_items};
 use crate::persist_mode::PersistMode;
@@ -185,6 +186,37 @@ impl Writer {
         }
         let before = self.buffer.len();
         let count = put_items(&mut self.buffer, items, seqno)?;
+        self.write_out_full(disk, before)?;
+        Ok(count)
+    }
+
+    /// Writes a batch that empties a keyspace, and answers the length of its text. The buffer goes to the file once it
+    /// has 8,192 bytes. An `Err` leaves the writer as it was.
+    pub fn write_clear<D: Disk>(
+        &mut self,
+        disk: &mut D,
+        keyspace_id: u64,
+        seqno: u64,
+    ) -> Result<usize>
+        ensures ok { OnOk result (self.new ≡ after_write self.old (change_text (Emptied keyspace_id) seqno)) }
+        ensures fits { OnOk result (IsWritten (of_change (Emptied keyspace_id) seqno)) }
+        // So it has a text also where the disk fails.
+        ensures tried { IfErr result (λ e. IsIo e → IsWritten (of_change (Emptied keyspace_id) seqno)) }
+        ensures count { IfOk result (λ n. n ≡ length (change_text (Emptied keyspace_id) seqno)) }
+        ensures unchanged { OnErr result (self.new ≡ self.old) }
+        ensures took { IsTrue D.honest
+            → OnOk result (WroteText (D.meaning disk.old) (D.meaning disk.new) self.old (change_text (Emptied keyspace_id) seqno)) }
+        ensures part { IsTrue D.honest
+            → IfErr result (WroteNone (D.meaning disk.old) (D.meaning disk.new) self.old (change_text (Emptied keyspace_id) seqno)) }
+        ensures untouched { IsErrOf result Error.OutOfMemory → D.meaning disk.new ≡ D.meaning disk.old }
+        ensures served { IsTrue D.honest → ServesFile (D.meaning disk.old) (D.meaning disk.new) self.old.name }
+        ensures cause { HasCause (D.meaning disk.old) (D.meaning disk.new) result }
+        // Below 8,192 bytes nothing goes to the disk, and no fault can come.
+        ensures waits { Waits self.old (change_text (Emptied keyspace_id) seqno) → D.meaning disk.new ≡ D.meaning disk.old }
+        ensures faultless { Waits self.old (change_text (Emptied keyspace_id) seqno) → IsOkUnless result Error.OutOfMemory }
+    {
+        let before = self.buffer.len();
+        let count = put_emptying(&mut self.buffer, keyspace_id, seqno)?;
         self.write_out_full(disk, before)?;
         Ok(count)
     }

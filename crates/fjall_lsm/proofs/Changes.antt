@@ -26,7 +26,7 @@ use Rattle.fjall_lsm.specs.Trees.{ReadsAll, Shape, clears_of, emptied, first_fro
 
 -- ---- one version more in a part
 
-or_none : (a b : Bool) → (a || b) ≡ false → (a ≡ false) × (b ≡ false)
+pub or_none : (a b : Bool) → (a || b) ≡ false → (a ≡ false) × (b ≡ false)
 or_none true b e = absurd (true≢false e)
 or_none false b e = (refl, e)
 

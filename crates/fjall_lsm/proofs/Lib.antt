@@ -4,6 +4,7 @@ pub mod Inputs
 pub mod Merged
 pub mod Outstanding
 pub mod Paging
+pub mod Puts
 pub mod Searches
 pub mod Several
 pub mod Shows

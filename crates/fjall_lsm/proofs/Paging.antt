@@ -1,5 +1,5 @@
 -- Pages of a tree: what is gone through in memory, and what it makes with the tables.
-use Rattle.std.proofs.Common.{◌≡◌, ℕ, suc, ◌+◌, ◌-◌, ◌<◌, ◌≤◌, Bool, true, false, List, [], ◌∷◌, ◌++◌, Global, length, get_or, map, reverse, take, drop, refl, sym, ap, subst, ◌∙◌, inl, inr, arith}
+use Rattle.std.proofs.Common.{◌≡◌, ℕ, suc, ◌+◌, ◌-◌, ◌<◌, ◌≤◌, Bool, true, false, List, [], ◌∷◌, ◌++◌, Global, IsFalse, IsTrue, None, length, get_or, map, reverse, take, drop, refl, sym, ap, subst, ◌∙◌, inl, inr, arith}
 use Rattle.std.specs.List.{All}
 use Rattle.std.specs.declared.sync.Arc.{Arc}
 use Rattle.std.proofs.lemmas.Bool.{cases_lt}
@@ -12,7 +12,7 @@ use Rattle.fjall_views.specs.Jobs.{AreBelow, OnceEach}
 use Rattle.fjall_views.specs.Views.{IsView}
 use Rattle.fjall_views.proofs.Once.{parts_once}
 use Rattle.fjall_views.proofs.Sameness.{fewer_once}
-use Rattle.fjall_sorted.specs.Pages.{barrier}
+use Rattle.fjall_sorted.specs.Pages.{barrier, pairs_back, pairs_of}
 use Rattle.fjall_sorted.specs.Sorted.{IsInTurn, flat, in_turn, sorted}
 use Rattle.fjall_sorted.proofs.Orders.{filter_chain}
 use Rattle.fjall_sorted.proofs.Ranges.{bounds_first}
@@ -26,6 +26,7 @@ use Rattle.fjall_parts.specs.Shares.{shared}
 use Rattle.fjall_parts.proofs.Onces.{once_in}
 use Rattle.fjall_pages.specs.Pages.{page_of}
 use Rattle.fjall_pages.proofs.Looping.{turned_twice}
+use Rattle.fjall_pages.proofs.Orders.{IsShuffled, flat_shuffled, once_shuffled, sorted_shuffled}
 use Rattle.fjall_lsm.specs.Pages.{run_of}
 use Rattle.fjall_lsm.specs.Trees.{Shape, clears_of, floor_of, versions_of}
 use Rattle.fjall_lsm.proofs.Flushed.{from_floor}
@@ -133,3 +134,43 @@ page_found range back instant bound max shape entries memory pairs found once vi
     ∙ (λ i. in_turn back (take max (page_of back instant (bound_is i) (in_turn back (told i)))))
     ∙ ap (λ (ps : List (Bytes × Bytes)). in_turn back (take max ps)) (view_is back instant (clears_of shape) range (versions_of shape entries) pairs once view)
     ∙ page_is back max (pairs_between range pairs)
+
+-- ---- pages of memory alone
+
+twice : (back : Bool) (runs : List (List Entry)) → map (in_turn back) (map (in_turn back) runs) ≡ runs
+twice back [] = refl
+twice back (run ∷ runs) = λ i. turned_twice back run i ∷ twice back runs i
+
+-- gone through from behind or not, runs hold the same
+turned_shuffled : (back : Bool) (runs : List (List Entry)) → IsShuffled (flat runs) (flat (map (in_turn back) runs))
+turned_shuffled back runs = subst (λ (l : List (List Entry)). IsShuffled (flat l) (flat (map (in_turn back) runs))) (twice back runs) (flat_shuffled back (map (in_turn back) runs))
+
+pub runs_themselves : (runs : List (List Entry)) → map (λ run. run) runs ≡ runs
+runs_themselves [] = refl
+runs_themselves (run ∷ runs) = ap (λ (l : List (List Entry)). run ∷ l) (runs_themselves runs)
+
+-- what a page is made of, from either end
+pub page_told : (back : Bool) (instant bound m : ℕ) (versions : List Entry) (found : List (Bytes × Bytes))
+    → (IsFalse back → found ≡ take m (pairs_of instant bound None (sorted versions)))
+    → (IsTrue back → found ≡ reverse (take m (pairs_back instant bound None (reverse (sorted versions)))))
+    → found ≡ in_turn back (take m (page_of back instant bound (in_turn back (sorted versions))))
+page_told false instant bound m versions found forward backward = forward refl
+page_told true instant bound m versions found forward backward = backward refl
+
+module _ (shape : Shape) (held : All IsHeld (parts_of shape.memory)) (apart : AreApart (parts_of shape.memory)) where
+  below : AreBelow (floor_of shape.memory) (flat [])
+  below = All-nil (λ (v : Entry). v.number < floor_of shape.memory)
+
+  pub memory_once : (range : KeyRange) (back : Bool) (runs : List (List Entry)) → runs ≡ map (run_of range back) (parts_of shape.memory) → OnceEach (flat runs)
+  memory_once range back runs are =
+      once_shuffled (flat runs) (flat (map (in_turn back) runs)) (turned_shuffled back runs)
+      (subst (λ (l : List (List Entry)). OnceEach (flat (map (in_turn back) l))) (sym are) (pages_once shape [] held apart below tt range back))
+
+  pub memory_page : (range : KeyRange) (back : Bool) (instant bound m : ℕ) (runs : List (List Entry)) (pairs : Pairs) (found : List (Bytes × Bytes))
+      → IsView instant (clears_of shape) (versions_of shape []) pairs → bound ≡ barrier instant (clears_of shape) → runs ≡ map (run_of range back) (parts_of shape.memory)
+      → found ≡ in_turn back (take m (page_of back instant bound (in_turn back (sorted (flat runs)))))
+      → found ≡ page back m (pairs_between range pairs)
+  memory_page range back instant bound m runs pairs found view bound_is are is =
+      let same = sorted_shuffled (flat (map (in_turn back) runs)) (flat runs) (flat_shuffled back runs) (memory_once range back runs are) in
+      page_found range back instant bound m shape [] runs pairs found (all_once shape [] held apart below tt) view bound_is are
+      (is ∙ ap (λ (vs : List Entry). in_turn back (take m (page_of back instant bound (in_turn back vs)))) (sym same))

@@ -3,3 +3,4 @@ pub mod Out
 pub mod Shapes
 pub mod Jobs
 pub mod Pages
+pub mod Puts

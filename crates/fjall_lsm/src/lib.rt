@@ -5,6 +5,7 @@ mod counts;
 mod input;
 mod jobs;
 mod laws;
+mod memory;
 mod out;
 mod pages;
 mod search;

@@ -32,7 +32,7 @@ fn part_run<'a>(
 }
 
 // Those of all parts, the oldest first.
-fn memory_runs<'a>(
+pub(crate) fn memory_runs<'a>(
     alloc: Global,
     parts: &'a Parts,
     range: KeyBounds<'_>,

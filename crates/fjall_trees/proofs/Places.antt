@@ -1,11 +1,11 @@
 -- Trees at their places, and one of them changed.
-use Rattle.std.proofs.Common.{◌≡◌, ℕ, zero, suc, ◌<◌, ◌==◌, Bool, true, false, cond, List, [], ◌∷◌, ◌++◌, map, filter, not, set, get_or, slice_get, All, AllPairs, Option, Some, None, OnOk, OnErr, Result, Ok, Err, refl, sym, ap, subst, ◌∙◌, arith}
+use Rattle.std.proofs.Common.{◌≡◌, ℕ, zero, suc, ◌<◌, ◌==◌, Bool, true, false, cond, List, [], ◌∷◌, ◌++◌, length, map, filter, not, set, get_or, slice_get, All, AllPairs, Option, Some, None, OnOk, OnErr, Result, Ok, Err, refl, sym, ap, subst, ◌∙◌, arith}
 use Rattle.std.specs.Option.{IsSomeAnd, option_map}
 use Rattle.std.proofs.lemmas.Bool.{cond-false, cond-true, eq-eqb, eqb-true, false_from_ne_true}
 use Rattle.std.proofs.lemmas.List.{map-set}
 use Rattle.std.proofs.lemmas.List.Elements.{All-cons, All-head, All-map, All-nil, All-push, All-tail}
 use Rattle.std.proofs.lemmas.List.Kept.{AllPairs-cons}
-use Rattle.std.proofs.lemmas.Option.{get_or_from_slice_get, slice_get-map}
+use Rattle.std.proofs.lemmas.Option.{get_or_from_slice_get, slice_get-map, slice_get_within}
 use Rattle.std.proofs.Math.Seq.{map-set_same}
 use Rattle.fjall_base.proofs.Codecs.{some_is}
 use Rattle.fjall_parts.specs.Held.{held_of}
@@ -17,7 +17,9 @@ use Rattle.fjall_lsm.specs.Shapes.{shape_of}
 use Rattle.fjall_lsm.specs.Trees.{Shape}
 use Rattle.fjall_trees.specs.declared.trees.KeyspaceTree.{KeyspaceTree}
 use Rattle.fjall_trees.specs.Forests.{Forest, IsForest, IsTree, Planted, altered_at, tree_at, without}
-use Rattle.fjall_trees.specs.Views.{forest_of, planted}
+use Rattle.fjall_trees.specs.declared.trees.Trees.{Trees}
+use Rattle.fjall_trees.specs.Lists.{forest_in, planted}
+use Rattle.fjall_trees.specs.Views.{forest_of}
 
 -- ---- what holds of each tree
 
@@ -28,9 +30,9 @@ tree_is t = record {
   clears = t.shape;
 }
 
-pub trees_are : (ks : List KeyspaceTree) → All (λ k. IsTree k.shape) (forest_of ks)
+pub trees_are : (ks : List KeyspaceTree) → All (λ k. IsTree k.shape) (forest_in ks)
 trees_are [] = All-nil (λ (k : Planted). IsTree k.shape)
-trees_are (k ∷ ks) = All-cons (λ (k : Planted). IsTree k.shape) (planted k) (forest_of ks) (tree_is k.tree) (trees_are ks)
+trees_are (k ∷ ks) = All-cons (λ (k : Planted). IsTree k.shape) (planted k) (forest_in ks) (tree_is k.tree) (trees_are ks)
 
 -- what holds of each tree holds of a keyspace's
 pub tree_has : (P : Shape → Type 0) (trees : Forest) (id : ℕ) (shape : Shape) → All (λ k. P k.shape) trees → tree_at id trees ≡ Some shape → P shape
@@ -42,10 +44,10 @@ tree_has P (k ∷ trees) id shape all is = by (k.id == id) is (tree_has P trees 
     by false is more = more is
 
 -- and of the one at a place
-pub place_has : (P : Planted → Type 0) (ks : List KeyspaceTree) (place : ℕ) (k : KeyspaceTree) → All P (forest_of ks) → slice_get ks place ≡ Some k → P (planted k)
+pub place_has : (P : Planted → Type 0) (ks : List KeyspaceTree) (place : ℕ) (k : KeyspaceTree) → All P (forest_in ks) → slice_get ks place ≡ Some k → P (planted k)
 place_has P [] place k all is = absurd cc
-place_has P (j ∷ ks) zero k all is = subst (λ (x : KeyspaceTree). P (planted x)) (some_is j k is) (All-head P (planted j) (forest_of ks) all)
-place_has P (j ∷ ks) (suc place) k all is = place_has P ks place k (All-tail P (planted j) (forest_of ks) all) is
+place_has P (j ∷ ks) zero k all is = subst (λ (x : KeyspaceTree). P (planted x)) (some_is j k is) (All-head P (planted j) (forest_in ks) all)
+place_has P (j ∷ ks) (suc place) k all is = place_has P ks place k (All-tail P (planted j) (forest_in ks) all) is
 
 -- ---- ids
 
@@ -68,8 +70,8 @@ pairs_of [] up = λ i j d lt within. absurd (omega arith)
 pairs_of (k ∷ trees) up = AllPairs-cons (λ (j k : Planted). j.id < k.id) k trees (of_ids (λ (n : ℕ). k.id < n) trees up.0) (pairs_of trees up.1)
 
 -- trees of the same ids are a forest again
-pub forest_still : (trees : Forest) (ks : List KeyspaceTree) → IsForest trees → ids_of (forest_of ks) ≡ ids_of trees → IsForest (forest_of ks)
-forest_still trees ks is same = record { ascend = pairs_of (forest_of ks) (subst Ascends (sym same) (ascends_of trees is.ascend)); each = trees_are ks }
+pub forest_still : (trees : Forest) (ks : List KeyspaceTree) → IsForest trees → ids_of (forest_in ks) ≡ ids_of trees → IsForest (forest_in ks)
+forest_still trees ks is same = record { ascend = pairs_of (forest_in ks) (subst Ascends (sym same) (ascends_of trees is.ascend)); each = trees_are ks }
 
 -- with one more behind all others
 ascends_push : (ns : List ℕ) (n : ℕ) → Ascends ns → All (λ m. m < n) ns → Ascends (ns ++ n ∷ [])
@@ -79,14 +81,14 @@ ascends_push (m ∷ ns) n up all = (
   ascends_push ns n up.1 (All-tail (λ (k : ℕ). k < n) m ns all),
 )
 
-ids_push : (ks : List KeyspaceTree) (k : KeyspaceTree) → ids_of (forest_of (ks ++ k ∷ [])) ≡ ids_of (forest_of ks) ++ k.id ∷ []
+ids_push : (ks : List KeyspaceTree) (k : KeyspaceTree) → ids_of (forest_in (ks ++ k ∷ [])) ≡ ids_of (forest_in ks) ++ k.id ∷ []
 ids_push [] k = refl
 ids_push (j ∷ ks) k = ap (λ (ns : List ℕ). j.id ∷ ns) (ids_push ks k)
 
-pub forest_push : (ks : List KeyspaceTree) (k : KeyspaceTree) → IsForest (forest_of ks) → All (λ j. j.id < k.id) (forest_of ks) → IsForest (forest_of (ks ++ k ∷ []))
+pub forest_push : (ks : List KeyspaceTree) (k : KeyspaceTree) → IsForest (forest_in ks) → All (λ j. j.id < k.id) (forest_in ks) → IsForest (forest_in (ks ++ k ∷ []))
 forest_push ks k is below = record {
-  ascend = pairs_of (forest_of (ks ++ k ∷ [])) (subst Ascends (sym (ids_push ks k))
-      (ascends_push (ids_of (forest_of ks)) k.id (ascends_of (forest_of ks) is.ascend) (All-map (λ (n : ℕ). n < k.id) (λ (j : Planted). j.id) (forest_of ks) below)));
+  ascend = pairs_of (forest_in (ks ++ k ∷ [])) (subst Ascends (sym (ids_push ks k))
+      (ascends_push (ids_of (forest_in ks)) k.id (ascends_of (forest_in ks) is.ascend) (All-map (λ (n : ℕ). n < k.id) (λ (j : Planted). j.id) (forest_in ks) below)));
   each = trees_are (ks ++ k ∷ []);
 }
 
@@ -107,19 +109,19 @@ ascends_kept id (k ∷ trees) up = by (k.id == id) (ascends_kept id trees up.1)
     by true more = more
     by false more = (ids_kept (λ (n : ℕ). k.id < n) id trees up.0, more)
 
-pub kept_without : (id : ℕ) (ks : List KeyspaceTree) → forest_of (filter (λ k. not (k.id == id)) ks) ≡ without id (forest_of ks)
+pub kept_without : (id : ℕ) (ks : List KeyspaceTree) → forest_in (filter (λ k. not (k.id == id)) ks) ≡ without id (forest_in ks)
 kept_without id [] = refl
 kept_without id (k ∷ ks) = by (k.id == id) (kept_without id ks)
   where
-    by : (b : Bool) → forest_of (filter (λ k. not (k.id == id)) ks) ≡ without id (forest_of ks)
-        → forest_of (cond (not b) (k ∷ filter (λ k. not (k.id == id)) ks) (filter (λ k. not (k.id == id)) ks)) ≡ cond (not b) (planted k ∷ without id (forest_of ks)) (without id (forest_of ks))
+    by : (b : Bool) → forest_in (filter (λ k. not (k.id == id)) ks) ≡ without id (forest_in ks)
+        → forest_in (cond (not b) (k ∷ filter (λ k. not (k.id == id)) ks) (filter (λ k. not (k.id == id)) ks)) ≡ cond (not b) (planted k ∷ without id (forest_in ks)) (without id (forest_in ks))
     by true more = more
     by false more = ap (λ (trees : Forest). planted k ∷ trees) more
 
-pub forest_without : (id : ℕ) (ks : List KeyspaceTree) → IsForest (forest_of ks) → IsForest (forest_of (filter (λ k. not (k.id == id)) ks))
+pub forest_without : (id : ℕ) (ks : List KeyspaceTree) → IsForest (forest_in ks) → IsForest (forest_in (filter (λ k. not (k.id == id)) ks))
 forest_without id ks is = record {
-  ascend = pairs_of (forest_of (filter (λ k. not (k.id == id)) ks))
-      (subst (λ (trees : Forest). Ascends (ids_of trees)) (sym (kept_without id ks)) (ascends_kept id (forest_of ks) (ascends_of (forest_of ks) is.ascend)));
+  ascend = pairs_of (forest_in (filter (λ k. not (k.id == id)) ks))
+      (subst (λ (trees : Forest). Ascends (ids_of trees)) (sym (kept_without id ks)) (ascends_kept id (forest_in ks) (ascends_of (forest_in ks) is.ascend)));
   each = trees_are (filter (λ k. not (k.id == id)) ks);
 }
 
@@ -148,10 +150,10 @@ tree_placed (j ∷ trees) zero k up is =
 tree_placed (j ∷ trees) (suc place) k up is =
     cond-false (j.id == k.id) (Some j.shape) (tree_at k.id trees) (id_differs j.id k.id (below_place j.id trees place k up.0 is)) ∙ tree_placed trees place k up.1 is
 
-pub tree_here : (ks : List KeyspaceTree) (place id : ℕ) (k : KeyspaceTree) → IsForest (forest_of ks) → slice_get ks place ≡ Some k → k.id ≡ id → tree_at id (forest_of ks) ≡ Some (shape_of k.tree)
+pub tree_here : (ks : List KeyspaceTree) (place id : ℕ) (k : KeyspaceTree) → IsForest (forest_in ks) → slice_get ks place ≡ Some k → k.id ≡ id → tree_at id (forest_in ks) ≡ Some (shape_of k.tree)
 tree_here ks place id k is here same =
-    subst (λ (n : ℕ). tree_at n (forest_of ks) ≡ Some (shape_of k.tree)) same
-    (tree_placed (forest_of ks) place (planted k) (ascends_of (forest_of ks) is.ascend) (slice_get-map planted ks place ∙ ap (option_map planted) here))
+    subst (λ (n : ℕ). tree_at n (forest_in ks) ≡ Some (shape_of k.tree)) same
+    (tree_placed (forest_in ks) place (planted k) (ascends_of (forest_in ks) is.ascend) (slice_get-map planted ks place ∙ ap (option_map planted) here))
 
 -- what stands at a place
 pub place_is : (ks : List KeyspaceTree) (place : ℕ) (d : KeyspaceTree) (P : KeyspaceTree → Type 0) → IsSomeAnd (slice_get ks place) P → (slice_get ks place ≡ Some (get_or ks place d)) × P (get_or ks place d)
@@ -160,6 +162,13 @@ place_is ks place d P is = by (slice_get ks place) refl is
     by : (o : Option KeyspaceTree) → slice_get ks place ≡ o → IsSomeAnd o P → (slice_get ks place ≡ Some (get_or ks place d)) × P (get_or ks place d)
     by None e is = absurd is
     by (Some k) e is = let same = sym (get_or_from_slice_get ks place k d e) in (e ∙ ap (λ (x : KeyspaceTree). Some x) same, subst P same is)
+
+pub place_within : (ks seen : List KeyspaceTree) (place : ℕ) (P : KeyspaceTree → Type 0) → seen ≡ ks → IsSomeAnd (slice_get seen place) P → place < length ks
+place_within ks seen place P same is = subst (λ (xs : List KeyspaceTree). place < length xs) same (by (slice_get seen place) refl is)
+  where
+    by : (o : Option KeyspaceTree) → slice_get seen place ≡ o → IsSomeAnd o P → place < length seen
+    by None e is = absurd is
+    by (Some k) e is = slice_get_within seen place k e
 
 -- what a search found, lent out to be changed
 pub found_tree : (ks seen : List KeyspaceTree) (place id : ℕ) (k : KeyspaceTree) → seen ≡ ks → IsSomeAnd (slice_get seen place) (λ j. j.id ≡ id) → k ≡ get_or ks place k
@@ -193,29 +202,29 @@ altered_place (j ∷ trees) (suc place) k change up is =
     ∷ altered_place trees place k change up.1 is i
 
 -- the tree at a place was changed
-pub set_altered : (ks : List KeyspaceTree) (place id : ℕ) (k : KeyspaceTree) (new : Tree) (change : Shape → Shape) → IsForest (forest_of ks) → slice_get ks place ≡ Some k → k.id ≡ id
-    → shape_of new ≡ change (shape_of k.tree) → forest_of (set ks place (record { id = k.id; tree = new })) ≡ altered_at id change (forest_of ks)
+pub set_altered : (ks : List KeyspaceTree) (place id : ℕ) (k : KeyspaceTree) (new : Tree) (change : Shape → Shape) → IsForest (forest_in ks) → slice_get ks place ≡ Some k → k.id ≡ id
+    → shape_of new ≡ change (shape_of k.tree) → forest_in (set ks place (record { id = k.id; tree = new })) ≡ altered_at id change (forest_in ks)
 set_altered ks place id k new change is here same made =
     map-set planted ks place (record { id = k.id; tree = new })
-    ∙ ap (λ (s : Shape). set (forest_of ks) place (record { id = k.id; shape = s })) made
-    ∙ sym (altered_place (forest_of ks) place (planted k) change (ascends_of (forest_of ks) is.ascend) (slice_get-map planted ks place ∙ ap (option_map planted) here))
-    ∙ ap (λ (n : ℕ). altered_at n change (forest_of ks)) same
+    ∙ ap (λ (s : Shape). set (forest_in ks) place (record { id = k.id; shape = s })) made
+    ∙ sym (altered_place (forest_in ks) place (planted k) change (ascends_of (forest_in ks) is.ascend) (slice_get-map planted ks place ∙ ap (option_map planted) here))
+    ∙ ap (λ (n : ℕ). altered_at n change (forest_in ks)) same
 
 -- or stayed as it was
 pub set_same : (ks : List KeyspaceTree) (place : ℕ) (k : KeyspaceTree) (new : Tree) → slice_get ks place ≡ Some k → shape_of new ≡ shape_of k.tree
-    → forest_of (set ks place (record { id = k.id; tree = new })) ≡ forest_of ks
+    → forest_in (set ks place (record { id = k.id; tree = new })) ≡ forest_in ks
 set_same ks place k new here made =
     map-set_same planted ks place (record { id = k.id; tree = new }) k
     ((λ i. record { id = k.id; shape = made i }) ∙ ap planted (sym (get_or_from_slice_get ks place k k here)))
 
 -- its id stays
-pub set_ids : (ks : List KeyspaceTree) (place : ℕ) (k : KeyspaceTree) (new : Tree) → slice_get ks place ≡ Some k → ids_of (forest_of (set ks place (record { id = k.id; tree = new }))) ≡ ids_of (forest_of ks)
+pub set_ids : (ks : List KeyspaceTree) (place : ℕ) (k : KeyspaceTree) (new : Tree) → slice_get ks place ≡ Some k → ids_of (forest_in (set ks place (record { id = k.id; tree = new }))) ≡ ids_of (forest_in ks)
 set_ids [] place k new here = absurd cc
-set_ids (j ∷ ks) zero k new here = ap (λ (x : KeyspaceTree). x.id ∷ ids_of (forest_of ks)) (sym (some_is j k here))
+set_ids (j ∷ ks) zero k new here = ap (λ (x : KeyspaceTree). x.id ∷ ids_of (forest_in ks)) (sym (some_is j k here))
 set_ids (j ∷ ks) (suc place) k new here = ap (λ (xs : List ℕ). j.id ∷ xs) (set_ids ks place k new here)
 
-pub set_forest : (ks : List KeyspaceTree) (place : ℕ) (k : KeyspaceTree) (new : Tree) → IsForest (forest_of ks) → slice_get ks place ≡ Some k → IsForest (forest_of (set ks place (record { id = k.id; tree = new })))
-set_forest ks place k new is here = forest_still (forest_of ks) (set ks place (record { id = k.id; tree = new })) is (set_ids ks place k new here)
+pub set_forest : (ks : List KeyspaceTree) (place : ℕ) (k : KeyspaceTree) (new : Tree) → IsForest (forest_in ks) → slice_get ks place ≡ Some k → IsForest (forest_in (set ks place (record { id = k.id; tree = new })))
+set_forest ks place k new is here = forest_still (forest_in ks) (set ks place (record { id = k.id; tree = new })) is (set_ids ks place k new here)
 
 -- ---- all trees changed, each by its id
 
@@ -244,3 +253,13 @@ ok_so (Err e) P Q so p = tt
 pub err_so : {T E : Type 0} (r : Result T E) (P Q : Type 0) → (P → Q) → OnErr r P → OnErr r Q
 err_so (Ok x) P Q so p = tt
 err_so (Err e) P Q so p = so p
+
+pub err_given : {T E : Type 0} (r : Result T E) (P : Type 0) → P → OnErr r P
+err_given (Ok x) P p = tt
+err_given (Err e) P p = p
+
+-- ---- all trees
+
+-- what holds of the trees of an engine
+pub forest_is : (t : Trees) → IsForest (forest_of t)
+forest_is t = t.lawful

@@ -15,16 +15,16 @@ use Rattle.std.proofs.lemmas.List.Sorted.{searchable_from_sorted}
 use Rattle.fjall_lsm.specs.Shapes.{shape_of}
 use Rattle.fjall_trees.specs.declared.trees.KeyspaceTree.{KeyspaceTree}
 use Rattle.fjall_trees.specs.Forests.{IsForest, tree_at}
-use Rattle.fjall_trees.specs.Views.{forest_of, planted}
+use Rattle.fjall_trees.specs.Lists.{forest_in, planted}
 
-rises : (ks : List KeyspaceTree) → IsForest (forest_of ks) → AllPairs (λ j k. j.id < k.id) ks
+rises : (ks : List KeyspaceTree) → IsForest (forest_in ks) → AllPairs (λ j k. j.id < k.id) ks
 rises ks is i j d lt within =
     let n = length-map ks planted in
     let up = is.ascend i j (planted d) lt (omega arith) in
     subst (λ (m : ℕ). m < (get_or ks j d).id) (ap (λ k. k.id) (get_or-map planted ks i d))
-    (subst (λ (m : ℕ). (get_or (forest_of ks) i (planted d)).id < m) (ap (λ k. k.id) (get_or-map planted ks j d)) up)
+    (subst (λ (m : ℕ). (get_or (forest_in ks) i (planted d)).id < m) (ap (λ k. k.id) (get_or-map planted ks j d)) up)
 
-searched : (ks : List KeyspaceTree) (id : ℕ) → IsForest (forest_of ks) → IsNonDecreasingBy (λ k. ordering_index (nat_cmp k.id id)) ks
+searched : (ks : List KeyspaceTree) (id : ℕ) → IsForest (forest_in ks) → IsNonDecreasingBy (λ k. ordering_index (nat_cmp k.id id)) ks
 searched ks id is =
     searchable_from_sorted nat_cmp_total (λ (k : KeyspaceTree). k.id) ks id
     (λ k d low high. (let next : (get_or ks k d).id < (get_or ks (k + 1) d).id = rises ks is k (k + 1) d (omega arith) high in grind (arith, nat_tests)))
@@ -35,14 +35,14 @@ found_place [] id place within equal = absurd (omega arith)
 found_place (k ∷ ks) id zero within equal = ranked k.id id Equal (sym (equal k))
 found_place (k ∷ ks) id (suc place) within equal = found_place ks id place (omega arith) (λ d. equal d)
 
-none_has : (ks : List KeyspaceTree) (id : ℕ) → ((i : ℕ) (d : KeyspaceTree) → i < length ks → (get_or ks i d).id ≡ id → ⊥) → tree_at id (forest_of ks) ≡ None
+none_has : (ks : List KeyspaceTree) (id : ℕ) → ((i : ℕ) (d : KeyspaceTree) → i < length ks → (get_or ks i d).id ≡ id → ⊥) → tree_at id (forest_in ks) ≡ None
 none_has [] id none = refl
 none_has (k ∷ ks) id none =
-    cond-false (k.id == id) (Some (shape_of k.tree)) (tree_at id (forest_of ks)) (false_from_ne_true (k.id == id) (λ t. none 0 k (omega arith) (eqb-true k.id id t)))
+    cond-false (k.id == id) (Some (shape_of k.tree)) (tree_at id (forest_in ks)) (false_from_ne_true (k.id == id) (λ t. none 0 k (omega arith) (eqb-true k.id id t)))
     ∙ none_has ks id (λ i d lt. none (suc i) d (omega arith))
 
 -- between those below and those above stands none
-pub no_place : (ks : List KeyspaceTree) (id place : ℕ) → IsForest (forest_of ks) → IsBinarySearchResult {X = KeyspaceTree} (λ k. nat_cmp k.id id) ks (Err place) → tree_at id (forest_of ks) ≡ None
+pub no_place : (ks : List KeyspaceTree) (id place : ℕ) → IsForest (forest_in ks) → IsBinarySearchResult {X = KeyspaceTree} (λ k. nat_cmp k.id id) ks (Err place) → tree_at id (forest_in ks) ≡ None
 no_place ks id place is parted =
     let parts = parted (searched ks id is) in
     none_has ks id (λ i d lt same. elim (cases_lt i place) [

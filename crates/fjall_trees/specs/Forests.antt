@@ -1,7 +1,8 @@
 -- The trees of keyspaces.
 use Rattle.std.specs.Prelude.{ℕ, ◌<◌, ◌≤◌, ◌==◌, not, List, [], ◌∷◌, Option, Some, None, if◌then◌else◌, filter, map, All, AllPairs}
-use Rattle.fjall_parts.specs.Parts.{AreApart, IsHeld, parts_of}
-use Rattle.fjall_lsm.specs.Trees.{IsShape, Shape}
+use Rattle.std.proofs.Props.{props}
+use Rattle.fjall_parts.specs.Parts.{AreApart, IsHeld, apart_prop, held_prop, parts_of}
+use Rattle.fjall_lsm.specs.Trees.{IsShape, Shape, shape_prop}
 
 -- the tree of one keyspace, under the keyspace's id
 pub record Planted : Type 0 where
@@ -39,3 +40,11 @@ without id trees = filter (λ k. not (k.id == id)) trees
 -- all that is in memory was changed under numbers below this one
 abbrev pub AreBefore : ℕ → Forest → Type 0
 AreBefore number trees = All (λ k. k.shape.memory.active.until ≤ number) trees
+
+-- ---- each fact has one proof
+
+tree_prop : (shape : Shape) → IsProp (IsTree shape)
+tree_prop shape = hlevel (props, held_prop, apart_prop, shape_prop)
+
+pub forest_prop : (trees : Forest) → IsProp (IsForest trees)
+forest_prop trees = hlevel (props, tree_prop)

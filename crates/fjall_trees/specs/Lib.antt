@@ -1,2 +1,4 @@
 pub mod Forests
+pub mod Lists
 pub mod Views
+pub mod Writes

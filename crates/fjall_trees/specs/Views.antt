@@ -1,33 +1,26 @@
--- The trees as they stand in memory, now and at marks.
-use Rattle.std.specs.Prelude.{◌≡◌, List, [], ◌∷◌, map}
-use Rattle.fjall_parts.specs.declared.mark.Mark.{Mark}
-use Rattle.fjall_lsm.specs.Shapes.{IsMark, shape_at, shape_of}
-use Rattle.fjall_trees.specs.declared.trees.KeyspaceTree.{KeyspaceTree}
-use Rattle.fjall_trees.specs.Forests.{Forest, Planted}
+-- The trees of all keyspaces, now and at marks.
+use Rattle.std.specs.Prelude.{◌≡◌, drop, length}
+use Rattle.fjall_trees.specs.declared.marks.Marks.{Marks}
+use Rattle.fjall_trees.specs.declared.trees.Trees.{Trees}
+use Rattle.fjall_trees.specs.Forests.{Forest}
+use Rattle.fjall_trees.specs.Lists.{AreMarks, forest_from, forest_in}
 
--- one of them
-abbrev pub planted : KeyspaceTree → Planted
-planted k = record { id = k.id; shape = shape_of k.tree }
+-- what they hold
+abbrev pub forest_of : Trees → Forest
+forest_of trees = forest_in trees.trees.items
 
--- all of them
-abbrev pub forest_of : List KeyspaceTree → Forest
-forest_of trees = map planted trees
+-- what they held at marks
+abbrev pub forest_before : Marks → Trees → Forest
+forest_before marks trees = forest_from marks.from marks.marks.items trees.trees.items
 
--- ---- at marks
+-- They once held that.
+abbrev pub AreMarksOf : Trees → Marks → Type 0
+AreMarksOf trees marks = AreMarks (drop marks.from trees.trees.items) marks.marks.items
 
--- what they held at these marks, one for each
-abbrev pub forest_at : List Mark → List KeyspaceTree → Forest
-forest_at [] trees = []
-forest_at (mark ∷ marks) [] = []
-forest_at (mark ∷ marks) (k ∷ trees) = record { id = k.id; shape = shape_at mark k.tree } ∷ forest_at marks trees
+-- The same, and there is a mark for each of them.
+abbrev pub AreMarksOfAll : Trees → Marks → Type 0
+AreMarksOfAll trees marks = (marks.from ≡ 0) × (length marks.marks.items ≡ length trees.trees.items) × AreMarksOf trees marks
 
--- There is a mark for each tree, which once held that.
-abbrev pub AreMarks : List KeyspaceTree → List Mark → Type 0
-AreMarks [] [] = Unit {0}
-AreMarks [] (mark ∷ marks) = ⊥
-AreMarks (k ∷ trees) [] = ⊥
-AreMarks (k ∷ trees) (mark ∷ marks) = IsMark k.tree mark × AreMarks trees marks
-
--- The marks of the ones are marks of the others, and stand for the same there.
-abbrev pub KeepAllMarks : List KeyspaceTree → List KeyspaceTree → Type 0
-KeepAllMarks old new = (marks : List Mark) → AreMarks old marks → AreMarks new marks × (forest_at marks new ≡ forest_at marks old)
+-- The marks of all of the ones are marks of the others, and stand for the same there.
+abbrev pub KeepAllMarks : Trees → Trees → Type 0
+KeepAllMarks old new = (marks : Marks) → AreMarksOfAll old marks → AreMarksOfAll new marks × (forest_before marks new ≡ forest_before marks old)

@@ -5,12 +5,11 @@ ghost use Rattle.std.specs.Option.{option_copied, option_map};
 ghost use Rattle.fjall_parts.specs.Parts.{holds_nothing};
 ghost use Rattle.fjall_lsm.specs.Shapes.{shape_of};
 ghost use Rattle.fjall_lsm.specs.Trees.{emptied, sealed_off};
-ghost use Rattle.fjall_trees.specs.Forests.{AreBefore, IsForest, altered_at, tree_at, without};
-ghost use Rattle.fjall_trees.specs.Views.{forest_of};
+ghost use Rattle.fjall_trees.specs.Forests.{AreBefore, IsForest, altered_at, forest_prop, tree_at, without};
+ghost use Rattle.fjall_trees.specs.Lists.{forest_in};
 
 use fjall_lsm::Tree;
 use std::alloc::{AllocError, Global};
-use std::marker::Model;
 
 /// The tree of one keyspace.
 #[derive(Drop)]
@@ -24,23 +23,13 @@ pub struct KeyspaceTree {
 pub struct Trees {
     pub(crate) alloc: Global,
     pub(crate) trees: Vec<KeyspaceTree>,
-}
-
-impl Model for Trees {
-    ghost use Rattle.fjall_trees.specs.Forests.{Forest, IsForest};
-    ghost use Rattle.fjall_trees.specs.Views.{forest_of};
-
-    ghost Value = { Forest };
-
-    ghost view = { λ t. forest_of t.trees.items };
-
-    ghost invariant = { λ t. IsForest (forest_of t.trees.items) };
+    ghost lawful: { IsForest (forest_in trees.items) } by { forest_prop (forest_in trees.items) },
 }
 
 // The place of the tree of a keyspace, where it has one.
 pub(crate) fn place_of(trees: &[KeyspaceTree], id: u64) -> Option<usize>
-    requires { IsForest (forest_of trees.now) }
-    ensures { MatchOption result (tree_at id (forest_of trees.now) ≡ None) (λ place. IsSomeAnd (slice_get trees.now place) (λ k. k.id ≡ id)) }
+    requires { IsForest (forest_in trees.now) }
+    ensures { MatchOption result (tree_at id (forest_in trees.now) ≡ None) (λ place. IsSomeAnd (slice_get trees.now place) (λ k. k.id ≡ id)) }
 {
     match trees.binary_search_by_key(&id, |tree| tree.id) {
         Ok(place) => Some(place),
@@ -49,9 +38,11 @@ pub(crate) fn place_of(trees: &[KeyspaceTree], id: u64) -> Option<usize>
 }
 
 impl Trees {
+    ghost use Rattle.fjall_trees.specs.Views.{forest_of};
+
     /// No keyspace has a tree.
     pub fn new(alloc: Global) -> Trees
-        ensures { result ≡ [] }
+        ensures { forest_of result ≡ [] }
     {
         Trees {
             alloc,
@@ -62,25 +53,26 @@ impl Trees {
     /// Adds the tree of a keyspace whose id is above all others. It is refused for want of memory alone, and an `Err` leaves
     /// all as it was.
     pub fn add(&mut self, id: u64, tree: Tree) -> Result<(), AllocError>
-        requires { All (λ k. k.id < id) self.old }
-        ensures ok { OnOk result (self.new ≡ self.old ++ record { id = id; shape = shape_of tree } ∷ []) }
-        ensures err { OnErr result (self.new ≡ self.old) }
+        requires { All (λ k. k.id < id) (forest_of self.old) }
+        ensures ok { OnOk result (forest_of self.new ≡ forest_of self.old ++ record { id = id; shape = shape_of tree } ∷ []) }
+        ensures err { OnErr result (forest_of self.new ≡ forest_of self.old) }
     {
-        self.trees.push(KeyspaceTree { id, tree })?;
+        self.trees.reserve(1)?;
+        self.trees.push_reserved(KeyspaceTree { id, tree });
         Ok(())
     }
 
     /// Drops the tree of a keyspace, where it has one.
     pub fn let_go(&mut self, id: u64)
-        ensures { self.new ≡ without id self.old }
+        ensures { forest_of self.new ≡ without id (forest_of self.old) }
     {
         self.trees.retain(|tree| tree.id != id);
     }
 
     /// The tree of a keyspace, where it has one.
     pub fn tree(&self, id: u64) -> Option<&Tree>
-        ensures tree { option_map shape_of (option_copied result) ≡ tree_at id self.now }
-        ensures lawful { IsForest self.now }
+        ensures tree { option_map shape_of (option_copied result) ≡ tree_at id (forest_of self.now) }
+        ensures lawful { IsForest (forest_of self.now) }
     {
         match place_of(self.trees.as_slice(), id) {
             Some(place) => Some(&self.trees[place].tree),
@@ -91,10 +83,10 @@ impl Trees {
     /// Empties a keyspace by the change of that number, above all that its tree holds; without a tree nothing changes. It is
     /// refused for want of memory alone, and an `Err` leaves all as it was.
     pub fn clear(&mut self, id: u64, number: u64) -> Result<(), AllocError>
-        requires before { AreBefore number self.old }
+        requires before { AreBefore number (forest_of self.old) }
         requires small { number < 2 ^ 63 }
-        ensures ok { OnOk result (self.new ≡ altered_at id (emptied number) self.old) }
-        ensures err { OnErr result (self.new ≡ self.old) }
+        ensures ok { OnOk result (forest_of self.new ≡ altered_at id (emptied number) (forest_of self.old)) }
+        ensures err { OnErr result (forest_of self.new ≡ forest_of self.old) }
     {
         match place_of(self.trees.as_slice(), id) {
             Some(place) => self.trees[place].tree.clear(number),
@@ -105,10 +97,10 @@ impl Trees {
     /// Seals the active memtable of a keyspace, and begins an empty one; false where it holds nothing, or where the keyspace
     /// has no tree, and then nothing changes. It is refused for want of memory alone, and an `Err` leaves all as it was.
     pub fn rotate_memtable(&mut self, id: u64) -> Result<bool, AllocError>
-        ensures ok { IfOk result (λ is_sealed. is_sealed ≡ unwrap_or (option_map (λ shape. not (holds_nothing shape.memory.active)) (tree_at id self.old)) false) }
-        ensures sealed { result ≡ Ok true → self.new ≡ altered_at id sealed_off self.old }
-        ensures empty { result ≡ Ok false → self.new ≡ self.old }
-        ensures err { OnErr result (self.new ≡ self.old) }
+        ensures ok { IfOk result (λ is_sealed. is_sealed ≡ unwrap_or (option_map (λ shape. not (holds_nothing shape.memory.active)) (tree_at id (forest_of self.old))) false) }
+        ensures sealed { result ≡ Ok true → forest_of self.new ≡ altered_at id sealed_off (forest_of self.old) }
+        ensures empty { result ≡ Ok false → forest_of self.new ≡ forest_of self.old }
+        ensures err { OnErr result (forest_of self.new ≡ forest_of self.old) }
     {
         match place_of(self.trees.as_slice(), id) {
             Some(place) => self.trees[place].tree.rotate_memtable(),

@@ -8,6 +8,7 @@ use Rattle.fjall_base.specs.Pairs.{Pairs, altered}
 use Rattle.fjall_base.specs.Store.{Store, Clear, apply, fold, map_at}
 use Rattle.fjall_journal.specs.Batches.{clears_of, items_of, shown}
 use Rattle.fjall_journal.specs.Ops.{BatchItem, bytes_in, entry_of, item_in, kind_of, of_items, value_in, write_of}
+use Rattle.fjall_journal.specs.Changes.{Emptied, of_change}
 use Rattle.fjall_journal.specs.declared.op.Op.{Op}
 use Rattle.fjall_journal.specs.declared.op.Op.TheVariants.{Put, Remove, RemoveWeak}
 use Rattle.fjall_meta.specs.Keyspaces.{Keyspaces}
@@ -89,3 +90,7 @@ pub batch_command : (s : Keyspaces) (items : List BatchItem) (number : ℕ) → 
 batch_command s items number some each =
     ap (λ ids. map Clear (filter (counts s number) ids) ++ writing (map item_of (filter (λ item. counts s number item.keyspace_id) (items_of (map entry_of items))))) (no_clears items)
     ∙ ap writing (all_said s number items each) ∙ written items some
+
+-- and a clear that counts commands itself
+pub clear_command : (s : Keyspaces) (id number : ℕ) → counts s number id ≡ true → commands_of s (shown (of_change (Emptied id) number)) ≡ Clear id ∷ []
+clear_command s id number counted = ap (λ b. map Clear (cond b (id ∷ []) []) ++ []) counted

@@ -5,9 +5,10 @@ ghost use Rattle.std.specs.Option.{option_map, option_or};
 ghost use Rattle.std.specs.FinMap.{contains_key, empty, get, len, values};
 ghost use Rattle.std.specs.List.{list_any};
 ghost use Rattle.fjall_base.specs.Pairs.{Bytes, lookup};
-ghost use Rattle.fjall_base.specs.Store.{Command, Create, Delete, Store, Write, apply, fold, kept, map_at};
+ghost use Rattle.fjall_base.specs.Store.{Clear, Command, Create, Delete, Store, Write, apply, fold, kept, map_at};
 ghost use Rattle.fjall_journal.specs.Batches.{Shown, of_item, shown};
 ghost use Rattle.fjall_journal.specs.Ops.{BatchItem, of_items, write_of};
+ghost use Rattle.fjall_journal.specs.Changes.{Emptied, of_change};
 ghost use Rattle.fjall_journal.specs.declared.entry.ValueType.{ValueType};
 ghost use Rattle.fjall_meta.specs.Keyspaces.{AreKeyspaces, Keyspaces, id_of, keyspace_at, with_keyspace, without_keyspace};
 ghost use Rattle.fjall_versions.specs.declared.version.Version.{Version};
@@ -178,4 +179,13 @@ pub fn a_batch_is_a_write()
         → commands_of s (shown (of_items items number)) ≡ write_of items ∷ [] }
     ensures direct { (items : List BatchItem) (number : ℕ) → list_any is_indirect (shown (of_items items number)).items ≡ false }
     ensures clears { (items : List BatchItem) (number : ℕ) → (shown (of_items items number)).clears ≡ [] }
+{}
+
+/// The batch that empties a keyspace for which it counts is that command alone: it clears that id, and has no item, so none
+/// that stands for a value elsewhere.
+pub fn a_clear_is_a_command()
+    ensures command { (s : Keyspaces) (id number : ℕ) → counts s number id ≡ true → commands_of s (shown (of_change (Emptied id) number)) ≡ Clear id ∷ [] }
+    ensures direct { (id number : ℕ) → list_any is_indirect (shown (of_change (Emptied id) number)).items ≡ false }
+    ensures clears { (id number : ℕ) → (shown (of_change (Emptied id) number)).clears ≡ id ∷ [] }
+    ensures items { (id number : ℕ) → (shown (of_change (Emptied id) number)).items ≡ [] }
 {}

@@ -1,0 +1,11 @@
+pub mod Above
+pub mod Changed
+pub mod Dropped
+pub mod Emptied
+pub mod Items
+pub mod Parts
+pub mod Planted
+pub mod Pushed
+pub mod Puts
+pub mod Reading
+pub mod Stores

@@ -1,0 +1,210 @@
+-- What the items of a batch make of trees, of their maps and of the store.
+use Rattle.std.proofs.Common.{◌≡◌, ◌≢◌, ℕ, ◌+◌, ◌<◌, ◌≤◌, ◌^◌, true, List, [], ◌++◌, get_or, All, Option, Some, None, refl, sym, ap, ◌∙◌, arith}
+use Rattle.std.specs.Option.{is_some, option_map}
+use Rattle.std.specs.FinMap.{empty, get}
+use Rattle.std.proofs.lemmas.Bool.{true≢false}
+use Rattle.std.proofs.lemmas.List.Elements.{All-weaker}
+use Rattle.fjall_base.specs.Pairs.{Bytes, Pairs}
+use Rattle.fjall_base.specs.Store.{Store, apply, kept, map_at}
+use Rattle.fjall_journal.specs.Ops.{BatchItem, write_of}
+use Rattle.fjall_meta.specs.declared.living.LivingKeyspace.{LivingKeyspace}
+use Rattle.fjall_meta.specs.Keyspaces.{Keyspaces, keyspace_at}
+use Rattle.fjall_table.specs.Blocks.{Entry, IsEntry}
+use Rattle.fjall_memtable.specs.Entries.{IsAbsent, stamp_of}
+use Rattle.fjall_memtable.specs.Stamps.{Stamp}
+use Rattle.fjall_views.specs.Views.{IsView, value_at, view_of}
+use Rattle.fjall_views.proofs.Shown as Shown
+use Rattle.fjall_versions.specs.Versions.{pairs_after}
+use Rattle.fjall_versions.proofs.Ids.{living_has}
+use Rattle.fjall_versions.proofs.Keeping.{lives}
+use Rattle.fjall_versions.proofs.Kept.{same_kept}
+use Rattle.fjall_parts.specs.Parts.{IsHeld, with_version}
+use Rattle.fjall_parts.proofs.Changes.{version_held}
+use Rattle.fjall_lsm.specs.Trees.{Shape, clears_of, versions_of}
+use Rattle.fjall_lsm.specs.Puts.{put_all}
+use Rattle.fjall_trees.specs.Forests.{AreBefore, Forest, IsForest, IsTree, tree_at}
+use Rattle.fjall_trees.specs.Writes.{AreBare, MayPush, entries_of, pushed}
+use Rattle.fjall_trees.proofs.Places.{tree_each, tree_has}
+use Rattle.fjall_maps.specs.Maps.{map_of, pairs_in, store_of}
+use Rattle.fjall_maps.proofs.Above.{unseen_keep, views_same}
+use Rattle.fjall_maps.proofs.Changed.{changed_forest, changed_has, changed_some}
+use Rattle.fjall_maps.proofs.Items.{entries_are, entries_numbered, items_view, made, map_after, others_made, slot_made}
+use Rattle.fjall_maps.proofs.Parts.{active_held, clears_end, tree_with, versions_end}
+use Rattle.fjall_maps.proofs.Puts as Puts
+use Rattle.fjall_maps.proofs.Reading.{pairs_above, store_is_kept}
+use Rattle.fjall_maps.proofs.Stores.{living_at}
+
+-- ---- versions that are put into one tree
+
+-- to each view they are versions more, behind all others
+pub put_all_shows : (vs : List Entry) (shape : Shape) → IsHeld shape.memory.active → All (λ v. IsAbsent v.key v.number shape.memory.active.versions) vs
+    → (key : Bytes) (instant : ℕ) (entries : List (List Entry))
+    → value_at key instant (clears_of (put_all vs shape)) (versions_of (put_all vs shape) entries) ≡ value_at key instant (clears_of shape) (versions_of shape entries ++ vs)
+put_all_shows vs shape held absent key instant entries = Puts.shows vs shape held.ordered absent key instant entries
+
+pub put_all_from : (vs : List Entry) (shape : Shape) → (put_all vs shape).memory.active.from ≡ shape.memory.active.from
+put_all_from vs shape = Puts.put_all_keeps (λ s. s.memory.active.from ≡ shape.memory.active.from) (λ v s same. same) vs shape refl
+
+pub put_all_active_clears : (vs : List Entry) (shape : Shape) → (put_all vs shape).memory.active.clears ≡ shape.memory.active.clears
+put_all_active_clears vs shape = Puts.put_all_keeps (λ s. s.memory.active.clears ≡ shape.memory.active.clears) (λ v s same. same) vs shape refl
+
+pub put_all_clears : (vs : List Entry) (shape : Shape) → (put_all vs shape).clears ≡ shape.clears
+put_all_clears vs shape = Puts.put_all_keeps (λ s. s.clears ≡ shape.clears) (λ v s same. same) vs shape refl
+
+pub put_all_clears_of : (vs : List Entry) (shape : Shape) → clears_of (put_all vs shape) ≡ clears_of shape
+put_all_clears_of vs shape = Puts.put_all_clears_of vs shape
+
+pub put_all_sealed : (vs : List Entry) (shape : Shape) → (put_all vs shape).memory.sealed ≡ shape.memory.sealed
+put_all_sealed vs shape = Puts.put_all_sealed vs shape
+
+pub put_all_tables : (vs : List Entry) (shape : Shape) → (put_all vs shape).tables ≡ shape.tables
+put_all_tables vs shape = Puts.put_all_keeps (λ s. s.tables ≡ shape.tables) (λ v s same. same) vs shape refl
+
+pub put_all_until : (n : ℕ) (vs : List Entry) (shape : Shape) → shape.memory.active.until ≤ n → All (λ v. v.number < n) vs → (put_all vs shape).memory.active.until ≤ n
+put_all_until n vs shape le low = Puts.put_all_has (λ v. v.number < n) (λ s. s.memory.active.until ≤ n) (λ v s lt is. omega arith) vs shape low le
+
+pub put_all_held : (vs : List Entry) (shape : Shape) → IsHeld shape.memory.active → All IsEntry vs → All (λ v. shape.memory.active.from ≤ v.number) vs → All (λ v. v.number < 2 ^ 63) vs
+    → IsHeld (put_all vs shape).memory.active
+put_all_held vs shape held entries from small =
+    (Puts.put_all_has (λ v. IsEntry v × (shape.memory.active.from ≤ v.number) × (v.number < 2 ^ 63)) (λ s. IsHeld s.memory.active × (s.memory.active.from ≡ shape.memory.active.from))
+    (λ v s fits is. let low = fits.1 in let same = is.1 in (version_held v s.memory.active fits.0 is.0 (omega arith) fits.2, same))
+    vs shape (λ i d lt. (entries i d lt, from i d lt, small i d lt)) (held, refl)).0
+
+pub put_all_tree : (vs : List Entry) (shape : Shape) → IsTree shape → All IsEntry vs → All (λ v. shape.memory.active.from ≤ v.number) vs → All (λ v. v.number < 2 ^ 63) vs
+    → IsTree (put_all vs shape)
+put_all_tree vs shape tree entries from small =
+    (Puts.put_all_has (λ v. IsEntry v × (shape.memory.active.from ≤ v.number) × (v.number < 2 ^ 63)) (λ s. IsTree s × (s.memory.active.from ≡ shape.memory.active.from))
+    (λ v s fits is.
+    let low = fits.1 in
+    let same = is.1 in
+    (tree_with (with_version v s.memory.active) s is.0 (version_held v s.memory.active fits.0 (active_held s is.0) (omega arith) fits.2) refl, same))
+    vs shape (λ i d lt. (entries i d lt, from i d lt, small i d lt)) (tree, refl)).0
+
+-- where all numbers in memory are lesser ones
+pub absent_above : (n : ℕ) (vs : List Entry) (shape : Shape) → IsHeld shape.memory.active → shape.memory.active.until ≤ n → All (λ v. n ≤ v.number) vs
+    → All (λ v. IsAbsent v.key v.number shape.memory.active.versions) vs
+absent_above n vs shape held le from =
+    All-weaker (λ v. n ≤ v.number) (λ v. IsAbsent v.key v.number shape.memory.active.versions)
+    (λ v high. All-weaker (λ w. w.number < shape.memory.active.until) (λ w. stamp_of w ≢ record { key = v.key; number = v.number })
+    (λ w low same. let equal = ap (λ (s : Stamp). s.number) same in absurd (omega arith)) shape.memory.active.versions held.high) vs from
+
+-- ---- all trees
+
+pub pushed_at : (n : ℕ) (items : List BatchItem) (trees : Forest) (id : ℕ) → tree_at id (pushed n items trees) ≡ option_map (put_all (entries_of id n items)) (tree_at id trees)
+unfolding pushed
+pushed_at n items trees id = tree_each (λ k. put_all (entries_of k n items)) id trees
+
+pub pushed_has : (n : ℕ) (items : List BatchItem) (trees : Forest) (id : ℕ) → is_some (tree_at id (pushed n items trees)) ≡ is_some (tree_at id trees)
+unfolding pushed
+pushed_has n items trees id = changed_some (λ k. put_all (entries_of k n items)) id trees
+
+pub pushed_ids : (P : ℕ → Type 0) (n : ℕ) (items : List BatchItem) (trees : Forest) → All (λ k. P k.id) trees → All (λ k. P k.id) (pushed n items trees)
+unfolding pushed
+pushed_ids P n items trees all = changed_has (λ k. P k.id) (λ k. put_all (entries_of k n items)) trees all
+
+pub pushed_forest : (n : ℕ) (items : List BatchItem) (trees : Forest) → MayPush n items trees → IsForest (pushed n items trees)
+unfolding pushed
+pushed_forest n items trees may =
+    changed_forest (λ k. put_all (entries_of k n items)) trees may.forest (λ i d lt. each (get_or trees i d).id (get_or trees i d).shape (may.forest.each i d lt) (may.before i d lt))
+  where
+    each : (id : ℕ) (shape : Shape) → IsTree shape → shape.memory.active.until ≤ n → IsTree (put_all (entries_of id n items) shape)
+    each id shape tree le =
+        let bounds = (active_held shape tree).bounds in
+        put_all_tree (entries_of id n items) shape tree (entries_are id n items may.small may.fits)
+        (entries_numbered (λ m. shape.memory.active.from ≤ m) id n items (omega arith)) (entries_numbered (λ m. m < 2 ^ 63) id n items may.small)
+
+pub pushed_before : (n : ℕ) (items : List BatchItem) (trees : Forest) → MayPush n items trees → AreBefore (n + 1) (pushed n items trees)
+unfolding pushed
+pushed_before n items trees may =
+    changed_has (λ k. k.shape.memory.active.until ≤ n + 1) (λ k. put_all (entries_of k n items)) trees
+    (All-weaker (λ k. k.shape.memory.active.until ≤ n) (λ k. (put_all (entries_of k.id n items) k.shape).memory.active.until ≤ n + 1)
+    (λ k le. put_all_until (n + 1) (entries_of k.id n items) k.shape (omega arith) (entries_numbered (λ m. m < n + 1) k.id n items (omega arith))) trees may.before)
+
+pub pushed_bare : (n : ℕ) (items : List BatchItem) (trees : Forest) → AreBare trees → AreBare (pushed n items trees)
+unfolding pushed
+pushed_bare n items trees bare =
+    changed_has (λ k. k.shape.tables ≡ []) (λ k. put_all (entries_of k n items)) trees
+    (All-weaker (λ k. k.shape.tables ≡ []) (λ k. (put_all (entries_of k.id n items) k.shape).tables ≡ []) (λ k none. put_all_tables (entries_of k.id n items) k.shape ∙ none) trees bare)
+
+-- ---- maps
+
+-- what is told of the tree of a keyspace
+pushed_shows : (n : ℕ) (items : List BatchItem) (trees : Forest) → MayPush n items trees → (id : ℕ) (shape : Shape) → tree_at id trees ≡ Some shape → (key : Bytes) (instant : ℕ)
+    → value_at key instant (clears_of (put_all (entries_of id n items) shape)) (versions_of (put_all (entries_of id n items) shape) [])
+    ≡ value_at key instant (clears_of shape) (versions_of shape [] ++ entries_of id n items)
+pushed_shows n items trees may id shape is key instant =
+    let held = active_held shape (tree_has IsTree trees id shape may.forest.each is) in
+    put_all_shows (entries_of id n items) shape held
+    (absent_above n (entries_of id n items) shape held (tree_has (λ s. s.memory.active.until ≤ n) trees id shape may.before is) (entries_numbered (λ m. n ≤ m) id n items (omega arith)))
+    key instant []
+
+-- no instant up to their number shows them
+pub pushed_early : (n : ℕ) (items : List BatchItem) (trees : Forest) → MayPush n items trees → (id instant : ℕ) → instant ≤ n → pairs_in id instant (pushed n items trees) ≡ pairs_in id instant trees
+unfolding map_of
+pushed_early n items trees may id instant le = ap (map_of instant) (pushed_at n items trees id) ∙ by (tree_at id trees) refl
+  where
+    by : (o : Option Shape) → tree_at id trees ≡ o → map_of instant (option_map (put_all (entries_of id n items)) o) ≡ map_of instant o
+    by None is = refl
+    by (Some shape) is =
+        Shown.same_views instant (clears_of (put_all (entries_of id n items) shape)) (clears_of shape) (versions_of (put_all (entries_of id n items) shape) []) (versions_of shape [])
+        (λ key.
+        pushed_shows n items trees may id shape is key instant
+        ∙ unseen_keep key instant (clears_of shape) (versions_of shape []) (entries_of id n items) (entries_numbered (λ m. instant ≤ m) id n items le))
+
+-- at the next instant the map of a keyspace is what they make of it
+made_late : (n : ℕ) (items : List BatchItem) (trees : Forest) → MayPush n items trees → All (λ item. is_some (tree_at item.0 trees) ≡ true) items → (id : ℕ) → pairs_after (pairs_in id n trees) id (made n items) ≡ pairs_in id (n + 1) (pushed n items trees)
+unfolding map_of
+made_late n items trees may there id = by (tree_at id trees) refl ∙ sym (ap (map_of (n + 1)) (pushed_at n items trees id))
+  where
+    by : (o : Option Shape) → tree_at id trees ≡ o → pairs_after (map_of n o) id (made n items) ≡ map_of (n + 1) (option_map (put_all (entries_of id n items)) o)
+    by None is =
+        others_made empty n id items
+        (All-weaker (λ item. is_some (tree_at item.0 trees) ≡ true) (λ item. item.0 ≢ id)
+        (λ item some same. true≢false (sym some ∙ ap (λ (k : ℕ). is_some (tree_at k trees)) same ∙ ap is_some is)) items there)
+    by (Some shape) is =
+        let more = put_all (entries_of id n items) shape in
+        let tree = tree_has IsTree trees id shape may.forest.each is in
+        let le = tree_has (λ s. s.memory.active.until ≤ n) trees id shape may.before is in
+        let clears = clears_end shape n tree le in
+        let versions = versions_end shape n tree le in
+        let old = views_same n n (n + 1) (clears_of shape) (versions_of shape []) (omega arith) (omega arith) clears versions in
+        let view : IsView (n + 1) (clears_of shape) (versions_of shape []) (view_of n (clears_of shape) (versions_of shape [])) =
+        λ key. ap (λ (p : Pairs). get p key) old ∙ Shown.is_view (n + 1) (clears_of shape) (versions_of shape []) key in
+        let put = items_view (n + 1) n id (clears_of shape) items (versions_of shape []) (view_of n (clears_of shape) (versions_of shape [])) (omega arith)
+        (All-weaker (λ v. v.number < n) (λ v. v.number ≤ n) (λ v low. omega arith) (versions_of shape []) versions)
+        (All-weaker (λ c. c < n) (λ c. c ≤ n) (λ c low. omega arith) (clears_of shape) clears) view in
+        Shown.one_view (n + 1) (clears_of more) (versions_of more []) (pairs_after (view_of n (clears_of shape) (versions_of shape [])) id (made n items))
+        (view_of (n + 1) (clears_of more) (versions_of more []))
+        (λ key. put key ∙ sym (pushed_shows n items trees may id shape is key (n + 1))) (Shown.is_view (n + 1) (clears_of more) (versions_of more []))
+
+-- behind their number they are one write
+pub pushed_late : (n : ℕ) (items : List BatchItem) (trees : Forest) → MayPush n items trees → All (λ item. is_some (tree_at item.0 trees) ≡ true) items
+    → (t : Store) (id : ℕ) → map_at t.maps id ≡ pairs_in id n trees → map_at (apply t (write_of items)).maps id ≡ pairs_in id (n + 1) (pushed n items trees)
+pushed_late n items trees may there t id same = map_after t items n id ∙ ap (λ (p : Pairs). pairs_after p id (made n items)) same ∙ made_late n items trees may there id
+
+pub pushed_store : (n : ℕ) (items : List BatchItem) (trees : Forest) → MayPush n items trees → (s : Keyspaces)
+    → All (λ k. is_some (tree_at k.id trees) ≡ true) s.living → All (λ item. is_some (keyspace_at item.0 s.living) ≡ true) items
+    → kept (apply (store_of s trees) (write_of items)) ≡ store_of s (pushed n items trees)
+pushed_store n items trees may s there living =
+    same_kept (apply (store_of s trees) (write_of items)) (store_of s (pushed n items trees)) refl (λ q alive. maps q (keyspace_at q s.living) refl (sym (lives s q) ∙ alive)) (λ q alive. refl) refl
+    ∙ store_is_kept s (pushed n items trees)
+  where
+    small : n < 2 ^ 63
+    small = may.small
+
+    planted : All (λ item. is_some (tree_at item.0 trees) ≡ true) items
+    planted =
+        All-weaker (λ item. is_some (keyspace_at item.0 s.living) ≡ true) (λ item. is_some (tree_at item.0 trees) ≡ true) (λ item here. by item.0 (keyspace_at item.0 s.living) refl here) items living
+      where
+        by : (id : ℕ) (found : Option LivingKeyspace) → keyspace_at id s.living ≡ found → is_some found ≡ true → is_some (tree_at id trees) ≡ true
+        by id None is here = absurd (true≢false (sym here))
+        by id (Some k) is here = living_has (λ j. is_some (tree_at j trees) ≡ true) s.living id k is there
+
+    maps : (q : ℕ) (found : Option LivingKeyspace) → keyspace_at q s.living ≡ found → is_some found ≡ true
+        → get (apply (store_of s trees) (write_of items)).maps q ≡ get (store_of s (pushed n items trees)).maps q
+    maps q None is alive = absurd (true≢false (sym alive))
+    maps q (Some k) is alive =
+        slot_made (store_of s trees) items n q (pairs_in q (2 ^ 63) trees) (living_at s trees q k is)
+        ∙ ap Some (ap (λ (p : Pairs). pairs_after p q (made n items)) (pairs_above n trees may.forest may.before q (2 ^ 63) (omega arith)) ∙ made_late n items trees may planted q
+        ∙ sym (pairs_above (n + 1) (pushed n items trees) (pushed_forest n items trees may) (pushed_before n items trees may) q (2 ^ 63) (omega arith)))
+        ∙ sym (living_at s (pushed n items trees) q k is)

@@ -1,0 +1,104 @@
+//! Batches, and what takes them back.
+
+ghost use Rattle.std.specs.Prelude.{◌≡◌, ◌∷◌, [], IfOk, OnOk, OnErr};
+ghost use Rattle.std.specs.Option.{option_map};
+ghost use Rattle.fjall_journal.specs.Ops.{value_in};
+ghost use Rattle.fjall_trees.specs.Writes.{MayPush, pushed};
+
+use crate::marks::Marks;
+use crate::trees::{Trees, place_of};
+use fjall_journal::{BatchItem, Op};
+use std::alloc::AllocError;
+
+// The value that a key has afterwards, where it has one.
+fn value_of(op: &Op) -> Option<&[u8]>
+    ensures { option_map (λ v. v.now) result ≡ value_in op.now }
+{
+    match op {
+        Op::Put(value) => Some(value.as_slice()),
+        Op::Remove | Op::RemoveWeak => None,
+    }
+}
+
+impl Trees {
+    ghost use Rattle.fjall_trees.specs.Views.{AreMarksOf, AreMarksOfAll, KeepAllMarks, forest_before, forest_of};
+
+    /// Makes the versions of a batch of that number, above all that is in memory: of two items of one key the later one
+    /// counts, and one of a keyspace without a tree is passed over. It answers marks of the trees as they were. It is
+    /// refused for want of memory alone, and an `Err` leaves all as it was.
+    pub fn push_items(&mut self, items: &[BatchItem], number: u64) -> Result<Marks, AllocError>
+        requires { MayPush number items.now (forest_of self.old) }
+        ensures ok { OnOk result (forest_of self.new ≡ pushed number items.now (forest_of self.old)) }
+        ensures marks { IfOk result (λ marks. AreMarksOf self.new marks × (forest_before marks self.new ≡ forest_of self.old)) }
+        ensures err { OnErr result (forest_of self.new ≡ forest_of self.old) }
+    {
+        if let [item] = items {
+            return self.push_one(item, number);
+        }
+        let marks = self.all_marks()?;
+        match self.push_all(items, number) {
+            Ok(()) => Ok(marks),
+            Err(refused) => {
+                self.take_back(marks);
+                Err(refused)
+            }
+        }
+    }
+
+    // The same of one item, with a mark of its tree alone.
+    fn push_one(&mut self, item: &BatchItem, number: u64) -> Result<Marks, AllocError>
+        requires { MayPush number (item.now ∷ []) (forest_of self.old) }
+        ensures ok { OnOk result (forest_of self.new ≡ pushed number (item.now ∷ []) (forest_of self.old)) }
+        ensures marks { IfOk result (λ marks. AreMarksOf self.new marks × (forest_before marks self.new ≡ forest_of self.old)) }
+        ensures err { OnErr result (forest_of self.new ≡ forest_of self.old) }
+    {
+        let (id, key, op) = item;
+        let mut marks = Vec::with_capacity(self.alloc, 1)?;
+        let Some(place) = place_of(self.trees.as_slice(), *id) else {
+            return Ok(Marks { from: 0, marks });
+        };
+        let tree = &mut self.trees[place].tree;
+        marks.push_reserved(tree.mark());
+        tree.put(key.as_slice(), number, value_of(op))?;
+        Ok(Marks { from: place, marks })
+    }
+
+    // A mark of each tree.
+    fn all_marks(&self) -> Result<Marks, AllocError>
+        ensures { IfOk result (λ marks. AreMarksOfAll self.now marks × (forest_before marks self.now ≡ forest_of self.now)) }
+    {
+        let trees = self.trees.as_slice();
+        let mut marks = Vec::with_capacity(self.alloc, trees.len())?;
+        for planted in trees {
+            marks.push(planted.tree.mark())?;
+        }
+        Ok(Marks { from: 0, marks })
+    }
+
+    // Puts each item, the last one first; where one is refused, those behind it are made.
+    fn push_all(&mut self, items: &[BatchItem], number: u64) -> Result<(), AllocError>
+        requires { MayPush number items.now (forest_of self.old) }
+        ensures ok { OnOk result (forest_of self.new ≡ pushed number items.now (forest_of self.old)) }
+        ensures marks { KeepAllMarks self.old self.new }
+    {
+        let mut rest = items;
+        while let Some((item, before)) = rest.split_last() {
+            let (id, key, op) = item;
+            self.put(*id, key.as_slice(), number, value_of(op))?;
+            rest = before;
+        }
+        Ok(())
+    }
+
+    /// Makes the trees what they were at these marks. It takes no memory and can't fail, and looks at each version of the
+    /// active parts of the trees that have a mark.
+    pub fn take_back(&mut self, marks: Marks)
+        requires { AreMarksOf self.old marks }
+        ensures { forest_of self.new ≡ forest_before marks self.old }
+    {
+        let Marks { from, marks } = marks;
+        for at in 0..marks.len() {
+            self.trees[from + at].tree.undo(marks[at]);
+        }
+    }
+}
