@@ -49,7 +49,8 @@ module _ (error : Error) (writer : Journal) (batch : Written) (old new : Meaning
 -- ---- it was done
 
 -- all that the mode asks for was done
-all_took : (mode : Option PersistMode) (writer : Journal) (text : List ℕ) (old mid new : Meaning) → Took old mid (write_steps writer text) → Took mid new (steps_in mode (after_write writer text)) → Took old new (batch_steps mode writer text)
+all_took : (mode : Option PersistMode) (writer : Journal) (text : List ℕ) (old mid new : Meaning) → Took old mid (write_steps writer text)
+    → Took mid new (steps_in mode (after_write writer text)) → Took old new (batch_steps mode writer text)
 all_took None writer text old mid new wrote took =
     no_mode_took writer text old new (subst (Took old new) (append-nil (write_steps writer text)) (took_on old mid new (write_steps writer text) [] wrote took))
 all_took (Some mode) writer text old mid new wrote took = whole_written mode writer text old mid new wrote took

@@ -9,4 +9,5 @@ pub invariant_of-self-2 : goal.invariant_of-self-2
 invariant_of-self-2 c =
     let t = c.args.self.now in
     let k : KeyspaceTree = record { id = c.args.id; tree = c.args.tree } in
-    record { lawful = subst (λ (ks : List KeyspaceTree). IsForest (forest_in ks)) (sym (c.push_reserved.ensures.items ∙ ap (λ (ks : List KeyspaceTree). ks ++ k ∷ []) c.reserve.ensures.items)) (forest_push t.trees.items k t.lawful c.requires) }
+    let items = c.push_reserved.ensures.items ∙ ap (λ (ks : List KeyspaceTree). ks ++ k ∷ []) c.reserve.ensures.items in
+    record { lawful = subst (λ (ks : List KeyspaceTree). IsForest (forest_in ks)) (sym items) (forest_push t.trees.items k t.lawful c.requires) }
