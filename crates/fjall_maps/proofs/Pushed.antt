@@ -152,7 +152,8 @@ pushed_early n items trees may id instant le = ap (map_of instant) (pushed_at n 
         ∙ unseen_keep key instant (clears_of shape) (versions_of shape []) (entries_of id n items) (entries_numbered (λ m. instant ≤ m) id n items le))
 
 -- at the next instant the map of a keyspace is what they make of it
-made_late : (n : ℕ) (items : List BatchItem) (trees : Forest) → MayPush n items trees → All (λ item. is_some (tree_at item.0 trees) ≡ true) items → (id : ℕ) → pairs_after (pairs_in id n trees) id (made n items) ≡ pairs_in id (n + 1) (pushed n items trees)
+made_late : (n : ℕ) (items : List BatchItem) (trees : Forest) → MayPush n items trees → All (λ item. is_some (tree_at item.0 trees) ≡ true) items → (id : ℕ)
+    → pairs_after (pairs_in id n trees) id (made n items) ≡ pairs_in id (n + 1) (pushed n items trees)
 unfolding map_of
 made_late n items trees may there id = by (tree_at id trees) refl ∙ sym (ap (map_of (n + 1)) (pushed_at n items trees id))
   where
