@@ -55,21 +55,24 @@ part_but old new name bytes (inr (n, took)) q other = ap (λ (s : State). s q) t
 abbrev pub syncing_all : Name → List ℕ → List Step
 syncing_all name bytes = appending name bytes ++ Sync name ∷ []
 
+pub all_out_but : (state : State) (name : Name) (bytes : List ℕ) → SameBut name state (after state (syncing_all name bytes))
+all_out_but state name bytes q other =
+    ap (λ (s : State). s q) (after-append state (appending name bytes) (Sync name ∷ []))
+    ∙ alter_but (after state (appending name bytes)) name all_synced q other ∙ appending_but state name bytes q other
+
+pub all_out_at : (state : State) (name : Name) (synced unsynced bytes : List ℕ) → state name ≡ place_of synced unsynced → after state (syncing_all name bytes) name ≡ place_of (synced ++ (unsynced ++ bytes)) []
+all_out_at state name synced unsynced bytes is =
+    ap (λ (s : State). s name) (after-append state (appending name bytes) (Sync name ∷ []))
+    ∙ synced_at (after state (appending name bytes)) name synced (unsynced ++ bytes) (appending_at state name synced unsynced bytes is)
+
 pub sync_but : (old new : Meaning) (name : Name) (bytes : List ℕ) → Took old new (syncing_all name bytes) → SameBut name (state_in old) (state_in new)
-sync_but old new name bytes took q other =
-    ap (λ (s : State). s q) (took.state ∙ after-append (state_in old) (appending name bytes) (Sync name ∷ []))
-    ∙ alter_but (after (state_in old) (appending name bytes)) name all_synced q other ∙ appending_but (state_in old) name bytes q other
+sync_but old new name bytes took q other = ap (λ (s : State). s q) took.state ∙ all_out_but (state_in old) name bytes q other
 
 -- an append, and a sync where the mode asks for one
 pub mode_but : (old new : Meaning) (name : Name) (bytes : List ℕ) (mode : PersistMode) → Took old new (appending name bytes ++ syncing name mode) → SameBut name (state_in old) (state_in new)
 mode_but old new name bytes Buffer took = part_but old new name bytes (whole_part old new name bytes (subst (Took old new) (append-nil (appending name bytes)) took))
 mode_but old new name bytes SyncData took = sync_but old new name bytes took
 mode_but old new name bytes SyncAll took = sync_but old new name bytes took
-
-pub sync_place : (old new : Meaning) (name : Name) (synced unsynced bytes : List ℕ) → state_in old name ≡ place_of synced unsynced → Took old new (syncing_all name bytes) → state_in new name ≡ place_of (synced ++ (unsynced ++ bytes)) []
-sync_place old new name synced unsynced bytes is took =
-    ap (λ (s : State). s name) (took.state ∙ after-append (state_in old) (appending name bytes) (Sync name ∷ []))
-    ∙ synced_at (after (state_in old) (appending name bytes)) name synced (unsynced ++ bytes) (appending_at (state_in old) name synced unsynced bytes is)
 
 -- steps, and others behind them
 pub took_on : (old mid new : Meaning) (first then : List Step) → Took old mid first → Took mid new then → Took old new (first ++ then)

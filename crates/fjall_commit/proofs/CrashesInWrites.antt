@@ -19,25 +19,25 @@ use Rattle.fjall_recovery.specs.Places.{Journaling, LiesInRoot, journals_with, t
 use Rattle.fjall_recovery.proofs.Named.{journal_within}
 use Rattle.fjall_recovery.proofs.Roots.{crashes_leave_the_root}
 use Rattle.fjall_commit.specs.Journaling.{IsWriting, HasSome, LeavesRoot, after_persist, handed, synced}
-use Rattle.fjall_commit.proofs.AppendsAndSyncs.{SameBut, alter_but, appended_at, appending_at, appending_but, mode_but, part_but, place_of, sync_but, sync_place, syncing_all, whole_part}
+use Rattle.fjall_commit.proofs.AppendsAndSyncs.{SameBut, alter_but, appended_at, appending_at, appending_but, all_out_at, all_out_but, mode_but, part_but, place_of, syncing_all, whole_part}
 use Rattle.fjall_commit.proofs.RootAfterWrites.{active_fits, part_lies, synced_lies, whole_goes_on, with_active}
 
 -- ---- one image
 
 -- the root of an image of such a state
-some_left : (new : State) (j : Journaling) (later : List Written) (cut : ℕ) (image : Image) → LiesInRoot new (with_active j j.whole later cut) → IsImage new image → HasSome j later image
+pub some_left : (new : State) (j : Journaling) (later : List Written) (cut : ℕ) (image : Image) → LiesInRoot new (with_active j j.whole later cut) → IsImage new image → HasSome j later image
 some_left new j later cut image lies is = crashes_leave_the_root new image (with_active j j.whole later cut) lies (in_region is_of_root new image is)
 
 -- more may come behind
 some_more : (j : Journaling) (batches more : List Written) (image : Image) → HasSome j batches image → HasSome j (batches ++ more) image
 some_more j batches more image (behind, rest, is, has) = (behind, rest ++ more, sym (append_assoc behind rest more) ∙ ap (λ (l : List Written). l ++ more) is, has)
 
-no_more : (behind rest : List Written) → behind ++ rest ≡ [] → behind ≡ []
+pub no_more : (behind rest : List Written) → behind ++ rest ≡ [] → behind ≡ []
 no_more [] rest e = refl
 no_more (b ∷ behind) rest e = cc
 
 -- once all are synced, all are there
-all_left : (new : State) (j : Journaling) (image : Image) → LiesInRoot new (synced j) → IsImage new image → HasSome j j.later image
+pub all_left : (new : State) (j : Journaling) (image : Image) → LiesInRoot new (synced j) → IsImage new image → HasSome j j.later image
 all_left new j image lies is =
     let left = crashes_leave_the_root new image (synced j) lies (in_region is_of_root new image is) in
     let batches : (j.whole ++ j.later) ++ left.0 ≡ j.whole ++ j.later = ap (λ (l : List Written). (j.whole ++ j.later) ++ l) (no_more left.0 left.1 left.2) ∙ append-nil (j.whole ++ j.later) in
@@ -106,38 +106,25 @@ module _ (old new : Meaning) (writer : Journal) (j : Journaling) (more : List Wr
       whole_goes_on state (state_in new) writer j more writing each sound (part_but old new name bytes (whole_part old new name bytes took)) now
       (ap (λ (s : State). s name) took.state ∙ appending_at state name (texts_of j.whole) part bytes writing.root.active) named empty
 
--- ---- what waits goes out
+-- ---- what waits goes out and is synced
 
-module _ (old new : Meaning) (writer : Journal) (j : Journaling) (writing : IsWriting (state_in old) writer j) where
-  abbrev from : State
-  from = state_in old
-
+module _ (from : State) (writer : Journal) (j : Journaling) (writing : IsWriting from writer j) where
   abbrev file : Name
   file = journal_name j.active
 
-  abbrev part : List ℕ
-  part = take j.cut (texts_of j.later)
+  abbrev in_file : List ℕ
+  in_file = take j.cut (texts_of j.later)
 
   none_more : first_fault 0 (map shown (batches_in (journals_with j (j.later ++ [])))) ≡ None
   none_more = ap (λ (l : List Written). first_fault 0 (map shown (batches_in (journals_with j l)))) (append-nil j.later) ∙ writing.root.sound
-
-  pub buffer_leaves : TookPart old new writer.name writer.buffer → LeavesOnly old new (LeavesRoot from j j.later)
-  buffer_leaves took =
-      subst (λ (l : List Written). LeavesOnly old new (LeavesRoot from j l)) (append-nil j.later)
-      (leaves_part old new writer j [] writing tt none_more (subst (TookPart old new writer.name) (sym (append-nil writer.buffer)) took))
-
-  pub buffer_out : (now : Journal) → Took old new (appending writer.name writer.buffer) → now.name ≡ writer.name → now.buffer ≡ [] → IsWriting (state_in new) now (handed j)
-  buffer_out now took named empty =
-      subst (λ (l : List Written). IsWriting (state_in new) now (handed (record j { later = l }))) (append-nil j.later)
-      (appended_all old new writer j [] writing tt none_more now (subst (λ (l : List ℕ). Took old new (appending writer.name l)) (sym (append-nil writer.buffer)) took) named empty)
 
   -- the root once the append is done
   out_lies : LiesInRoot (after from (appending file writer.buffer)) (handed j)
   out_lies =
       let on = after from (appending file writer.buffer) in
       let bytes = writer.buffer ++ [] in
-      let place : on file ≡ place_of (texts_of j.whole) (part ++ bytes) =
-      appending_at from file (texts_of j.whole) part writer.buffer writing.root.active ∙ ap (λ (l : List ℕ). place_of (texts_of j.whole) (part ++ l)) (sym (append-nil writer.buffer)) in
+      let place : on file ≡ place_of (texts_of j.whole) (in_file ++ bytes) =
+      appending_at from file (texts_of j.whole) in_file writer.buffer writing.root.active ∙ ap (λ (l : List ℕ). place_of (texts_of j.whole) (in_file ++ l)) (sym (append-nil writer.buffer)) in
       subst (λ (l : List Written). LiesInRoot on (handed (record j { later = l }))) (append-nil j.later)
       (whole_goes_on from on writer j [] writing tt none_more (appending_but from file writer.buffer) (written_out writer) place refl refl).root
 
@@ -152,37 +139,55 @@ module _ (old new : Meaning) (writer : Journal) (j : Journaling) (writing : IsWr
   going [] image P first then left = first left
   going (b ∷ text) image P first then left = ⊎_elim first then left
 
+  -- the root once it is synced
+  pub all_out_lies : LiesInRoot (after from (syncing_all file writer.buffer)) (synced j)
+  all_out_lies =
+      synced_lies from (after from (syncing_all file writer.buffer)) j writing.root (all_out_but from file writer.buffer)
+      (all_out_at from file (texts_of j.whole) in_file writer.buffer writing.root.active ∙ ap (λ (l : List ℕ). place_of (texts_of j.whole ++ l) []) writing.exact)
+
+  ended : (image : Image) → IsImage (after from (syncing_all file writer.buffer)) image → LeavesRoot from j j.later image
+  ended image is = record {
+    some = all_left (after from (syncing_all file writer.buffer)) j image all_out_lies is;
+    elsewhere = keyspaces_left from (after from (syncing_all file writer.buffer)) j image writing.root (all_out_but from file writer.buffer) is;
+  }
+
+  pub all_out_leaves : (image : Image) → Leaves from (syncing_all file writer.buffer) image → LeavesRoot from j j.later image
+  all_out_leaves image left = ⊎_elim
+      (λ early. going writer.buffer image (LeavesRoot from j j.later image) (root_left from j image writing.root) (amid image) early)
+      (λ late. ⊎_elim (amid image) (λ now. ended image (subst (λ (s : State). IsImage s image) (sym (after-append from (appending file writer.buffer) (Sync file ∷ []))) now)) late)
+      (Leaves-append Survives from (appending file writer.buffer) (Sync file ∷ []) image left)
+
+module _ (old new : Meaning) (writer : Journal) (j : Journaling) (writing : IsWriting (state_in old) writer j) where
+  abbrev from : State
+  from = state_in old
+
+  no_fault_more : first_fault 0 (map shown (batches_in (journals_with j (j.later ++ [])))) ≡ None
+  no_fault_more = none_more from writer j writing
+
+  pub buffer_leaves : TookPart old new writer.name writer.buffer → LeavesOnly old new (LeavesRoot from j j.later)
+  buffer_leaves took =
+      subst (λ (l : List Written). LeavesOnly old new (LeavesRoot from j l)) (append-nil j.later)
+      (leaves_part old new writer j [] writing tt no_fault_more (subst (TookPart old new writer.name) (sym (append-nil writer.buffer)) took))
+
+  pub buffer_out : (now : Journal) → Took old new (appending writer.name writer.buffer) → now.name ≡ writer.name → now.buffer ≡ [] → IsWriting (state_in new) now (handed j)
+  buffer_out now took named empty =
+      subst (λ (l : List Written). IsWriting (state_in new) now (handed (record j { later = l }))) (append-nil j.later)
+      (appended_all old new writer j [] writing tt no_fault_more now (subst (λ (l : List ℕ). Took old new (appending writer.name l)) (sym (append-nil writer.buffer)) took) named empty)
+
   -- ---- and is synced
 
-  sync_lies : Took old new (syncing_all file writer.buffer) → LiesInRoot (state_in new) (synced j)
-  sync_lies took =
-      synced_lies from (state_in new) j writing.root (sync_but old new file writer.buffer took)
-      (sync_place old new file (texts_of j.whole) part writer.buffer writing.root.active took ∙ ap (λ (l : List ℕ). place_of (texts_of j.whole ++ l) []) writing.exact)
-
-  at_file : (steps : Name → List Step) → Took old new (steps writer.name) → Took old new (steps file)
+  at_file : (steps : Name → List Step) → Took old new (steps writer.name) → Took old new (steps (journal_name j.active))
   at_file steps took = subst (λ (n : Name). Took old new (steps n)) writing.name took
 
-  ended : Took old new (syncing_all file writer.buffer) → (image : Image) → IsImage (state_in new) image → LeavesRoot from j j.later image
-  ended took image is = record {
-    some = all_left (state_in new) j image (sync_lies took) is;
-    elsewhere = keyspaces_left from (state_in new) j image writing.root (sync_but old new file writer.buffer took) is;
-  }
-
-  sync_here : Took old new (syncing_all file writer.buffer) → LeavesOnly old new (LeavesRoot from j j.later)
-  sync_here took = record {
-    added = syncing_all file writer.buffer;
-    took = took;
-    each = λ image left. ⊎_elim
-        (λ early. going writer.buffer image (LeavesRoot from j j.later image) (root_left from j image writing.root) (amid image) early)
-        (λ late. ⊎_elim (amid image) (λ now. ended took image (subst (λ (s : State). IsImage s image) (sym (took.state ∙ after-append from (appending file writer.buffer) (Sync file ∷ []))) now)) late)
-        (Leaves-append Survives from (appending file writer.buffer) (Sync file ∷ []) image left);
-  }
-
   pub sync_leaves : Took old new (syncing_all writer.name writer.buffer) → LeavesOnly old new (LeavesRoot from j j.later)
-  sync_leaves took = sync_here (at_file (λ n. syncing_all n writer.buffer) took)
+  sync_leaves took = record { added = syncing_all (journal_name j.active) writer.buffer; took = at_file (λ n. syncing_all n writer.buffer) took; each = all_out_leaves from writer j writing }
 
   pub sync_out : (now : Journal) → Took old new (syncing_all writer.name writer.buffer) → now.name ≡ writer.name → now.buffer ≡ [] → IsWriting (state_in new) now (synced j)
-  sync_out now took named empty = record { root = sync_lies (at_file (λ n. syncing_all n writer.buffer) took); name = named ∙ writing.name; exact = empty }
+  sync_out now took named empty = record {
+    root = subst (λ (s : State). LiesInRoot s (synced j)) (sym (at_file (λ n. syncing_all n writer.buffer) took).state) (all_out_lies from writer j writing);
+    name = named ∙ writing.name;
+    exact = empty;
+  }
 
   -- ---- a persist, by its mode
 

@@ -4,6 +4,7 @@ pub mod UnnamedHomes
 pub mod ServableCreations
 pub mod Batches
 pub mod AppendsAndSyncs
+pub mod SyncedNames
 pub mod RootAfterWrites
 pub mod CrashesInWrites
 pub mod BatchAppends
@@ -12,3 +13,10 @@ pub mod Results
 pub mod JournalFile
 pub mod TidyWrites
 pub mod ChangesAfterSync
+pub mod ComingAndGoing
+pub mod KeepingKeyspaces
+pub mod CrashesInRotations
+pub mod CrashesInEvictions
+pub mod StoredJournals
+pub mod MarkedJournals
+pub mod CrashedJournals

@@ -1,5 +1,5 @@
 -- The root of a disk on which no more than the active journal's file changed.
-use Rattle.std.proofs.Common.{◌≡◌, ◌≢◌, ◌==◌, ◌||◌, ℕ, zero, suc, ◌+◌, ◌^◌, ◌<◌, Bool, true, false, List, [], ◌∷◌, ◌++◌, length, take, map, codes, decimal, All, Contains, None, refl, sym, ◌∙◌, ap, subst, arith, append_assoc}
+use Rattle.std.proofs.Common.{◌≡◌, ◌≢◌, inl, ◌==◌, ◌||◌, ℕ, zero, suc, ◌+◌, ◌^◌, ◌<◌, Bool, true, false, List, [], ◌∷◌, ◌++◌, length, take, map, codes, decimal, All, Contains, None, refl, sym, ◌∙◌, ap, subst, arith, append_assoc}
 use Rattle.std.proofs.lemmas.List.{append-nil, append_cancel_right, map-append, take_all}
 use Rattle.std.proofs.lemmas.List.Elements.{All-head, All-tail, Contains-append_right}
 use Rattle.std.proofs.lemmas.List.Folds.{list_any-append}
@@ -9,7 +9,7 @@ use Rattle.std.proofs.lemmas.Fmt.{decimal_injective}
 use Rattle.std.proofs.Math.Seq.{take-append-add, take-append_seam}
 use Rattle.std.specs.List.{AllByRecursion, AllPairs, list_any}
 use Rattle.std.specs.List.Sorted.{IsStrictlyIncreasing}
-use Rattle.fjall_base.specs.Disk.{State}
+use Rattle.fjall_base.specs.Disk.{Name, File, State}
 use Rattle.fjall_files.specs.Regions.{IsSafe}
 use Rattle.fjall_journal.specs.Batches.{Written, IsWritten, shown}
 use Rattle.fjall_journal.specs.Writer as journal
@@ -21,6 +21,7 @@ use Rattle.fjall_recovery.proofs.Roots.{all_both, batches_are}
 use Rattle.fjall_commit.specs.Journaling.{IsWriting, handed, synced}
 use Rattle.fjall_commit.proofs.Batches.{texts-append, batches-more}
 use Rattle.fjall_commit.proofs.AppendsAndSyncs.{SameBut, place_of}
+use Rattle.fjall_commit.proofs.SyncedNames.{NarrowsBut, narrow_only}
 
 -- ---- names
 
@@ -34,39 +35,52 @@ or_true false = refl
 has_dot : (id : ℕ) → list_any dot (journal_name id) ≡ true
 has_dot id = list_any-append dot (decimal id) (codes ".jnl") ∙ or_true (list_any dot (decimal id))
 
-no_marker : (id : ℕ) → codes "version" ≢ journal_name id
+pub no_marker : (id : ℕ) → codes "version" ≢ journal_name id
 no_marker id e = true≢false (sym (has_dot id) ∙ ap (list_any dot) (sym e))
 
-same_id : (id other : ℕ) → id < 2 ^ 64 → other < 2 ^ 64 → journal_name id ≡ journal_name other → id ≡ other
+pub same_id : (id other : ℕ) → id < 2 ^ 64 → other < 2 ^ 64 → journal_name id ≡ journal_name other → id ≡ other
 same_id id other small little e = decimal_injective id other small little (append_cancel_right (decimal id) (decimal other) (codes ".jnl") e)
 
 -- ---- ids
 
-abbrev ids_of : List Journal → List ℕ
+abbrev pub ids_of : List Journal → List ℕ
 ids_of journals = map (λ journal. journal.id) journals
 
-last_of_all : (P : ℕ → Type 0) (ids : List ℕ) (last : ℕ) → All P (ids ++ last ∷ []) → P last
+pub last_of_all : (P : ℕ → Type 0) (ids : List ℕ) (last : ℕ) → All P (ids ++ last ∷ []) → P last
 last_of_all P [] last all = all 0 0 (omega arith)
 last_of_all P (id ∷ ids) last all = last_of_all P ids last (All-tail P id (ids ++ last ∷ []) all)
 
 -- each of them has this and is below the last
-below_last : (P : ℕ → Type 0) (front : List Journal) (last : ℕ) → AllPairs (λ x y. x < y) (ids_of front ++ last ∷ []) → All P (ids_of front ++ last ∷ []) → AllByRecursion (λ k. P k.id × (k.id < last)) front
+pub below_last : (P : ℕ → Type 0) (front : List Journal) (last : ℕ) → AllPairs (λ x y. x < y) (ids_of front ++ last ∷ []) → All P (ids_of front ++ last ∷ []) → AllByRecursion (λ k. P k.id × (k.id < last)) front
 below_last P [] last ascends each = tt
 below_last P (k ∷ front) last ascends each = (
   (All-head P k.id (ids_of front ++ last ∷ []) each, last_of_all (λ y. k.id < y) (ids_of front) last (λ i d within. ascends zero (suc i) d (omega arith) (omega arith))),
   below_last P front last (λ i i' d lt within. ascends (suc i) (suc i') d (omega arith) (omega arith)) (All-tail P k.id (ids_of front ++ last ∷ []) each),
 )
 
+-- none of these journals' files has this name
+abbrev pub AreOthers : Name → List Journal → Type 0
+AreOthers name journals = AllByRecursion (λ k. journal_name k.id ≢ name) journals
+
 -- what was safe under other names still is
-still_safe : (state new : State) (active : ℕ) (front : List Journal) → active < 2 ^ 64 → SameBut (journal_name active) state new → AllByRecursion (λ k. (k.id < 2 ^ 64) × (k.id < active)) front
+pub still_safe : (state new : State) (name : Name) (front : List Journal) → NarrowsBut name state new → AreOthers name front
     → AllByRecursion (λ k. IsSafe state (journal_name k.id) (texts_of k.batches)) front → AllByRecursion (λ k. IsSafe new (journal_name k.id) (texts_of k.batches)) front
-still_safe state new active [] small same below safe = tt
-still_safe state new active (k ∷ front) small same below safe =
-    let other : journal_name k.id ≢ journal_name active = λ e. let is = same_id k.id active below.0.0 small e in let lt = below.0.1 in absurd (omega arith) in
-    (same (journal_name k.id) other ∙ safe.0, still_safe state new active front small same below.1 safe.1)
+still_safe state new name [] same others safe = tt
+still_safe state new name (k ∷ front) same others safe = (
+  narrow_only (state (journal_name k.id)) (new (journal_name k.id)) (File (texts_of k.batches) []) safe.0 (same (journal_name k.id) others.0),
+  still_safe state new name front same others.1 safe.1,
+)
+
+-- journals of lesser ids have other names
+pub lesser_others : (last : ℕ) (front : List Journal) → last < 2 ^ 64 → AllByRecursion (λ k. (k.id < 2 ^ 64) × (k.id < last)) front → AreOthers (journal_name last) front
+lesser_others last [] small below = tt
+lesser_others last (k ∷ front) small below = (
+  (λ e. let is = same_id k.id last below.0.0 small e in let lt = below.0.1 in absurd (omega (arith, is, lt))),
+  lesser_others last front small below.1,
+)
 
 -- the ids of all journals, whatever the batches of the active one
-ids_are : (front : List Journal) (active : ℕ) (batches : List Written) → ids_of (front ++ record { id = active; batches = batches } ∷ []) ≡ ids_of front ++ active ∷ []
+pub ids_are : (front : List Journal) (active : ℕ) (batches : List Written) → ids_of (front ++ record { id = active; batches = batches } ∷ []) ≡ ids_of front ++ active ∷ []
 ids_are front active batches = map-append (λ (k : Journal). k.id) front (record { id = active; batches = batches } ∷ [])
 
 pub active_fits : (state : State) (j : Journaling) → LiesInRoot state j → j.active < 2 ^ 64
@@ -102,7 +116,7 @@ moved state new j whole later cut lies same place each sound =
       others = λ id little none.
           let other : journal_name id ≢ journal_name j.active = λ e. none (subst (Contains (journal_ids (with_active j whole later cut))) (sym (same_id id j.active little small e)) among) in
           subst IsNeverFile (sym (same (journal_name id) other)) (lies.others id little (λ there. none (subst (λ (l : List ℕ). Contains l id) ids there)));
-      sealed = still_safe state new j.active j.sealed small same below lies.sealed;
+      sealed = still_safe state new (journal_name j.active) j.sealed (λ q other. inl (same q other)) (lesser_others j.active j.sealed small below) lies.sealed;
       active = place;
       written = subst (AllByRecursion IsWritten) (sym (batches_are (with_active j whole later cut) later)) each;
       sound = ap (λ (l : List Written). first_fault 0 (map shown l)) (batches_are (with_active j whole later cut) later) ∙ sound;

@@ -1,4 +1,7 @@
 pub mod Changes
 pub mod Removals
 pub mod Journaling
+pub mod Rotations
+pub mod Evictions
+pub mod Watermarks
 pub mod SyncedChanges

@@ -7,13 +7,13 @@ use Rattle.fjall_base.specs.Store.{Command, Create, Delete}
 use Rattle.fjall_base.specs.declared.error.Error.{Error}
 use Rattle.fjall_base.specs.declared.error.Error.TheVariants.{Io, OutOfMemory, ValueTooLong}
 use Rattle.fjall_versions.specs.Replays.{option_pairs}
-use Rattle.fjall_journal.specs.Ops.{write_of}
+use Rattle.fjall_journal.specs.Changes.{Emptied, Items, command_of}
 use Rattle.fjall_history.specs.declared.reply.Reply.{Reply}
 use Rattle.fjall_history.specs.declared.reply.Reply.TheVariants.{Refused}
 use Rattle.fjall_history.specs.Histories.{Accepted, grown, extended, plain}
 use Rattle.fjall_state.specs.declared.call.Call.{Call}
-use Rattle.fjall_state.specs.Shapes.{OfChange, OfCount, OfCreation, OfDeletion, OfHandle, OfPersist, OfRead, OfTickets, OneLess, OneMore, Shape, shape_of}
-use Rattle.fjall_state.specs.Machine.{Answers, CreatesOrFinds, State, StepOf, Refuses, MayFail, IsPoisoned, deleted, due, facts, is_living, present}
+use Rattle.fjall_state.specs.Shapes.{OfChange, OfCount, OfCreation, OfDeletion, OfHandle, OfPersist, OfRead, OfRotation, OfTickets, OneLess, OneMore, Shape, shape_of}
+use Rattle.fjall_state.specs.Machine.{Answers, CreatesOrFinds, State, StepOf, Refuses, MayFail, IsPoisoned, deleted, due, facts, is_living, present, rotated, rotates}
 use Rattle.fjall_core.specs.Durables.{Durable}
 use Rattle.fjall_core.specs.Crashes.{asked, attempt, RunOn, Tried, is_io}
 use Rattle.fjall_core.specs.Standing.{}
@@ -30,8 +30,8 @@ as_it_was s t tried none same = stays none (ap (λ (x : State). x.history) same)
 
 -- a fault, of whatever was asked
 fault_moves : (s t : State) (shape : Shape) → Asks s shape → due s shape ≡ None → IsPoisoned s t → Moves s (asked s shape) t
-fault_moves s t shape (asks_nothing none) due_is fault = stays none (ap (λ (x : State). x.history) fault) (λ _. ap (λ (x : State). x.poisoned) fault)
-fault_moves s t shape (asks_one command is well) due_is fault = faults command is (ap (λ (x : State). x.history) fault) (ap (λ (x : State). x.poisoned) fault) (well due_is)
+fault_moves s t shape (asks_nothing none) due_is (fault, trees, sealed) = stays none (ap (λ (x : State). x.history) fault) (λ _. ap (λ (x : State). x.poisoned) fault)
+fault_moves s t shape (asks_one command is well) due_is (fault, trees, sealed) = faults command is (ap (λ (x : State). x.history) fault) (ap (λ (x : State). x.poisoned) fault) (well due_is)
 
 failure_moves : (s t : State) (shape : Shape) (error : Error) → due s shape ≡ None → MayFail shape error s t → Moves s (attempt s shape (Refused error)) t
 failure_moves s t shape (Io kind) none (changes, fault) = fault_moves s t shape (asks s shape) none fault
@@ -63,14 +63,22 @@ deleted_moves s t id true living none is =
     accepted_moves s t (OfDeletion id) (Delete id) (asks s (OfDeletion id)) (ap (λ b. if b then (Delete id ∷ []) else []) living) none (ap (λ (x : State). x.history) is)
 deleted_moves s t id false living none is = as_it_was s t _ (ap (λ b. if b then (Delete id ∷ []) else []) living) is
 
+rotated_moves : (s t : State) (id : ℕ) (seals : Bool) → t ≡ (if seals then rotated s id else s) → Moves s [] t
+rotated_moves s t id true is = quiet s t [] refl (ap (λ (x : State). x.history) is) (ap (λ (x : State). x.poisoned) is)
+rotated_moves s t id false is = as_it_was s t [] refl is
+
 answer_moves : (s t : State) (shape : Shape) (reply : Reply) → due s shape ≡ None → Answers s shape reply t → Moves s (asked s shape) t
-answer_moves s t (OfChange [] how) reply none (told, is) = as_it_was s t [] refl is
-answer_moves s t (OfChange (item ∷ items) how) reply none (told, is) =
-    accepted_moves s t (OfChange (item ∷ items) how) (write_of (item ∷ items)) (asks s (OfChange (item ∷ items) how)) refl none (ap (λ (x : State). x.history) is)
+answer_moves s t (OfChange (Items []) how) reply none (told, is) = as_it_was s t [] refl is
+answer_moves s t (OfChange (Items (item ∷ items)) how) reply none (told, is) =
+    let all = Items (item ∷ items) in
+    accepted_moves s t (OfChange all how) (command_of all) (asks s (OfChange all how)) refl none (ap (λ (x : State). x.history) is)
+answer_moves s t (OfChange (Emptied id) how) reply none (told, is) =
+    accepted_moves s t (OfChange (Emptied id) how) (command_of (Emptied id)) (asks s (OfChange (Emptied id) how)) refl none (ap (λ (x : State). x.history) is)
 answer_moves s t (OfCreation name options) reply none (id, told, makes) = created_moves s t name options id none makes
 answer_moves s t (OfDeletion id) reply none (told, is) = deleted_moves s t id (is_living (present s) id) refl none is
 answer_moves s t (OfHandle OneMore id) reply none (told, is) = quiet s t [] refl (ap (λ (x : State). x.history) is) (ap (λ (x : State). x.poisoned) is)
 answer_moves s t (OfHandle OneLess id) reply none (told, is) = quiet s t [] refl (ap (λ (x : State). x.history) is) (ap (λ (x : State). x.poisoned) is)
+answer_moves s t (OfRotation id) reply none (told, is) = rotated_moves s t id (rotates s.parts.trees id) is
 answer_moves s t (OfRead view id query) reply none (told, same) = as_it_was s t [] refl same
 answer_moves s t (OfTickets call) reply none (turns, is) = quiet s t [] refl (ap (λ (x : State). x.history) is) (ap (λ (x : State). x.poisoned) is)
 answer_moves s t (OfPersist mode) reply none (told, is) = quiet s t [] refl (ap (λ (x : State). x.history) is) (ap (λ (x : State). x.poisoned) is)

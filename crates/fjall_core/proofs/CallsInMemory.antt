@@ -6,8 +6,7 @@ use Rattle.fjall_base.specs.Pairs.{Bytes, KeyRange, byte_order, lookup, page, pa
 use Rattle.fjall_base.specs.Store.{kept}
 use Rattle.fjall_base.specs.declared.error.Error.{Error}
 use Rattle.fjall_base.specs.declared.error.Error.TheVariants.{OutOfMemory}
-use Rattle.fjall_versions.specs.Versions.{newest, pairs_in}
-use Rattle.fjall_versions.proofs.Newest.{pairs_newest}
+use Rattle.fjall_maps.specs.Maps.{pairs_in}
 use Rattle.fjall_history.specs.declared.ticket.View.{View}
 use Rattle.fjall_history.specs.declared.ticket.View.TheVariants.{At, Present}
 use Rattle.fjall_history.specs.declared.reply.Reply.{Reply}
@@ -16,7 +15,7 @@ use Rattle.fjall_history.specs.Queries.{Get, Page, Query}
 use Rattle.fjall_state.specs.Shapes.{Count, Exists, OfCount, OfHandle, OfRead, OneMore, Shape}
 use Rattle.fjall_state.specs.Shapes as shapes
 use Rattle.fjall_state.specs.Machine.{State, due_in, first_due, has_name, view_refusals}
-use Rattle.fjall_state.specs.Remembered.{IsDueOrMemory, Remembered, facts_of, retained, versions_in}
+use Rattle.fjall_state.specs.Remembered.{IsDueOrMemory, Remembered, facts_of, instant_in, retained}
 use Rattle.fjall_files.proofs.Tidying.{stays_start}
 use Rattle.fjall_core.specs.Crashes.{BlamesDevice, IsSync, attempt}
 use Rattle.fjall_core.specs.Holding.{Held}
@@ -35,27 +34,27 @@ cause_here : (core : Held) (m : Remembered) (view : View) (id : ℕ) → m ≡ c
 cause_here core m view id same query error cause = subst (λ first. IsDueOrMemory first error) (due_here core m view id same query) cause
 
 pub value_owes : (core : Held) (m : Remembered) (view : View) (id : ℕ) (key : Bytes) (result : Result (Option Bytes) Error) → m ≡ core.memory → OnOk result (first_due (view_refusals (facts_of m 0) view id) ≡ None)
-    → IfOk result (λ found. found ≡ newest (versions_in m view) id key) → IfErr result (IsDueOrMemory (first_due (view_refusals (facts_of m 0) view id))) → Owes core (OfRead view id (Get key)) (value_reply result) core
+    → IfOk result (λ found. found ≡ lookup (pairs_in id (instant_in m view) m.trees) key) → IfErr result (IsDueOrMemory (first_due (view_refusals (facts_of m 0) view id))) → Owes core (OfRead view id (Get key)) (value_reply result) core
 value_owes core m view id key (Ok found) same none is cause =
-    let value : found ≡ lookup (pairs_in id (versions_in core.memory view)) key =
-    is ∙ ap (λ (x : Remembered). newest (versions_in x view) id key) same ∙ sym (pairs_newest id (versions_in core.memory view) key) in
+    let value : found ≡ lookup (pairs_in id (instant_in core.memory view) core.memory.trees) key =
+    is ∙ ap (λ (x : Remembered). lookup (pairs_in id (instant_in x view) x.trees) key) same in
     (sym (due_here core m view id same (Get key)) ∙ none, (ap Value value, refl))
 value_owes core m view id key (Err error) same none is cause = either_owes core (OfRead view id (Get key)) error tt (cause_here core m view id same (Get key) error cause)
 
 pub pairs_owes : (core : Held) (m : Remembered) (view : View) (id : ℕ) (range : KeyRange) (back : Bool) (max : ℕ) (result : Result (Vec (Bytes × Bytes) Global) Error) → m ≡ core.memory → OnOk result (first_due (view_refusals (facts_of m 0) view id) ≡ None)
-    → IfOk result (λ found. found.items ≡ page back max (pairs_between range (pairs_in id (versions_in m view)))) → IfErr result (IsDueOrMemory (first_due (view_refusals (facts_of m 0) view id))) → Owes core (OfRead view id (Page range back max)) (pairs_reply result) core
+    → IfOk result (λ found. found.items ≡ page back max (pairs_between range (pairs_in id (instant_in m view) m.trees))) → IfErr result (IsDueOrMemory (first_due (view_refusals (facts_of m 0) view id))) → Owes core (OfRead view id (Page range back max)) (pairs_reply result) core
 pairs_owes core m view id range back max (Ok found) same none is cause =
-    (sym (due_here core m view id same (Page range back max)) ∙ none, ((found, refl, is ∙ ap (λ (x : Remembered). page back max (pairs_between range (pairs_in id (versions_in x view)))) same), refl))
+    (sym (due_here core m view id same (Page range back max)) ∙ none, ((found, refl, is ∙ ap (λ (x : Remembered). page back max (pairs_between range (pairs_in id (instant_in x view) x.trees))) same), refl))
 pairs_owes core m view id range back max (Err error) same none is cause = either_owes core (OfRead view id (Page range back max)) error tt (cause_here core m view id same (Page range back max) error cause)
 
 -- what a view has, as it was found in a core's memory
 pub value_serves : (core : Held) (m : Remembered) (view : View) (id : ℕ) (key : Bytes) (result : Result (Option Bytes) Error) → m ≡ core.memory → OnOk result (first_due (view_refusals (facts_of m 0) view id) ≡ None)
-    → IfOk result (λ found. found ≡ newest (versions_in m view) id key) → IfErr result (IsDueOrMemory (first_due (view_refusals (facts_of m 0) view id))) → Serves core (OfRead view id (Get key)) (value_reply result) core
+    → IfOk result (λ found. found ≡ lookup (pairs_in id (instant_in m view) m.trees) key) → IfErr result (IsDueOrMemory (first_due (view_refusals (facts_of m 0) view id))) → Serves core (OfRead view id (Get key)) (value_reply result) core
 value_serves core m view id key (Ok found) same none is cause = answer_serves core (OfRead view id (Get key)) (Value found) (value_owes core m view id key (Ok found) same none is cause) refl refl (λ s. refl) (λ s sync. sync)
 value_serves core m view id key (Err error) same none is cause = either_serves core (OfRead view id (Get key)) error tt (cause_here core m view id same (Get key) error cause)
 
 pub pairs_serves : (core : Held) (m : Remembered) (view : View) (id : ℕ) (range : KeyRange) (back : Bool) (max : ℕ) (result : Result (Vec (Bytes × Bytes) Global) Error) → m ≡ core.memory → OnOk result (first_due (view_refusals (facts_of m 0) view id) ≡ None)
-    → IfOk result (λ found. found.items ≡ page back max (pairs_between range (pairs_in id (versions_in m view)))) → IfErr result (IsDueOrMemory (first_due (view_refusals (facts_of m 0) view id))) → Serves core (OfRead view id (Page range back max)) (pairs_reply result) core
+    → IfOk result (λ found. found.items ≡ page back max (pairs_between range (pairs_in id (instant_in m view) m.trees))) → IfErr result (IsDueOrMemory (first_due (view_refusals (facts_of m 0) view id))) → Serves core (OfRead view id (Page range back max)) (pairs_reply result) core
 pairs_serves core m view id range back max (Ok found) same none is cause =
     answer_serves core (OfRead view id (Page range back max)) (Pairs found) (pairs_owes core m view id range back max (Ok found) same none is cause) refl refl (λ s. refl) (λ s sync. sync)
 pairs_serves core m view id range back max (Err error) same none is cause = either_serves core (OfRead view id (Page range back max)) error tt (cause_here core m view id same (Page range back max) error cause)
@@ -73,6 +72,7 @@ retained_counts old new id is = record {
   store = ap (λ (core : Held). kept (store_in core)) (sym is);
   catalog = ap (λ (core : Held). core.catalog) is;
   journal = ap (λ (core : Held). core.journal) is;
+  sealed = ap (λ (core : Held). core.memory.sealed) is;
 }
 
 retained_there : (core : Held) (m : Remembered) (id : ℕ) (result : Result Unit Error) → OnOk result (due_in (facts_of core.memory 0) (OfHandle OneMore id) ≡ None) → OnOk result (m ≡ retained id core.memory) → OnErr result (m ≡ core.memory)
@@ -103,6 +103,12 @@ number_serves core shape count n asked told = count_serves core shape count (Num
 
 pub number_owes : (core : Held) (shape : Shape) (count : Count) (n : ℕ) → shape ≡ OfCount count → HeldCount core count (Number n) → Owes core shape (Number n) core
 number_owes core shape count n asked told = subst (λ (c : Shape). Owes core c (Number n) core) (sym asked) (refl, (told, refl))
+
+pub flag_serves : (core : Held) (shape : Shape) (count : Count) (flag : Bool) → shape ≡ OfCount count → HeldCount core count (Flag flag) → Serves core shape (Flag flag) core
+flag_serves core shape count flag asked told = count_serves core shape count (Flag flag) asked told refl refl (refl, (told, refl)) (λ s. refl) (λ s sync. sync)
+
+pub flag_owes : (core : Held) (shape : Shape) (count : Count) (flag : Bool) → shape ≡ OfCount count → HeldCount core count (Flag flag) → Owes core shape (Flag flag) core
+flag_owes core shape count flag asked told = subst (λ (c : Shape). Owes core c (Flag flag) core) (sym asked) (refl, (told, refl))
 
 pub exists_owes : (core : Held) (name given : Bytes) (exists : Bool) → given ≡ name → exists ≡ has_name (store_in core) given → Owes core (OfCount (Exists name)) (Flag exists) core
 exists_owes core name given exists same is = (refl, (ap Flag (is ∙ ap (has_name (store_in core)) same), refl))

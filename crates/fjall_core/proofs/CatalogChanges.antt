@@ -2,6 +2,9 @@
 use Rattle.std.proofs.Common.{◌≡◌, ◌⊎◌, inl, inr, ℕ, ◌<◌, ◌≤◌, Bool, true, false, List, [], ◌∷◌, ◌++◌, None, All, refl, sym, ◌∙◌, ap, subst, arith, codes}
 use Rattle.std.proofs.lemmas.List.{append-nil}
 use Rattle.std.proofs.lemmas.List.Elements.{All-weaker}
+use Rattle.std.specs.List.{AllZip}
+use Rattle.fjall_manager.specs.Journals.{Sealed}
+use Rattle.fjall_recovery.specs.Told.{TellsOf}
 use Rattle.fjall_base.specs.Store.{Store, Command, apply, kept}
 use Rattle.fjall_base.specs.Disk.{Image, LeavesOnly, Meaning, state_in}
 use Rattle.fjall_base.proofs.Moments.{at_end, weaken}
@@ -9,7 +12,7 @@ use Rattle.fjall_files.specs.Regions.{Within}
 use Rattle.fjall_journal.specs.Batches.{Shown}
 use Rattle.fjall_tree.specs.Records.{Fields}
 use Rattle.fjall_versions.specs.Replays.{first_fault, least_after}
-use Rattle.fjall_versions.specs.Versions.{store_of}
+use Rattle.fjall_maps.specs.Maps.{store_of}
 use Rattle.fjall_versions.proofs.Kept.{kept_along}
 use Rattle.fjall_contents.proofs.Following.{before_least}
 use Rattle.fjall_recovery.specs.Folders.{past_record, past_records}
@@ -25,7 +28,8 @@ use Rattle.fjall_core.specs.Holding.{Held}
 use Rattle.fjall_core.specs.Durables.{Durable, Lies, Rests, StandsAmid, StaysFinished}
 use Rattle.fjall_core.specs.Standing.{Poisons, StandsOn}
 use Rattle.fjall_core.proofs.CrashesInRuns.{amid_more}
-use Rattle.fjall_core.proofs.CrashImages.{commanded, folder_amid, store_is_kept}
+use Rattle.fjall_commit.proofs.CrashedJournals.{commanded, store_is_kept}
+use Rattle.fjall_core.proofs.CrashImages.{folder_amid}
 use Rattle.fjall_core.proofs.RootUnchanged.{leaves_beside, within_root, writing_along}
 use Rattle.fjall_core.proofs.JournalWrites.{Leads, Settles, held_on, leads_on, present_of, stands_ill, stands_well}
 
@@ -73,7 +77,7 @@ pub ill_leads : (old new : Held) (d : Durable) (command : Command) → old.memor
 ill_leads old new d command well fault leaves finished = leads_on old new d (command ∷ []) (λ base pending on.
     let left = leaves base pending (on.lies well) in
     let rests : Rests (held_on new base (pending ++ command ∷ [])) = at_end old.disk new.disk _ left in
-    let was = present_of old (held_on old base pending) false well on ∙ ap (λ (m : Remembered). kept (store_of m.keyspaces m.versions)) (sym fault.memory_is) in
+    let was = present_of old (held_on old base pending) false well on ∙ ap (λ (m : Remembered). kept (store_of m.keyspaces m.trees)) (sym fault.memory_is) in
     let still = stands_ill new base (pending ++ command ∷ []) (ap (λ (m : Remembered). m.poisoned) fault.memory_is) rests (finished base pending (on.lies well)) (inr (pending, command, refl, was)) in
     (held_on new base (pending ++ command ∷ []), still, record { leaves = left; safe = []; base = refl; rest = refl; rests = rests }))
 
@@ -92,6 +96,7 @@ pub record Changed (mid new : Held) (j : Journaling) (t : Tree) (command : Comma
   pub last : done ≡ true → next.last ≡ new.catalog
   pub keyspaces : done ≡ true → next.keyspaces ≡ new.memory.keyspaces
   pub journal : done ≡ true → new.journal ≡ mid.journal
+  pub sealed : done ≡ true → new.memory.sealed ≡ mid.memory.sealed
 
 -- where base and pending lie after it
 changed_lies : (mid new : Held) (base : Store) (command : Command) (lies : Lies mid (held_on mid base [])) → lies.journals.later ≡ [] → Changed mid new lies.journals lies.tree command true → Lies new (held_on new (apply base command) [])
@@ -103,6 +108,7 @@ changed_lies mid new base command lies none c =
       tree = c.next;
       writing = subst (λ w. IsWriting (state_in new.disk) w j) (sym (c.journal refl)) (writing_along (state_in mid.disk) (state_in new.disk) mid.journal j (within_root mid.disk new.disk c.run) lies.writing);
       in_tree = c.in_tree refl;
+      told = subst (λ (l : List Sealed). AllZip TellsOf j.sealed l) (sym (c.sealed refl)) lies.told;
       last = c.last refl;
       keyspaces = c.keyspaces refl;
       made = kept_along base (store_of_tree j lies.tree) (command ∷ []) (lies.made ∙ sym (store_is_kept (contents_with j lies.tree []))) ∙ sym c.after;
@@ -112,7 +118,7 @@ changed_lies mid new base command lies none c =
 
 -- and what passes on the way
 pub changed_settles : (mid new : Held) (base : Store) (command : Command) (lies : Lies mid (held_on mid base [])) → lies.journals.later ≡ [] → Changed mid new lies.journals lies.tree command true → new.memory.poisoned ≡ false
-    → kept (apply base command) ≡ kept (store_of new.memory.keyspaces new.memory.versions) → Settles new (held_on mid base []) (command ∷ [])
+    → kept (apply base command) ≡ kept (store_of new.memory.keyspaces new.memory.trees) → Settles new (held_on mid base []) (command ∷ [])
 changed_settles mid new base command lies none c well present =
     let still = stands_well new (apply base command) [] well (changed_lies mid new base command lies none c) present in (
       held_on new (apply base command) [],

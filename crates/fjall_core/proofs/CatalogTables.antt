@@ -22,9 +22,9 @@ use Rattle.fjall_meta.proofs.Rising.{Rises, from_pairs}
 use Rattle.fjall_home.specs.declared.writing.TableFile.{TableFile}
 use Rattle.fjall_catalog.specs.Updates.{IsNewTable, IsTooLong}
 use Rattle.fjall_catalog.proofs.Pairs.{pairs_some}
-use Rattle.fjall_versions.specs.declared.version.Version.{Version}
+use Rattle.fjall_trees.specs.Forests.{Forest}
 use Rattle.fjall_versions.specs.Replays.{option_pairs}
-use Rattle.fjall_versions.specs.Versions.{store_of}
+use Rattle.fjall_maps.specs.Maps.{store_of}
 use Rattle.fjall_versions.proofs.Found.{found_has}
 use Rattle.fjall_versions.proofs.Naming.{living_names, settings}
 use Rattle.fjall_versions.proofs.Slots.{same_id}
@@ -81,10 +81,10 @@ one_goes (k ∷ living) id rise lives = elim (bool_cases (k.id == id)) [
   | inr other ↦ rw other (ap suc (one_goes living id rise.1 (rw other at lives)))
 ]
 
-pub deleted_table : (s : Keyspaces) → AreKeyspaces s → (versions : List Version) (id : ℕ) → is_living (store_of s versions) id ≡ true
+pub deleted_table : (s : Keyspaces) → AreKeyspaces s → (trees : Forest) (id : ℕ) → is_living (store_of s trees) id ≡ true
     → (next after : ℕ) (info : Option TableInfo) (file : Option TableFile) → IsNewTable next after (entries_of (without_keyspace id s).living) info file
-    → after ≡ (if nat_le 2 (len (store_of s versions).names) then next + 1 else next)
-deleted_table s all versions id lives next after info file new = elim (bool_cases (nat_le 2 (len (store_of s versions).names))) [
+    → after ≡ (if nat_le 2 (len (store_of s trees).names) then next + 1 else next)
+deleted_table s all trees id lives next after info file new = elim (bool_cases (nat_le 2 (len (store_of s trees).names))) [
   | inl many ↦ rw many (written next after (entries_of left) info file (let some : 2 ≤ length s.living = grind (arith, nat_tests, count, many) in omega (arith, pairs_of left, gone, some)) new)
   | inr few ↦ rw few (unwritten next after (entries_of left) info file (none_of left (let one : length s.living < 2 = grind (arith, nat_tests, count, few) in omega (arith, gone, one))) new)
 ]
@@ -92,15 +92,15 @@ deleted_table s all versions id lives next after info file new = elim (bool_case
     left : List LivingKeyspace
     left = (without_keyspace id s).living
 
-    count : len (store_of s versions).names ≡ length s.living
-    count = counted_is s all versions
+    count : len (store_of s trees).names ≡ length s.living
+    count = counted_is s all trees
 
     gone : suc (length left) ≡ length s.living
-    gone = one_goes s.living id (from_pairs (λ (j : LivingKeyspace) (k : LivingKeyspace). j.id < k.id) s.living all.ascending) (sym (living_names s versions id) ∙ lives)
+    gone = one_goes s.living id (from_pairs (λ (j : LivingKeyspace) (k : LivingKeyspace). j.id < k.id) s.living all.ascending) (sym (living_names s [] id) ∙ lives)
 
 -- where pairs are left, more than one keyspace lived
-pub some_left : (s : Keyspaces) → AreKeyspaces s → (versions : List Version) (id : ℕ) → is_living (store_of s versions) id ≡ true → 0 < length (entries_of (without_keyspace id s).living) → nat_le 2 (len (store_of s versions).names) ≡ true
-some_left s all versions id lives some = elim (bool_cases (nat_le 2 (len (store_of s versions).names))) [
+pub some_left : (s : Keyspaces) → AreKeyspaces s → (trees : Forest) (id : ℕ) → is_living (store_of s trees) id ≡ true → 0 < length (entries_of (without_keyspace id s).living) → nat_le 2 (len (store_of s trees).names) ≡ true
+some_left s all trees id lives some = elim (bool_cases (nat_le 2 (len (store_of s trees).names))) [
   | inl many ↦ many
   | inr few ↦
       let none = none_of left (let one : length s.living < 2 = grind (arith, nat_tests, count, few) in omega (arith, gone, one)) in
@@ -110,11 +110,11 @@ some_left s all versions id lives some = elim (bool_cases (nat_le 2 (len (store_
     left : List LivingKeyspace
     left = (without_keyspace id s).living
 
-    count : len (store_of s versions).names ≡ length s.living
-    count = counted_is s all versions
+    count : len (store_of s trees).names ≡ length s.living
+    count = counted_is s all trees
 
     gone : suc (length left) ≡ length s.living
-    gone = one_goes s.living id (from_pairs (λ (j : LivingKeyspace) (k : LivingKeyspace). j.id < k.id) s.living all.ascending) (sym (living_names s versions id) ∙ lives)
+    gone = one_goes s.living id (from_pairs (λ (j : LivingKeyspace) (k : LivingKeyspace). j.id < k.id) s.living all.ascending) (sym (living_names s [] id) ∙ lives)
 
 -- ---- what has no room in a table
 
@@ -182,18 +182,18 @@ still_there store id options lives there =
     get-retain_keys store.options (contains_key store.names) id (λ x e. ap (contains_key store.names) (sym (nat_cmp-IsAntisymmetric id x e)))
     ∙ ap (λ b. cond b (get store.options id) None) lives ∙ there
 
-pub long_option : (s : Keyspaces) → AreKeyspaces s → (versions : List Version) → Any IsTooLong (entries_of s.living) → HasLongOption (kept (store_of s versions))
-long_option s all versions any = elim (in_append IsTooLong (flat_map option_entries s.living) (map name_entry s.living) any.0 any.1 any.2 any.3 any.4) [
+pub long_option : (s : Keyspaces) → AreKeyspaces s → (trees : Forest) → Any IsTooLong (entries_of s.living) → HasLongOption (kept (store_of s trees))
+long_option s all trees any = elim (in_append IsTooLong (flat_map option_entries s.living) (map name_entry s.living) any.0 any.1 any.2 any.3 any.4) [
   | inl options ↦
       let with_long = in_flat_map IsTooLong option_entries s.living options.0 options.1 options.2 options.3 options.4 in
       let rise = from_pairs (λ (j : LivingKeyspace) (k : LivingKeyspace). j.id < k.id) s.living all.ascending in
       let found = found_with (λ k. Any IsTooLong (option_entries k)) s.living rise with_long.0 with_long.1 with_long.2 with_long.3 with_long.4 in
       let k = found.0 in
-      let lives : contains_key store.names k.id ≡ true = living_names s versions k.id ∙ ap is_some found.1 in
-      let there : get store.options k.id ≡ Some (option_pairs k.options) = settings s versions k.id ∙ ap (option_map (λ (j : LivingKeyspace). option_pairs j.options)) found.1 in
+      let lives : contains_key store.names k.id ≡ true = living_names s [] k.id ∙ ap is_some found.1 in
+      let there : get store.options k.id ≡ Some (option_pairs k.options) = settings s [] k.id ∙ ap (option_map (λ (j : LivingKeyspace). option_pairs j.options)) found.1 in
       (k.id, option_pairs k.options, still_there store k.id (option_pairs k.options) lives there, long_pair k found.2)
   | inr names ↦ absurd (no_long_name s.living all.names names)
 ]
   where
     store : Store
-    store = store_of s versions
+    store = store_of s trees

@@ -9,8 +9,9 @@ use Rattle.fjall_base.specs.declared.error.Error.TheVariants.{Io, NumbersUsedUp,
 use Rattle.fjall_meta.specs.Keyspaces.{id_of, with_keyspace}
 use Rattle.fjall_catalog.specs.Updates.{IsPreparingRefusal}
 use Rattle.fjall_versions.specs.Replays.{option_pairs}
-use Rattle.fjall_versions.specs.Versions.{store_of}
-use Rattle.fjall_versions.proofs.Creating as Creating
+use Rattle.fjall_maps.specs.Maps.{store_of}
+use Rattle.fjall_trees.specs.Writes.{with_tree}
+use Rattle.fjall_maps.proofs.Planted.{creation_of_trees}
 use Rattle.fjall_commit.specs.declared.creation.Creation.{Creation}
 use Rattle.fjall_commit.specs.Changes.{IsCreation}
 use Rattle.fjall_state.specs.Shapes.{OfCreation}
@@ -20,7 +21,6 @@ use Rattle.fjall_state.specs.Machine.{HasLongOption, State, has_name, present}
 use Rattle.fjall_state.specs.Remembered.{IsLawful, Remembered, facts_of, poisoned, with_creation}
 use Rattle.std.specs.Option.{is_some}
 use Rattle.fjall_options.specs.Options.{AreOptions}
-use Rattle.fjall_versions.proofs.Naming.{rest_is_bare}
 use Rattle.fjall_state.proofs.Dues.{may_create}
 use Rattle.fjall_state.proofs.Facts.{named_is}
 use Rattle.fjall_state.proofs.Lawful.{creation_is_lawful}
@@ -54,12 +54,12 @@ abbrev pub between : Held → Held → Meaning → Held
 between old made mid = record old { disk = mid; journal = made.journal }
 
 pub stays : (old made : Held) (mid : Meaning) → StaysSame old (between old made mid)
-stays old made mid = record { keyspaces = refl; next = refl; catalog = refl }
+stays old made mid = record { keyspaces = refl; next = refl; catalog = refl; sealed = refl }
 
 -- the store with the keyspace
 created_held : (old : Held) (name : Bytes) (options : List Bytes) → IsLawful old.memory
-    → store_of (with_keyspace name options old.memory.next old.memory.keyspaces) old.memory.versions ≡ apply (store_in old) (Create name (option_pairs options))
-created_held old name options lawful = Creating.creation_of_versions name options old.memory.next old.memory.keyspaces lawful.keyspaces old.memory.versions lawful.given
+    → store_of (with_keyspace name options old.memory.next old.memory.keyspaces) (with_tree old.memory.keyspaces.next old.memory.next old.memory.trees) ≡ apply (store_in old) (Create name (option_pairs options))
+created_held old name options lawful = creation_of_trees name options old.memory.next old.memory.keyspaces lawful.keyspaces old.memory.next old.memory.trees lawful.given
 
 -- ---- what the disk tells of it
 
@@ -146,7 +146,7 @@ module _ (old : Held) (name : Bytes) (options : List Bytes) (id number : ℕ) (i
     whole_again made new is back = back ∙ ap (λ (h : Held). record h { memory = old.memory }) is
 
     too_long : IsLawful old.memory → IsPreparingRefusal old.catalog (with_keyspace name options old.memory.next old.memory.keyspaces) number ValueTooLong → HasLongOption (kept (apply (store_in old) (Create name (option_pairs options))))
-    too_long lawful long = subst (λ st. HasLongOption (kept st)) (created_held old name options lawful) (long_option (with_keyspace name options old.memory.next old.memory.keyspaces) after.keyspaces old.memory.versions long)
+    too_long lawful long = subst (λ st. HasLongOption (kept st)) (created_held old name options lawful) (long_option (with_keyspace name options old.memory.next old.memory.keyspaces) after.keyspaces (with_tree old.memory.keyspaces.next old.memory.next old.memory.trees) long)
 
     no_number : {A : Type 0} → IsPreparingRefusal old.catalog (with_keyspace name options old.memory.next old.memory.keyspaces) number NumbersUsedUp → A
     no_number (inl high) = let low = room.numbered in let same = number_is in absurd (let bad : ⊥ = omega (arith, high, low, same) in bad)
@@ -200,20 +200,20 @@ pub record IsFresh (old : Held) (name : Bytes) (options : List Bytes) : Type 0 w
 
 pub is_fresh : (old : Held) (name : Bytes) (options : List Bytes) → IsLawful old.memory → held_due old (OfCreation name options) ≡ None → id_of name old.memory.keyspaces.living ≡ None → AreOptions options → IsFresh old name options
 is_fresh old name options lawful none unnamed are =
-    let fresh = named_is old.memory.keyspaces lawful.keyspaces old.memory.versions name ∙ ap is_some unnamed in
+    let fresh = named_is old.memory.keyspaces lawful.keyspaces old.memory.trees name ∙ ap is_some unnamed in
     let allowed = may_create (facts_of old.memory old.catalog.next_table_id) name none in
     record {
       lawful = lawful;
       none = none;
       fresh = fresh;
-      after = creation_is_lawful name options old.memory lawful allowed.named unnamed are (λ same. (allowed.room fresh).free ((rest_is_bare old.memory.keyspaces old.memory.versions).2 ∙ same));
+      after = creation_is_lawful name options old.memory lawful allowed.named unnamed are (λ same. (allowed.room fresh).free same) (allowed.room fresh).numbered;
     }
 
 pub room_of : (old : Held) (name : Bytes) (options : List Bytes) → IsFresh old name options → HasRoom (facts_of old.memory old.catalog.next_table_id)
 room_of old name options f = (may_create (facts_of old.memory old.catalog.next_table_id) name f.none).room f.fresh
 
 pub free_of : (old : Held) (name : Bytes) (options : List Bytes) → IsFresh old name options → old.memory.keyspaces.next ≢ 2 ^ 64 - 1
-free_of old name options f same = (room_of old name options f).free ((rest_is_bare old.memory.keyspaces old.memory.versions).2 ∙ same)
+free_of old name options f same = (room_of old name options f).free same
 
 pub to_raised : (honest : Type 0) (old made : Held) (name : Bytes) (options : List Bytes) (m : Remembered) (id number : ℕ) (result : Result Unit Error) → m ≡ with_creation name options old.memory → Makes honest (record old { memory = m }) id number result made
     → Makes honest (raised name options old) id number result made
@@ -229,7 +229,7 @@ pub numbered_of : (core : Held) (name : Bytes) (options : List Bytes) → held_d
 numbered_of core name options none fresh = ((may_create (facts_of core.memory core.catalog.next_table_id) name none).room fresh).numbered
 
 pub id_left : (core : Held) (name : Bytes) (options : List Bytes) → held_due core (OfCreation name options) ≡ None → has_name (store_in core) name ≡ false → core.memory.keyspaces.next ≢ 2 ^ 64 - 1
-id_left core name options none fresh same = ((may_create (facts_of core.memory core.catalog.next_table_id) name none).room fresh).free ((rest_is_bare core.memory.keyspaces core.memory.versions).2 ∙ same)
+id_left core name options none fresh same = ((may_create (facts_of core.memory core.catalog.next_table_id) name none).room fresh).free same
 
 -- a name that a keyspace has
 pub found_serves : (core : Held) (name : Bytes) (options : List Bytes) (id : ℕ) → held_due core (OfCreation name options) ≡ None → id_of name core.memory.keyspaces.living ≡ Some id → Serves core (OfCreation name options) (Number id) core

@@ -9,7 +9,7 @@ use Rattle.fjall_journal.specs.declared.persist_mode.PersistMode.TheVariants.{Sy
 use Rattle.fjall_meta.specs.Keyspaces.{without_keyspace}
 use Rattle.fjall_catalog.specs.declared.update.Update.{Update}
 use Rattle.fjall_catalog.specs.Updates.{IsPreparingRefusal, IsUpdate}
-use Rattle.fjall_versions.proofs.Keeping as Keeping
+use Rattle.fjall_maps.proofs.Planted.{deletion_of_trees}
 use Rattle.fjall_state.specs.Shapes.{OfDeletion}
 use Rattle.fjall_history.specs.declared.reply.Reply.TheVariants.{Done, Refused}
 use Rattle.fjall_state.specs.Allowed.{HasNumber}
@@ -73,9 +73,9 @@ module _ (old : Held) (id : ℕ) (none : held_due old (OfDeletion id) ≡ None) 
   pub deletes_of : (honest : Type 0) (made new : Held) → IsLawful old.memory → Unmakes honest old id (Ok tt) made → Deleted made new → Deletes old id new
   deletes_of honest made new lawful all is = record {
     memory_is = ap (λ (h : Held). h.memory) is;
-    lawful = deletion_is_lawful id old.memory lawful;
+    lawful = deletion_is_lawful id old.memory lawful room_left;
     next_table = ap (λ (h : Held). h.catalog.next_table_id) is ∙ ap (λ (h : Held). h.catalog.next_table_id) all.2
-        ∙ deleted_table old.memory.keyspaces lawful.keyspaces old.memory.versions id living old.catalog.next_table_id _ _ _ all.1.table;
+        ∙ deleted_table old.memory.keyspaces lawful.keyspaces old.memory.trees id living old.catalog.next_table_id _ _ _ all.1.table;
     journal = ap (λ (h : Held). h.journal) is ∙ ap (λ (h : Held). h.journal) all.2;
     faults = subst (λ (h : Held). old.disk.faults ≤ h.disk.faults) (sym is) all.3;
   }
@@ -98,7 +98,7 @@ module _ (old : Held) (id : ℕ) (none : held_due old (OfDeletion id) ≡ None) 
       let settled = alter_settles old (between old made turned.mid) new d (Delete id) room.well (stays old made turned.mid) turned.synced
       (changes_by made new turned.mid all.0 true all.1 changed core)
       well
-      (sym (Keeping.deletion_of_versions id old.memory.keyspaces old.memory.versions) ∙ ap (λ (h : Held). kept (store_in h)) (sym is)) on in
+      (sym (deletion_of_trees id old.memory.keyspaces old.memory.trees) ∙ ap (λ (h : Held). kept (store_in h)) (sym is)) on in
       (settled.0, settled.1, (subst (λ l. Passes d l settled.0) (sym (asks_one s stands)) settled.2, λ sync. settled.3)) in
       serves_by old new (OfDeletion id) Done (deleted_owes honest made new lawful all is)
       (subst (λ (b : Bool). MatchBool b (ReplacesTable old new) (new.disk ≡ old.disk)) (sym living)
@@ -118,12 +118,12 @@ module _ (old : Held) (id : ℕ) (none : held_due old (OfDeletion id) ≡ None) 
   }
 
   too_long : IsLawful old.memory → IsPreparingRefusal old.catalog (without_keyspace id old.memory.keyspaces) old.memory.next ValueTooLong → HasLongOption (kept (apply (store_in old) (Delete id)))
-  too_long lawful long = subst HasLongOption (Keeping.deletion_of_versions id old.memory.keyspaces old.memory.versions)
-      (long_option (without_keyspace id old.memory.keyspaces) (deletion_is_lawful id old.memory lawful).keyspaces old.memory.versions long)
+  too_long lawful long = subst HasLongOption (deletion_of_trees id old.memory.keyspaces old.memory.trees)
+      (long_option (without_keyspace id old.memory.keyspaces) (deletion_is_lawful id old.memory lawful room_left).keyspaces old.memory.trees long)
 
   no_number : {A : Type 0} → IsLawful old.memory → IsPreparingRefusal old.catalog (without_keyspace id old.memory.keyspaces) old.memory.next NumbersUsedUp → A
   no_number lawful (inl high) = let low = room.numbered in absurd (let bad : ⊥ = omega (arith, high, low) in bad)
-  no_number lawful (inr table) = absurd (room.table (some_left old.memory.keyspaces lawful.keyspaces old.memory.versions id living table.0) table.1)
+  no_number lawful (inr table) = absurd (room.table (some_left old.memory.keyspaces lawful.keyspaces old.memory.trees id living table.0) table.1)
 
   pub undeleted_owes : (honest : Type 0) (made new : Held) (error : Error) → IsLawful old.memory → Unmakes honest old id (Err error) made → Back made new error → Owes old (OfDeletion id) (Refused error) new
   undeleted_owes honest made new (Io kind) lawful all back = subst (λ first. OwesRefusal first old (OfDeletion id) (Io kind) new) (sym none) (tt, poisons_of honest made new kind all back)

@@ -4,22 +4,29 @@ use Rattle.std.proofs.lemmas.Bool.{true≢false}
 use Rattle.std.proofs.lemmas.List.{append-nil}
 use Rattle.std.proofs.lemmas.List.Elements.{All-weaker}
 use Rattle.std.specs.Option.{is_some, option_map}
-use Rattle.fjall_base.specs.Store.{Store, Command, fold, kept}
+use Rattle.std.specs.List.{AllZip}
+use Rattle.fjall_manager.specs.Journals.{Sealed}
+use Rattle.fjall_recovery.specs.Told.{TellsOf}
+use Rattle.fjall_base.specs.Store.{Store, Command, apply, fold, kept}
 use Rattle.fjall_base.specs.Disk.{LeavesOnly, state_in}
 use Rattle.fjall_base.proofs.Moments.{at_end}
 use Rattle.fjall_journal.specs.Batches.{Written, shown}
-use Rattle.fjall_journal.specs.Ops.{BatchItem, of_items, write_of}
+use Rattle.fjall_journal.specs.Changes.{Change, Emptied, Items, command_of, of_change}
+use Rattle.fjall_journal.specs.Ops.{BatchItem}
 use Rattle.fjall_journal.specs.declared.persist_mode.PersistMode.{PersistMode}
 use Rattle.fjall_journal.specs.declared.persist_mode.PersistMode.TheVariants.{Buffer, SyncAll, SyncData}
 use Rattle.fjall_meta.specs.declared.living.LivingKeyspace.{LivingKeyspace}
 use Rattle.fjall_meta.specs.Keyspaces.{Keyspaces, keyspace_at}
 use Rattle.fjall_versions.specs.Replays.{counts, first_fault, journal_commands}
-use Rattle.fjall_versions.specs.Versions.{store_of}
+use Rattle.fjall_maps.specs.Maps.{store_of}
 use Rattle.fjall_versions.proofs.Found.{found_has}
 use Rattle.fjall_versions.proofs.Kept.{kept_along}
 use Rattle.fjall_versions.proofs.Naming.{living_names}
 use Rattle.fjall_versions.proofs.Slots.{fold-append}
-use Rattle.fjall_versions.proofs.Writes.{batch_command, items_store}
+use Rattle.fjall_versions.proofs.Writes.{batch_command, clear_command}
+use Rattle.fjall_maps.proofs.Emptied.{emptied_store}
+use Rattle.fjall_maps.proofs.Pushed.{pushed_store}
+use Rattle.fjall_maps.proofs.Reading.{store_is_kept}
 use Rattle.fjall_catalog.specs.Catalog.{fields}
 use Rattle.fjall_contents.proofs.Following.{beyond_all}
 use Rattle.fjall_recovery.specs.Homes.{lasts, stored_in}
@@ -31,15 +38,17 @@ use Rattle.fjall_recovery.proofs.Storing.{beyond_lasts}
 use Rattle.fjall_contents.specs.Contents.{store_held}
 use Rattle.fjall_commit.specs.Journaling.{CanFollow, IsWriting, after_mode, is_out, next_number, synced, with_batch}
 use Rattle.fjall_commit.proofs.Batches.{kept-mode, next-mode}
+use Rattle.fjall_state.specs.Allowed.{FitsBatch, IsOfLiving}
 use Rattle.fjall_state.specs.Machine.{is_living}
-use Rattle.fjall_state.specs.Remembered.{IsLawful, Remembered, with_items}
+use Rattle.fjall_state.specs.Remembered.{IsLawful, Remembered, with_change}
 use Rattle.fjall_core.specs.Holding.{Held}
 use Rattle.fjall_core.specs.Durables.{Durable, Lies, MakesPresent, Passes, Rests, StandsAmid, StaysFinished}
 use Rattle.fjall_core.specs.CallParts.{WentOut}
 use Rattle.fjall_core.specs.Crashes.{IsSyncOf}
 use Rattle.fjall_core.specs.Standing.{Poisons, StandsOn, store_in}
 use Rattle.fjall_core.proofs.KeyspacesUnchanged.{tree_along}
-use Rattle.fjall_core.proofs.CrashImages.{commanded, commands_more, kept_with, leaves_finished, lies_rest, root_amid, root_finished}
+use Rattle.fjall_commit.proofs.CrashedJournals.{commanded, commands_more, kept_with}
+use Rattle.fjall_core.proofs.CrashImages.{leaves_finished, lies_rest, root_amid, root_finished}
 
 -- the core stands on some disk now, to which these commands lead
 abbrev pub Leads : Held → Durable → List Command → Type 0
@@ -89,11 +98,12 @@ stands_ill core base pending ill rests finished present = record {
 
 -- ---- a change that nothing refuses
 
-pub record IsAdmitted (core : Held) (items : List BatchItem) : Type 0 where
+pub record IsAdmitted (core : Held) (change : Change) : Type 0 where
   pub well : core.memory.poisoned ≡ false
-  pub some : items ≢ []
-  pub living : All (λ item. is_living (store_in core) item.0 ≡ true) items
+  pub some : change ≢ Items []
+  pub living : IsOfLiving (store_in core) change
   pub room : core.memory.next < 2 ^ 63
+  pub fits : FitsBatch change
   pub lawful : IsLawful core.memory
 
 is_there : {X : Type 0} (o : Option X) → is_some o ≡ true → (x : X) × (o ≡ Some x)
@@ -104,7 +114,7 @@ is_there None is = absurd (true≢false (sym is))
 it_counts : (core : Held) (id : ℕ) → IsLawful core.memory → is_living (store_in core) id ≡ true → counts core.memory.keyspaces core.memory.next id ≡ true
 it_counts core id lawful is =
     let living = core.memory.keyspaces.living in
-    let found = is_there (keyspace_at id living) (sym (living_names core.memory.keyspaces core.memory.versions id) ∙ is) in
+    let found = is_there (keyspace_at id living) (sym (living_names core.memory.keyspaces [] id) ∙ is) in
     let lesser : found.0.number < core.memory.next = found_has (λ (k : LivingKeyspace). k.id == id) (λ (k : LivingKeyspace). k.number < core.memory.next) living found.0 found.1 lawful.made in
     ap (λ o. unwrap_or (option_map (λ (k : LivingKeyspace). nat_lt k.number core.memory.next) o) false) found.1 ∙ lt-ltb found.0.number core.memory.next lesser
 
@@ -112,23 +122,25 @@ all_count : (core : Held) (items : List BatchItem) → IsLawful core.memory → 
 all_count core items lawful living =
     All-weaker (λ (i : BatchItem). is_living (store_in core) i.0 ≡ true) (λ (i : BatchItem). counts core.memory.keyspaces core.memory.next i.0 ≡ true) (λ i is. it_counts core i.0 lawful is) items living
 
--- the batch of these items under a core's next number
-abbrev pub batch_of : Held → List BatchItem → Written
-batch_of core items = of_items items core.memory.next
+-- the batch of a change under a core's next number
+abbrev pub batch_of : Held → Change → Written
+batch_of core change = of_change change core.memory.next
 
 -- what it commands
-batch_commands : (core : Held) (items : List BatchItem) → IsAdmitted core items → journal_commands core.memory.keyspaces (map shown (batch_of core items ∷ [])) ≡ write_of items ∷ []
-batch_commands core items admitted = append-nil _ ∙ batch_command core.memory.keyspaces items core.memory.next admitted.some (all_count core items admitted.lawful admitted.living)
+batch_commands : (core : Held) (change : Change) → IsAdmitted core change → journal_commands core.memory.keyspaces (map shown (batch_of core change ∷ [])) ≡ command_of change ∷ []
+batch_commands core (Items items) admitted =
+    append-nil _ ∙ batch_command core.memory.keyspaces items core.memory.next (λ none. admitted.some (ap Items none)) (all_count core items admitted.lawful admitted.living)
+batch_commands core (Emptied id) admitted = append-nil _ ∙ clear_command core.memory.keyspaces id core.memory.next (it_counts core id admitted.lawful admitted.living)
 
 -- which is all beyond what the homes' files hold
-batch_beyond : (core : Held) (base : Store) (pending : List Command) (items : List BatchItem) → IsAdmitted core items → (lies : Lies core (held_on core base pending)) → commanded lies.tree (batch_of core items ∷ []) ≡ write_of items ∷ []
-batch_beyond core base pending items admitted lies =
+batch_beyond : (core : Held) (base : Store) (pending : List Command) (change : Change) → IsAdmitted core change → (lies : Lies core (held_on core base pending)) → commanded lies.tree (batch_of core change ∷ []) ≡ command_of change ∷ []
+batch_beyond core base pending change admitted lies =
     let t = lies.tree in
-    let batch = batch_of core items in
+    let batch = batch_of core change in
     let past : past_records (lasts t.keyspaces.living t.homes) ≤ core.memory.next = omega (arith, lies.next) in
     let beyond = beyond_lasts t.homes t.versions t.keyspaces.living core.memory.next past in
     ap (λ (l : List Command). l ++ []) (beyond_all t.keyspaces (stored_in t.homes t.versions) (shown batch) beyond)
-    ∙ ap (λ (s : Keyspaces). journal_commands s (map shown (batch ∷ []))) lies.keyspaces ∙ batch_commands core items admitted
+    ∙ ap (λ (s : Keyspaces). journal_commands s (map shown (batch ∷ []))) lies.keyspaces ∙ batch_commands core change admitted
 
 -- it follows the batches that stand
 pub it_follows : (core : Held) (base : Store) (pending : List Command) (room : core.memory.next < 2 ^ 63) (lies : Lies core (held_on core base pending)) → CanFollow lies.journals core.memory.next
@@ -137,52 +149,77 @@ it_follows core base pending room lies = record { above = omega (arith, lies.nex
 more_max : (n past next : ℕ) → next ≡ max n past → n ≤ next → next + 1 ≡ max (next + 1) past
 more_max n past next is le = omega arith
 
--- versions of these items more in memory are one command more
-pub present_more : (old new : Held) (base : Store) (pending : List Command) (items : List BatchItem) → new.memory ≡ with_items items old.memory → kept (fold base pending) ≡ kept (store_in old)
-    → kept (fold base (pending ++ write_of items ∷ [])) ≡ kept (store_in new)
-present_more old new base pending items is was =
-    ap kept (fold-append base pending (write_of items ∷ []))
-    ∙ kept_along (fold base pending) (store_in old) (write_of items ∷ []) was
-    ∙ ap kept (sym (items_store old.memory.keyspaces old.memory.versions items old.memory.next))
-    ∙ ap (λ (m : Remembered). kept (store_of m.keyspaces m.versions)) (sym is)
+-- an item's keyspace that lives is found
+is_found : (core : Held) (id : ℕ) → is_living (store_in core) id ≡ true → is_some (keyspace_at id core.memory.keyspaces.living) ≡ true
+is_found core id is = sym (living_names core.memory.keyspaces [] id) ∙ is
+
+-- a change more in memory is one command more
+change_store : (old : Held) (change : Change) → IsAdmitted old change → kept (apply (store_in old) (command_of change)) ≡ store_of old.memory.keyspaces (with_change change old.memory).trees
+change_store old (Items items) admitted =
+    let is = admitted.lawful in
+    pushed_store old.memory.next items old.memory.trees (record { forest = is.forest; before = is.below; small = admitted.room; fits = admitted.fits }) old.memory.keyspaces is.planted
+    (All-weaker (λ (i : BatchItem). is_living (store_in old) i.0 ≡ true) (λ (i : BatchItem). is_some (keyspace_at i.0 old.memory.keyspaces.living) ≡ true) (λ i there. is_found old i.0 there) items admitted.living)
+change_store old (Emptied id) admitted =
+    let is = admitted.lawful in
+    emptied_store old.memory.next id old.memory.trees is.forest is.below admitted.room old.memory.keyspaces (is_found old id admitted.living)
+
+pub present_more : (old new : Held) (base : Store) (pending : List Command) (change : Change) → IsAdmitted old change → new.memory ≡ with_change change old.memory → kept (fold base pending) ≡ kept (store_in old)
+    → kept (fold base (pending ++ command_of change ∷ [])) ≡ kept (store_in new)
+present_more old new base pending change admitted is was =
+    ap kept (fold-append base pending (command_of change ∷ []))
+    ∙ kept_along (fold base pending) (store_in old) (command_of change ∷ []) was
+    ∙ change_store old change admitted ∙ sym (store_is_kept old.memory.keyspaces (with_change change old.memory).trees)
+    ∙ ap (λ (m : Remembered). kept (store_of m.keyspaces m.trees)) (sym is)
 
 -- what the change did to the disk and to the journal's writer
-abbrev pub Wrote : Held → Held → List BatchItem → Option PersistMode → Bool → Type 0
-Wrote old new items mode done = WentOut old.disk new.disk old.journal new.journal (batch_of old items) mode done
+abbrev pub Wrote : Held → Held → Change → Option PersistMode → Bool → Type 0
+Wrote old new change mode done = WentOut old.disk new.disk old.journal new.journal (batch_of old change) mode done
 
 -- what a crash during it or after it leaves
-change_leaves : (old new : Held) (base : Store) (pending : List Command) (items : List BatchItem) (mode : Option PersistMode) (done : Bool) → IsAdmitted old items → (lies : Lies old (held_on old base pending)) → Wrote old new items mode done
-    → LeavesOnly old.disk new.disk (StandsAmid base [] (pending ++ write_of items ∷ []))
-change_leaves old new base pending items mode done admitted lies out =
-    subst (λ (l : List Command). LeavesOnly old.disk new.disk (StandsAmid base [] (pending ++ l))) (batch_beyond old base pending items admitted lies)
-    (root_amid base pending old.disk new.disk lies.journals lies.records lies.tree (batch_of old items ∷ []) lies.made lies.waits lies.in_tree (out.leaves lies.journals lies.writing (it_follows old base pending admitted.room lies)))
+change_leaves : (old new : Held) (base : Store) (pending : List Command) (change : Change) (mode : Option PersistMode) (done : Bool) → IsAdmitted old change → (lies : Lies old (held_on old base pending)) → Wrote old new change mode done
+    → LeavesOnly old.disk new.disk (StandsAmid base [] (pending ++ command_of change ∷ []))
+change_leaves old new base pending change mode done admitted lies out =
+    subst (λ (l : List Command). LeavesOnly old.disk new.disk (StandsAmid base [] (pending ++ l))) (batch_beyond old base pending change admitted lies)
+    (root_amid base pending old.disk new.disk lies.journals lies.records lies.tree (batch_of old change ∷ []) lies.made lies.waits lies.in_tree (out.leaves lies.journals lies.writing (it_follows old base pending admitted.room lies)))
+
+-- the sealed journals stay, in whatever mode
+sealed-mode : (mode : Option PersistMode) (j : Journaling) → (after_mode mode j).sealed ≡ j.sealed
+sealed-mode None j = refl
+sealed-mode (Some Buffer) j = refl
+sealed-mode (Some SyncData) j = refl
+sealed-mode (Some SyncAll) j = refl
 
 -- what is held goes on from there
-pub record GoesOn (old new : Held) (items : List BatchItem) : Type 0 where
-  pub memory_is : new.memory ≡ with_items items old.memory
+pub record GoesOn (old new : Held) (change : Change) : Type 0 where
+  pub memory_is : new.memory ≡ with_change change old.memory
   pub catalog : new.catalog ≡ old.catalog
 
-module _ (old new : Held) (base : Store) (pending : List Command) (items : List BatchItem) (mode : Option PersistMode) (admitted : IsAdmitted old items) (goes : GoesOn old new items) (lies : Lies old (held_on old base pending)) (out : Wrote old new items mode true) (goes_out : Bool)
-    (writes : IsWriting (state_in new.disk) new.journal (after_mode mode (with_batch goes_out lies.journals (batch_of old items)))) where
+module _ (old new : Held) (base : Store) (pending : List Command) (change : Change) (mode : Option PersistMode) (admitted : IsAdmitted old change) (goes : GoesOn old new change) (lies : Lies old (held_on old base pending)) (out : Wrote old new change mode true) (goes_out : Bool)
+    (writes : IsWriting (state_in new.disk) new.journal (after_mode mode (with_batch goes_out lies.journals (batch_of old change)))) where
   abbrev all : List Command
-  all = pending ++ write_of items ∷ []
+  all = pending ++ command_of change ∷ []
 
   abbrev after : Journaling
-  after = after_mode mode (with_batch goes_out lies.journals (batch_of old items))
+  after = after_mode mode (with_batch goes_out lies.journals (batch_of old change))
 
-  waits_too : all ≡ commanded lies.tree (lies.journals.later ++ batch_of old items ∷ [])
+  waits_too : all ≡ commanded lies.tree (lies.journals.later ++ batch_of old change ∷ [])
   waits_too =
-      ap (λ (l : List Command). l ++ write_of items ∷ []) lies.waits
-      ∙ ap (λ (l : List Command). commanded lies.tree lies.journals.later ++ l) (sym (batch_beyond old base pending items admitted lies)) ∙ sym (commands_more lies.tree lies.journals.later (batch_of old items ∷ []))
+      ap (λ (l : List Command). l ++ command_of change ∷ []) lies.waits
+      ∙ ap (λ (l : List Command). commanded lies.tree lies.journals.later ++ l) (sym (batch_beyond old base pending change admitted lies)) ∙ sym (commands_more lies.tree lies.journals.later (batch_of old change ∷ []))
 
   next_too : new.memory.next ≡ max (next_number after) (past_records (fields lies.tree.last ∷ lasts lies.tree.keyspaces.living lies.tree.homes))
   next_too =
       let past = past_records (fields lies.tree.last ∷ lasts lies.tree.keyspaces.living lies.tree.homes) in
       ap (λ (m : Remembered). m.next) goes.memory_is ∙ more_max (next_number lies.journals) past old.memory.next lies.next (it_follows old base pending admitted.room lies).above
-      ∙ ap (λ n. max n past) (sym (next-mode mode goes_out lies.journals (batch_of old items)))
+      ∙ ap (λ n. max n past) (sym (next-mode mode goes_out lies.journals (batch_of old change)))
 
   in_tree_too : LiesInTree (state_in new.disk) lies.records lies.tree
   in_tree_too = tree_along (state_in old.disk) (state_in new.disk) lies.records lies.tree (out.elsewhere lies.journals lies.writing) lies.in_tree
+
+  told_too : AllZip TellsOf after.sealed new.memory.sealed
+  told_too =
+      subst (λ (l : List Journal). AllZip TellsOf l new.memory.sealed) (sym (sealed-mode mode (with_batch goes_out lies.journals (batch_of old change))))
+      (subst (λ (l : List Sealed). AllZip TellsOf lies.journals.sealed l) (sym (ap (λ (m : Remembered). m.sealed) goes.memory_is)) lies.told)
 
   -- where base and pending lie after it, while it may wait and isn't synced
   pub pending_lies : kept base ≡ folders.store_of (contents_with after lies.tree []) → all ≡ commanded lies.tree after.later → Lies new (held_on new base all)
@@ -192,6 +229,7 @@ module _ (old new : Held) (base : Store) (pending : List Command) (items : List 
     tree = lies.tree;
     writing = writes;
     in_tree = in_tree_too;
+    told = told_too;
     last = lies.last ∙ sym goes.catalog;
     keyspaces = lies.keyspaces ∙ ap (λ (m : Remembered). m.keyspaces) (sym goes.memory_is);
     made = made;
@@ -207,6 +245,7 @@ module _ (old new : Held) (base : Store) (pending : List Command) (items : List 
     tree = lies.tree;
     writing = writes;
     in_tree = in_tree_too;
+    told = told_too;
     last = lies.last ∙ sym goes.catalog;
     keyspaces = lies.keyspaces ∙ ap (λ (m : Remembered). m.keyspaces) (sym goes.memory_is);
     made = made;
@@ -215,97 +254,97 @@ module _ (old new : Held) (base : Store) (pending : List Command) (items : List 
   }
 
   -- the journals with a batch more are sound, since what was written is
-  sound_more : first_fault 0 (map shown (batches_in (journals_with lies.journals (lies.journals.later ++ batch_of old items ∷ [])))) ≡ None
-  sound_more = ap (λ (l : List Journal). first_fault 0 (map shown (batches_in l))) (sym (kept-mode mode (with_batch goes_out lies.journals (batch_of old items)))) ∙ writes.root.sound
+  sound_more : first_fault 0 (map shown (batches_in (journals_with lies.journals (lies.journals.later ++ batch_of old change ∷ [])))) ≡ None
+  sound_more = ap (λ (l : List Journal). first_fault 0 (map shown (batches_in l))) (sym (kept-mode mode (with_batch goes_out lies.journals (batch_of old change)))) ∙ writes.root.sound
 
   -- the synced journals hold what they held
-  synced_too : journals_with (synced (with_batch goes_out lies.journals (batch_of old items))) [] ≡ journals_with lies.journals (lies.journals.later ++ batch_of old items ∷ [])
-  synced_too = ap (λ (l : List Written). lies.journals.sealed ++ record { id = lies.journals.active; batches = l } ∷ []) (append-nil (lies.journals.whole ++ (lies.journals.later ++ batch_of old items ∷ [])))
+  synced_too : journals_with (synced (with_batch goes_out lies.journals (batch_of old change))) [] ≡ journals_with lies.journals (lies.journals.later ++ batch_of old change ∷ [])
+  synced_too = ap (λ (l : List Written). lies.journals.sealed ++ record { id = lies.journals.active; batches = l } ∷ []) (append-nil (lies.journals.whole ++ (lies.journals.later ++ batch_of old change ∷ [])))
 
-  pub settled_made : kept (fold base all) ≡ folders.store_of (contents_with (synced (with_batch goes_out lies.journals (batch_of old items))) lies.tree [])
+  pub settled_made : kept (fold base all) ≡ folders.store_of (contents_with (synced (with_batch goes_out lies.journals (batch_of old change))) lies.tree [])
   settled_made =
       let t = lies.tree in
       ap (λ (l : List Command). kept (fold base l)) waits_too
-      ∙ kept_with lies.journals t (lies.journals.later ++ batch_of old items ∷ []) lies.in_tree.rests.versions sound_more base lies.made
+      ∙ kept_with t lies.in_tree.rests.versions base lies.journals (lies.journals.later ++ batch_of old change ∷ []) lies.made sound_more
       ∙ ap (λ (l : List Journal). store_held t.keyspaces (stored_in t.homes t.versions) (map shown (batches_in l))) (sym synced_too)
 
 -- a change that waits, or is in the file and isn't synced
-unsynced_leads : (old new : Held) (items : List BatchItem) (mode : Option PersistMode) (base : Store) (pending : List Command) (admitted : IsAdmitted old items) → GoesOn old new items → (stands : StandsOn old (held_on old base pending))
-    → Wrote old new items mode true → Lies new (held_on new base (pending ++ write_of items ∷ [])) → Leads new (held_on old base pending) (write_of items ∷ [])
-unsynced_leads old new items mode base pending admitted goes stands out after =
-    let command = write_of items in
+unsynced_leads : (old new : Held) (change : Change) (mode : Option PersistMode) (base : Store) (pending : List Command) (admitted : IsAdmitted old change) → GoesOn old new change → (stands : StandsOn old (held_on old base pending))
+    → Wrote old new change mode true → Lies new (held_on new base (pending ++ command_of change ∷ [])) → Leads new (held_on old base pending) (command_of change ∷ [])
+unsynced_leads old new change mode base pending admitted goes stands out after =
+    let command = command_of change in
     let well : new.memory.poisoned ≡ false = ap (λ (m : Remembered). m.poisoned) goes.memory_is ∙ admitted.well in
-    let on = stands_well new base (pending ++ command ∷ []) well after (present_more old new base pending items goes.memory_is (present_of old (held_on old base pending) false admitted.well stands)) in (
+    let on = stands_well new base (pending ++ command ∷ []) well after (present_more old new base pending change admitted goes.memory_is (present_of old (held_on old base pending) false admitted.well stands)) in (
       held_on new base (pending ++ command ∷ []),
       on,
-      record { leaves = change_leaves old new base pending items mode true admitted (stands.lies admitted.well) out; safe = []; base = refl; rest = refl; rests = on.rests },
+      record { leaves = change_leaves old new base pending change mode true admitted (stands.lies admitted.well) out; safe = []; base = refl; rest = refl; rests = on.rests },
     )
 
 -- a change that was synced: nothing is pending
-synced_settles : (old new : Held) (items : List BatchItem) (mode : PersistMode) (base : Store) (pending : List Command) (admitted : IsAdmitted old items) → GoesOn old new items → (stands : StandsOn old (held_on old base pending))
-    → Wrote old new items (Some mode) true → Lies new (held_on new (fold base (pending ++ write_of items ∷ [])) []) → Settles new (held_on old base pending) (write_of items ∷ [])
-synced_settles old new items mode base pending admitted goes stands out after =
-    let command = write_of items in
+synced_settles : (old new : Held) (change : Change) (mode : PersistMode) (base : Store) (pending : List Command) (admitted : IsAdmitted old change) → GoesOn old new change → (stands : StandsOn old (held_on old base pending))
+    → Wrote old new change (Some mode) true → Lies new (held_on new (fold base (pending ++ command_of change ∷ [])) []) → Settles new (held_on old base pending) (command_of change ∷ [])
+synced_settles old new change mode base pending admitted goes stands out after =
+    let command = command_of change in
     let all = pending ++ command ∷ [] in
     let well : new.memory.poisoned ≡ false = ap (λ (m : Remembered). m.poisoned) goes.memory_is ∙ admitted.well in
-    let on = stands_well new (fold base all) [] well after (present_more old new base pending items goes.memory_is (present_of old (held_on old base pending) false admitted.well stands)) in (
+    let on = stands_well new (fold base all) [] well after (present_more old new base pending change admitted goes.memory_is (present_of old (held_on old base pending) false admitted.well stands)) in (
       held_on new (fold base all) [],
       on,
-      record { leaves = change_leaves old new base pending items (Some mode) true admitted (stands.lies admitted.well) out; safe = all; base = refl; rest = append-nil all; rests = on.rests },
+      record { leaves = change_leaves old new base pending change (Some mode) true admitted (stands.lies admitted.well) out; safe = all; base = refl; rest = append-nil all; rests = on.rests },
       refl,
     )
 
 -- what a change that was done leads to: where its mode syncs, nothing is pending
-abbrev pub LeadsBy : Held → Durable → List BatchItem → Option PersistMode → Type 0
-LeadsBy new d items mode = (e : Durable) × StandsOn new e × Passes d (write_of items ∷ []) e × (IsSyncOf mode → e.pending ≡ [])
+abbrev pub LeadsBy : Held → Durable → Change → Option PersistMode → Type 0
+LeadsBy new d change mode = (e : Durable) × StandsOn new e × Passes d (command_of change ∷ []) e × (IsSyncOf mode → e.pending ≡ [])
 
 -- that the batch was written as the mode has it
-writes_so : (old new : Held) (base : Store) (pending : List Command) (items : List BatchItem) (mode : Option PersistMode) → IsAdmitted old items → (lies : Lies old (held_on old base pending)) → Wrote old new items mode true
-    → IsWriting (state_in new.disk) new.journal (after_mode mode (with_batch (is_out mode old.journal (batch_of old items)) lies.journals (batch_of old items)))
-writes_so old new base pending items mode admitted lies out = out.lies refl lies.journals lies.writing (it_follows old base pending admitted.room lies)
+writes_so : (old new : Held) (base : Store) (pending : List Command) (change : Change) (mode : Option PersistMode) → IsAdmitted old change → (lies : Lies old (held_on old base pending)) → Wrote old new change mode true
+    → IsWriting (state_in new.disk) new.journal (after_mode mode (with_batch (is_out mode old.journal (batch_of old change)) lies.journals (batch_of old change)))
+writes_so old new base pending change mode admitted lies out = out.lies refl lies.journals lies.writing (it_follows old base pending admitted.room lies)
 
-pub write_leads : (old new : Held) (items : List BatchItem) (mode : Option PersistMode) (d : Durable) → IsAdmitted old items → GoesOn old new items → Wrote old new items mode true → StandsOn old d → LeadsBy new d items mode
-write_leads old new items None d admitted goes out stands =
-    let led = leads_on old new d (write_of items ∷ []) (λ base pending on.
+pub write_leads : (old new : Held) (change : Change) (mode : Option PersistMode) (d : Durable) → IsAdmitted old change → GoesOn old new change → Wrote old new change mode true → StandsOn old d → LeadsBy new d change mode
+write_leads old new change None d admitted goes out stands =
+    let led = leads_on old new d (command_of change ∷ []) (λ base pending on.
     let lies = on.lies admitted.well in
-    let writes = writes_so old new base pending items None admitted lies out in
-    let goes_out = is_out None old.journal (batch_of old items) in
-    unsynced_leads old new items None base pending admitted goes on out
-    (pending_lies old new base pending items None admitted goes lies out goes_out writes lies.made (waits_too old new base pending items None admitted goes lies out goes_out writes))) stands in
+    let writes = writes_so old new base pending change None admitted lies out in
+    let goes_out = is_out None old.journal (batch_of old change) in
+    unsynced_leads old new change None base pending admitted goes on out
+    (pending_lies old new base pending change None admitted goes lies out goes_out writes lies.made (waits_too old new base pending change None admitted goes lies out goes_out writes))) stands in
     (led.0, led.1, led.2, λ sync. absurd sync)
-write_leads old new items (Some Buffer) d admitted goes out stands =
-    let led = leads_on old new d (write_of items ∷ []) (λ base pending on.
+write_leads old new change (Some Buffer) d admitted goes out stands =
+    let led = leads_on old new d (command_of change ∷ []) (λ base pending on.
     let lies = on.lies admitted.well in
-    let writes = writes_so old new base pending items (Some Buffer) admitted lies out in
-    let goes_out = is_out (Some Buffer) old.journal (batch_of old items) in
-    unsynced_leads old new items (Some Buffer) base pending admitted goes on out
-    (pending_lies old new base pending items (Some Buffer) admitted goes lies out goes_out writes lies.made (waits_too old new base pending items (Some Buffer) admitted goes lies out goes_out writes))) stands in
+    let writes = writes_so old new base pending change (Some Buffer) admitted lies out in
+    let goes_out = is_out (Some Buffer) old.journal (batch_of old change) in
+    unsynced_leads old new change (Some Buffer) base pending admitted goes on out
+    (pending_lies old new base pending change (Some Buffer) admitted goes lies out goes_out writes lies.made (waits_too old new base pending change (Some Buffer) admitted goes lies out goes_out writes))) stands in
     (led.0, led.1, led.2, λ sync. absurd sync)
-write_leads old new items (Some SyncData) d admitted goes out stands =
-    let led = settles_on old new d (write_of items ∷ []) (λ base pending on.
+write_leads old new change (Some SyncData) d admitted goes out stands =
+    let led = settles_on old new d (command_of change ∷ []) (λ base pending on.
     let lies = on.lies admitted.well in
-    let writes = writes_so old new base pending items (Some SyncData) admitted lies out in
-    let goes_out = is_out (Some SyncData) old.journal (batch_of old items) in
-    synced_settles old new items SyncData base pending admitted goes on out
-    (settled_lies old new base pending items (Some SyncData) admitted goes lies out goes_out writes (settled_made old new base pending items (Some SyncData) admitted goes lies out goes_out writes) refl)) stands in
+    let writes = writes_so old new base pending change (Some SyncData) admitted lies out in
+    let goes_out = is_out (Some SyncData) old.journal (batch_of old change) in
+    synced_settles old new change SyncData base pending admitted goes on out
+    (settled_lies old new base pending change (Some SyncData) admitted goes lies out goes_out writes (settled_made old new base pending change (Some SyncData) admitted goes lies out goes_out writes) refl)) stands in
     (led.0, led.1, led.2, λ _. led.3)
-write_leads old new items (Some SyncAll) d admitted goes out stands =
-    let led = settles_on old new d (write_of items ∷ []) (λ base pending on.
+write_leads old new change (Some SyncAll) d admitted goes out stands =
+    let led = settles_on old new d (command_of change ∷ []) (λ base pending on.
     let lies = on.lies admitted.well in
-    let writes = writes_so old new base pending items (Some SyncAll) admitted lies out in
-    let goes_out = is_out (Some SyncAll) old.journal (batch_of old items) in
-    synced_settles old new items SyncAll base pending admitted goes on out
-    (settled_lies old new base pending items (Some SyncAll) admitted goes lies out goes_out writes (settled_made old new base pending items (Some SyncAll) admitted goes lies out goes_out writes) refl)) stands in
+    let writes = writes_so old new base pending change (Some SyncAll) admitted lies out in
+    let goes_out = is_out (Some SyncAll) old.journal (batch_of old change) in
+    synced_settles old new change SyncAll base pending admitted goes on out
+    (settled_lies old new base pending change (Some SyncAll) admitted goes lies out goes_out writes (settled_made old new base pending change (Some SyncAll) admitted goes lies out goes_out writes) refl)) stands in
     (led.0, led.1, led.2, λ _. led.3)
 
 -- a change that a fault refused: a crash may leave it or not
-pub torn_leads : (old new : Held) (items : List BatchItem) (mode : Option PersistMode) (d : Durable) → IsAdmitted old items → Poisons old new → Wrote old new items mode false → StandsOn old d → Leads new d (write_of items ∷ [])
-torn_leads old new items mode d admitted fault out = leads_on old new d (write_of items ∷ []) (λ base pending stands.
-    let command = write_of items in
+pub torn_leads : (old new : Held) (change : Change) (mode : Option PersistMode) (d : Durable) → IsAdmitted old change → Poisons old new → Wrote old new change mode false → StandsOn old d → Leads new d (command_of change ∷ [])
+torn_leads old new change mode d admitted fault out = leads_on old new d (command_of change ∷ []) (λ base pending stands.
+    let command = command_of change in
     let lies = stands.lies admitted.well in
-    let leaves = change_leaves old new base pending items mode false admitted lies out in
+    let leaves = change_leaves old new base pending change mode false admitted lies out in
     let finished = leaves_finished old.disk new.disk (state_in old.disk) lies.journals _ (out.leaves lies.journals lies.writing (it_follows old base pending admitted.room lies)) in
     let rests : Rests (held_on new base (pending ++ command ∷ [])) = at_end old.disk new.disk _ leaves in
-    let was = present_of old (held_on old base pending) false admitted.well stands ∙ ap (λ (m : Remembered). kept (store_of m.keyspaces m.versions)) (sym fault.memory_is) in
+    let was = present_of old (held_on old base pending) false admitted.well stands ∙ ap (λ (m : Remembered). kept (store_of m.keyspaces m.trees)) (sym fault.memory_is) in
     let on = stands_ill new base (pending ++ command ∷ []) (ap (λ (m : Remembered). m.poisoned) fault.memory_is) rests finished (inr (pending, command, refl, was)) in
     (held_on new base (pending ++ command ∷ []), on, record { leaves = leaves; safe = []; base = refl; rest = refl; rests = rests }))

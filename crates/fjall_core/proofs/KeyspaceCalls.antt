@@ -1,12 +1,15 @@
 -- Where a creation, a deletion and a release lead a core and its disk.
 use Rattle.std.proofs.Common.{◌≡◌, inl, inr, Bool, true, false, List, [], ◌∷◌, ◌++◌, refl, sym, ◌∙◌, ap, subst, codes}
 use Rattle.std.proofs.lemmas.List.{append-nil}
+use Rattle.std.specs.List.{AllZip}
+use Rattle.fjall_manager.specs.Journals.{Sealed}
+use Rattle.fjall_recovery.specs.Told.{TellsOf}
 use Rattle.fjall_base.specs.Store.{Store, Command, apply, fold, kept}
 use Rattle.fjall_base.specs.Disk.{LeavesOnly, state_in}
 use Rattle.fjall_base.proofs.Moments.{at_end, runs_on, weaken}
 use Rattle.fjall_files.specs.Regions.{Within}
 use Rattle.fjall_journal.specs.declared.persist_mode.PersistMode.TheVariants.{SyncAll}
-use Rattle.fjall_versions.specs.Versions.{store_of}
+use Rattle.fjall_maps.specs.Maps.{store_of}
 use Rattle.fjall_versions.proofs.Kept.{kept_along}
 use Rattle.fjall_recovery.specs.Halves.{HasTree}
 use Rattle.fjall_recovery.specs.Places.{LiesInTree}
@@ -75,6 +78,7 @@ pub record Recounts (old new : Held) : Type 0 where
   pub store : kept (store_in old) ≡ kept (store_in new)
   pub catalog : new.catalog ≡ old.catalog
   pub journal : new.journal ≡ old.journal
+  pub sealed : new.memory.sealed ≡ old.memory.sealed
 
 present_along : (flag : Bool) (d : Durable) (a b : Store) → kept a ≡ kept b → MakesPresent flag d a → MakesPresent flag d b
 present_along false d a b same is = is ∙ same
@@ -89,6 +93,7 @@ recounted_lies old new base pending c lies run in_tree = record {
   tree = lies.tree;
   writing = subst (λ w. IsWriting (state_in new.disk) w lies.journals) (sym c.journal) (writing_along (state_in old.disk) (state_in new.disk) old.journal lies.journals (within_root old.disk new.disk run) lies.writing);
   in_tree = in_tree;
+  told = subst (λ (l : List Sealed). AllZip TellsOf lies.journals.sealed l) (sym c.sealed) lies.told;
   last = lies.last ∙ sym c.catalog;
   keyspaces = lies.keyspaces ∙ sym c.keyspaces;
   made = lies.made;
@@ -112,6 +117,7 @@ recount_leads old new d same c stands = (
           tree = lies.tree;
           writing = subst (λ w. IsWriting (state_in d.meaning) w lies.journals) (sym c.journal) lies.writing;
           in_tree = lies.in_tree;
+          told = subst (λ (l : List Sealed). AllZip TellsOf lies.journals.sealed l) (sym c.sealed) lies.told;
           last = lies.last ∙ sym c.catalog;
           keyspaces = lies.keyspaces ∙ sym c.keyspaces;
           made = lies.made;
@@ -147,6 +153,6 @@ unremoved_leads old new d well fault gone = leads_on old new d [] (λ base pendi
     let lies = on.lies well in
     let leaves = removal_leaves old new base pending lies gone.within (gone.leaves base pending lies) in
     let rests : Rests (held_on new base pending) = at_end old.disk new.disk _ leaves in
-    let was = present_of old (held_on old base pending) false well on ∙ ap (λ (m : Remembered). kept (store_of m.keyspaces m.versions)) (sym fault.memory_is) in
+    let was = present_of old (held_on old base pending) false well on ∙ ap (λ (m : Remembered). kept (store_of m.keyspaces m.trees)) (sym fault.memory_is) in
     let still = stands_ill new base pending (ap (λ (m : Remembered). m.poisoned) fault.memory_is) rests (within_finished old.disk new.disk lies.journals lies.writing.root gone.within) (inl was) in
     (held_on new base pending, still, record { leaves = weaken old.disk new.disk _ _ leaves (λ image s. amid_more base [] pending [] image s); safe = []; base = refl; rest = sym (append-nil pending); rests = rests }))

@@ -5,7 +5,8 @@ use Rattle.fjall_base.specs.Store.{Command, Store}
 use Rattle.fjall_journal.specs.declared.persist_mode.PersistMode.{PersistMode}
 use Rattle.fjall_journal.specs.declared.persist_mode.PersistMode.TheVariants.{Buffer, SyncAll, SyncData}
 use Rattle.fjall_state.specs.declared.call.Call.{Call}
-use Rattle.fjall_state.specs.Shapes.{OfChange, OfCount, OfCreation, OfDeletion, OfHandle, OfPersist, OfRead, OfTickets, Shape, shape_of}
+use Rattle.fjall_journal.specs.Changes.{Emptied, Items}
+use Rattle.fjall_state.specs.Shapes.{OfChange, OfCount, OfCreation, OfDeletion, OfHandle, OfPersist, OfRead, OfRotation, OfTickets, Shape, shape_of}
 use Rattle.fjall_history.specs.declared.reply.Reply.{Reply}
 use Rattle.fjall_history.specs.declared.reply.Reply.TheVariants.{Refused}
 use Rattle.fjall_state.specs.Machine.{State, has_name, is_living, mode_in, present}
@@ -35,12 +36,14 @@ given_or_not (Some mode) = mode_or_not mode
 
 -- a call is one that syncs, or it isn't
 syncs_or_not : (s : State) (shape : Shape) → Syncs s shape ⊎ (Syncs s shape → ⊥)
-syncs_or_not s (OfChange [] how) = inr (λ sync. sync)
-syncs_or_not s (OfChange (item ∷ items) how) = given_or_not (mode_in (present s) how)
+syncs_or_not s (OfChange (Items []) how) = inr (λ sync. sync)
+syncs_or_not s (OfChange (Items (item ∷ items)) how) = given_or_not (mode_in (present s) how)
+syncs_or_not s (OfChange (Emptied id) how) = given_or_not (mode_in (present s) how)
 syncs_or_not s (OfCreation name options) = is_false_or_not (has_name (present s) name)
 syncs_or_not s (OfDeletion id) = is_true_or_not (is_living (present s) id)
 syncs_or_not s (OfHandle call id) = inr (λ sync. sync)
 syncs_or_not s (OfRead view id query) = inr (λ sync. sync)
+syncs_or_not s (OfRotation id) = inr (λ sync. sync)
 syncs_or_not s (OfTickets call) = inr (λ sync. sync)
 syncs_or_not s (OfPersist mode) = mode_or_not mode
 syncs_or_not s (OfCount count) = inr (λ sync. sync)

@@ -16,6 +16,7 @@ mod OwedSteps
 mod DeviceFaults
 mod ServedCalls
 mod TicketCalls
+mod RotationCalls
 mod PartOutcomes
 mod WriteCalls
 mod CallsInMemory

@@ -7,7 +7,8 @@ use Rattle.fjall_base.specs.declared.error.Error.{Error}
 use Rattle.fjall_base.specs.declared.error.Error.TheVariants.{Io}
 use Rattle.fjall_journal.specs.Batches.{Written}
 use Rattle.fjall_journal.specs.Writer.{Journal}
-use Rattle.fjall_versions.specs.Versions.{store_of as store_behind}
+use Rattle.fjall_trees.specs.Views.{forest_of}
+use Rattle.fjall_maps.specs.Maps.{store_of as store_behind}
 use Rattle.fjall_recovery.specs.Folders.{Contents, StandsFor, number_of, store_of}
 use Rattle.fjall_recovery.specs.Held.{Holds, number_held, store_held}
 use Rattle.fjall_files.specs.Names.{journal_name}
@@ -24,36 +25,41 @@ use Rattle.fjall_state.proofs.Standing.{an_opening_stands}
 use Rattle.fjall_core.specs.Holding.{Held}
 use Rattle.fjall_core.specs.Durables.{Durable, Lies}
 use Rattle.fjall_core.specs.Openings.{IsAtEnd, IsDueTo, KeepsStore, Opens, OpensAs, OpensOn, parts_of}
-use Rattle.fjall_core.proofs.CrashImages.{commanded, lies_rest, root_finished, store_is_kept}
+use Rattle.fjall_commit.proofs.CrashedJournals.{commanded, store_is_kept}
+use Rattle.fjall_core.proofs.CrashImages.{lies_rest, root_finished}
 
 -- what a core holds over a folder that was opened
 abbrev pub held_of : Meaning → Opened → Remembered → Held
 held_of disk o memory = record { disk = disk; journal = o.journal; catalog = o.catalog; memory = memory }
 
 abbrev pub core_of : Meaning → Opened → Held
-core_of disk o = held_of disk o (remembered o.keyspaces o.versions.items o.damaged.items o.number)
+core_of disk o = held_of disk o (remembered o.keyspaces (forest_of o.trees) o.damaged.items o.number o.sealed)
 
 -- what was opened is lawful
-lawful_of : (o : Opened) → repair.IsLawful o → memory.IsLawful (remembered o.keyspaces o.versions.items o.damaged.items o.number)
+lawful_of : (o : Opened) → repair.IsLawful o → memory.IsLawful (remembered o.keyspaces (forest_of o.trees) o.damaged.items o.number o.sealed)
 lawful_of o lawful = record {
   keyspaces = lawful.keyspaces;
   made = lawful.made;
+  forest = lawful.forest;
+  planted = lawful.planted;
   given = lawful.given;
   below = lawful.below;
+  bare = lawful.bare;
+  small = lawful.small;
   reached = all_none (λ i. i ≤ o.number);
   spared = λ some. let bad : ⊥ = omega (arith, some) in absurd bad;
 }
 
 -- it stands for the store of the folder
-pub opens : (disk : Meaning) (o : Opened) (store : Store) (next : ℕ) → repair.IsLawful o → store_behind o.keyspaces o.versions.items ≡ store → o.number ≡ next → Opens (core_of disk o) store o.damaged.items next
+pub opens : (disk : Meaning) (o : Opened) (store : Store) (next : ℕ) → repair.IsLawful o → store_behind o.keyspaces (forest_of o.trees) ≡ store → o.number ≡ next → Opens (core_of disk o) store o.damaged.items next
 opens disk o store next lawful made number =
-    let m = remembered o.keyspaces o.versions.items o.damaged.items o.number in
+    let m = remembered o.keyspaces (forest_of o.trees) o.damaged.items o.number o.sealed in
     let table = o.catalog.next_table_id in
     let parts = parts_of (core_of disk o) in
     record {
       remembered = subst (λ (s : Store). memory.StandsFor m table (opened_state s o.damaged.items next parts)) made
-          (subst (λ (n : ℕ). memory.StandsFor m table (opened_state (store_behind o.keyspaces o.versions.items) o.damaged.items n parts)) number
-          (an_opening_stands m (lawful_of o lawful) refl refl refl refl table parts refl));
+          (subst (λ (n : ℕ). memory.StandsFor m table (opened_state (store_behind o.keyspaces (forest_of o.trees)) o.damaged.items n parts)) number
+          (an_opening_stands m (lawful_of o lawful) refl refl refl refl table parts refl refl refl));
       journal = refl;
       buffer = refl;
     }
@@ -62,7 +68,7 @@ pub opens_on : (image : Image) (disk : Meaning) (o : Opened) → repair.IsLawful
 opens_on image disk o lawful (folder, is, store, number) = (folder, o.damaged.items, is, opens disk o (store_held folder) (number_held folder) lawful store number)
 
 pub opens_new : (disk : Meaning) (o : Opened) → repair.IsLawful o → (store : Store) × (damaged : List ℕ) × (next : ℕ) × Opens (core_of disk o) store damaged next
-opens_new disk o lawful = (store_behind o.keyspaces o.versions.items, o.damaged.items, o.number, opens disk o (store_behind o.keyspaces o.versions.items) o.number lawful refl refl)
+opens_new disk o lawful = (store_behind o.keyspaces (forest_of o.trees), o.damaged.items, o.number, opens disk o (store_behind o.keyspaces (forest_of o.trees)) o.number lawful refl refl)
 
 -- with that store as its base, and nothing pending
 module _ (disk : Meaning) (folder : Option Contents) (o : Opened) (is : repair.Opens (state_in disk) folder o) where
@@ -82,6 +88,7 @@ module _ (disk : Meaning) (folder : Option Contents) (o : Opened) (is : repair.O
     tree = is.t;
     writing = begins (state_in disk) o.journal is.j is.root is.later (ap (λ (w : Journal). w.name) is.journal) (ap (λ (w : Journal). w.buffer) is.journal);
     in_tree = is.tree;
+    told = is.sealed;
     last = is.last;
     keyspaces = is.keyspaces;
     made = kept_held;

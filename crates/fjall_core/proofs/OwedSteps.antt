@@ -8,7 +8,7 @@ use Rattle.fjall_base.specs.Pairs.{Bytes}
 use Rattle.fjall_base.specs.Store.{Create, Delete}
 use Rattle.fjall_base.specs.declared.error.Error.{Error}
 use Rattle.fjall_base.specs.declared.error.Error.TheVariants.{Io, OutOfMemory, ValueTooLong}
-use Rattle.fjall_journal.specs.Ops.{BatchItem, items_text}
+use Rattle.fjall_journal.specs.Changes.{Change, Emptied, Items, change_text}
 use Rattle.fjall_journal.specs.Writer.{Journal, after_command, counted, filled, goes_out}
 use Rattle.fjall_journal.specs.Writer as writer
 use Rattle.fjall_journal.specs.declared.persist_mode.PersistMode.TheVariants.{Buffer}
@@ -16,9 +16,8 @@ use Rattle.fjall_options.specs.Options.{AreOptions}
 use Rattle.fjall_meta.specs.declared.living.LivingKeyspace.{LivingKeyspace}
 use Rattle.fjall_meta.specs.Keyspaces.{id_of}
 use Rattle.fjall_versions.specs.Replays.{option_pairs}
-use Rattle.fjall_versions.specs.Versions.{pairs_in}
+use Rattle.fjall_maps.specs.Maps.{pairs_in}
 use Rattle.fjall_versions.proofs.Kept.{kept_along}
-use Rattle.fjall_versions.proofs.Naming.{rest_is_bare}
 use Rattle.fjall_history.specs.declared.ticket.View.{View}
 use Rattle.fjall_history.specs.declared.reply.Reply.{Reply}
 use Rattle.fjall_history.specs.declared.reply.Reply.TheVariants.{Done, Number, Flag, Opened, Refused}
@@ -27,14 +26,19 @@ use Rattle.fjall_history.specs.Histories.{number}
 use Rattle.fjall_history.specs.Queries.{Query, Tells}
 use Rattle.fjall_history.specs.Tickets.{Tickets, closed, collected, opened}
 use Rattle.fjall_state.specs.declared.call.Call.{Call}
-use Rattle.fjall_state.specs.Shapes.{AsKeyspace, ByMode, Clone, Close, Collect, Count, Exists, JournalSpace, Keyspaces, Next, OfChange, OfCount, OfCreation, OfDeletion, OfHandle, OfPersist, OfRead, OfTickets, OneLess, OneMore, Open, OpenTickets, Persistence, Shape, TicketCall, Visible, shape_of}
+use Rattle.fjall_state.specs.Shapes.{AsKeyspace, ByMode, Clone, Close, Collect, Count, Exists, JournalSpace, Journals, Keyspaces, Next, OfChange, OfCount, OfCreation, OfDeletion, OfHandle, OfPersist, OfRead, OfRotation, OfTickets, OneLess, OneMore, Open, OpenTickets, Persistence, Entries, SealedMemtables, Shape, TicketCall, Visible, WriteBuffer, shape_of}
 use Rattle.fjall_state.specs.Shapes as shapes
-use Rattle.fjall_state.specs.Machine.{Answers, CountIs, change_refusals, creation_refusals, first_due, has_name, State, Parts, StepOf, Run, Refuses, ChangesDisk, MayFail, TooLong, TurnsTickets, accepted, created, deleted, due, facts, is_living, leaves_buffer, mode_in, present, written, written_out}
+use Rattle.fjall_state.specs.Allowed.{MayChange}
+use Rattle.fjall_state.specs.Machine.{Answers, CountIs, creation_refusals, first_due, has_name, State, Parts, StepOf, Run, Refuses, ChangesDisk, MayFail, TooLong, TurnsTickets, accepted, created, deleted, due, facts, is_living, leaves_buffer, mode_in, present, rotates, written, written_out}
 use Rattle.fjall_state.specs.Machine as machine
-use Rattle.fjall_state.specs.Remembered.{IsLawful, Remembered, facts_of, poisoned, versions_in}
+use Rattle.fjall_state.specs.Remembered.{IsLawful, Remembered, facts_of, instant_in, poisoned}
 use Rattle.fjall_state.specs.Remembered as memory
+use Rattle.fjall_manager.specs.Journals.{Sealed, bytes_of}
+use Rattle.fjall_trees.specs.Forests.{Forest}
+use Rattle.fjall_trees.specs.Tables.{shape_in}
 use Rattle.fjall_state.proofs.ByHand.{options_agree}
-use Rattle.fjall_state.proofs.Dues.{may_change, may_create}
+use Rattle.fjall_state.proofs.Sizes.{buffers_agree, wants_agree}
+use Rattle.fjall_state.proofs.Dues.{may_change, may_create, may_delete}
 use Rattle.fjall_state.proofs.Standing as law
 use Rattle.fjall_core.specs.Holding.{Held}
 use Rattle.fjall_core.specs.Standing.{StandsFor, Gives, Owes, OwesAll, OwesChange, OwesCreation, OwesDeletion, OwesRefusal, OwesFailure, Poisons, RanOut, Grows, HandsOver, HeldCount, Alters, Counts, Creates, Deletes, held_due, mode_of, store_in, text_of}
@@ -53,7 +57,7 @@ same_due core s shape stands = law.facts_agree core.memory core.catalog.next_tab
 
 -- the parts that a core's counts speak of
 abbrev pub parts_held : Held → Parts
-parts_held core = record { journal = core.journal.len; buffer = length core.journal.buffer; table = core.catalog.next_table_id }
+parts_held core = record { sealed = core.memory.sealed; journal = core.journal.len; buffer = length core.journal.buffer; table = core.catalog.next_table_id; trees = core.memory.trees }
 
 -- ---- refusals
 
@@ -64,7 +68,7 @@ poisoned_state new s = record s { poisoned = true; parts = parts_held new }
 poisoned_stands : (old new : Held) (s : State) → Poisons old new → StandsFor old s → StandsFor new (poisoned_state new s)
 poisoned_stands old new s fault stands = record {
   remembered = subst (λ (m : Remembered). memory.StandsFor m new.catalog.next_table_id (poisoned_state new s)) (sym fault.memory_is)
-      (law.a_fault_stands old.memory old.catalog.next_table_id s stands.remembered (parts_held new));
+      (law.a_fault_stands old.memory old.catalog.next_table_id s stands.remembered (parts_held new) (ap (λ (m : Remembered). m.trees) fault.memory_is) (ap (λ (m : Remembered). m.sealed) fault.memory_is));
   journal = refl;
   buffer = refl;
 }
@@ -76,8 +80,9 @@ still old new s same stands = subst (λ c. StandsFor c s) (sym same) stands
 same_long : (old : Held) (s : State) (shape : Shape) → StandsFor old s → TooLong (store_in old) shape → TooLong (present s) shape
 same_long old s (OfCreation name options) stands long = subst machine.HasLongOption (kept_along (store_in old) (present s) (Create name (option_pairs options) ∷ []) (sym stands.remembered.present)) long
 same_long old s (OfDeletion id) stands long = subst machine.HasLongOption (kept_along (store_in old) (present s) (Delete id ∷ []) (sym stands.remembered.present)) long
-same_long old s (OfChange items how) stands long = absurd long
+same_long old s (OfChange change how) stands long = absurd long
 same_long old s (OfHandle call id) stands long = absurd long
+same_long old s (OfRotation id) stands long = absurd long
 same_long old s (OfRead view id query) stands long = absurd long
 same_long old s (OfTickets call) stands long = absurd long
 same_long old s (OfPersist mode) stands long = absurd long
@@ -89,19 +94,21 @@ same_mode old s stands (AsKeyspace id) = ap (λ b. if b then None else Some Buff
 same_mode old s stands (ByMode mode) = refl
 
 -- a change leaves the buffer of a state as it does the core's
-same_leaves : (old : Held) (s : State) → StandsFor old s → (items : List BatchItem) (how : Persistence) → leaves_buffer (facts s) s.parts.buffer items how ≡ leaves_buffer (facts_of old.memory old.catalog.next_table_id) (length old.journal.buffer) items how
-same_leaves old s stands items how =
+same_leaves : (old : Held) (s : State) → StandsFor old s → (change : Change) (how : Persistence) → leaves_buffer (facts s) s.parts.buffer change how ≡ leaves_buffer (facts_of old.memory old.catalog.next_table_id) (length old.journal.buffer) change how
+same_leaves old s stands change how =
     let mode = same_mode old s stands how in
-    λ i. goes_out (is_none (mode i)) (stands.buffer i + length (items_text items (stands.remembered.number i)))
+    λ i. goes_out (is_none (mode i)) (stands.buffer i + length (change_text change (stands.remembered.number i)))
 
 -- what changes the core's disk does so for the state
 same_changes : (old : Held) (s : State) (shape : Shape) → StandsFor old s → ChangesDisk (facts_of old.memory old.catalog.next_table_id) (length old.journal.buffer) shape → ChangesDisk (facts s) s.parts.buffer shape
-same_changes old s (OfChange [] how) stands changes = absurd changes
-same_changes old s (OfChange (item ∷ items) how) stands out = same_leaves old s stands (item ∷ items) how ∙ out
+same_changes old s (OfChange (Items []) how) stands changes = absurd changes
+same_changes old s (OfChange (Items (item ∷ items)) how) stands out = same_leaves old s stands (Items (item ∷ items)) how ∙ out
+same_changes old s (OfChange (Emptied id) how) stands out = same_leaves old s stands (Emptied id) how ∙ out
 same_changes old s (OfCreation name options) stands changes = tt
 same_changes old s (OfDeletion id) stands changes = tt
 same_changes old s (OfHandle OneMore id) stands changes = absurd changes
 same_changes old s (OfHandle OneLess id) stands changes = tt
+same_changes old s (OfRotation id) stands changes = absurd changes
 same_changes old s (OfRead view id query) stands changes = absurd changes
 same_changes old s (OfTickets call) stands changes = absurd changes
 same_changes old s (OfPersist mode) stands changes = tt
@@ -111,16 +118,17 @@ same_changes old s (OfCount count) stands changes = absurd changes
 ran_out_still : (old new : Held) (s : State) (shape : Shape) → RanOut old shape new → StandsFor old s → StandsFor new s
 ran_out_still old new s (OfHandle OneLess id) (same, later) stands = subst (λ (c : Held). StandsFor c s) (sym same) (record { remembered = stands.remembered; journal = stands.journal; buffer = stands.buffer })
 ran_out_still old new s (OfHandle OneMore id) same stands = still old new s same stands
-ran_out_still old new s (OfChange items how) same stands = still old new s same stands
+ran_out_still old new s (OfChange change how) same stands = still old new s same stands
 ran_out_still old new s (OfCreation name options) same stands = still old new s same stands
 ran_out_still old new s (OfDeletion id) same stands = still old new s same stands
+ran_out_still old new s (OfRotation id) same stands = still old new s same stands
 ran_out_still old new s (OfRead view id query) same stands = still old new s same stands
 ran_out_still old new s (OfTickets call) same stands = still old new s same stands
 ran_out_still old new s (OfPersist mode) same stands = still old new s same stands
 ran_out_still old new s (OfCount count) same stands = still old new s same stands
 
 failure_steps : (old new : Held) (s : State) (shape : Shape) (error : Error) → StandsFor old s → OwesFailure old shape error new → (t : State) × StandsFor new t × MayFail shape error s t
-failure_steps old new s shape (Io kind) stands (changes, fault) = (poisoned_state new s, poisoned_stands old new s fault stands, (same_changes old s shape stands changes, refl))
+failure_steps old new s shape (Io kind) stands (changes, fault) = (poisoned_state new s, poisoned_stands old new s fault stands, (same_changes old s shape stands changes, (refl, ap (λ (m : Remembered). m.trees) fault.memory_is ∙ sym stands.remembered.trees, ap (λ (m : Remembered). m.sealed) fault.memory_is ∙ sym stands.remembered.sealed)))
 failure_steps old new s shape OutOfMemory stands (takes, out) = (s, ran_out_still old new s shape out stands, (takes, refl))
 failure_steps old new s shape ValueTooLong stands (long, same) = (s, still old new s same stands, (same_long old s shape stands long, refl))
 failure_steps old new s shape error stands none = absurd none
@@ -141,33 +149,33 @@ parts_after : (out : Bool) (j : Journal) (parts : Parts) (text : List ℕ) → p
 parts_after true j parts text journal buffer = (journal_more j parts text journal buffer, refl)
 parts_after false j parts text journal buffer = (journal, let all = length-append j.buffer text in omega (arith, all, buffer))
 
--- the keyspaces of a change that nothing refuses live
-living_items : (core : Held) (items : List BatchItem) → first_due (change_refusals (facts_of core.memory core.catalog.next_table_id) items) ≡ None → All (λ item. is_living (store_in core) item.0 ≡ true) items
-living_items core items none = (may_change (facts_of core.memory core.catalog.next_table_id) items none).living
-
-grown_stands : (old new : Held) (s : State) (item : BatchItem) (items : List BatchItem) (how : Persistence) → All (λ i. is_living (store_in old) i.0 ≡ true) (item ∷ items) → Grows old (item ∷ items) how new → StandsFor old s
-    → StandsFor new (accepted s (item ∷ items) how)
-grown_stands old new s item items how living grows stands =
-    let all = item ∷ items in
-    let text = text_of old all in
+grown_stands : (old new : Held) (s : State) (change : Change) (how : Persistence) → change ≢ Items [] → accepted s change how ≡ machine.made s change how → MayChange (facts_of old.memory old.catalog.next_table_id) change → Grows old change how new → StandsFor old s
+    → StandsFor new (accepted s change how)
+grown_stands old new s change how some is_made may grows stands =
+    let text = text_of old change in
     let hand = is_none (mode_of old how) in
-    let t = accepted s all how in
-    let same : items_text all (history.number s.history) ≡ text = ap (items_text all) stands.remembered.number in
-    let out : leaves_buffer (facts s) s.parts.buffer all how ≡ goes_out hand (length (old.journal.buffer ++ text)) =
-    same_leaves old s stands all how ∙ ap (goes_out hand) (sym (length-append old.journal.buffer text)) in
+    let t = machine.made s change how in
+    let same : change_text change (history.number s.history) ≡ text = ap (change_text change) stands.remembered.number in
+    let out : leaves_buffer (facts s) s.parts.buffer change how ≡ goes_out hand (length (old.journal.buffer ++ text)) =
+    same_leaves old s stands change how ∙ ap (goes_out hand) (sym (length-append old.journal.buffer text)) in
     let after = parts_after (goes_out hand (length (old.journal.buffer ++ text))) old.journal s.parts text stands.journal stands.buffer in
-    record {
+    let held = law.a_change_stands old.memory old.catalog.next_table_id s stands.remembered change how some may.living may.fits may.numbered in
+    subst (λ (u : State). StandsFor new u) (sym is_made) (record {
       remembered = subst (λ (m : Remembered). memory.StandsFor m new.catalog.next_table_id t) (sym grows.memory_is)
-          (subst (λ c. memory.StandsFor (memory.with_items all old.memory) c t) (ap (λ c. c.next_table_id) (sym grows.catalog))
-          (law.changed_stands old.memory old.catalog.next_table_id s stands.remembered all t.parts refl living));
+          (subst (λ c. memory.StandsFor (memory.with_change change old.memory) c t) (ap (λ c. c.next_table_id) (sym grows.catalog)) (subst (λ (u : State). memory.StandsFor (memory.with_change change old.memory) old.catalog.next_table_id u) is_made held));
       journal = (λ i. (written (out i) s.parts (length (same i))).journal) ∙ after.0 ∙ ap (λ (j : Journal). j.len) (sym grows.journal);
       buffer = (λ i. (written (out i) s.parts (length (same i))).buffer) ∙ after.1 ∙ ap (λ (j : Journal). length j.buffer) (sym grows.journal);
-    }
+    })
 
-changed_steps : (old new : Held) (s : State) (items : List BatchItem) (how : Persistence) → held_due old (OfChange items how) ≡ None → OwesChange old items how new → StandsFor old s → Steps new s (OfChange items how) Done
-changed_steps old new s [] how none same stands = (s, still old new s same stands, (refl, (refl, refl)))
-changed_steps old new s (item ∷ items) how none grows stands =
-    (accepted s (item ∷ items) how, grown_stands old new s item items how (living_items old (item ∷ items) none) grows stands, (same_due old s (OfChange (item ∷ items) how) stands ∙ none, (refl, refl)))
+changed_steps : (old new : Held) (s : State) (change : Change) (how : Persistence) → held_due old (OfChange change how) ≡ None → OwesChange old change how new → StandsFor old s → Steps new s (OfChange change how) Done
+changed_steps old new s (Items []) how none same stands = (s, still old new s same stands, (refl, (refl, refl)))
+changed_steps old new s (Items (item ∷ items)) how none grows stands =
+    let all = Items (item ∷ items) in
+    let some : all ≢ Items [] = λ is. let bad : ⊥ = cc in bad in
+    (accepted s all how, grown_stands old new s all how some refl (may_change (facts_of old.memory old.catalog.next_table_id) all none) grows stands, (same_due old s (OfChange all how) stands ∙ none, (refl, refl)))
+changed_steps old new s (Emptied id) how none grows stands =
+    let some : Emptied id ≢ Items [] = λ is. let bad : ⊥ = cc in bad in
+    (accepted s (Emptied id) how, grown_stands old new s (Emptied id) how some refl (may_change (facts_of old.memory old.catalog.next_table_id) (Emptied id) none) grows stands, (same_due old s (OfChange (Emptied id) how) stands ∙ none, (refl, refl)))
 
 -- ---- what else changes
 
@@ -179,7 +187,7 @@ handed_stands : (old new : Held) (s : State) → HandsOver old new → StandsFor
 handed_stands old new s hands stands = record {
   remembered = subst (λ (m : Remembered). memory.StandsFor m new.catalog.next_table_id (record s { parts = written_out s.parts 0 })) (sym hands.memory_is)
       (law.other_parts_stand old.memory new.catalog.next_table_id s (subst (λ c. memory.StandsFor old.memory c s) (ap (λ c. c.next_table_id) (sym hands.catalog)) stands.remembered) (written_out s.parts 0)
-      (stands.remembered.next_table ∙ ap (λ c. c.next_table_id) (sym hands.catalog)));
+      (stands.remembered.next_table ∙ ap (λ c. c.next_table_id) (sym hands.catalog)) stands.remembered.trees stands.remembered.sealed);
   journal = none_more old.journal s.parts stands.journal stands.buffer ∙ ap (λ (j : Journal). j.len) (sym hands.journal);
   buffer = ap (λ (j : Journal). length j.buffer) (sym hands.journal);
 }
@@ -192,11 +200,11 @@ altered_stands old new s t after table alters held journal buffer stands = recor
   buffer = buffer ∙ ap (λ (j : Journal). length j.buffer) (sym alters.journal);
 }
 
-counted_stands : (old new : Held) (s t : State) (after : Remembered) → Counts old after new → memory.StandsFor after old.catalog.next_table_id t → t.parts ≡ s.parts → StandsFor old s → StandsFor new t
-counted_stands old new s t after counts held parts stands = record {
+counted_stands : (old new : Held) (s t : State) (after : Remembered) → Counts old after new → memory.StandsFor after old.catalog.next_table_id t → t.parts.journal ≡ s.parts.journal → t.parts.buffer ≡ s.parts.buffer → StandsFor old s → StandsFor new t
+counted_stands old new s t after counts held journal buffer stands = record {
   remembered = subst (λ (m : Remembered). memory.StandsFor m new.catalog.next_table_id t) (sym counts.memory_is) (subst (λ c. memory.StandsFor after c t) (ap (λ c. c.next_table_id) (sym counts.catalog)) held);
-  journal = ap (λ (p : Parts). p.journal) parts ∙ stands.journal ∙ ap (λ (j : Journal). j.len) (sym counts.journal);
-  buffer = ap (λ (p : Parts). p.buffer) parts ∙ stands.buffer ∙ ap (λ (j : Journal). length j.buffer) (sym counts.journal);
+  journal = journal ∙ stands.journal ∙ ap (λ (j : Journal). j.len) (sym counts.journal);
+  buffer = buffer ∙ stands.buffer ∙ ap (λ (j : Journal). length j.buffer) (sym counts.journal);
 }
 
 -- ---- a creation
@@ -209,7 +217,7 @@ last_of P (y ∷ front) x all = last_of P front x (All-tail P y (front ++ x ∷ 
 some_id : (core : Held) (name : Bytes) → first_due (creation_refusals (facts_of core.memory core.catalog.next_table_id) name) ≡ None → has_name (store_in core) name ≡ false → core.memory.keyspaces.next ≢ 2 ^ 64 - 1
 some_id core name none fresh same =
     let room = (may_create (facts_of core.memory core.catalog.next_table_id) name none).room fresh in
-    room.free ((rest_is_bare core.memory.keyspaces core.memory.versions).2 ∙ same)
+    room.free same
 
 created_steps : (old new : Held) (s : State) (name : Bytes) (options : List Bytes) (id : ℕ) → held_due old (OfCreation name options) ≡ None → has_name (store_in old) name ≡ false → id ≡ old.memory.keyspaces.next → Creates old name options new
     → StandsFor old s → Steps new s (OfCreation name options) (Number id)
@@ -217,7 +225,7 @@ created_steps old new s name options id none fresh is creates stands =
     let held = stands.remembered in
     let named = (may_create (facts_of old.memory old.catalog.next_table_id) name none).named in
     let option_list = last_of (λ (k : LivingKeyspace). AreOptions k.options) old.memory.keyspaces.living (record { id = old.memory.keyspaces.next; number = old.memory.next; name = name; options = options }) creates.lawful.keyspaces.options in
-    let after = law.a_creation_stands old.memory old.catalog.next_table_id s held name options named fresh option_list (some_id old name none fresh) in (
+    let after = law.a_creation_stands old.memory old.catalog.next_table_id s held name options named fresh option_list (some_id old name none fresh) ((may_create (facts_of old.memory old.catalog.next_table_id) name none).room fresh).numbered in (
       created s name options,
       altered_stands old new s (created s name options) _ _ creates after refl refl stands,
       (same_due old s (OfCreation name options) stands ∙ none, (id, refl, inr ((λ i. has_name (held.present i) name) ∙ fresh, is ∙ sym (law.next_agrees old.memory old.catalog.next_table_id s held), refl))),
@@ -253,7 +261,7 @@ deleted_steps old new s id none living deletes stands =
     let held = stands.remembered in
     let here : is_living (present s) id ≡ true = law.living_agree old.memory old.catalog.next_table_id s held id ∙ living in (
       deleted s id,
-      altered_stands old new s (deleted s id) _ _ deletes (law.a_deletion_stands old.memory old.catalog.next_table_id s held id living) refl refl stands,
+      altered_stands old new s (deleted s id) _ _ deletes (law.a_deletion_stands old.memory old.catalog.next_table_id s held id living ((may_delete (facts_of old.memory old.catalog.next_table_id) id none).number living).numbered) refl refl stands,
       (same_due old s (OfDeletion id) stands ∙ none, (refl, ap (λ b. if b then deleted s id else s) (sym here))),
     )
 
@@ -275,9 +283,24 @@ retained_steps old new s id none is stands =
 released_steps : (old new : Held) (s : State) (id : ℕ) → held_due old (OfHandle OneLess id) ≡ None → Counts old (memory.released id old.memory) new → StandsFor old s → Steps new s (OfHandle OneLess id) Done
 released_steps old new s id none counts stands = (
   machine.released s id,
-  counted_stands old new s (machine.released s id) _ counts (law.a_release_stands old.memory old.catalog.next_table_id s stands.remembered id) refl stands,
+  counted_stands old new s (machine.released s id) _ counts (law.a_release_stands old.memory old.catalog.next_table_id s stands.remembered id) refl refl stands,
   (same_due old s (OfHandle OneLess id) stands ∙ none, (refl, refl)),
 )
+
+-- ---- a rotation
+
+rotation_steps : (old new : Held) (s : State) (id : ℕ) (reply : Reply) → held_due old (OfRotation id) ≡ None → (seals : Bool) → rotates old.memory.trees id ≡ seals → reply ≡ Flag seals
+    → new ≡ (if seals then record old { memory = memory.rotated id old.memory } else old) → StandsFor old s → Answered new s (OfRotation id) reply
+rotation_steps old new s id reply none true rotates_so told is stands =
+    let t = machine.rotated s id in
+    let seals = law.rotations_agree old.memory old.catalog.next_table_id s stands.remembered id ∙ rotates_so in (
+      t,
+      subst (λ c. StandsFor c t) (sym is) (record { remembered = law.a_rotation_stands old.memory old.catalog.next_table_id s stands.remembered id; journal = stands.journal; buffer = stands.buffer }),
+      (same_due old s (OfRotation id) stands ∙ none, (told ∙ ap Flag (sym seals), ap (λ b. if b then t else s) (sym seals))),
+    )
+rotation_steps old new s id reply none false rotates_so told is stands =
+    let seals = law.rotations_agree old.memory old.catalog.next_table_id s stands.remembered id ∙ rotates_so in
+    (s, still old new s is stands, (same_due old s (OfRotation id) stands ∙ none, (told ∙ ap Flag (sym seals), ap (λ b. if b then machine.rotated s id else s) (sym seals))))
 
 -- ---- tickets
 
@@ -332,7 +355,7 @@ module _ (old new : Held) (s : State) (stands : StandsFor old s) (is : new ≡ r
 -- ---- each call
 
 -- a read of a map that is the view's
-read_steps : (old new : Held) (s : State) (view : View) (id : ℕ) (query : Query) (reply : Reply) → held_due old (OfRead view id query) ≡ None → Tells query (pairs_in id (versions_in old.memory view)) reply → new ≡ old → StandsFor old s
+read_steps : (old new : Held) (s : State) (view : View) (id : ℕ) (query : Query) (reply : Reply) → held_due old (OfRead view id query) ≡ None → Tells query (pairs_in id (instant_in old.memory view) old.memory.trees) reply → new ≡ old → StandsFor old s
     → Answered new s (OfRead view id query) reply
 read_steps old new s view id query reply none told same stands = (
   s,
@@ -346,8 +369,13 @@ same_counts old s shapes.Names reply (names, told, all, sorted) stands = (names,
 same_counts old s (Exists name) reply told stands = told ∙ ap Flag (sym (λ i. has_name (stands.remembered.present i) name))
 same_counts old s Next reply told stands = told ∙ ap Number (sym stands.remembered.number)
 same_counts old s Visible reply told stands = told ∙ ap Number (sym stands.remembered.number)
-same_counts old s JournalSpace reply told stands = told ∙ ap Number (sym stands.journal)
+same_counts old s Journals reply told stands = told ∙ ap (λ (sealed : List Sealed). Number (length sealed + 1)) (sym stands.remembered.sealed)
+same_counts old s JournalSpace reply told stands = told ∙ (λ i. Number (counted (bytes_of (sym stands.remembered.sealed i) + sym stands.journal i)))
 same_counts old s OpenTickets reply told stands = told ∙ ap (λ (t : Tickets). Number (len t.instants)) (sym stands.remembered.tickets)
+same_counts old s (Entries id) reply told stands = told ∙ ap (λ (trees : Forest). Number (counted (machine.version_count (shape_in id trees)))) (sym stands.remembered.trees)
+same_counts old s (SealedMemtables id) reply told stands = told ∙ ap (λ (trees : Forest). Number (length (shape_in id trees).memory.sealed)) (sym stands.remembered.trees)
+same_counts old s WriteBuffer reply told stands = told ∙ ap (λ n. Number (counted n)) (sym (buffers_agree old.memory old.catalog.next_table_id s stands.remembered))
+same_counts old s (shapes.WantsRotation id) reply told stands = told ∙ ap Flag (sym (wants_agree old.memory old.catalog.next_table_id s stands.remembered id))
 
 creation_steps : (old new : Held) (s : State) (name : Bytes) (options : List Bytes) (id : ℕ) → held_due old (OfCreation name options) ≡ None → OwesCreation old name options id new → StandsFor old s → Steps new s (OfCreation name options) (Number id)
 creation_steps old new s name options id none (inl (found, same)) stands = found_steps old new s name options id none found same stands
@@ -358,11 +386,12 @@ deletion_steps old new s id none (inl (gone, same)) stands = gone_steps old new 
 deletion_steps old new s id none (inr (living, deletes)) stands = deleted_steps old new s id none living deletes stands
 
 gives_step : (old new : Held) (shape : Shape) (reply : Reply) (s : State) → held_due old shape ≡ None → Gives old shape reply new → StandsFor old s → Answered new s shape reply
-gives_step old new (OfChange items how) reply s none (told, owes) stands = subst (λ r. Answered new s (OfChange items how) r) (sym told) (changed_steps old new s items how none owes stands)
+gives_step old new (OfChange change how) reply s none (told, owes) stands = subst (λ r. Answered new s (OfChange change how) r) (sym told) (changed_steps old new s change how none owes stands)
 gives_step old new (OfCreation name options) reply s none (id, told, owes) stands = subst (λ r. Answered new s (OfCreation name options) r) (sym told) (creation_steps old new s name options id none owes stands)
 gives_step old new (OfDeletion id) reply s none (told, owes) stands = subst (λ r. Answered new s (OfDeletion id) r) (sym told) (deletion_steps old new s id none owes stands)
 gives_step old new (OfHandle OneMore id) reply s none (told, is) stands = subst (λ r. Answered new s (OfHandle OneMore id) r) (sym told) (retained_steps old new s id none is stands)
 gives_step old new (OfHandle OneLess id) reply s none (told, counts) stands = subst (λ r. Answered new s (OfHandle OneLess id) r) (sym told) (released_steps old new s id none counts stands)
+gives_step old new (OfRotation id) reply s none (told, is) stands = rotation_steps old new s id reply none (rotates old.memory.trees id) refl told is stands
 gives_step old new (OfRead view id query) reply s none (told, same) stands = read_steps old new s view id query reply none told same stands
 gives_step old new (OfTickets call) reply s none (turns, is) stands = tickets_step old new s stands is call reply none turns
 gives_step old new (OfPersist mode) reply s none (told, hands) stands =

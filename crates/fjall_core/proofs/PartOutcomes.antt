@@ -1,12 +1,12 @@
 -- What came of the parts of a call.
-use Rattle.std.proofs.Common.{◌≡◌, ℕ, ◌≤◌, Bool, true, false, if◌then◌else◌, is_none, List, [], Option, Ok, Err, refl, sym, ◌∙◌, ap, subst}
+use Rattle.std.proofs.Common.{◌≡◌, ℕ, ◌≤◌, Bool, true, false, if◌then◌else◌, is_none, [], Option, Ok, Err, refl, sym, ◌∙◌, ap, subst}
 use Rattle.std.proofs.lemmas.Bool.{true≢false}
 use Rattle.fjall_base.specs.Disk.{Took}
 use Rattle.fjall_base.specs.Errors.{IsFault, IsFaultOrMemory}
 use Rattle.fjall_base.specs.declared.error.Error.{Error}
 use Rattle.fjall_base.specs.declared.error.Error.TheVariants.{Io, OutOfMemory}
 use Rattle.fjall_journal.specs.declared.persist_mode.PersistMode.{PersistMode}
-use Rattle.fjall_journal.specs.Ops.{BatchItem, items_text, of_items}
+use Rattle.fjall_journal.specs.Changes.{Change, change_text, of_change}
 use Rattle.fjall_journal.specs.Writer.{BatchTook, after_command, batch_steps, written_out}
 use Rattle.fjall_meta.specs.Keyspaces.{Keyspaces, without_keyspace}
 use Rattle.fjall_catalog.specs.declared.update.Update.{Update}
@@ -14,35 +14,35 @@ use Rattle.fjall_catalog.specs.Updates.{IsUpdate}
 use Rattle.fjall_commit.specs.declared.creation.Creation.{Creation}
 use Rattle.fjall_commit.specs.Changes.{IsCreation}
 use Rattle.fjall_commit.specs.Journaling.{is_out}
-use Rattle.fjall_state.specs.Remembered.{poisoned, with_items}
+use Rattle.fjall_state.specs.Remembered.{poisoned, with_change}
 use Rattle.fjall_core.specs.Holding.{Held}
 use Rattle.fjall_core.specs.Crashes.{is_io}
 use Rattle.fjall_commit.specs.SyncedChanges.{CreatedKeyspace, SyncsThenChanges, DeletedKeyspace}
 use Rattle.fjall_core.specs.CallParts.{FilesGone, Makes, Removes, Unmakes, WentOut, Writes}
 
--- ---- a change of items
+-- ---- a change
 
-module _ (honest : Type 0) (old : Held) (items : List BatchItem) (mode : Option PersistMode) (n : ℕ) (numbered : n ≡ old.memory.next) where
+module _ (honest : Type 0) (old : Held) (change : Change) (mode : Option PersistMode) (n : ℕ) (numbered : n ≡ old.memory.next) where
   abbrev pub Went : Held → Bool → Type 0
-  Went new done = honest → WentOut old.disk new.disk old.journal new.journal (of_items items n) mode done
+  Went new done = honest → WentOut old.disk new.disk old.journal new.journal (of_change change n) mode done
 
   abbrev Done : Held → ℕ → Type 0
   Done new m =
-      (new ≡ record old { disk = new.disk; memory = with_items items old.memory; journal = after_command (is_none mode) old.journal (items_text items m) }) × (old.disk.faults ≤ new.disk.faults)
-      × (honest → Took old.disk new.disk (batch_steps mode old.journal (items_text items m)))
-      × (honest → WentOut old.disk new.disk old.journal new.journal (of_items items m) mode true)
-      × (is_out mode old.journal (of_items items m) ≡ false → new.disk ≡ old.disk)
+      (new ≡ record old { disk = new.disk; memory = with_change change old.memory; journal = after_command (is_none mode) old.journal (change_text change m) }) × (old.disk.faults ≤ new.disk.faults)
+      × (honest → Took old.disk new.disk (batch_steps mode old.journal (change_text change m)))
+      × (honest → WentOut old.disk new.disk old.journal new.journal (of_change change m) mode true)
+      × (is_out mode old.journal (of_change change m) ≡ false → new.disk ≡ old.disk)
 
-  pub write_done : (new : Held) → new ≡ record old { disk = new.disk; memory = with_items items old.memory; journal = after_command (is_none mode) old.journal (items_text items n) } → old.disk.faults ≤ new.disk.faults
-      → (honest → Took old.disk new.disk (batch_steps mode old.journal (items_text items n))) → Went new true → (is_out mode old.journal (of_items items n) ≡ false → new.disk ≡ old.disk)
-      → Writes honest old items mode (Ok tt) new
+  pub write_done : (new : Held) → new ≡ record old { disk = new.disk; memory = with_change change old.memory; journal = after_command (is_none mode) old.journal (change_text change n) } → old.disk.faults ≤ new.disk.faults
+      → (honest → Took old.disk new.disk (batch_steps mode old.journal (change_text change n))) → Went new true → (is_out mode old.journal (of_change change n) ≡ false → new.disk ≡ old.disk)
+      → Writes honest old change mode (Ok tt) new
   write_done new is faults took went waits = subst (Done new) numbered (is, faults, took, went, waits)
 
   abbrev Failed : Held → ℕ → Type 0
   Failed mid m =
-      (honest → BatchTook mode old.disk mid.disk old.journal (items_text items m))
-      × (honest → WentOut old.disk mid.disk old.journal mid.journal (of_items items m) mode false)
-      × (is_out mode old.journal (of_items items m) ≡ true)
+      (honest → BatchTook mode old.disk mid.disk old.journal (change_text change m))
+      × (honest → WentOut old.disk mid.disk old.journal mid.journal (of_change change m) mode false)
+      × (is_out mode old.journal (of_change change m) ≡ true)
 
   went_there : (b : Bool) (error : Error) → is_io error ≡ true → (b ≡ false → error ≡ OutOfMemory) → b ≡ true
   went_there true error io faultless = refl
@@ -50,11 +50,11 @@ module _ (honest : Type 0) (old : Held) (items : List BatchItem) (mode : Option 
 
   pub write_failed : (mid new : Held) (error : Error) → mid ≡ record old { disk = mid.disk; journal = mid.journal } → new ≡ (if is_io error then record mid { memory = poisoned mid.memory } else mid) → IsFaultOrMemory old.disk.faults mid.disk.faults error
       → (error ≡ OutOfMemory → mid.journal ≡ old.journal) → (error ≡ OutOfMemory → mid.disk ≡ old.disk)
-      → (honest → BatchTook mode old.disk mid.disk old.journal (items_text items n)) → Went mid false → (is_out mode old.journal (of_items items n) ≡ false → error ≡ OutOfMemory)
-      → Writes honest old items mode (Err error) new
+      → (honest → BatchTook mode old.disk mid.disk old.journal (change_text change n)) → Went mid false → (is_out mode old.journal (of_change change n) ≡ false → error ≡ OutOfMemory)
+      → Writes honest old change mode (Err error) new
   write_failed mid new (Io fault) same is cause journal disk took went faultless =
-      let all = subst (Failed mid) numbered (took, went, went_there (is_out mode old.journal (of_items items n)) (Io fault) refl faultless) in
-      subst (λ (h : Held). Writes honest old items mode (Err (Io fault)) h) (sym is) (ap (λ (h : Held). poisoned h.memory) same, cause, all.0, all.1, all.2)
+      let all = subst (Failed mid) numbered (took, went, went_there (is_out mode old.journal (of_change change n)) (Io fault) refl faultless) in
+      subst (λ (h : Held). Writes honest old change mode (Err (Io fault)) h) (sym is) (ap (λ (h : Held). poisoned h.memory) same, cause, all.0, all.1, all.2)
   write_failed mid new OutOfMemory same is cause journal disk took went faultless = (is ∙ same ∙ (λ i. record old { disk = disk refl i; journal = journal refl i }), refl)
   write_failed mid new error same is cause journal disk took went faultless = absurd cause
 

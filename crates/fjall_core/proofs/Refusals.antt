@@ -7,13 +7,14 @@ use Rattle.fjall_base.specs.Pairs.{Bytes}
 use Rattle.fjall_base.specs.Store.{Command, Create, Delete}
 use Rattle.fjall_base.specs.declared.error.Error.{Error}
 use Rattle.fjall_base.specs.declared.error.Error.TheVariants.{NumbersUsedUp, Poisoned, SnapshotClosed}
-use Rattle.fjall_journal.specs.Ops.{BatchItem, write_of}
+use Rattle.fjall_journal.specs.Changes.{Change, Emptied, Items, command_of}
 use Rattle.fjall_versions.specs.Replays.{option_pairs}
 use Rattle.fjall_history.specs.declared.ticket.View.TheVariants.{At, Present}
 use Rattle.fjall_history.specs.declared.reply.Reply.TheVariants.{Refused}
 use Rattle.fjall_history.specs.Tickets.{Tickets, ids_used_up, is_open}
-use Rattle.fjall_state.specs.Shapes.{Clone, Close, Collect, OfChange, OfCount, OfCreation, OfDeletion, OfHandle, OfPersist, OfRead, OfTickets, OneLess, OneMore, Open, Shape, TicketCall}
-use Rattle.fjall_state.specs.Machine.{Facts, State, change_refusals, creation_refusals, deletion_refusals, due, due_in, facts, first_due, handle_refusals, has_name, is_living, present, ticket_refusal, view_refusals}
+use Rattle.fjall_state.proofs.Dues.{may_change}
+use Rattle.fjall_state.specs.Shapes.{Clone, Close, Collect, OfChange, OfCount, OfCreation, OfDeletion, OfHandle, OfPersist, OfRead, OfRotation, OfTickets, OneLess, OneMore, Open, Shape, TicketCall}
+use Rattle.fjall_state.specs.Machine.{Facts, State, change_refusals, clear_refusals, creation_refusals, deletion_refusals, due, due_in, facts, first_due, handle_refusals, has_name, is_living, items_refusals, present, rotation_refusals, ticket_refusal, view_refusals}
 use Rattle.fjall_core.specs.Crashes.{IsSync, asked, attempt, is_io}
 
 -- where none is due, no cause holds
@@ -52,12 +53,14 @@ no_ticket_fault t (Close id) = closing_not (is_open t id)
 no_ticket_fault t Collect = refl
 
 pub never_due : (f : Facts) (shape : Shape) → is_fault (due_in f shape) ≡ false
-never_due f (OfChange [] how) = refl
-never_due f (OfChange (item ∷ items) how) = no_fault_due (change_refusals f (item ∷ items)) (refl, (refl, (refl, (refl, (refl, (refl, (refl, (refl, tt))))))))
+never_due f (OfChange (Items []) how) = refl
+never_due f (OfChange (Emptied id) how) = no_fault_due (clear_refusals f id) (refl, (refl, (refl, (refl, tt))))
+never_due f (OfChange (Items (item ∷ items)) how) = no_fault_due (items_refusals f (item ∷ items)) (refl, (refl, (refl, (refl, (refl, (refl, (refl, (refl, tt))))))))
 never_due f (OfCreation name options) = no_fault_due (creation_refusals f name) (refl, (refl, (refl, tt)))
 never_due f (OfDeletion id) = no_fault_due (deletion_refusals f id) (refl, (refl, (refl, tt)))
 never_due f (OfHandle OneMore id) = no_fault_due (handle_refusals f OneMore id) (refl, (refl, (refl, tt)))
 never_due f (OfHandle OneLess id) = no_fault_due (handle_refusals f OneLess id) (refl, (refl, tt))
+never_due f (OfRotation id) = no_fault_due (rotation_refusals f id) (refl, (refl, (refl, tt)))
 never_due f (OfRead Present id query) = no_fault_due (view_refusals f Present id) (refl, (refl, (refl, tt)))
 never_due f (OfRead (At ticket) id query) = no_fault_due (view_refusals f (At ticket) id) (refl, (refl, (refl, (refl, tt))))
 never_due f (OfTickets call) = no_ticket_fault f.tickets call
@@ -87,8 +90,8 @@ and_false : (a b : Bool) → a ≡ true → (a && b) ≡ false → b ≡ false
 and_false true b is none = none
 and_false false b is none = absurd (true≢false (sym is))
 
-well_change : (s : State) (items : List BatchItem) → first_due (change_refusals (facts s) items) ≡ None → s.poisoned ≡ false
-well_change s items none = (none_due (change_refusals (facts s) items) none).1.1.1.1.1.0
+well_change : (s : State) (change : Change) → first_due (change_refusals (facts s) change) ≡ None → s.poisoned ≡ false
+well_change s change none = (may_change (facts s) change none).well
 
 creation_asks : (s : State) (name : Bytes) (options : List Bytes) (had : Bool) → has_name (present s) name ≡ had → Asks s (OfCreation name options)
 creation_asks s name options true had = asks_nothing (ap (λ b. if b then [] else (Create name (option_pairs options) ∷ [])) had)
@@ -102,11 +105,13 @@ deletion_asks s id true living =
 deletion_asks s id false living = asks_nothing (ap (λ b. if b then (Delete id ∷ []) else []) living)
 
 pub asks : (s : State) (shape : Shape) → Asks s shape
-asks s (OfChange [] how) = asks_nothing refl
-asks s (OfChange (item ∷ items) how) = asks_one (write_of (item ∷ items)) refl (well_change s (item ∷ items))
+asks s (OfChange (Items []) how) = asks_nothing refl
+asks s (OfChange (Items (item ∷ items)) how) = asks_one (command_of (Items (item ∷ items))) refl (well_change s (Items (item ∷ items)))
+asks s (OfChange (Emptied id) how) = asks_one (command_of (Emptied id)) refl (well_change s (Emptied id))
 asks s (OfCreation name options) = creation_asks s name options (has_name (present s) name) refl
 asks s (OfDeletion id) = deletion_asks s id (is_living (present s) id) refl
 asks s (OfHandle call id) = asks_nothing refl
+asks s (OfRotation id) = asks_nothing refl
 asks s (OfRead view id query) = asks_nothing refl
 asks s (OfTickets call) = asks_nothing refl
 asks s (OfPersist mode) = asks_nothing refl

@@ -15,8 +15,8 @@ use Rattle.fjall_files.specs.Tidy.{IsTidy, StaysTidy}
 use Rattle.fjall_files.proofs.Tidying.{stays_start}
 use Rattle.fjall_meta.specs.declared.living.LivingKeyspace.{LivingKeyspace}
 use Rattle.fjall_meta.specs.Keyspaces.{AreKeyspaces, Keyspaces, keyspace_at}
-use Rattle.fjall_versions.specs.Versions.{store_of}
-use Rattle.fjall_versions.proofs.Naming.{living_names, rest_is_bare}
+use Rattle.fjall_maps.specs.Maps.{store_of}
+use Rattle.fjall_versions.proofs.Naming.{living_names}
 use Rattle.fjall_commit.specs.Removals.{IsUnused, RemovesOwn}
 use Rattle.fjall_state.specs.Shapes.{OfHandle, OneLess}
 use Rattle.fjall_history.specs.declared.reply.Reply.TheVariants.{Done, Refused}
@@ -48,15 +48,14 @@ gone_none None is = refl
 gone_none (Some x) is = absurd (true≢false is)
 
 -- an id that was given out, and that no keyspace has that lives
-pub unused_of : (m : Remembered) (id : ℕ) → AreKeyspaces m.keyspaces → is_unknown (store_of m.keyspaces m.versions) id ≡ false → is_living (store_of m.keyspaces m.versions) id ≡ false → IsUnused id m.keyspaces
+pub unused_of : (m : Remembered) (id : ℕ) → AreKeyspaces m.keyspaces → is_unknown (store_of m.keyspaces m.trees) id ≡ false → is_living (store_of m.keyspaces m.trees) id ≡ false → IsUnused id m.keyspaces
 unused_of m id are known gone =
-    let next = (rest_is_bare m.keyspaces m.versions).2 in
-    let below : (id == 0 || nat_le m.keyspaces.next id) ≡ false = ap (λ n. id == 0 || nat_le n id) (sym next) ∙ known in
+    let below : (id == 0 || nat_le m.keyspaces.next id) ≡ false = known in
     let fits = are.fits in
     record {
       positive = positive (id == 0) (nat_le m.keyspaces.next id) refl below;
       fits = under (id == 0) (nat_le m.keyspaces.next id) refl below fits;
-      unused = none_there id m.keyspaces.living (gone_none (keyspace_at id m.keyspaces.living) (sym (living_names m.keyspaces m.versions id) ∙ gone));
+      unused = none_there id m.keyspaces.living (gone_none (keyspace_at id m.keyspaces.living) (sym (living_names m.keyspaces [] id) ∙ gone));
     }
   where
     positive : (first second : Bool) → (id == 0) ≡ first → (first || second) ≡ false → 0 < id
@@ -71,10 +70,10 @@ unused_of m id are known gone =
 known : (core : Held) (id : ℕ) → held_due core (OfHandle OneLess id) ≡ None → is_unknown (store_in core) id ≡ false
 known core id none = (none_due ((is_unknown (store_in core) id, UnknownKeyspace) ∷ (handles_of core.memory.handles id == 0, UnknownKeyspace) ∷ []) none).0
 
-deleted : (m : Remembered) (id : ℕ) → is_last m id ≡ true → is_living (store_of m.keyspaces m.versions) id ≡ false
-deleted m id last = by_living (is_living (store_of m.keyspaces m.versions) id) refl last
+deleted : (m : Remembered) (id : ℕ) → is_last m id ≡ true → is_living (store_of m.keyspaces m.trees) id ≡ false
+deleted m id last = by_living (is_living (store_of m.keyspaces m.trees) id) refl last
   where
-    by_living : (b : Bool) → is_living (store_of m.keyspaces m.versions) id ≡ b → (not b && (handles_of m.handles id == 1)) ≡ true → is_living (store_of m.keyspaces m.versions) id ≡ false
+    by_living : (b : Bool) → is_living (store_of m.keyspaces m.trees) id ≡ b → (not b && (handles_of m.handles id == 1)) ≡ true → is_living (store_of m.keyspaces m.trees) id ≡ false
     by_living true is last = absurd (true≢false (sym last))
     by_living false is last = is
 
@@ -87,9 +86,10 @@ recounts_of old new s id stands counts =
       keyspaces = ap (λ (m : Remembered). m.keyspaces) counts.memory_is;
       next = ap (λ (m : Remembered). m.next) counts.memory_is;
       poisoned = ap (λ (m : Remembered). m.poisoned) counts.memory_is;
-      store = sym held.present ∙ (law.a_release_stands old.memory old.catalog.next_table_id s held id).present ∙ ap (λ (m : Remembered). kept (store_of m.keyspaces m.versions)) (sym counts.memory_is);
+      store = sym held.present ∙ (law.a_release_stands old.memory old.catalog.next_table_id s held id).present ∙ ap (λ (m : Remembered). kept (store_of m.keyspaces m.trees)) (sym counts.memory_is);
       catalog = counts.catalog;
       journal = counts.journal;
+      sealed = ap (λ (m : Remembered). m.sealed) counts.memory_is;
     }
 
 pub released_owes : (old new : Held) (id : ℕ) → held_due old (OfHandle OneLess id) ≡ None → Counts old (released id old.memory) new → Owes old (OfHandle OneLess id) Done new
@@ -152,6 +152,7 @@ same_counts old new same = record {
   store = sym (ap (λ (h : Held). kept (store_in h)) same);
   catalog = ap (λ (h : Held). h.catalog) same;
   journal = ap (λ (h : Held). h.journal) same;
+  sealed = ap (λ (h : Held). h.memory.sealed) same;
 }
 
 out_serves : (old new : Held) (id : ℕ) → held_due old (OfHandle OneLess id) ≡ None → is_last old.memory id ≡ true → old.memory.poisoned ≡ false → new ≡ record old { disk = new.disk } → old.disk.faults ≤ new.disk.faults

@@ -25,7 +25,7 @@ use Rattle.fjall_core.specs.Holding.{Held}
 use Rattle.fjall_core.specs.Durables.{Durable, IsFinished, StaysFinished}
 use Rattle.fjall_core.specs.Openings.{OpensAmid}
 use Rattle.fjall_core.specs.Standing.{HoldsStore, StandsOn}
-use Rattle.fjall_core.proofs.CrashImages.{store_is_kept}
+use Rattle.fjall_commit.proofs.CrashedJournals.{store_is_kept}
 use Rattle.fjall_core.proofs.Opening.{core_of, opens_as}
 
 -- ---- one store

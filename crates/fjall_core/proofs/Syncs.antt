@@ -1,6 +1,9 @@
 -- Where a sync of the journal leads a core and its disk.
 use Rattle.std.proofs.Common.{◌≡◌, inl, Bool, true, false, List, [], ◌∷◌, ◌++◌, max, map, refl, sym, ◌∙◌, ap, subst}
 use Rattle.std.proofs.lemmas.List.{append-nil}
+use Rattle.std.specs.List.{AllZip}
+use Rattle.fjall_manager.specs.Journals.{Sealed}
+use Rattle.fjall_recovery.specs.Told.{TellsOf}
 use Rattle.fjall_base.specs.Store.{Store, Command, fold, kept}
 use Rattle.fjall_base.specs.Disk.{LeavesOnly, state_in}
 use Rattle.fjall_base.proofs.Moments.{at_end}
@@ -9,7 +12,7 @@ use Rattle.fjall_journal.specs.declared.persist_mode.PersistMode.{PersistMode}
 use Rattle.fjall_journal.specs.declared.persist_mode.PersistMode.TheVariants.{Buffer, SyncAll, SyncData}
 use Rattle.fjall_catalog.specs.Catalog.{fields}
 use Rattle.fjall_versions.specs.Replays.{least_after}
-use Rattle.fjall_versions.specs.Versions.{store_of}
+use Rattle.fjall_maps.specs.Maps.{store_of}
 use Rattle.fjall_contents.specs.Contents.{store_held}
 use Rattle.fjall_recovery.specs.Homes.{lasts, stored_in}
 use Rattle.fjall_recovery.specs.Folders.{past_records}
@@ -27,7 +30,8 @@ use Rattle.fjall_core.specs.Crashes.{IsSync}
 use Rattle.fjall_core.specs.Standing.{HandsOver, Poisons, StandsOn}
 use Rattle.fjall_core.specs.Standing as standing
 use Rattle.fjall_core.proofs.KeyspacesUnchanged.{tree_along}
-use Rattle.fjall_core.proofs.CrashImages.{kept_with, leaves_finished, root_amid}
+use Rattle.fjall_commit.proofs.CrashedJournals.{kept_with}
+use Rattle.fjall_core.proofs.CrashImages.{leaves_finished, root_amid}
 use Rattle.fjall_core.proofs.JournalWrites.{Leads, Settles, held_on, leads_on, settles_on, present_of, stands_ill, stands_well}
 
 -- what a persist did to the disk and to the journal's writer of a core
@@ -45,6 +49,7 @@ pub record StaysSame (old new : Held) : Type 0 where
   pub keyspaces : new.memory.keyspaces ≡ old.memory.keyspaces
   pub next : new.memory.next ≡ old.memory.next
   pub catalog : new.catalog ≡ old.catalog
+  pub sealed : new.memory.sealed ≡ old.memory.sealed
 
 -- where base and pending lie once the bytes are in the file
 buffer_lies : (old new : Held) (base : Store) (pending : List Command) → StaysSame old new → (lies : Lies old (held_on old base pending)) → Persisted old new Buffer true → Lies new (held_on new base pending)
@@ -54,6 +59,7 @@ buffer_lies old new base pending same lies out = record {
   tree = lies.tree;
   writing = out.lies refl lies.journals lies.writing;
   in_tree = tree_along (state_in old.disk) (state_in new.disk) lies.records lies.tree (out.elsewhere lies.journals lies.writing) lies.in_tree;
+  told = subst (λ (l : List Sealed). AllZip TellsOf lies.journals.sealed l) (sym same.sealed) lies.told;
   last = lies.last ∙ sym same.catalog;
   keyspaces = lies.keyspaces ∙ sym same.keyspaces;
   made = lies.made;
@@ -76,9 +82,10 @@ sync_lies old new base pending same lies out =
       tree = t;
       writing = out.lies refl j lies.writing;
       in_tree = tree_along (state_in old.disk) (state_in new.disk) lies.records t (out.elsewhere j lies.writing) lies.in_tree;
+      told = subst (λ (l : List Sealed). AllZip TellsOf j.sealed l) (sym same.sealed) lies.told;
       last = lies.last ∙ sym same.catalog;
       keyspaces = lies.keyspaces ∙ sym same.keyspaces;
-      made = ap (λ (l : List Command). kept (fold base l)) lies.waits ∙ kept_with j t j.later lies.in_tree.rests.versions lies.writing.root.sound base lies.made
+      made = ap (λ (l : List Command). kept (fold base l)) lies.waits ∙ kept_with t lies.in_tree.rests.versions base j j.later lies.made lies.writing.root.sound
           ∙ ap (λ (l : List Journal). store_held t.keyspaces (stored_in t.homes t.versions) (map shown (batches_in l))) (sym (synced_journals j));
       waits = refl;
       next = same.next ∙ lies.next ∙ ap (λ (l : List Journal). max (least_after 0 (map shown (batches_in l))) (past_records (fields t.last ∷ lasts t.keyspaces.living t.homes))) (sym (synced_journals j));
@@ -94,10 +101,10 @@ pub synced_passes : (old new : Held) (base : Store) (pending : List Command) →
 synced_passes old new base pending leaves rests = record { leaves = leaves; safe = pending; base = refl; rest = refl; rests = rests }
 
 pub same_of : (old new : Held) → HandsOver old new → StaysSame old new
-same_of old new hands = record { keyspaces = ap (λ (m : Remembered). m.keyspaces) hands.memory_is; next = ap (λ (m : Remembered). m.next) hands.memory_is; catalog = hands.catalog }
+same_of old new hands = record { keyspaces = ap (λ (m : Remembered). m.keyspaces) hands.memory_is; next = ap (λ (m : Remembered). m.next) hands.memory_is; catalog = hands.catalog; sealed = ap (λ (m : Remembered). m.sealed) hands.memory_is }
 
 same_store : (old new : Held) → new.memory ≡ old.memory → kept (standing.store_in old) ≡ kept (standing.store_in new)
-same_store old new is = ap (λ (m : Remembered). kept (store_of m.keyspaces m.versions)) (sym is)
+same_store old new is = ap (λ (m : Remembered). kept (store_of m.keyspaces m.trees)) (sym is)
 
 -- a sync that was done: nothing is pending
 pub sync_settles : (old new : Held) (d : Durable) → old.memory.poisoned ≡ false → HandsOver old new → Persisted old new SyncAll true → StandsOn old d → Settles new d []
@@ -135,6 +142,6 @@ unpersist_leads old new mode d well fault out = leads_on old new d [] (λ base p
     let leaves = hand_leaves old new mode false base pending lies out in
     let finished = leaves_finished old.disk new.disk (state_in old.disk) lies.journals _ (out.leaves lies.journals lies.writing) in
     let rests : Rests (held_on new base (pending ++ [])) = at_end old.disk new.disk _ leaves in
-    let was = present_of old (held_on old base pending) false well on ∙ ap (λ (m : Remembered). kept (store_of m.keyspaces m.versions)) (sym fault.memory_is) in
+    let was = present_of old (held_on old base pending) false well on ∙ ap (λ (m : Remembered). kept (store_of m.keyspaces m.trees)) (sym fault.memory_is) in
     let still = stands_ill new base (pending ++ []) (ap (λ (m : Remembered). m.poisoned) fault.memory_is) rests finished (inl (ap (λ (l : List Command). kept (fold base l)) (append-nil pending) ∙ was)) in
     (held_on new base (pending ++ []), still, record { leaves = leaves; safe = []; base = refl; rest = refl; rests = rests }))

@@ -4,7 +4,7 @@ use Rattle.std.specs.FinMap.{get}
 use Rattle.fjall_base.specs.Store.{kept}
 use Rattle.fjall_base.specs.declared.error.Error.{Error}
 use Rattle.fjall_files.proofs.Tidying.{stays_start}
-use Rattle.fjall_versions.specs.Versions.{store_of}
+use Rattle.fjall_maps.specs.Maps.{store_of}
 use Rattle.fjall_history.specs.declared.ticket.Ticket.{Ticket}
 use Rattle.fjall_history.specs.declared.reply.Reply.{Reply}
 use Rattle.fjall_history.specs.declared.reply.Reply.TheVariants.{Done, Number, Opened, Refused}
@@ -35,9 +35,10 @@ module _ (core : Held) (m : Remembered) (tickets : Tickets) (is : m ≡ with_tic
     keyspaces = ap (λ (x : Remembered). x.keyspaces) is;
     next = ap (λ (x : Remembered). x.next) is;
     poisoned = ap (λ (x : Remembered). x.poisoned) is;
-    store = ap (λ (x : Remembered). kept (store_of x.keyspaces x.versions)) (sym is);
+    store = ap (λ (x : Remembered). kept (store_of x.keyspaces x.trees)) (sym is);
     catalog = refl;
     journal = refl;
+    sealed = ap (λ (x : Remembered). x.sealed) is;
   }
 
   pub turned_leads : (s : State) (d : Durable) (call : TicketCall) (reply : Reply) → attempt s (OfTickets call) reply ≡ [] → (IsSync s (OfTickets call) reply → ⊥) → StandsOn core d → Led turned s d (OfTickets call) reply

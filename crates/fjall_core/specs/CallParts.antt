@@ -6,7 +6,7 @@ use Rattle.fjall_base.specs.declared.error.Error.{Error}
 use Rattle.fjall_base.specs.declared.error.Error.TheVariants.{Io, OutOfMemory}
 use Rattle.fjall_journal.specs.declared.persist_mode.PersistMode.{PersistMode}
 use Rattle.fjall_journal.specs.Batches.{Written}
-use Rattle.fjall_journal.specs.Ops.{BatchItem, items_text, of_items}
+use Rattle.fjall_journal.specs.Changes.{Change, change_text, of_change}
 use Rattle.fjall_files.specs.Regions.{Within}
 use Rattle.fjall_files.specs.Names.{keyspace_folder}
 use Rattle.fjall_files.specs.Tidy.{StaysTidy}
@@ -21,7 +21,7 @@ use Rattle.fjall_commit.specs.Journaling.{CanFollow, IsWriting, LeavesRoot, afte
 use Rattle.fjall_commit.specs.declared.creation.Creation.{Creation}
 use Rattle.fjall_commit.specs.Changes.{IsCreation}
 use Rattle.fjall_commit.specs.Removals.{IsUnused, RemovesOwn}
-use Rattle.fjall_state.specs.Remembered.{poisoned, with_items}
+use Rattle.fjall_state.specs.Remembered.{poisoned, with_change}
 use Rattle.fjall_core.specs.Holding.{Held}
 use Rattle.fjall_commit.specs.SyncedChanges.{CreatedKeyspace, DeletedKeyspace, SyncedThenChanged, SyncsThenChanges}
 
@@ -77,17 +77,17 @@ pub record WentOut (old new : Meaning) (before after : Journal) (batch : Written
   pub elsewhere : (j : Journaling) → IsWriting (state_in old) before j → (q : Name) → is_of_keyspaces q ≡ true → state_in new q ≡ state_in old q
   pub served : (j : Journaling) → IsWriting (state_in old) before j → new.misuses ≡ old.misuses
 
--- a version of each item more stands in memory, and their batch in the journal; or a fault of the disk, to which the batch
+-- the change stands in memory, and its batch in the journal; or a fault of the disk, to which the batch
 -- went, has poisoned the core; or nothing changed
-abbrev pub Writes : Type 0 → Held → List BatchItem → Option PersistMode → Result Unit Error → Held → Type 0
-Writes honest old items mode (Ok _) new =
-    (new ≡ record old { disk = new.disk; memory = with_items items old.memory; journal = after_command (is_none mode) old.journal (items_text items old.memory.next) }) × (old.disk.faults ≤ new.disk.faults)
-    × (honest → Took old.disk new.disk (batch_steps mode old.journal (items_text items old.memory.next)))
-    × (honest → WentOut old.disk new.disk old.journal new.journal (of_items items old.memory.next) mode true)
-    × (is_out mode old.journal (of_items items old.memory.next) ≡ false → new.disk ≡ old.disk)
-Writes honest old items mode (Err (Io fault)) new =
+abbrev pub Writes : Type 0 → Held → Change → Option PersistMode → Result Unit Error → Held → Type 0
+Writes honest old change mode (Ok _) new =
+    (new ≡ record old { disk = new.disk; memory = with_change change old.memory; journal = after_command (is_none mode) old.journal (change_text change old.memory.next) }) × (old.disk.faults ≤ new.disk.faults)
+    × (honest → Took old.disk new.disk (batch_steps mode old.journal (change_text change old.memory.next)))
+    × (honest → WentOut old.disk new.disk old.journal new.journal (of_change change old.memory.next) mode true)
+    × (is_out mode old.journal (of_change change old.memory.next) ≡ false → new.disk ≡ old.disk)
+Writes honest old change mode (Err (Io fault)) new =
     (new.memory ≡ poisoned old.memory) × Rose old.disk.faults new.disk.faults
-    × (honest → BatchTook mode old.disk new.disk old.journal (items_text items old.memory.next))
-    × (honest → WentOut old.disk new.disk old.journal new.journal (of_items items old.memory.next) mode false)
-    × (is_out mode old.journal (of_items items old.memory.next) ≡ true)
-Writes honest old items mode (Err error) new = (new ≡ old) × (error ≡ OutOfMemory)
+    × (honest → BatchTook mode old.disk new.disk old.journal (change_text change old.memory.next))
+    × (honest → WentOut old.disk new.disk old.journal new.journal (of_change change old.memory.next) mode false)
+    × (is_out mode old.journal (of_change change old.memory.next) ≡ true)
+Writes honest old change mode (Err error) new = (new ≡ old) × (error ≡ OutOfMemory)

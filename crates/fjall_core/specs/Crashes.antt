@@ -13,19 +13,21 @@ use Rattle.fjall_history.specs.declared.reply.Reply.TheVariants.{Refused}
 use Rattle.fjall_files.specs.Tidy.{IsTidy, StaysTidy}
 use Rattle.fjall_versions.specs.Replays.{option_pairs}
 use Rattle.fjall_recovery.specs.Folders.{StandsFor}
-use Rattle.fjall_journal.specs.Ops.{write_of}
+use Rattle.fjall_journal.specs.Changes.{Emptied, Items, command_of}
 use Rattle.fjall_history.specs.Histories.{Accepted, commands_of, extended}
-use Rattle.fjall_state.specs.Shapes.{OfChange, OfCount, OfCreation, OfDeletion, OfHandle, OfPersist, OfRead, OfTickets, Shape, shape_of}
+use Rattle.fjall_state.specs.Shapes.{OfChange, OfCount, OfCreation, OfDeletion, OfHandle, OfPersist, OfRead, OfRotation, OfTickets, Shape, shape_of}
 use Rattle.fjall_state.specs.Machine.{State, Step, has_name, is_living, mode_in, present}
 use Rattle.fjall_core.specs.Durables.{Durable, IsBeginning, StandsAmid, Passes}
 
 -- the command that a call asks for in that state
 abbrev pub asked : State → Shape → List Command
-asked s (OfChange [] how) = []
-asked s (OfChange (item ∷ items) how) = write_of (item ∷ items) ∷ []
+asked s (OfChange (Items []) how) = []
+asked s (OfChange (Items (item ∷ items)) how) = command_of (Items (item ∷ items)) ∷ []
+asked s (OfChange (Emptied id) how) = command_of (Emptied id) ∷ []
 asked s (OfCreation name options) = if has_name (present s) name then [] else (Create name (option_pairs options) ∷ [])
 asked s (OfDeletion id) = if is_living (present s) id then (Delete id ∷ []) else []
 asked s (OfHandle call id) = []
+asked s (OfRotation id) = []
 asked s (OfRead view id query) = []
 asked s (OfTickets call) = []
 asked s (OfPersist mode) = []
@@ -54,11 +56,13 @@ IsSyncOf (Some mode) = IsSyncMode mode
 
 -- a call that syncs all that was accepted, where it succeeds: a creation and a deletion do so too
 abbrev pub Syncs : State → Shape → Type 0
-Syncs s (OfChange [] how) = ⊥
-Syncs s (OfChange (item ∷ items) how) = IsSyncOf (mode_in (present s) how)
+Syncs s (OfChange (Items []) how) = ⊥
+Syncs s (OfChange (Items (item ∷ items)) how) = IsSyncOf (mode_in (present s) how)
+Syncs s (OfChange (Emptied id) how) = IsSyncOf (mode_in (present s) how)
 Syncs s (OfCreation name options) = has_name (present s) name ≡ false
 Syncs s (OfDeletion id) = is_living (present s) id ≡ true
 Syncs s (OfHandle call id) = ⊥
+Syncs s (OfRotation id) = ⊥
 Syncs s (OfRead view id query) = ⊥
 Syncs s (OfTickets call) = ⊥
 Syncs s (OfPersist mode) = IsSyncMode mode

@@ -8,6 +8,8 @@ use Rattle.fjall_files.specs.declared.marker.Marker.TheVariants.{Whole}
 use Rattle.fjall_files.specs.Marker.{marker_tells}
 use Rattle.fjall_files.specs.Names.{journal_name}
 use Rattle.fjall_contents.specs.Contents.{journal_beyond}
+use Rattle.std.specs.List.{AllZip}
+use Rattle.fjall_recovery.specs.Told.{TellsOf}
 use Rattle.fjall_recovery.specs.Homes.{stored_in}
 use Rattle.fjall_recovery.specs.Folders.{marker_bytes, number_of, store_of}
 pub use Rattle.fjall_recovery.specs.Amid.{IsBeginning, StandsAmid}
@@ -47,13 +49,14 @@ pub record Passes (old : Durable) (tried : List Command) (new : Durable) : Type 
   pub rests : Rests new
 
 -- How base and pending lie on the disk of a core: the synced batches and tree 0 make the base, the batches behind them
--- are pending, and the core's writer, catalog and keyspaces go on from there.
+-- are pending, and the core's writer, sealed journals, catalog and keyspaces go on from there.
 pub record Lies (core : Held) (d : Durable) : Type 0 where
   pub journals : Journaling
   pub records : List Fields
   pub tree : Tree
   pub writing : IsWriting (state_in d.meaning) core.journal journals
   pub in_tree : LiesInTree (state_in d.meaning) records tree
+  pub told : AllZip TellsOf journals.sealed core.memory.sealed
   pub last : tree.last ≡ core.catalog
   pub keyspaces : tree.keyspaces ≡ core.memory.keyspaces
   pub made : kept d.base ≡ store_of (contents_with journals tree [])

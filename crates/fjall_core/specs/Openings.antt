@@ -21,7 +21,7 @@ use Rattle.fjall_core.specs.Crashes.{BlamesDevice}
 
 -- the parts that a core's counts speak of
 abbrev pub parts_of : Held → Parts
-parts_of core = record { journal = core.journal.len; buffer = length core.journal.buffer; table = core.catalog.next_table_id }
+parts_of core = record { sealed = core.memory.sealed; journal = core.journal.len; buffer = length core.journal.buffer; table = core.catalog.next_table_id; trees = core.memory.trees }
 
 -- a core that was just opened stands for this store, of which these keyspaces are damaged, and its next command takes this
 -- number

@@ -1,5 +1,5 @@
 -- What a core stands for, and what its calls owe.
-use Rattle.std.specs.Prelude.{◌≡◌, ◌⊎◌, ℕ, ◌+◌, ◌≤◌, ◌&&◌, true, false, nat_le, not, if◌then◌else◌, List, [], ◌∷◌, ◌++◌, length, codes, IfSome, MatchBool, MatchOption, Option, Some, None, is_none, Result, Ok, Err, OnOk, IsPermutation, IsSorted, Vec}
+use Rattle.std.specs.Prelude.{Bool, ◌≡◌, ◌⊎◌, ℕ, ◌+◌, ◌≤◌, ◌&&◌, true, false, nat_le, not, if◌then◌else◌, List, [], ◌∷◌, ◌++◌, length, codes, IfSome, MatchBool, MatchOption, Option, Some, None, is_none, Result, Ok, Err, OnOk, IsPermutation, IsSorted, Vec}
 use Rattle.std.specs.FinMap.{len, values}
 use Rattle.std.specs.declared.alloc.Global.{Global}
 use Rattle.fjall_base.specs.Pairs.{Bytes, byte_order}
@@ -14,26 +14,28 @@ use Rattle.fjall_files.specs.Tidy.{StaysTidy}
 use Rattle.fjall_recovery.specs.Amid.{HoldsAmid}
 use Rattle.fjall_journal.specs.declared.persist_mode.PersistMode.{PersistMode}
 use Rattle.fjall_journal.specs.declared.persist_mode.PersistMode.TheVariants.{SyncAll}
-use Rattle.fjall_journal.specs.Writer.{BatchTook, after_command, batch_steps, goes_out, persist_steps, written_out}
+use Rattle.fjall_journal.specs.Writer.{BatchTook, after_command, batch_steps, counted, goes_out, persist_steps, written_out}
 use Rattle.fjall_files.specs.Names.{table_name}
 use Rattle.fjall_meta.specs.Keyspaces.{id_of}
 use Rattle.fjall_catalog.specs.declared.catalog.Catalog.{Catalog}
 use Rattle.fjall_catalog.specs.Updates.{IsTableGone}
-use Rattle.fjall_versions.specs.Versions.{pairs_in, store_of}
+use Rattle.fjall_maps.specs.Maps.{pairs_in, store_of}
 use Rattle.fjall_recovery.specs.Folders.{Contents}
 use Rattle.fjall_recovery.specs.Held.{Holds, store_held}
 use Rattle.fjall_repair.specs.Opened.{ComesBack}
 use Rattle.fjall_commit.specs.Removals.{RemovesOwn}
-use Rattle.fjall_journal.specs.Ops.{BatchItem, items_text}
+use Rattle.fjall_manager.specs.Journals.{bytes_of}
+use Rattle.fjall_trees.specs.Tables.{shape_in}
+use Rattle.fjall_journal.specs.Changes.{Change, Items, Emptied, change_text}
 use Rattle.fjall_history.specs.declared.ticket.Ticket.{Ticket}
 use Rattle.fjall_history.specs.declared.reply.Reply.{Reply}
 use Rattle.fjall_history.specs.declared.reply.Reply.TheVariants.{Done, Value, Pairs, Number, Names, Flag, Opened, Refused}
 use Rattle.fjall_history.specs.Queries.{Tells}
 use Rattle.fjall_state.specs.declared.call.Call.{Call}
-use Rattle.fjall_state.specs.Shapes.{Count, Exists, JournalSpace, Keyspaces, Next, OfChange, OfCount, OfCreation, OfDeletion, OfHandle, OfPersist, OfRead, OfTickets, OneLess, OneMore, OpenTickets, Persistence, Shape, Visible, shape_of}
+use Rattle.fjall_state.specs.Shapes.{Count, Exists, JournalSpace, Journals, Keyspaces, Next, OfChange, OfCount, OfCreation, OfDeletion, OfHandle, OfPersist, OfRead, OfRotation, OfTickets, OneLess, OneMore, OpenTickets, Persistence, Entries, SealedMemtables, Shape, Visible, WriteBuffer, shape_of}
 use Rattle.fjall_state.specs.Shapes as shapes
-use Rattle.fjall_state.specs.Machine.{State, StepOf, Run, TakesMemory, ChangesDisk, TooLong, TurnsTickets, present, due_in, has_name, is_living, mode_in}
-use Rattle.fjall_state.specs.Remembered.{IsLawful, Remembered, facts_of, is_last, versions_in, with_items, with_creation, with_deletion, with_tickets, retained, released, poisoned}
+use Rattle.fjall_state.specs.Machine.{State, StepOf, Run, TakesMemory, ChangesDisk, TooLong, TurnsTickets, present, due_in, buffer_size, has_name, is_living, mode_in, rotates, version_count, wants_rotation}
+use Rattle.fjall_state.specs.Remembered.{IsLawful, Remembered, facts_of, instant_in, is_last, with_change, with_creation, with_deletion, with_tickets, retained, released, rotated, poisoned}
 use Rattle.fjall_state.specs.Remembered as memory
 use Rattle.fjall_core.specs.Durables.{Durable, StandsAmid, Passes, Rests, Lies, MakesPresent, StaysFinished}
 use Rattle.fjall_core.specs.Crashes.{BlamesDevice, CallPasses, RunOn, Tried, IsSyncAt, SafeAt}
@@ -41,7 +43,7 @@ use Rattle.fjall_core.specs.Holding.{Held}
 
 -- the store that stands in memory
 abbrev pub store_in : Held → Store
-store_in core = store_of core.memory.keyspaces core.memory.versions
+store_in core = store_of core.memory.keyspaces core.memory.trees
 
 -- The state is one that the core may be in.
 pub record StandsFor (core : Held) (s : State) : Type 0 where
@@ -69,22 +71,22 @@ abbrev pub mode_of : Held → Persistence → Option PersistMode
 mode_of core how = mode_in (store_in core) how
 
 -- the text of a change's batch
-abbrev pub text_of : Held → List BatchItem → List ℕ
-text_of core items = items_text items core.memory.next
+abbrev pub text_of : Held → Change → List ℕ
+text_of core change = change_text change core.memory.next
 
 -- A fault of the disk has poisoned the core, and what is in memory is as before.
 pub record Poisons (old new : Held) : Type 0 where
   pub memory_is : new.memory ≡ poisoned old.memory
   pub faults : Rose old.disk.faults new.disk.faults
 
--- A version of each item more stands in memory, under the next number. The batch's text is in the journal's file with all that
+-- The change stands in memory, under the next number. The batch's text is in the journal's file with all that
 -- waited or, where the change has no mode, waits too while that is less than 8,192 bytes, and the disk is left alone.
-pub record Grows (old : Held) (items : List BatchItem) (how : Persistence) (new : Held) : Type 0 where
-  pub memory_is : new.memory ≡ with_items items old.memory
+pub record Grows (old : Held) (change : Change) (how : Persistence) (new : Held) : Type 0 where
+  pub memory_is : new.memory ≡ with_change change old.memory
   pub catalog : new.catalog ≡ old.catalog
-  pub journal : new.journal ≡ after_command (is_none (mode_of old how)) old.journal (text_of old items)
+  pub journal : new.journal ≡ after_command (is_none (mode_of old how)) old.journal (text_of old change)
   pub faults : old.disk.faults ≤ new.disk.faults
-  pub waits : goes_out (is_none (mode_of old how)) (length (old.journal.buffer ++ text_of old items)) ≡ false → new.disk ≡ old.disk
+  pub waits : goes_out (is_none (mode_of old how)) (length (old.journal.buffer ++ text_of old change)) ≡ false → new.disk ≡ old.disk
 
 -- All that waited in the buffer is in the journal's file; memory is as before.
 pub record HandsOver (old new : Held) : Type 0 where
@@ -120,11 +122,12 @@ pub record Counts (old : Held) (after : Remembered) (new : Held) : Type 0 where
 
 -- Where memory ran out nothing has changed; a release has looked at the disk by then.
 abbrev pub RanOut : Held → Shape → Held → Type 0
-RanOut old (OfChange items how) new = new ≡ old
+RanOut old (OfChange change how) new = new ≡ old
 RanOut old (OfCreation name options) new = new ≡ old
 RanOut old (OfDeletion id) new = new ≡ old
 RanOut old (OfHandle OneMore id) new = new ≡ old
 RanOut old (OfHandle OneLess id) new = (new ≡ record old { disk = new.disk }) × (old.disk.faults ≤ new.disk.faults)
+RanOut old (OfRotation id) new = new ≡ old
 RanOut old (OfRead view id query) new = new ≡ old
 RanOut old (OfTickets call) new = new ≡ old
 RanOut old (OfPersist mode) new = new ≡ old
@@ -143,9 +146,10 @@ OwesRefusal (Some first) old shape error new = (error ≡ first) × (new ≡ old
 OwesRefusal None old shape error new = OwesFailure old shape error new
 
 -- a change that nothing refused stands in memory, and its batch in the journal; one of no items changes nothing
-abbrev pub OwesChange : Held → List BatchItem → Persistence → Held → Type 0
-OwesChange old [] how new = new ≡ old
-OwesChange old (item ∷ items) how new = Grows old (item ∷ items) how new
+abbrev pub OwesChange : Held → Change → Persistence → Held → Type 0
+OwesChange old (Items []) how new = new ≡ old
+OwesChange old (Items (item ∷ items)) how new = Grows old (Items (item ∷ items)) how new
+OwesChange old (Emptied id) how new = Grows old (Emptied id) how new
 
 -- a name that a keyspace has answers its id; another one's keyspace was made
 abbrev pub OwesCreation : Held → Bytes → List Bytes → ℕ → Held → Type 0
@@ -163,17 +167,23 @@ HeldCount core shapes.Names reply = (names : Vec Bytes Global) × (reply ≡ Nam
 HeldCount core (Exists name) reply = reply ≡ Flag (has_name (store_in core) name)
 HeldCount core Next reply = reply ≡ Number core.memory.next
 HeldCount core Visible reply = reply ≡ Number core.memory.next
-HeldCount core JournalSpace reply = reply ≡ Number core.journal.len
+HeldCount core Journals reply = reply ≡ Number (length core.memory.sealed + 1)
+HeldCount core JournalSpace reply = reply ≡ Number (counted (bytes_of core.memory.sealed + core.journal.len))
 HeldCount core OpenTickets reply = reply ≡ Number (len core.memory.tickets.instants)
+HeldCount core (Entries id) reply = reply ≡ Number (counted (version_count (shape_in id core.memory.trees)))
+HeldCount core (SealedMemtables id) reply = reply ≡ Number (length (shape_in id core.memory.trees).memory.sealed)
+HeldCount core WriteBuffer reply = reply ≡ Number (counted (buffer_size (store_in core) core.memory.trees))
+HeldCount core (shapes.WantsRotation id) reply = reply ≡ Flag (wants_rotation (store_in core) core.memory.trees id)
 
 -- where nothing refuses it, a call gives such a reply, and leaves this
 abbrev pub Gives : Held → Shape → Reply → Held → Type 0
-Gives old (OfChange items how) reply new = (reply ≡ Done) × OwesChange old items how new
+Gives old (OfChange change how) reply new = (reply ≡ Done) × OwesChange old change how new
 Gives old (OfCreation name options) reply new = (id : ℕ) × (reply ≡ Number id) × OwesCreation old name options id new
 Gives old (OfDeletion id) reply new = (reply ≡ Done) × OwesDeletion old id new
 Gives old (OfHandle OneMore id) reply new = (reply ≡ Done) × (new ≡ record old { memory = retained id old.memory })
 Gives old (OfHandle OneLess id) reply new = (reply ≡ Done) × Counts old (released id old.memory) new
-Gives old (OfRead view id query) reply new = Tells query (pairs_in id (versions_in old.memory view)) reply × (new ≡ old)
+Gives old (OfRotation id) reply new = (reply ≡ Flag (rotates old.memory.trees id)) × (new ≡ (if rotates old.memory.trees id then record old { memory = rotated id old.memory } else old))
+Gives old (OfRead view id query) reply new = Tells query (pairs_in id (instant_in old.memory view) old.memory.trees) reply × (new ≡ old)
 Gives old (OfTickets call) reply new =
     TurnsTickets old.memory.next old.memory.tickets call reply new.memory.tickets × (new ≡ record old { memory = with_tickets new.memory.tickets old.memory })
 Gives old (OfPersist mode) reply new = (reply ≡ Done) × HandsOver old new
@@ -194,11 +204,12 @@ OwesAll old calls replies new = ⊥
 
 -- what the disk took of a call where it failed; of a creation and a deletion the clause on crashes tells
 abbrev pub DiskFailed : Held → Shape → Held → Type 0
-DiskFailed old (OfChange items how) new = BatchTook (mode_of old how) old.disk new.disk old.journal (text_of old items)
+DiskFailed old (OfChange change how) new = BatchTook (mode_of old how) old.disk new.disk old.journal (text_of old change)
 DiskFailed old (OfCreation name options) new = Unit {0}
 DiskFailed old (OfDeletion id) new = Unit {0}
 DiskFailed old (OfHandle OneMore id) new = ⊥
 DiskFailed old (OfHandle OneLess id) new = Within (codes "keyspaces") old.disk new.disk
+DiskFailed old (OfRotation id) new = ⊥
 DiskFailed old (OfRead view id query) new = ⊥
 DiskFailed old (OfTickets call) new = ⊥
 DiskFailed old (OfPersist mode) new = TookPart old.disk new.disk old.journal.name old.journal.buffer ⊎ Took old.disk new.disk (persist_steps old.journal mode)
@@ -221,11 +232,12 @@ RemovesLast old id new = MatchBool (is_last old.memory id && not old.memory.pois
 
 -- what a disk took of a call that memory ran out in: nothing, though a release has looked at it
 abbrev pub DiskLooked : Held → Shape → Held → Type 0
-DiskLooked old (OfChange items how) new = new.disk ≡ old.disk
+DiskLooked old (OfChange change how) new = new.disk ≡ old.disk
 DiskLooked old (OfCreation name options) new = new.disk ≡ old.disk
 DiskLooked old (OfDeletion id) new = new.disk ≡ old.disk
 DiskLooked old (OfHandle OneMore id) new = new.disk ≡ old.disk
 DiskLooked old (OfHandle OneLess id) new = Took old.disk new.disk []
+DiskLooked old (OfRotation id) new = new.disk ≡ old.disk
 DiskLooked old (OfRead view id query) new = new.disk ≡ old.disk
 DiskLooked old (OfTickets call) new = new.disk ≡ old.disk
 DiskLooked old (OfPersist mode) new = new.disk ≡ old.disk
@@ -236,12 +248,14 @@ DiskLooked old (OfCount count) new = new.disk ≡ old.disk
 -- lived, another table of tree 0, where the clause on crashes tells the rest; of a release the removal of files; of a persist
 -- the buffer, and a sync where its mode asks for one; and else nothing.
 abbrev pub DiskTook : Held → Shape → Held → Type 0
-DiskTook old (OfChange [] how) new = new.disk ≡ old.disk
-DiskTook old (OfChange (item ∷ items) how) new = Took old.disk new.disk (batch_steps (mode_of old how) old.journal (text_of old (item ∷ items)))
+DiskTook old (OfChange (Items []) how) new = new.disk ≡ old.disk
+DiskTook old (OfChange (Items (item ∷ items)) how) new = Took old.disk new.disk (batch_steps (mode_of old how) old.journal (text_of old (Items (item ∷ items))))
+DiskTook old (OfChange (Emptied id) how) new = Took old.disk new.disk (batch_steps (mode_of old how) old.journal (text_of old (Emptied id)))
 DiskTook old (OfCreation name options) new = MatchOption (id_of name old.memory.keyspaces.living) (ReplacesTable old new) (λ found. new.disk ≡ old.disk)
 DiskTook old (OfDeletion id) new = MatchBool (is_living (store_in old) id) (ReplacesTable old new) (new.disk ≡ old.disk)
 DiskTook old (OfHandle OneMore id) new = new.disk ≡ old.disk
 DiskTook old (OfHandle OneLess id) new = RemovesLast old id new
+DiskTook old (OfRotation id) new = new.disk ≡ old.disk
 DiskTook old (OfRead view id query) new = new.disk ≡ old.disk
 DiskTook old (OfTickets call) new = new.disk ≡ old.disk
 DiskTook old (OfPersist mode) new = Took old.disk new.disk (persist_steps old.journal mode)
@@ -284,6 +298,11 @@ pairs_reply (Err error) = Refused error
 abbrev pub number_reply : Result ℕ Error → Reply
 number_reply (Ok n) = Number n
 number_reply (Err error) = Refused error
+
+-- the reply to a rotation
+abbrev pub flag_reply : Result Bool Error → Reply
+flag_reply (Ok flag) = Flag flag
+flag_reply (Err error) = Refused error
 
 -- the reply to an opening of a ticket
 abbrev pub ticket_reply : Result Ticket Error → Reply

@@ -1,11 +1,13 @@
 //! The engine's one machine: calls that change keyspaces, read them at any view and sync their journal.
 #![tactic(auto)]
 
+mod clears;
 mod close;
 mod config;
 mod engine;
 mod keyspaces;
 mod laws;
+mod memtables;
 mod open;
 mod reads;
 mod replies;
@@ -17,7 +19,7 @@ pub use config::Config;
 pub use engine::Core;
 pub use fjall_journal::{BatchItem, Op, PersistMode};
 pub use fjall_state::{Call, Reply, Ticket, View};
-pub use fjall_versions::{KeyRange, Version};
+pub use fjall_versions::KeyRange;
 pub use laws::{
     a_core_holds_amid, a_crash_amid_holds, a_last_sync, a_life_holds, a_run_blames_the_device,
     an_owed_call_steps, crash_holds, crash_stays_tidy, each_step_is_tidy, holds_store_amid,

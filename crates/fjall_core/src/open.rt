@@ -66,9 +66,10 @@ impl<D: Disk> Core<D> {
                 memory: EngineState::new(
                     alloc,
                     opened.keyspaces,
-                    opened.versions,
+                    opened.trees,
                     opened.damaged,
                     opened.number,
+                    opened.sealed,
                 ),
             }),
             Err(error) => Err(Refused { error, value: disk }),

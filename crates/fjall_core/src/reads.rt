@@ -1,6 +1,8 @@
 //! Calls that read keys and counts: they change nothing.
 
-ghost use Rattle.std.specs.Prelude.{◌≡◌, IsTrue, length};
+ghost use Rattle.std.specs.Prelude.{◌≡◌, ◌+◌, IsTrue, length};
+ghost use Rattle.fjall_journal.specs.Writer.{counted};
+ghost use Rattle.fjall_manager.specs.Journals.{bytes_of};
 ghost use Rattle.std.specs.FinMap.{len};
 ghost use Rattle.fjall_history.specs.Histories.{number};
 ghost use Rattle.fjall_history.specs.Queries.{Get, Page};
@@ -87,11 +89,21 @@ impl<D: Disk> Core<D> {
         self.memory.seqno()
     }
 
-    /// How many bytes the active journal's file has.
-    pub fn journal_disk_space(&self) -> u64
-        ensures held { result ≡ self.now.journal.len }
-        ensures parts { (s : State) → StandsFor self.now s → result ≡ s.parts.journal }
+    /// How many journals there are: the sealed ones and the active one.
+    pub fn journal_count(&self) -> usize
+        ensures held { result ≡ length self.now.memory.sealed + 1 }
+        ensures parts { (s : State) → StandsFor self.now s → result ≡ length s.parts.sealed + 1 }
     {
-        self.journal.len()
+        self.memory.journal_count()
+    }
+
+    /// How many bytes the files of all journals have, added up. It stops at the greatest `u64`.
+    pub fn journal_disk_space(&self) -> u64
+        ensures held { result ≡ counted (bytes_of self.now.memory.sealed + self.now.journal.len) }
+        ensures parts { (s : State) → StandsFor self.now s → result ≡ counted (bytes_of s.parts.sealed + s.parts.journal) }
+    {
+        self.memory
+            .sealed_journal_space()
+            .saturating_add(self.journal.len())
     }
 }

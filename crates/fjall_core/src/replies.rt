@@ -1,7 +1,7 @@
 //! Results of calls, as replies.
 
 ghost use Rattle.std.specs.Prelude.{◌≡◌};
-ghost use Rattle.fjall_core.specs.Standing.{names_reply, number_reply, pairs_reply, reply_of, ticket_reply, value_reply};
+ghost use Rattle.fjall_core.specs.Standing.{flag_reply, names_reply, number_reply, pairs_reply, reply_of, ticket_reply, value_reply};
 
 use fjall_base::{KvPair, Result, Slice, UserValue};
 use fjall_state::{Reply, Ticket};
@@ -42,6 +42,16 @@ pub(crate) fn number_reply(found: Result<u64>) -> Reply
 {
     match found {
         Ok(number) => Reply::Number(number),
+        Err(error) => Reply::Refused(error),
+    }
+}
+
+/// The reply to a rotation.
+pub(crate) fn flag_reply(done: Result<bool>) -> Reply
+    ensures { result ≡ flag_reply done }
+{
+    match done {
+        Ok(flag) => Reply::Flag(flag),
         Err(error) => Reply::Refused(error),
     }
 }

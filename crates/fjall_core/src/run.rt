@@ -7,7 +7,9 @@ ghost use Rattle.fjall_state.specs.Shapes.{Exists, OfCount, OfCreation, OfRead, 
 ghost use Rattle.fjall_core.specs.Standing.{Owes, OwesAll, Serves, Runs, RunsSafely};
 
 use crate::engine::Core;
-use crate::replies::{names_reply, number_reply, pairs_reply, reply_of, ticket_reply, value_reply};
+use crate::replies::{
+    flag_reply, names_reply, number_reply, pairs_reply, reply_of, ticket_reply, value_reply,
+};
 use fjall_base::{Disk, Error, Result, Slice, UserKey};
 use fjall_options::KeyspaceCreateOptions;
 use fjall_state::{Call, Reply, View, id_opened};
@@ -27,7 +29,9 @@ impl<D: Disk> Core<D> {
             Call::Insert(id, key, value) => reply_of(self.insert(id, key, value)),
             Call::Remove(id, key) => reply_of(self.remove(id, key)),
             Call::RemoveWeak(id, key) => reply_of(self.remove_weak(id, key)),
+            Call::Clear(id) => reply_of(self.clear(id)),
             Call::CommitBatch(items, mode) => reply_of(self.commit_batch(items, mode)),
+            Call::RotateMemtable(id) => flag_reply(self.rotate_memtable(id)),
             Call::GetAt(view, id, key) => self.serve_get(view, id, key),
             Call::PageAt(view, id, range, back, max) => self.serve_page(view, id, range, back, max),
             Call::Snapshot => ticket_reply(self.snapshot()),
@@ -40,8 +44,13 @@ impl<D: Disk> Core<D> {
             Call::KeyspaceExists(name) => self.serve_keyspace_exists(name),
             Call::Seqno => Reply::Number(self.seqno()),
             Call::VisibleSeqno => Reply::Number(self.visible_seqno()),
+            Call::JournalCount => Reply::Number(self.journal_count() as u64),
             Call::JournalDiskSpace => Reply::Number(self.journal_disk_space()),
             Call::OpenSnapshots => Reply::Number(self.open_snapshots()),
+            Call::ApproximateLen(id) => Reply::Number(self.approximate_len(id)),
+            Call::SealedMemtableCount(id) => Reply::Number(self.sealed_memtable_count(id) as u64),
+            Call::WriteBufferSize => Reply::Number(self.write_buffer_size()),
+            Call::WantsRotation(id) => Reply::Flag(self.wants_rotation(id)),
         }
     }
 

@@ -1,6 +1,7 @@
 //! Calls that change keys, and the sync of the journal.
 
 ghost use Rattle.std.specs.Prelude.{◌≡◌, ◌<◌, ◌^◌, All, None, IsTrue, length, true};
+ghost use Rattle.fjall_journal.specs.Changes.{Items};
 ghost use Rattle.fjall_journal.specs.Ops.{items_refusal};
 ghost use Rattle.fjall_journal.specs.declared.op.Op.TheVariants as ops;
 ghost use Rattle.fjall_state.specs.Machine.{State, is_living};
@@ -12,7 +13,7 @@ ghost use Rattle.fjall_core.specs.Standing.{StandsFor, StandsOn, Owes, Serves, m
 
 use crate::engine::Core;
 use fjall_base::{Disk, Error, Result, UserKey, UserValue};
-use fjall_commit::{append_batch, sync_journal};
+use fjall_commit::sync_journal;
 use fjall_journal::{BatchItem, Op, PersistMode};
 use std::slice;
 
@@ -23,13 +24,12 @@ impl<D: Disk> Core<D> {
         requires some { 0 < length items.now }
         requires living { All (λ item. is_living (store_in self.old) item.0 ≡ true) items.now }
         requires room { self.old.memory.next < 2 ^ 63 }
-        ensures writes { Writes (IsTrue D.honest) self.old items.now mode result self.new }
+        ensures writes { Writes (IsTrue D.honest) self.old (Items items.now) mode result self.new }
     {
-        let seqno = self.memory.seqno();
-        self.memory.push_items(items)?;
-        let written = append_batch(&mut self.journal, &mut self.disk, mode, items, seqno);
+        let written = self
+            .memory
+            .write(&mut self.journal, &mut self.disk, items, mode);
         if let Err(error) = written {
-            self.memory.take_items(items.len());
             self.poison_by(&error);
             return Err(error);
         }
@@ -39,8 +39,8 @@ impl<D: Disk> Core<D> {
     // Changes keys by these items, persisted by this mode or none, where nothing refuses it.
     fn change(&mut self, items: &[BatchItem], mode: Option<PersistMode>) -> Result<()>
         ensures serves { IsTrue D.honest → (how : Persistence) → mode_of self.old how ≡ mode
-            → Serves self.old (OfChange items.now how) (reply_of result) self.new }
-        ensures owes { (how : Persistence) → mode_of self.old how ≡ mode → Owes self.old (OfChange items.now how) (reply_of result) self.new }
+            → Serves self.old (OfChange (Items items.now) how) (reply_of result) self.new }
+        ensures owes { (how : Persistence) → mode_of self.old how ≡ mode → Owes self.old (OfChange (Items items.now) how) (reply_of result) self.new }
     {
         if items.is_empty() {
             return Ok(());
@@ -51,8 +51,8 @@ impl<D: Disk> Core<D> {
         self.write(items, mode)
     }
 
-    // How a write of one key of this keyspace is persisted.
-    fn mode_of(&self, id: u64) -> Option<PersistMode>
+    // How a write of one key of this keyspace, or a clear of it, is persisted.
+    pub(crate) fn mode_of(&self, id: u64) -> Option<PersistMode>
         ensures { result ≡ mode_of self.now (AsKeyspace id) }
     {
         if self.memory.persists_by_hand(id) {
@@ -116,8 +116,8 @@ impl<D: Disk> Core<D> {
     /// `OutOfMemory`, and `Io`, after which the core is poisoned, and a crash may leave the command or not. After each of the
     /// others nothing has changed.
     pub fn commit_batch(&mut self, items: Vec<BatchItem>, mode: Option<PersistMode>) -> Result<()>
-        ensures serves { IsTrue D.honest → Serves self.old (OfChange items.items (ByMode mode)) (reply_of result) self.new }
-        ensures owes { Owes self.old (OfChange items.items (ByMode mode)) (reply_of result) self.new }
+        ensures serves { IsTrue D.honest → Serves self.old (OfChange (Items items.items) (ByMode mode)) (reply_of result) self.new }
+        ensures owes { Owes self.old (OfChange (Items items.items) (ByMode mode)) (reply_of result) self.new }
     {
         self.change(&items, mode)
     }

@@ -148,6 +148,8 @@ enum Request {
     Release,
     DeleteKeyspace,
     CommitBatch,
+    Clear,
+    RotateMemtable,
     Snapshot,
     /// Of the ticket that the call at this place opened.
     CloneSnapshot(u64),
@@ -171,6 +173,10 @@ const REQUESTS: &[Request] = &[
     Request::Remove,
     Request::RemoveWeak,
     Request::PageAt,
+    Request::RotateMemtable,
+    Request::Clear,
+    Request::RotateMemtable,
+    Request::RotateMemtable,
     Request::KeyspaceCount,
     Request::KeyspaceExists,
     Request::ListKeyspaceNames,
@@ -260,6 +266,8 @@ impl Request {
             Request::Persist => Some(Call::Persist(PersistMode::SyncAll)),
             Request::Retain => Some(Call::Retain(1)),
             Request::Release => Some(Call::Release(1)),
+            Request::Clear => Some(Call::Clear(1)),
+            Request::RotateMemtable => Some(Call::RotateMemtable(1)),
             Request::DeleteKeyspace => Some(Call::DeleteKeyspace(1)),
             _ => self.of_ticket(),
         }
@@ -358,7 +366,8 @@ const LISTS: &[(&[Request], &str)] = &[
     (
         REQUESTS,
         "number 0; number 1; done; refused UnknownKeyspace; value [98]; done; number 2; \
-        number 49; done; done; 0 pairs; number 1; flag true; names items; done; done; done; ",
+        number 49; done; done; 0 pairs; flag true; done; flag true; flag false; number 1; flag true; names items; \
+        done; done; done; ",
     ),
     (
         OF_TICKETS,

@@ -101,6 +101,14 @@ impl<D: Disk> Database<D> {
         self.core.remove_weak(id, key)
     }
 
+    pub fn clear(&mut self, id: u64) -> Result<()> {
+        self.core.clear(id)
+    }
+
+    pub fn rotate_memtable(&mut self, id: u64) -> Result<bool> {
+        self.core.rotate_memtable(id)
+    }
+
     pub fn commit_batch(&mut self, items: &[Item], mode: Option<PersistMode>) -> Result<()> {
         let items = batch(self.alloc, items)?;
         self.core.commit_batch(items, mode)

@@ -84,7 +84,7 @@ const LAST: &[Row] = &[
     (Add("9.jnl", b""), ""),
     (Open, ""),
     (Ask(Insert(1, "c", "d")), ""),
-    (Space, "49"),
+    (Space, "98"),
     (Close, ""),
     (Len("0.jnl"), "49"),
     (Len("9.jnl"), "0"),

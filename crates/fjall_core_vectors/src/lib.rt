@@ -10,6 +10,8 @@ mod by_hand;
 #[cfg(test)]
 mod calls;
 #[cfg(test)]
+mod clears;
+#[cfg(test)]
 mod database;
 #[cfg(test)]
 mod faults;

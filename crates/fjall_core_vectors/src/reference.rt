@@ -19,6 +19,28 @@ pub enum Command {
     Delete(u64),
     /// Changes keys of keyspaces, one after another.
     Write(Vec<Change>),
+    /// Empties the keyspace of this id.
+    Clear(u64),
+}
+
+impl Command {
+    /// Whether it leaves something in the memtable of a keyspace.
+    pub fn is_kept_in(&self, id: u64) -> bool {
+        match self {
+            Command::Write(changes) => has_change_in(changes, id),
+            Command::Clear(cleared) => *cleared == id,
+            Command::Create(_) | Command::Delete(_) => false,
+        }
+    }
+}
+
+/// Whether one of these changes is of this keyspace.
+fn has_change_in(changes: &[Change], id: u64) -> bool {
+    let mut has_change = false;
+    for change in changes {
+        has_change = has_change || change.0 == id;
+    }
+    has_change
 }
 
 /// A keyspace that lives, with its pairs in the order of their keys.
@@ -79,6 +101,15 @@ fn write_all(alloc: Global, homes: &mut Vec<Home>, changes: &[Change]) -> Result
     Ok(())
 }
 
+/// A keyspace, where it lives, has no pairs from now on.
+fn clear(homes: &mut Vec<Home>, id: u64) {
+    for home in homes {
+        if home.id == id {
+            home.pairs.clear();
+        }
+    }
+}
+
 /// A new keyspace.
 fn new_home(alloc: Global, name: &Slice, id: u64) -> Result<Home> {
     Ok(Home {
@@ -95,6 +126,7 @@ fn next(alloc: Global, homes: Vec<Home>, command: &Command, new_id: u64) -> Resu
         Command::Create(name) => homes.push(new_home(alloc, name, new_id)?)?,
         Command::Delete(id) => return deleted(alloc, homes, *id),
         Command::Write(changes) => write_all(alloc, &mut homes, changes)?,
+        Command::Clear(id) => clear(&mut homes, *id),
     }
     Ok(homes)
 }

@@ -142,14 +142,21 @@ fn the_first_opening_is_crashed_three_times(rt: HostRuntime) -> Result<(), Fail>
 
 #[test]
 fn openings_up_to_the_first_closing_are_crashed_three_times(rt: HostRuntime) -> Result<(), Fail> {
-    let count = check_restarts(rt.alloc(), 0, 20)?;
+    let count = check_restarts(rt.alloc(), 0, 25)?;
     assert!(rt; count > 550, "{count} openings");
     Ok(())
 }
 
 #[test]
+fn openings_up_to_the_second_closing_are_crashed_three_times(rt: HostRuntime) -> Result<(), Fail> {
+    let count = check_restarts(rt.alloc(), 25, 37)?;
+    assert!(rt; count > 110, "{count} openings");
+    Ok(())
+}
+
+#[test]
 fn openings_behind_it_are_crashed_three_times(rt: HostRuntime) -> Result<(), Fail> {
-    let count = check_restarts(rt.alloc(), 20, usize::MAX)?;
-    assert!(rt; count > 800, "{count} openings");
+    let count = check_restarts(rt.alloc(), 37, usize::MAX)?;
+    assert!(rt; count > 650, "{count} openings");
     Ok(())
 }

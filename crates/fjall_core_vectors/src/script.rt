@@ -20,6 +20,9 @@ pub enum Line {
     RemoveWeak(u64, &'static str),
     /// The items of a batch, and how it is persisted.
     Commit(&'static [Item], Option<PersistMode>),
+    Clear(u64),
+    /// The memtable of a keyspace is sealed.
+    Rotate(u64),
     Snapshot,
     /// Of the ticket of this id.
     CloneSnapshot(u64),
@@ -39,6 +42,9 @@ const SCRIPT: &[Line] = &[
     Line::Snapshot,
     Line::Insert(1, "l", "333333333333333333333333333333"),
     Line::Commit(&[(2, "k", Some("7")), (1, "k", None)], None),
+    Line::Clear(2),
+    Line::Commit(&[(2, "m", Some("5")), (1, "m", Some("6"))], None),
+    Line::Rotate(2),
     Line::Retain(1),
     Line::CloneSnapshot(0),
     Line::Delete(1),
@@ -53,6 +59,8 @@ const SCRIPT: &[Line] = &[
     Line::RemoveWeak(2, "l"),
     Line::Gc,
     Line::Persist(PersistMode::Buffer),
+    Line::Rotate(3),
+    Line::Clear(3),
     Line::Reopen,
     Line::Insert(3, "m", "66"),
     Line::Persist(PersistMode::SyncAll),
@@ -64,6 +72,10 @@ const SCRIPT: &[Line] = &[
     Line::Insert(2, "n", "888"),
     Line::Delete(2),
     Line::Insert(3, "k", "9"),
+    Line::Rotate(3),
+    Line::Clear(3),
+    Line::Rotate(3),
+    Line::Rotate(3),
     Line::Reopen,
     Line::Create("a"),
     Line::Insert(4, "z", "0000000000000000000000000000000000000000"),
@@ -76,7 +88,8 @@ const SCRIPT: &[Line] = &[
     Line::Insert(5, "l", "3"),
 ];
 
-/// The script: keyspaces that are made, written and deleted, some of them made anew, and snapshots of them.
+/// The script: keyspaces that are made, written, emptied and deleted, some of them made anew, rotations of their
+/// memtables, and snapshots of them.
 pub fn script() -> &'static [Line] {
     SCRIPT
 }
@@ -138,6 +151,8 @@ pub struct History {
     accepted: usize,
     is_poisoned: bool,
     tickets: Tickets,
+    // of each memtable that was sealed, which keyspace's, and how many commands were accepted before
+    sealed: Vec<(u64, usize)>,
 }
 
 /// A database shows the keyspaces that these commands make.
@@ -183,12 +198,13 @@ impl Line {
         }
     }
 
-    /// Asks for it, where it is of keys.
+    /// Asks for it, where it is of keys, or of all of them.
     fn ask_of_keys<D: Disk>(&self, core: &mut Database<D>) -> Result<()> {
         match self {
             Line::Insert(id, key, value) => core.insert(*id, key.as_bytes(), value.as_bytes()),
             Line::Remove(id, key) => core.remove(*id, key.as_bytes()),
             Line::RemoveWeak(id, key) => core.remove_weak(*id, key.as_bytes()),
+            Line::Clear(id) => core.clear(*id),
             Line::Commit(items, mode) => core.commit_batch(items, *mode),
             _ => Ok(()),
         }
@@ -206,13 +222,14 @@ impl Line {
         }
     }
 
-    /// Asks for it; answers the id of what it makes or opens, or the watermark.
+    /// Asks for it; answers the id of what it makes or opens, the watermark, or 1 where it seals a memtable, else 0.
     pub fn ask<D: Disk>(&self, core: &mut Database<D>) -> Result<Option<u64>> {
         match self {
             Line::Create(name) => Ok(Some(core.keyspace(name.as_bytes())?)),
             Line::Snapshot => Ok(Some(core.snapshot()?)),
             Line::CloneSnapshot(id) => Ok(Some(core.clone_snapshot(*id)?)),
             Line::Gc => Ok(Some(core.gc())),
+            Line::Rotate(id) => Ok(Some(u64::from(core.rotate_memtable(*id)?))),
             _ => {
                 self.ask_to_change(core)?;
                 Ok(None)
@@ -273,6 +290,7 @@ impl History {
             accepted: 0,
             is_poisoned: false,
             tickets: Tickets::new(alloc),
+            sealed: Vec::new(alloc),
         }
     }
 
@@ -301,17 +319,49 @@ impl History {
                 write(alloc, &homes, &[(id, key, None)])?
             }
             Line::Commit(items, _) => write(alloc, &homes, items)?,
+            Line::Clear(id) if lives(&homes, id) => Some(Command::Clear(id)),
             _ => None,
         })
     }
 
-    /// Takes note of what a line does to snapshots; answers whether this is what it must answer.
+    /// How many commands were accepted before the memtable of a keyspace was sealed last; 0 where it wasn't since the opening.
+    fn sealed_behind(&self, id: u64) -> usize {
+        let mut count = 0usize;
+        for (other, accepted) in &self.sealed {
+            if *other == id {
+                count = *accepted;
+            }
+        }
+        count
+    }
+
+    /// Whether the memtable of a keyspace holds something.
+    fn has_memtable(&self, id: u64) -> bool {
+        let mut is_held = false;
+        for (at, command) in self.tried.commands.iter().enumerate() {
+            is_held = is_held || self.sealed_behind(id) <= at && command.is_kept_in(id);
+        }
+        is_held
+    }
+
+    /// Seals the memtable of a keyspace, where it holds something, which raises the watermark; answers whether it does.
+    fn seal(&mut self, id: u64) -> Result<bool> {
+        let is_held = self.has_memtable(id);
+        if is_held {
+            self.tickets.gc(self.accepted);
+            self.sealed.push((id, self.accepted))?;
+        }
+        Ok(is_held)
+    }
+
+    /// Takes note of what a line does to snapshots and memtables; answers whether this is what it must answer.
     fn note(&mut self, line: Line, answer: Option<u64>) -> Result<bool> {
         Ok(match line {
             Line::Snapshot => answer == Some(self.tickets.open(self.accepted)?),
             Line::CloneSnapshot(id) => { answer.is_some() && answer == self.tickets.open_like(id)? }
             Line::CloseSnapshot(id) => self.tickets.close(id),
             Line::Gc => answer == Some(self.tickets.gc(self.accepted)),
+            Line::Rotate(id) => answer == Some(u64::from(self.seal(id)?)),
             _ => true,
         })
     }
@@ -328,7 +378,8 @@ impl History {
     fn accept(&mut self, line: Line, answer: Option<u64>, command: Option<Command>) -> Checked<()> {
         let is_command = command.is_some();
         let is_due = self.note(line, answer)?;
-        if !is_due || is_command && self.is_poisoned {
+        let is_change = is_command || matches!(line, Line::Rotate(_));
+        if !is_due || is_change && self.is_poisoned {
             return Err(Wrong::Line(line));
         }
         self.tried.commands.extend(command)?;
@@ -451,6 +502,7 @@ impl History {
         self.accepted = count;
         self.is_poisoned = false;
         self.tickets = Tickets::new(alloc);
+        self.sealed.clear();
         Ok(core)
     }
 

@@ -166,29 +166,43 @@ fn check_lines(alloc: Global, from: usize, end: usize) -> Checked<usize> {
 
 #[test]
 fn each_moment_of_the_first_lines_is_crashed(rt: HostRuntime) -> Result<(), Fail> {
-    let count = check_lines(rt.alloc(), 0, 10)?;
-    assert!(rt; count > 700, "{count} crashes");
+    let count = check_lines(rt.alloc(), 0, 8)?;
+    assert!(rt; count > 3_500, "{count} crashes");
+    Ok(())
+}
+
+#[test]
+fn each_moment_up_to_the_first_deletion_is_crashed(rt: HostRuntime) -> Result<(), Fail> {
+    let count = check_lines(rt.alloc(), 8, 15)?;
+    assert!(rt; count > 1_300, "{count} crashes");
     Ok(())
 }
 
 #[test]
 fn each_moment_up_to_the_first_closing_is_crashed(rt: HostRuntime) -> Result<(), Fail> {
-    let count = check_lines(rt.alloc(), 10, 20)?;
-    assert!(rt; count > 550, "{count} crashes");
+    let count = check_lines(rt.alloc(), 15, 25)?;
+    assert!(rt; count > 2_500, "{count} crashes");
     Ok(())
 }
 
 #[test]
 fn each_moment_up_to_the_second_closing_is_crashed(rt: HostRuntime) -> Result<(), Fail> {
-    let count = check_lines(rt.alloc(), 20, 29)?;
-    assert!(rt; count > 350, "{count} crashes");
+    let count = check_lines(rt.alloc(), 25, 37)?;
+    assert!(rt; count > 1_400, "{count} crashes");
+    Ok(())
+}
+
+#[test]
+fn each_moment_up_to_the_last_deletion_is_crashed(rt: HostRuntime) -> Result<(), Fail> {
+    let count = check_lines(rt.alloc(), 37, 42)?;
+    assert!(rt; count > 3_500, "{count} crashes");
     Ok(())
 }
 
 #[test]
 fn each_moment_of_the_last_lines_is_crashed(rt: HostRuntime) -> Result<(), Fail> {
-    let count = check_lines(rt.alloc(), 29, 38)?;
-    assert!(rt; count > 1000, "{count} crashes");
+    let count = check_lines(rt.alloc(), 42, 47)?;
+    assert!(rt; count > 2_400, "{count} crashes");
     Ok(())
 }
 
@@ -274,38 +288,52 @@ fn check_faults(alloc: Global, from: usize, end: usize) -> Checked<usize> {
 }
 
 #[test]
-fn each_call_up_to_the_54th_fails(rt: HostRuntime) -> Result<(), Fail> {
-    let count = check_faults(rt.alloc(), 0, 54)?;
-    assert!(rt; count > 400, "{count} crashes");
+fn each_call_up_to_the_37th_fails(rt: HostRuntime) -> Result<(), Fail> {
+    let count = check_faults(rt.alloc(), 0, 37)?;
+    assert!(rt; count > 230, "{count} crashes");
     Ok(())
 }
 
 #[test]
-fn each_call_up_to_the_108th_fails(rt: HostRuntime) -> Result<(), Fail> {
-    let count = check_faults(rt.alloc(), 54, 108)?;
-    assert!(rt; count > 500, "{count} crashes");
+fn each_call_up_to_the_74th_fails(rt: HostRuntime) -> Result<(), Fail> {
+    let count = check_faults(rt.alloc(), 37, 74)?;
+    assert!(rt; count > 320, "{count} crashes");
     Ok(())
 }
 
 #[test]
-fn each_call_up_to_the_162nd_fails(rt: HostRuntime) -> Result<(), Fail> {
-    let count = check_faults(rt.alloc(), 108, 162)?;
-    assert!(rt; count > 500, "{count} crashes");
+fn each_call_up_to_the_111th_fails(rt: HostRuntime) -> Result<(), Fail> {
+    let count = check_faults(rt.alloc(), 74, 111)?;
+    assert!(rt; count > 340, "{count} crashes");
+    Ok(())
+}
+
+#[test]
+fn each_call_up_to_the_148th_fails(rt: HostRuntime) -> Result<(), Fail> {
+    let count = check_faults(rt.alloc(), 111, 148)?;
+    assert!(rt; count > 290, "{count} crashes");
+    Ok(())
+}
+
+#[test]
+fn each_call_up_to_the_185th_fails(rt: HostRuntime) -> Result<(), Fail> {
+    let count = check_faults(rt.alloc(), 148, 185)?;
+    assert!(rt; count > 530, "{count} crashes");
     Ok(())
 }
 
 #[test]
 fn each_call_up_to_the_last_fails(rt: HostRuntime) -> Result<(), Fail> {
-    let count = check_faults(rt.alloc(), 162, usize::MAX)?;
-    assert!(rt; count > 600, "{count} crashes");
+    let count = check_faults(rt.alloc(), 185, usize::MAX)?;
+    assert!(rt; count > 300, "{count} crashes");
     Ok(())
 }
 
 #[test]
-fn the_script_makes_24_commands_by_215_calls(rt: HostRuntime) -> Result<(), Fail> {
+fn the_script_makes_28_commands_by_218_calls(rt: HostRuntime) -> Result<(), Fail> {
     let (tried, log) = recorded(rt.alloc(), script())?;
     let counts = (tried.commands.len(), log.steps.len());
-    assert_eq!(rt; counts, (24, 215));
+    assert_eq!(rt; counts, (28, 218));
     Ok(())
 }
 

@@ -60,12 +60,20 @@ fn opened(alloc: Global, disk: &mut MemoryDisk) -> Result<Opened> {
     open_folder(alloc, disk)
 }
 
+// How many versions are in the tree of a keyspace, none where it has no tree.
+fn version_count(opened: &Opened, id: u64) -> u64 {
+    match opened.trees.tree(id) {
+        Some(tree) => tree.approximate_len(),
+        None => 0,
+    }
+}
+
 // Adds what `open` says of an opened folder.
 fn add_opened(opened: &Opened, seen: &mut Vec<u64>) -> Result<()> {
     seen.extend_from_slice(&[
         opened.journal.len(),
         opened.number,
-        opened.versions.len() as u64,
+        version_count(opened, 1),
         opened.catalog.next_table_id,
         opened.keyspaces.next_id(),
         opened.keyspaces.living().len() as u64,
@@ -73,8 +81,8 @@ fn add_opened(opened: &Opened, seen: &mut Vec<u64>) -> Result<()> {
     add_some_id(seen, opened.keyspaces.resolve_id(b"items"))
 }
 
-/// Opens the folder, and adds the journal's length, the number of the next change, how many versions there are, the next
-/// ids of a table and of a keyspace, how many keyspaces live, and the id of "items", where there is one.
+/// Opens the folder, and adds the journal's length, the number of the next change, how many versions keyspace 1 has, the
+/// next ids of a table and of a keyspace, how many keyspaces live, and the id of "items", where there is one.
 pub fn open(alloc: Global, disk: &mut MemoryDisk, seen: &mut Vec<u64>) -> Result<()> {
     let opened = opened(alloc, disk)?;
     add_opened(&opened, seen)

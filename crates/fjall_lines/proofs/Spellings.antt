@@ -14,7 +14,7 @@ use Rattle.hex.specs.Hex.{IsBytes, encode_lower, encode_with, lower_digits}
 use Rattle.fjall_lines.specs.declared.command.Command.{Command}
 use Rattle.fjall_lines.specs.declared.command.Command.TheVariants.{Ask, Crash, Reopen}
 use Rattle.fjall_lines.specs.declared.command.Request.{Request}
-use Rattle.fjall_lines.specs.declared.command.Request.TheVariants.{Keyspace, Delete, Insert, Remove, RemoveWeak, Batch, Get, Len, Scan, Snapshot, GetAt, CloseSnapshot, Gc, Persist}
+use Rattle.fjall_lines.specs.declared.command.Request.TheVariants.{Keyspace, Delete, Insert, Remove, RemoveWeak, Clear, Batch, Get, Len, Scan, Snapshot, GetAt, CloseSnapshot, Gc, Rotate, Persist}
 use Rattle.fjall_lines.specs.Lines.{hex_word, request_words, value_word, writes_words, words_of, spelling, IsCommand, IsRequest, IsWrite, Write, Spells, Reads}
 use Rattle.fjall_lines.proofs.Bytes.{or_false, digit, lower_digit}
 
@@ -156,6 +156,7 @@ request_are_words (Insert id key value) h =
     (more (hex_word key) (hex_word value) [] (bytes_word key h.1) (one (hex_word value) (bytes_word value h.2))))
 request_are_words (Remove id key) h = with_key (codes "remove") id key refl h
 request_are_words (RemoveWeak id key) h = with_key (codes "remove_weak") id key refl h
+request_are_words (Clear id) h = with_number (codes "clear") id refl h
 request_are_words (Batch writes) h = batch_words (codes "batch") writes (plain (codes "batch") refl) h.1
 request_are_words (Get id key) h = with_key (codes "get") id key refl h
 request_are_words (Len id) h = with_number (codes "len") id refl h
@@ -167,6 +168,7 @@ request_are_words (GetAt number id key) h =
     (more (decimal id) (hex_word key) [] (number_word id h.1) (one (hex_word key) (bytes_word key h.2))))
 request_are_words (CloseSnapshot number) h = with_number (codes "close_snapshot") number refl h
 request_are_words Gc h = one (codes "gc") (plain (codes "gc") refl)
+request_are_words (Rotate id) h = with_number (codes "rotate") id refl h
 request_are_words Persist h = one (codes "persist") (plain (codes "persist") refl)
 
 are_words : (command : Command) → IsCommand command → AreWords (words_of command)

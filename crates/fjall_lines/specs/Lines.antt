@@ -7,7 +7,7 @@ use Rattle.fjall_base.specs.Pairs.{Bytes}
 use Rattle.fjall_lines.specs.declared.command.Command.{Command}
 use Rattle.fjall_lines.specs.declared.command.Command.TheVariants.{Ask, Crash, Reopen}
 use Rattle.fjall_lines.specs.declared.command.Request.{Request}
-use Rattle.fjall_lines.specs.declared.command.Request.TheVariants.{Keyspace, Delete, Insert, Remove, RemoveWeak, Batch, Get, Len, Scan, Snapshot, GetAt, CloseSnapshot, Gc, Persist}
+use Rattle.fjall_lines.specs.declared.command.Request.TheVariants.{Keyspace, Delete, Insert, Remove, RemoveWeak, Clear, Batch, Get, Len, Scan, Snapshot, GetAt, CloseSnapshot, Gc, Rotate, Persist}
 
 -- a line feed ends a line, and so does the end of the text
 abbrev pub lines_of : List ℕ → List (List ℕ)
@@ -43,6 +43,7 @@ request_words (Delete id) = codes "delete" ∷ decimal id ∷ []
 request_words (Insert id key value) = codes "insert" ∷ decimal id ∷ hex_word key ∷ hex_word value ∷ []
 request_words (Remove id key) = codes "remove" ∷ decimal id ∷ hex_word key ∷ []
 request_words (RemoveWeak id key) = codes "remove_weak" ∷ decimal id ∷ hex_word key ∷ []
+request_words (Clear id) = codes "clear" ∷ decimal id ∷ []
 request_words (Batch writes) = codes "batch" ∷ writes_words writes
 request_words (Get id key) = codes "get" ∷ decimal id ∷ hex_word key ∷ []
 request_words (Len id) = codes "len" ∷ decimal id ∷ []
@@ -51,6 +52,7 @@ request_words Snapshot = codes "snapshot" ∷ []
 request_words (GetAt number id key) = codes "get_at" ∷ decimal number ∷ decimal id ∷ hex_word key ∷ []
 request_words (CloseSnapshot number) = codes "close_snapshot" ∷ decimal number ∷ []
 request_words Gc = codes "gc" ∷ []
+request_words (Rotate id) = codes "rotate" ∷ decimal id ∷ []
 request_words Persist = codes "persist" ∷ []
 
 -- the words of a command
@@ -74,6 +76,7 @@ IsRequest (Delete id) = id < 2 ^ 64
 IsRequest (Insert id key value) = (id < 2 ^ 64) × IsBytes key × IsBytes value
 IsRequest (Remove id key) = (id < 2 ^ 64) × IsBytes key
 IsRequest (RemoveWeak id key) = (id < 2 ^ 64) × IsBytes key
+IsRequest (Clear id) = id < 2 ^ 64
 IsRequest (Batch writes) = (writes ≢ []) × All IsWrite writes
 IsRequest (Get id key) = (id < 2 ^ 64) × IsBytes key
 IsRequest (Len id) = id < 2 ^ 64
@@ -82,6 +85,7 @@ IsRequest Snapshot = Unit {0}
 IsRequest (GetAt number id key) = (number < 2 ^ 64) × (id < 2 ^ 64) × IsBytes key
 IsRequest (CloseSnapshot number) = number < 2 ^ 64
 IsRequest Gc = Unit {0}
+IsRequest (Rotate id) = id < 2 ^ 64
 IsRequest Persist = Unit {0}
 
 abbrev pub IsCommand : Command → Type 0

@@ -54,6 +54,8 @@ pub enum Request {
     Remove(u64, UserKey),
     /// `remove_weak ID K`: the same, marked as weak in the journal.
     RemoveWeak(u64, UserKey),
+    /// `clear ID`: takes all keys of a keyspace and their values away.
+    Clear(u64),
     /// `batch ID K V ..`: writes several keys of any keyspaces as one command; `~` for a value removes its key.
     Batch(Writes),
     /// `get ID K`: the value of a key.
@@ -71,6 +73,8 @@ pub enum Request {
     CloseSnapshot(u64),
     /// `gc`: raises the number below which no open snapshot reads, and tells it.
     Gc,
+    /// `rotate ID`: seals the active memtable of a keyspace.
+    Rotate(u64),
     /// `persist`: makes all that was written safe.
     Persist,
 }

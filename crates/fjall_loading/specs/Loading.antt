@@ -1,18 +1,19 @@
 -- What is taken of tables into memory.
-use Rattle.std.specs.Prelude.{◌≡◌, ◌≢◌, ◌⊎◌, ℕ, ◌^◌, Bool, List, [], ◌∷◌, ◌++◌, All, MatchBool}
+use Rattle.std.specs.Prelude.{◌≡◌, ◌⊎◌, ℕ, ◌≤◌, Bool, List, [], ◌∷◌, ◌++◌, MatchBool, Option, None, Some}
 use Rattle.std.specs.List.{flat_map}
-use Rattle.fjall_base.specs.Pairs.{Bytes}
 use Rattle.fjall_table.specs.declared.table_info.TableInfo.{TableInfo}
 use Rattle.fjall_table.specs.Blocks.{Entry}
 use Rattle.fjall_table.specs.Files.{IsTableOf}
+use Rattle.fjall_home.specs.declared.reading.LoadedHome.{LoadedHome}
 use Rattle.fjall_home.specs.Homes.{Home}
 use Rattle.fjall_home.specs.Reading.{AreRight, IsNoTableOf}
-use Rattle.fjall_views.specs.Views.{value_at}
-use Rattle.fjall_versions.specs.declared.version.Version.{Version}
-use Rattle.fjall_versions.specs.Versions.{newest}
-use Rattle.fjall_contents.specs.Memory.{AreLoaded}
+use Rattle.fjall_lsm.specs.Puts.{bare_tree}
+use Rattle.fjall_lsm.specs.Trees.{Shape}
 use Rattle.fjall_recovery.specs.Folders.{Contents}
 use Rattle.fjall_recovery.specs.Homes.{HasVersions, HaveVersionsBut, IsDamaged, Versions, stored_in}
+use Rattle.fjall_replay.specs.Replayed.{AreLoaded, Shows, past}
+use Rattle.fjall_trees.specs.Forests.{Forest}
+use Rattle.fjall_trees.specs.Views.{forest_of}
 use Rattle.fjall_loading.specs.declared.loading.Loaded.{Loaded}
 
 -- To the entries those of a table were added, where its blocks are right; and otherwise there are none.
@@ -25,23 +26,31 @@ AddsTables right tables texts old new =
     MatchBool right ((lists : List (List Entry)) × AreRight tables texts lists × (new ≡ old ++ flat_map (λ entries. entries) lists))
     ((lists : List (List Entry)) → AreRight tables texts lists → ⊥)
 
--- What the tables of a keyspace's home hold was added: that it is damaged, or what its versions show.
-abbrev pub LoadsHome : ℕ → Home → Loaded → Loaded → Type 0
-LoadsHome id h old new =
-    (IsDamaged h × (new.damaged.items ≡ old.damaged.items ++ id ∷ []) × (new.versions.items ≡ old.versions.items))
-    ⊎ ((versions : List Entry) × HasVersions h versions × (new.damaged.items ≡ old.damaged.items)
-    × ((key : Bytes) → newest new.versions.items id key ≡ value_at key (2 ^ 63) h.last.clears versions))
+-- the persisted number that a home tells, where there is a home
+abbrev pub persisted_told : Option LoadedHome → Option ℕ
+persisted_told None = None
+persisted_told (Some home) = home.record.persisted
 
--- All that was added is of this id, and other keyspaces show what they showed.
-pub record AddsOwn (id : ℕ) (old new : List Version) : Type 0 where
-  pub more : List Version
-  pub are : new ≡ old ++ more
-  pub own : All (λ v. v.keyspace_id ≡ id) more
-  pub others : (other : ℕ) → other ≢ id → (key : Bytes) → newest new other key ≡ newest old other key
+-- A tree more stands behind all others. It has no table and takes any number, and nothing in it is beyond the persisted one.
+pub record Plants (id : ℕ) (persisted : Option ℕ) (old new : Forest) : Type 0 where
+  pub shape : Shape
+  pub are : new ≡ old ++ record { id = id; shape = shape } ∷ []
+  pub bare : shape.tables ≡ []
+  pub begun : shape.memory.active.from ≡ 0
+  pub within : shape.memory.active.until ≤ past persisted
 
--- What was loaded is what the tables of these contents hold: of each keyspace that isn't damaged its versions, as far as no
--- clear hides them. The damaged ones are those of these ids.
-pub record Loads (c : Contents) (damaged : List ℕ) (loaded : List Version) : Type 0 where
+-- A tree more stands behind all others, which shows what the tables of a keyspace's home and its record hold; or the home is
+-- damaged, and the tree holds nothing.
+pub record LoadsHome (id : ℕ) (h : Home) (old new : Loaded) : Type 0 where
+  pub shape : Shape
+  pub are : forest_of new.trees ≡ forest_of old.trees ++ record { id = id; shape = shape } ∷ []
+  pub within : shape.memory.active.until ≤ past h.last.persisted
+  pub holds : (IsDamaged h × (new.damaged.items ≡ old.damaged.items ++ id ∷ []) × (shape ≡ bare_tree 0))
+      ⊎ ((versions : List Entry) × HasVersions h versions × (new.damaged.items ≡ old.damaged.items) × Shows h.last.clears versions shape)
+
+-- What was loaded is what the tables of these contents hold: of each keyspace that isn't damaged its versions. The damaged ones
+-- are those of these ids.
+pub record Loads (c : Contents) (damaged : List ℕ) (loaded : Forest) : Type 0 where
   pub versions : Versions
   pub have : HaveVersionsBut damaged c.homes versions
   pub are : AreLoaded c.keyspaces (stored_in c.homes versions) loaded

@@ -2,3 +2,4 @@ pub mod Raising
 pub mod Going
 pub mod Evicting
 pub mod Rotating
+pub mod Telling

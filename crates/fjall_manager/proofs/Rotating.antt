@@ -5,7 +5,7 @@ use Rattle.std.specs.Prelude.{Result, Ok, Err, OnOk, OnErr}
 use Rattle.std.specs.Str.{bytes_eq}
 use Rattle.std.proofs.lemmas.List.{append-nil}
 use Rattle.fjall_base.specs.declared.error.Error.{Error}
-use Rattle.fjall_base.specs.Disk.{Name, Entry, Missing, File, Folder, Place, State, Step, Sync, SyncFolder, Meaning, Took, CanCreate, IsNoFolder, after, alter, all_synced, appended, folder_of, making, state_in}
+use Rattle.fjall_base.specs.Disk.{Name, Entry, Missing, File, Folder, Place, State, Step, Sync, SyncFolder, Meaning, Took, CanCreate, IsFile, IsNoFolder, after, alter, all_synced, appended, folder_of, making, state_in}
 use Rattle.fjall_base.proofs.Names.{bool_cases, same}
 use Rattle.fjall_base.proofs.States.{alter-same, alter-other}
 use Rattle.fjall_journal.specs.declared.persist_mode.PersistMode.TheVariants.{SyncAll}
@@ -60,6 +60,39 @@ can_make old mid j q took root some none = record {
   housed = inl root;
   kind = subst (λ (s : State). IsNoFolder (s q).now) (sym took.state) (out_keeps (state_in old) j.name j.buffer q (λ e. IsNoFolder e) appended_kind synced_kind none);
 }
+
+-- ---- no folder stood there
+
+on_ok : {P Q : Type 0} (r : Result Unit Error) → OnOk r P → (P → Q) → OnOk r Q
+on_ok (Ok v) p from = from p
+on_ok (Err e) p from = tt
+
+ok_of : {Q : Type 0} (r : Result Unit Error) → Q → OnOk r Q
+ok_of (Ok v) q = q
+ok_of (Err e) q = tt
+
+kind_or : (entry : Entry) → IsNoFolder entry ⊎ (entry ≡ Folder)
+kind_or Missing = inl tt
+kind_or (File synced unsynced) = inl tt
+kind_or Folder = inr refl
+
+made_at : (old mid : Meaning) (q : Name) (entry : Entry) → (state_in old q).now ≡ entry → Took old mid (making q (File [] []) entry) → IsFile (state_in mid q).now → IsNoFolder entry
+made_at old mid q Missing is took file = tt
+made_at old mid q (File synced unsynced) is took file = tt
+made_at old mid q Folder is took file = subst IsFile (ap (λ (s : State). (s q).now) took.state ∙ is) file
+
+-- where a file could be made
+pub free_made : (r : Result Unit Error) (old mid : Meaning) (q : Name) → Took old mid (making_file old q) → IsFile (state_in mid q).now → OnOk r (IsNoFolder (state_in old q).now)
+free_made r old mid q took file = ok_of r (made_at old mid q (state_in old q).now refl took file)
+
+-- before a persist none did where none does behind it
+pub free_before : (r : Result Unit Error) (old mid : Meaning) (j : Journal) (q : Name) → Took old mid (persist_steps j SyncAll) → OnOk r (IsNoFolder (state_in mid q).now) → OnOk r (IsNoFolder (state_in old q).now)
+free_before r old mid j q took none = on_ok r none (λ free. elim (kind_or (state_in old q).now) [
+  | inl is ↦ is
+  | inr folder ↦
+      let still = out_keeps (state_in old) j.name j.buffer q (λ e. e ≡ Folder) (λ bs e is. ap (appended bs) is) (λ e is. ap all_synced is) folder in
+      absurd (subst IsNoFolder (ap (λ (s : State). (s q).now) took.state ∙ still) free)
+])
 
 -- ---- steps behind the persist
 

@@ -2,3 +2,4 @@ pub mod Marks
 pub mod Journals
 pub mod Evictions
 pub mod Rotations
+pub mod Telling

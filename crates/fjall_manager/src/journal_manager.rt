@@ -158,6 +158,8 @@ impl JournalManager {
             (rotating (D.meaning disk.old) writer.old (journal_name (id.old + 1)))) }
         ensures left { OnErr result ((writer.new ≡ writer.old) ⊎ (writer.new ≡ written_out writer.old)) }
         ensures part { IsTrue D.honest → OnErr result (RotationTook (D.meaning disk.old) (D.meaning disk.new) writer.old writer.new (journal_name (id.old + 1))) }
+        // Where it is done no folder stood in the place of the next journal.
+        ensures free { IsTrue D.honest → OnOk result (IsNoFolder (state_in (D.meaning disk.old) (journal_name (id.old + 1))).now) }
         ensures served { IsTrue D.honest → IsFile (state_in (D.meaning disk.old) writer.old.name).now
             → IsNoFolder (state_in (D.meaning disk.old) (journal_name (id.old + 1))).now → (D.meaning disk.new).misuses ≡ (D.meaning disk.old).misuses }
         ensures cause { id.old < 2 ^ 64 - 2 → HasCause (D.meaning disk.old) (D.meaning disk.new) result }

@@ -4,11 +4,13 @@
 mod eviction;
 mod flushed;
 mod journal_manager;
+mod laws;
 mod rotation;
 mod sealed_journal;
 mod watermarks;
 
 pub use flushed::Flushed;
 pub use journal_manager::JournalManager;
+pub use laws::a_watermark_is_the_greatest_number;
 pub use sealed_journal::SealedJournal;
 pub use watermarks::{EvictionWatermark, Watermarks};

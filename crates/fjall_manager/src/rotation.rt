@@ -14,6 +14,7 @@ use fjall_journal::{PersistMode, Writer};
 fn make_safe<D: Disk>(disk: &mut D, name: &str) -> Result<()>
     ensures took { IsTrue D.honest → OnOk result (Took (D.meaning disk.old) (D.meaning disk.new) (making_safe (D.meaning disk.old) name.now)) }
     ensures part { IsTrue D.honest → OnErr result (MakingTook (D.meaning disk.old) (D.meaning disk.new) name.now) }
+    ensures free { IsTrue D.honest → OnOk result (IsNoFolder (state_in (D.meaning disk.old) name.now).now) }
     ensures served { IsTrue D.honest → CanCreate (state_in (D.meaning disk.old)) name.now → (D.meaning disk.new).misuses ≡ (D.meaning disk.old).misuses }
     ensures cause { OnlyFaults (D.meaning disk.old) (D.meaning disk.new) result }
 {
@@ -28,6 +29,7 @@ pub(crate) fn rotate<D: Disk>(disk: &mut D, journal: &mut Writer, next: &str) ->
     ensures left { OnErr result ((journal.new ≡ journal.old) ⊎ (journal.new ≡ written_out journal.old)) }
     ensures took { IsTrue D.honest → OnOk result (Took (D.meaning disk.old) (D.meaning disk.new) (rotating (D.meaning disk.old) journal.old next.now)) }
     ensures part { IsTrue D.honest → OnErr result (RotationTook (D.meaning disk.old) (D.meaning disk.new) journal.old journal.new next.now) }
+    ensures free { IsTrue D.honest → OnOk result (IsNoFolder (state_in (D.meaning disk.old) next.now).now) }
     ensures served { IsTrue D.honest → folder_of next.now ≡ [] → next.now ≢ [] → IsFile (state_in (D.meaning disk.old) journal.old.name).now
         → IsNoFolder (state_in (D.meaning disk.old) next.now).now → (D.meaning disk.new).misuses ≡ (D.meaning disk.old).misuses }
     ensures cause { OnlyFaults (D.meaning disk.old) (D.meaning disk.new) result }

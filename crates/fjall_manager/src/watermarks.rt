@@ -1,11 +1,14 @@
 //! Watermarks: up to which number each keyspace has changes in a journal.
 
-ghost use Rattle.std.specs.Prelude.{◌≡◌, [], length, map, IfOk, IsOk, IsOkUnless, IsSome, OnErr, OnOk};
+ghost use Rattle.std.specs.Prelude.{◌≡◌, [], ◌∷◌, ◌++◌, List, length, map, IfOk, IsOk, IsOkUnless, IsSome, OnErr, OnOk};
 ghost use Rattle.std.specs.List.Sorted.{IsStrictlyIncreasing};
+ghost use Rattle.fjall_journal.specs.Batches.{Shown, view};
 ghost use Rattle.fjall_manager.specs.Marks.{IsAscending, IsRaised, all_flushed, lsn_of, unflushed, watermark_of};
+ghost use Rattle.fjall_manager.specs.Telling.{AreMarksOf, NoneFell};
 
 use crate::flushed::Flushed;
 use fjall_base::{Error, Result};
+use fjall_journal::Batch;
 use std::alloc::Global;
 use std::collections::BTreeMap;
 use std::marker::Model;
@@ -59,6 +62,36 @@ impl Watermarks {
     {
         let before = self.lsns.get(&keyspace_id).copied().unwrap_or(0);
         self.lsns.insert(keyspace_id, before.max(lsn))?;
+        Ok(())
+    }
+
+    /// Raises the watermark of each keyspace that the batch changes to at least the batch's number.
+    fn raise_batch(&mut self, batch: &Batch) -> Result<()>
+        ensures ok { (front : List Shown) → AreMarksOf front self.old → OnOk result (AreMarksOf (front ++ view batch.now ∷ []) self.new) }
+        ensures never_falls { NoneFell self.old self.new }
+        ensures only { IsOkUnless result Error.OutOfMemory }
+    {
+        for item in &batch.items {
+            self.raise(item.keyspace_id, batch.seqno)?;
+        }
+        for keyspace_id in &batch.cleared_keyspaces {
+            self.raise(*keyspace_id, batch.seqno)?;
+        }
+        Ok(())
+    }
+
+    /// Raises the watermarks by the batches of a journal: that of each keyspace is then the greatest number of a batch that
+    /// changes it, of these and of those that it told of before.
+    ///
+    /// Where it refuses, some may be raised.
+    pub fn raise_batches(&mut self, batches: &[Batch]) -> Result<()>
+        ensures ok { (front : List Shown) → AreMarksOf front self.old → OnOk result (AreMarksOf (front ++ map view batches.now) self.new) }
+        ensures never_falls { NoneFell self.old self.new }
+        ensures only { IsOkUnless result Error.OutOfMemory }
+    {
+        for batch in batches {
+            self.raise_batch(batch)?;
+        }
         Ok(())
     }
 

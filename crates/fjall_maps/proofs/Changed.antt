@@ -1,11 +1,12 @@
 -- Trees that are changed, each by its id, and trees with one more behind all others.
-use Rattle.std.proofs.Common.{◌≡◌, ℕ, suc, ◌<◌, ◌==◌, Bool, true, false, cond, List, [], ◌∷◌, ◌++◌, filter, All, AllPairs, Option, Some, None, refl, sym, ap, subst, ◌∙◌, arith}
+use Rattle.std.proofs.Common.{◌≡◌, ℕ, suc, ◌<◌, ◌==◌, Bool, true, false, cond, List, [], ◌∷◌, ◌++◌, filter, get_or, All, AllPairs, Option, Some, None, refl, sym, ap, subst, ◌∙◌, arith}
 use Rattle.std.specs.Option.{is_some, option_map, option_or}
-use Rattle.std.proofs.lemmas.List.Elements.{All-head, All-map, All-nil, All-push, All-tail}
+use Rattle.std.proofs.lemmas.Bool.{eqb-true}
+use Rattle.std.proofs.lemmas.List.Elements.{All-head, All-map, All-nil, All-push, All-tail, All-weaker}
 use Rattle.std.proofs.lemmas.List.Kept.{AllPairs-cons}
 use Rattle.fjall_parts.specs.Parts.{Ascends}
 use Rattle.fjall_lsm.specs.Trees.{Shape}
-use Rattle.fjall_trees.specs.Forests.{Forest, IsForest, IsTree, Planted, tree_at}
+use Rattle.fjall_trees.specs.Forests.{Forest, IsForest, IsTree, Planted, altered_at, tree_at}
 use Rattle.fjall_trees.proofs.Places.{ascends_of, each_by, ids_each, pairs_of, tree_each}
 
 -- ---- each changed by its id
@@ -28,6 +29,45 @@ some_map f (Some x) = refl
 
 pub changed_some : (change : ℕ → Shape → Shape) (id : ℕ) (trees : Forest) → is_some (tree_at id (each_by change trees)) ≡ is_some (tree_at id trees)
 changed_some change id trees = ap is_some (tree_each change id trees) ∙ some_map (change id) (tree_at id trees)
+
+-- ---- one of them changed
+
+-- a tree that is changed, or not
+pub either : (P : Shape → Type 0) (b : Bool) (shape new : Shape) → P new → P shape → P (cond b new shape)
+either P true shape new changed same = changed
+either P false shape new changed same = same
+
+-- the change of the tree of one id
+abbrev pub change_at : ℕ → (Shape → Shape) → ℕ → Shape → Shape
+change_at id change k shape = cond (k == id) (change shape) shape
+
+pub altered_each : (P : Shape → Type 0) (id : ℕ) (change : Shape → Shape) (trees : Forest) → ((shape : Shape) → P shape → P (change shape)) → All (λ k. P k.shape) trees
+    → All (λ k. P k.shape) (altered_at id change trees)
+altered_each P id change trees keeps all =
+    changed_has (λ k. P k.shape) (change_at id change) trees
+    (All-weaker (λ k. P k.shape) (λ k. P (change_at id change k.id k.shape)) (λ k is. either P (k.id == id) k.shape (change k.shape) (keeps k.shape is) is) trees all)
+
+pub altered_forest : (id : ℕ) (change : Shape → Shape) (trees : Forest) → IsForest trees → All (λ k. IsTree (change k.shape)) trees → IsForest (altered_at id change trees)
+altered_forest id change trees is each =
+    changed_forest (change_at id change) trees is
+    (λ i d lt. let k = get_or trees i d in either IsTree (k.id == id) k.shape (change k.shape) (each i d lt) (is.each i d lt))
+
+pub altered_some : (id : ℕ) (change : Shape → Shape) (other : ℕ) (trees : Forest) → is_some (tree_at other (altered_at id change trees)) ≡ is_some (tree_at other trees)
+altered_some id change other trees = changed_some (change_at id change) other trees
+
+none_mapped : (o : Option Shape) → option_map (λ shape. shape) o ≡ o
+none_mapped None = refl
+none_mapped (Some shape) = refl
+
+-- what any keyspace has then, its own tree or the one that it had
+pub altered_found : (id : ℕ) (change : Shape → Shape) (other : ℕ) (trees : Forest) (P : Bool → Option Shape → Type 0)
+    → (other ≡ id → P true (option_map change (tree_at other trees))) → P false (tree_at other trees) → P (other == id) (tree_at other (altered_at id change trees))
+altered_found id change other trees P here there =
+    subst (P (other == id)) (sym (tree_each (change_at id change) other trees)) (by (other == id) refl)
+  where
+    by : (b : Bool) → (other == id) ≡ b → P b (option_map (λ shape. cond b (change shape) shape) (tree_at other trees))
+    by true e = here (eqb-true other id e)
+    by false e = subst (P false) (sym (none_mapped (tree_at other trees))) there
 
 -- ---- one more
 

@@ -1,11 +1,17 @@
 pub mod Above
+pub mod Alike
+pub mod Bare
 pub mod Changed
+pub mod Commands
 pub mod Dropped
 pub mod Emptied
+pub mod Finished
 pub mod Items
+pub mod Older
 pub mod Parts
 pub mod Planted
 pub mod Pushed
 pub mod Puts
 pub mod Reading
+pub mod Rotated
 pub mod Stores

@@ -3,12 +3,15 @@ use Rattle.std.proofs.Common.{◌≡◌, ℕ, ◌<◌, ◌≤◌, List, [], ◌�
 use Rattle.std.specs.List.{flat_map}
 use Rattle.std.proofs.lemmas.List.Concat.{flat_map-append}
 use Rattle.std.proofs.lemmas.List.Elements.{All-append, All-head, All-nil, All-pop, All-push, All-tail, All-weaker}
+use Rattle.fjall_table.specs.Blocks.{Entry}
 use Rattle.fjall_views.specs.Jobs.{AreBelow}
-use Rattle.fjall_parts.specs.Parts.{AreApart, Held, IsHeld, clears_in, parts_of, with_active}
+use Rattle.fjall_sorted.specs.Sorted.{flat}
+use Rattle.fjall_parts.specs.Parts.{AreApart, Held, IsHeld, clears_in, parts_of, versions_in, with_active}
 use Rattle.fjall_parts.proofs.Apart.{IsNumbered, apart_with, clears_numbered, numbers_below, versions_numbered}
-use Rattle.fjall_lsm.specs.Trees.{Shape, clears_of, first_from, versions_of, with_memory}
+use Rattle.fjall_lsm.specs.Trees.{Shape, clears_of, first_from, floor_of, versions_of, with_memory}
 use Rattle.fjall_lsm.proofs.Changes.{first_same}
 use Rattle.fjall_trees.specs.Forests.{IsTree}
+use Rattle.fjall_maps.specs.Tables.{IsOlder}
 
 pub active_held : (shape : Shape) → IsTree shape → IsHeld shape.memory.active
 active_held shape is = (All-pop IsHeld (parts_of shape.memory) shape.memory.sealed (Some shape.memory.active) refl is.held).1
@@ -41,9 +44,6 @@ numbers_end {X} list number each shape n is le =
     (All-append (λ (x : X). number x < n) (list h) []
     (All-weaker (λ (x : X). number x < h.until) (λ (x : X). number x < n) (λ x low. omega arith) (list h) (each.high h held)) (All-nil (λ (x : X). number x < n))))
 
-pub versions_end : (shape : Shape) (n : ℕ) → IsTree shape → shape.memory.active.until ≤ n → AreBelow n (versions_of shape [])
-versions_end shape n is le = numbers_end (λ h. h.versions) (λ v. v.number) versions_numbered shape n is le
-
 first_low : (sealed : List Held) (h : Held) → All IsHeld (sealed ++ h ∷ []) → AreApart (sealed ++ h ∷ []) → first_from sealed h ≤ h.until
 first_low [] h held apart = (All-head IsHeld h [] held).bounds
 first_low (g ∷ []) h held apart =
@@ -56,6 +56,13 @@ first_low (g ∷ k ∷ sealed) h held apart =
     let more = first_low (k ∷ sealed) h (All-tail IsHeld g (k ∷ (sealed ++ h ∷ [])) held) apart.1 in
     let next = apart.0 in
     omega arith
+
+pub versions_end : (shape : Shape) (entries : List (List Entry)) (n : ℕ) → IsTree shape → IsOlder shape entries → shape.memory.active.until ≤ n → AreBelow n (versions_of shape entries)
+versions_end shape entries n is older le =
+    let floor = first_low shape.memory.sealed shape.memory.active is.held is.apart in
+    All-append (λ (v : Entry). v.number < n) (flat entries) (versions_in (parts_of shape.memory))
+    (All-weaker (λ (v : Entry). v.number < floor_of shape.memory) (λ (v : Entry). v.number < n) (λ v low. omega arith) (flat entries) older.below)
+    (numbers_end (λ h. h.versions) (λ v. v.number) versions_numbered shape n is le)
 
 pub clears_end : (shape : Shape) (n : ℕ) → IsTree shape → shape.memory.active.until ≤ n → All (λ c. c < n) (clears_of shape)
 clears_end shape n is le =

@@ -19,19 +19,11 @@ use Rattle.fjall_parts.specs.Parts.{parts_of, versions_in}
 use Rattle.fjall_parts.proofs.Finds.{last_versions}
 use Rattle.fjall_parts.proofs.Onces.{chain_once}
 use Rattle.fjall_lsm.specs.Trees.{Shape, clears_of, versions_of, written}
-use Rattle.fjall_lsm.specs.Puts.{has_stamp, put, put_all}
+use Rattle.fjall_lsm.specs.Puts.{put_all}
 use Rattle.fjall_lsm.proofs.Changes.{written_clears}
+use Rattle.fjall_trees.proofs.Changing.{put_all_keeps, put_has}
 
 -- ---- what stays
-
--- it is written, or passed over
-put_has : (P : Shape → Type 0) (v : Entry) (shape : Shape) → (has_stamp v shape ≡ true → P shape) → (has_stamp v shape ≡ false → P (written v shape)) → P (put v shape)
-unfolding put
-put_has P v shape passed wrote = by (has_stamp v shape) refl
-  where
-    by : (b : Bool) → has_stamp v shape ≡ b → P (cond b shape (written v shape))
-    by true e = passed e
-    by false e = wrote e
 
 -- what each write keeps, where the versions have what it needs
 pub put_all_has : (Q : Entry → Type 0) (P : Shape → Type 0) → ((v : Entry) (shape : Shape) → Q v → P shape → P (written v shape))
@@ -40,13 +32,6 @@ put_all_has Q P step [] shape all is = is
 put_all_has Q P step (v ∷ vs) shape all is =
     let rest = put_all_has Q P step vs shape (All-tail Q v vs all) is in
     put_has P v (put_all vs shape) (λ e. rest) (λ e. step v (put_all vs shape) (All-head Q v vs all) rest)
-
--- and what each write keeps of whatever version
-pub put_all_keeps : (P : Shape → Type 0) → ((v : Entry) (shape : Shape) → P shape → P (written v shape)) → (vs : List Entry) (shape : Shape) → P shape → P (put_all vs shape)
-put_all_keeps P step [] shape is = is
-put_all_keeps P step (v ∷ vs) shape is =
-    let rest = put_all_keeps P step vs shape is in
-    put_has P v (put_all vs shape) (λ e. rest) (λ e. step v (put_all vs shape) rest)
 
 pub put_all_ordered : (vs : List Entry) (shape : Shape) → IsOrdered shape.memory.active.versions → IsOrdered (put_all vs shape).memory.active.versions
 put_all_ordered vs shape up =

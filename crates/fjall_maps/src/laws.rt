@@ -13,9 +13,9 @@ ghost use Rattle.fjall_views.specs.Views.{IsView, value_at};
 ghost use Rattle.fjall_versions.specs.Replays.{option_pairs};
 ghost use Rattle.fjall_parts.specs.Parts.{IsHeld};
 ghost use Rattle.fjall_lsm.specs.Puts.{put_all};
-ghost use Rattle.fjall_lsm.specs.Trees.{Shape, clears_of, emptied, versions_of};
+ghost use Rattle.fjall_lsm.specs.Trees.{Shape, clears_of, emptied, sealed_off, versions_of};
 ghost use Rattle.fjall_trees.specs.Forests.{AreBefore, Forest, IsForest, IsTree, altered_at, tree_at, without};
-ghost use Rattle.fjall_trees.specs.Writes.{MayPush, pushed, with_tree};
+ghost use Rattle.fjall_trees.specs.Writes.{AreBare, MayPush, pushed, with_tree};
 ghost use Rattle.fjall_maps.specs.Maps.{pairs_in, store_of};
 
 /// The map of a keyspace at an instant is the view of all that its tree holds, and without a tree it is empty. Above all
@@ -106,4 +106,14 @@ pub fn a_deleted_keyspace_is_a_deletion()
     ensures dropped { (id : ℕ) (s : Keyspaces) (trees : Forest) → keyspace_at id s.living ≡ None → store_of s (without id trees) ≡ store_of s trees }
     ensures maps { (id other : ℕ) (trees : Forest) → other ≢ id → (instant : ℕ) → pairs_in other instant (without id trees) ≡ pairs_in other instant trees }
     ensures forest { (id : ℕ) (trees : Forest) → IsForest trees → IsForest (without id trees) }
+{}
+
+/// A rotation of a keyspace's memtable changes no map, at whatever instant, and so not the store.
+pub fn a_rotation_changes_no_map()
+    ensures forest { (id : ℕ) (trees : Forest) → IsForest trees → IsForest (altered_at id sealed_off trees) }
+    ensures before { (n id : ℕ) (trees : Forest) → AreBefore n trees → AreBefore n (altered_at id sealed_off trees) }
+    ensures bare { (id : ℕ) (trees : Forest) → AreBare trees → AreBare (altered_at id sealed_off trees) }
+    ensures has { (id other : ℕ) (trees : Forest) → is_some (tree_at other (altered_at id sealed_off trees)) ≡ is_some (tree_at other trees) }
+    ensures maps { (id other instant : ℕ) (trees : Forest) → pairs_in other instant (altered_at id sealed_off trees) ≡ pairs_in other instant trees }
+    ensures store { (id : ℕ) (s : Keyspaces) (trees : Forest) → store_of s (altered_at id sealed_off trees) ≡ store_of s trees }
 {}

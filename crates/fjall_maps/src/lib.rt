@@ -2,9 +2,18 @@
 #![tactic(auto)]
 
 mod laws;
+mod table_laws;
 
 pub use laws::{
     a_batch_is_one_write, a_clear_is_the_command, a_deleted_keyspace_is_a_deletion,
-    a_map_is_what_a_tree_shows, a_new_keyspace_is_a_creation, the_store_is_of_the_living,
-    versions_put_into_a_tree_are_versions_more,
+    a_map_is_what_a_tree_shows, a_new_keyspace_is_a_creation, a_rotation_changes_no_map,
+    the_store_is_of_the_living, versions_put_into_a_tree_are_versions_more,
+};
+pub use table_laws::{
+    a_batch_beside_tables_is_one_write, a_clear_beside_tables_is_the_command,
+    a_deleted_keyspace_with_tables_is_a_deletion, a_finished_flush_changes_no_map,
+    a_finished_merge_changes_no_map, a_map_with_tables_is_what_a_tree_shows,
+    a_new_keyspace_beside_tables_is_a_creation, a_rotation_beside_tables_changes_no_map,
+    a_store_has_the_maps_of_the_living, tables_are_older_than_memory, the_same_trees_show_the_same,
+    what_leaves_memory_changes_no_map, without_tables_memory_is_all,
 };

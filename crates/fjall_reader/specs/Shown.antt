@@ -6,14 +6,14 @@ use Rattle.fjall_base.specs.Pairs.{Pairs}
 use Rattle.fjall_base.specs.declared.error.Error.{Error}
 use Rattle.fjall_base.specs.declared.error.Error.TheVariants.{OutOfMemory}
 use Rattle.fjall_history.specs.declared.ticket.View.{View}
-use Rattle.fjall_versions.specs.Versions.{pairs_in}
+use Rattle.fjall_maps.specs.Maps.{pairs_in}
 use Rattle.fjall_state.specs.Machine.{first_due, view_refusals}
-use Rattle.fjall_state.specs.Remembered.{facts_of, versions_in}
+use Rattle.fjall_state.specs.Remembered.{facts_of, instant_in}
 use Rattle.fjall_core.specs.Holding.{Held}
 
 -- the map of a keyspace that a core has in a view
 abbrev pub shown : Held → View → ℕ → Pairs
-shown core view id = pairs_in id (versions_in core.memory view)
+shown core view id = pairs_in id (instant_in core.memory view) core.memory.trees
 
 -- the refusal that is due for a read of a keyspace in a view of a core
 abbrev pub read_due : Held → View → ℕ → Option Error

@@ -77,7 +77,7 @@ rest_read image j (k ∷ journals) read = read.1
 same_journal : (j k : Journal) → j.id ≡ k.id → j.batches ≡ k.batches → j ≡ k
 same_journal j k ids batches = ap (λ i. let r : Journal = record { id = i; batches = j.batches } in r) ids ∙ ap (λ bs. let r : Journal = record { id = k.id; batches = bs } in r) batches
 
-one_reading : (image : Image) (journals others : List Journal) → map (λ (j : Journal). j.id) journals ≡ map (λ (j : Journal). j.id) others → AreRead image journals → AreRead image others → journals ≡ others
+pub one_reading : (image : Image) (journals others : List Journal) → map (λ (j : Journal). j.id) journals ≡ map (λ (j : Journal). j.id) others → AreRead image journals → AreRead image others → journals ≡ others
 one_reading image [] [] same a b = refl
 one_reading image [] (k ∷ others) same a b = let no : ⊥ = cc in absurd no
 one_reading image (j ∷ journals) [] same a b = let no : ⊥ = cc in absurd no

@@ -31,6 +31,7 @@ use Rattle.fjall_home.specs.declared.reading.LoadedHome.{LoadedHome}
 use Rattle.fjall_recovery.specs.Folders.{AreEmpty, AreMade, Contents, IsBegun, IsFinished, IsOpenable, ReadsFolder, Shows, file_bytes, marker_bytes}
 use Rattle.fjall_recovery.specs.Homes.{AreHomesRead, HasHomeAt, HasOpenableHome, HaveHomes, Homes, last_in, lasts}
 use Rattle.fjall_recovery.specs.Journals.{Journal, AreFound, AreJournalIds, HoldsJournals}
+use Rattle.fjall_recovery.specs.Told.{AreTold}
 use Rattle.fjall_recovery.specs.Naming.{AreFolderIds, JournalsAreNamed, KeyspacesAreNamed}
 use Rattle.fjall_recovery.specs.Refusals.{BegunRefuses, CatalogRefuses, FinishedRefuses, FolderRefuses, HomesRefuse, IsDue, JournalsRefuse, TreeRefuses, UnfinishedRefuses}
 use Rattle.fjall_recovery.proofs.Gathering.{due}
@@ -166,12 +167,14 @@ journals_along a b ids others same is are = subst (AreJournalIds b) (sym is) (su
 pub finished_of : (image one two three : Image) (f : RecoveredFolder) (journal_ids : List ℕ) (living : List LivingKeyspace) → one ≡ image → two ≡ image → three ≡ image
     → journal_ids ≡ f.journal_ids.items → AreJournalIds image f.journal_ids.items
     → AreFound image journal_ids (map view f.journals.batches.items) f.journals.least f.journals.end f.journals.torn
+    → AreTold image journal_ids f.journals.sealed f.journals.watermarks
     → AreFolderIds one f.folder_ids.items → KeyspacesAreNamed one → two (keyspace_folder 0) ≡ Folder
     → (records : List Fields) × Says two records f.catalog.catalog f.catalog.keyspaces → HasEnd two f.catalog.end f.catalog.is_torn → AreMade f.catalog.catalog f.catalog.keyspaces
     → living ≡ f.catalog.keyspaces.living → AreHomesRead three living f.homes.items → IsFinished image f
-finished_of image one two three f journal_ids living at_one at_two at_three ids are found folders named folder says ends made is homes = record {
+finished_of image one two three f journal_ids living at_one at_two at_three ids are found told folders named folder says ends made is homes = record {
   journal_ids = are;
   journals = subst (λ (l : List ℕ). AreFound image l (map view f.journals.batches.items) f.journals.least f.journals.end f.journals.torn) ids found;
+  told = subst (λ (l : List ℕ). AreTold image l f.journals.sealed f.journals.watermarks) ids told;
   folder_ids = subst (λ i. AreFolderIds i f.folder_ids.items) at_one folders;
   keyspaces_named = subst KeyspacesAreNamed at_one named;
   folder = subst (λ (i : Image). i (keyspace_folder 0) ≡ Folder) at_two folder;

@@ -56,14 +56,14 @@ none_gathered batches least none zero = record { sound = refl; all = none; next 
 
 -- ---- sealed journals
 
-sealed_more : (image : Image) (front : List Journal) (j : Journal) → AllByRecursion (IsSealed image) front → IsSealed image j → AllByRecursion (IsSealed image) (front ++ j ∷ [])
+pub sealed_more : (image : Image) (front : List Journal) (j : Journal) → AllByRecursion (IsSealed image) front → IsSealed image j → AllByRecursion (IsSealed image) (front ++ j ∷ [])
 sealed_more image [] j each one = (one, tt)
 sealed_more image (k ∷ front) j each one = (each.0, sealed_more image front j each.1 one)
 
-ids-append : (front : List Journal) (j : Journal) → map (λ (k : Journal). k.id) (front ++ j ∷ []) ≡ map (λ (k : Journal). k.id) front ++ j.id ∷ []
+pub ids-append : (front : List Journal) (j : Journal) → map (λ (k : Journal). k.id) (front ++ j ∷ []) ≡ map (λ (k : Journal). k.id) front ++ j.id ∷ []
 ids-append front j = map-append (λ (k : Journal). k.id) front (j ∷ [])
 
-clean_end : (text : List ℕ) (batches : List Shown) (end : ℕ) (tail : Tail) (read : IsReadAs text batches end tail) → tail ≡ Clean → ReadsAs text read.written Clean
+pub clean_end : (text : List ℕ) (batches : List Shown) (end : ℕ) (tail : Tail) (read : IsReadAs text batches end tail) → tail ≡ Clean → ReadsAs text read.written Clean
 clean_end text batches end tail read clean = record { end = end; whole = read.whole; behind = subst (IsTail (drop end text)) clean read.behind }
 
 pub one_sealed_more : (image : Image) (ids : List ℕ) (id : ℕ) (batches new more : List Shown) (least next end : ℕ) (tail : Tail) → AreSealed image ids batches least
@@ -79,7 +79,7 @@ one_sealed_more image ids id batches new more least next end tail so_far read cl
 
 -- ---- the active one behind them
 
-read_last : (image : Image) (front : List Journal) (j : Journal) → AllByRecursion (IsSealed image) front → ReadsAs (journal_text image j.id) j.batches Clean ⊎ ReadsAs (journal_text image j.id) j.batches Torn → AreRead image (front ++ j ∷ [])
+pub read_last : (image : Image) (front : List Journal) (j : Journal) → AllByRecursion (IsSealed image) front → ReadsAs (journal_text image j.id) j.batches Clean ⊎ ReadsAs (journal_text image j.id) j.batches Torn → AreRead image (front ++ j ∷ [])
 read_last image [] j each last = last
 read_last image (k ∷ []) j each last = (each.0, last)
 read_last image (k ∷ l ∷ front) j each last = (each.0, read_last image (l ∷ front) j each.1 last)
@@ -89,7 +89,7 @@ ends_last image [] j end torn is = is
 ends_last image (k ∷ []) j end torn is = is
 ends_last image (k ∷ l ∷ front) j end torn is = ends_last image (l ∷ front) j end torn is
 
-either_tail : (text : List ℕ) (batches : List Written) (end : ℕ) (torn : Bool) → IsWhole text batches end → IsTail (drop end text) (tail_of torn) → ReadsAs text batches Clean ⊎ ReadsAs text batches Torn
+pub either_tail : (text : List ℕ) (batches : List Written) (end : ℕ) (torn : Bool) → IsWhole text batches end → IsTail (drop end text) (tail_of torn) → ReadsAs text batches Clean ⊎ ReadsAs text batches Torn
 either_tail text batches end false whole tail = inl (record { end = end; whole = whole; behind = tail })
 either_tail text batches end true whole tail = inr (record { end = end; whole = whole; behind = tail })
 

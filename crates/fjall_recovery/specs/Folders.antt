@@ -1,5 +1,6 @@
 -- What an image of a whole folder says, and the store that it stands for.
-use Rattle.std.specs.Prelude.{◌≡◌, ◌⊎◌, ℕ, ◌+◌, ◌<◌, ◌^◌, ◌++◌, max, All, List, [], ◌∷◌, map, codes, Option, Some, None, Ok}
+use Rattle.std.specs.Prelude.{◌≡◌, ◌⊎◌, ℕ, ◌+◌, ◌-◌, ◌<◌, ◌^◌, ◌++◌, max, All, List, [], ◌∷◌, length, map, take, codes, Option, Some, None, Ok}
+use Rattle.std.specs.List.Sorted.{IsStrictlyIncreasing}
 use Rattle.fjall_base.specs.Store.{Store}
 use Rattle.fjall_base.specs.Disk.{Entry, File, Folder, Image}
 use Rattle.fjall_journal.specs.Batches.{NoneAt, shown, view}
@@ -16,6 +17,7 @@ use Rattle.fjall_contents.specs.Contents.{store_held}
 use Rattle.fjall_recovery.specs.declared.folder.RecoveredFolder.{RecoveredFolder}
 use Rattle.fjall_recovery.specs.Homes.{AreHomesRead, HaveHomes, HaveVersions, Homes, Versions, lasts, stored_in}
 use Rattle.fjall_recovery.specs.Journals.{Journal, HoldsJournals, AreFound, AreJournalIds, batches_in, journal_text}
+use Rattle.fjall_recovery.specs.Told.{AreTold}
 use Rattle.fjall_recovery.specs.Naming.{AreFolderIds, JournalsAreNamed, KeyspacesAreNamed}
 
 -- the bytes of a file, where one stands there
@@ -113,6 +115,7 @@ StandsFor image store = ((c : Contents) × IsSound image c × (store ≡ store_o
 pub record IsFinished (image : Image) (f : RecoveredFolder) : Type 0 where
   pub journal_ids : AreJournalIds image f.journal_ids.items
   pub journals : AreFound image f.journal_ids.items (map view f.journals.batches.items) f.journals.least f.journals.end f.journals.torn
+  pub told : AreTold image f.journal_ids.items f.journals.sealed f.journals.watermarks
   pub folder_ids : AreFolderIds image f.folder_ids.items
   pub keyspaces_named : KeyspacesAreNamed image
   pub folder : image (keyspace_folder 0) ≡ Folder
@@ -121,6 +124,11 @@ pub record IsFinished (image : Image) (f : RecoveredFolder) : Type 0 where
   pub end : HasEnd image f.catalog.end f.catalog.is_torn
   pub made : AreMade f.catalog.catalog f.catalog.keyspaces
   pub homes : AreHomesRead image f.catalog.keyspaces.living f.homes.items
+
+-- What is so of whatever disk: the ids of its journals ascend, and of all of them but the last a sealed one is told.
+pub record IsNumbered (f : RecoveredFolder) : Type 0 where
+  pub ascending : IsStrictlyIncreasing f.journal_ids.items
+  pub sealed : map (λ journal. journal.id) f.journals.sealed ≡ take (length f.journal_ids.items - 1) f.journal_ids.items
 
 -- what was read is what the folder holds
 pub record Shows (f : RecoveredFolder) (c : Contents) : Type 0 where

@@ -1,5 +1,6 @@
 pub mod Naming
 pub mod Journals
+pub mod Told
 pub mod Homes
 pub mod Folders
 pub mod Refusals

@@ -1,6 +1,7 @@
 //! A folder, read whole.
 
-ghost use Rattle.std.specs.Prelude.{◌≡◌, ◌<◌, ◌≤◌, ◌↔◌, [], ◌^◌, map, All, IsTrue, IfErr, IfOk, OnOk, List, Option, Ok, Err};
+ghost use Rattle.std.specs.Prelude.{◌≡◌, ◌<◌, ◌≤◌, ◌↔◌, [], ◌^◌, map, All, IsTrue, IfErr, IfOk, IfSome, OnOk, List, Option, Ok, Err};
+ghost use Rattle.std.specs.List.Sorted.{IsStrictlyIncreasing};
 ghost use Rattle.fjall_base.specs.Disk.{Folder, Image, Took};
 ghost use Rattle.fjall_base.specs.Store.{Store};
 ghost use Rattle.fjall_files.specs.Calls.{seen, AllServed};
@@ -10,7 +11,7 @@ ghost use Rattle.fjall_tree.specs.Records.{Fields, view};
 ghost use Rattle.fjall_meta.specs.Keyspaces.{Keyspaces};
 ghost use Rattle.fjall_catalog.specs.declared.catalog.Catalog.{Catalog};
 ghost use Rattle.fjall_catalog.specs.Catalog.{HasEnd, Says, fields};
-ghost use Rattle.fjall_recovery.specs.Folders.{AreMade, Contents, IsFinished, IsOpenable, ReadsFolder, Shows, StandsFor, marker_bytes, number_of, past, past_record, past_records};
+ghost use Rattle.fjall_recovery.specs.Folders.{AreMade, Contents, IsFinished, IsNumbered, IsOpenable, ReadsFolder, Shows, StandsFor, marker_bytes, number_of, past, past_record, past_records};
 ghost use Rattle.fjall_recovery.specs.Held.{IsOpenFolder};
 ghost use Rattle.fjall_recovery.specs.Journals.{AreJournalIds};
 ghost use Rattle.fjall_recovery.specs.Naming.{AreFolderIds};
@@ -120,6 +121,7 @@ fn read_finished<D: Disk>(
     journal_ids: Vec<u64>,
 ) -> Result<RecoveredFolder>
     ensures found { IsTrue D.honest → AreJournalIds (seen (D.meaning disk.old)) journal_ids.items → IfOk result (IsFinished (seen (D.meaning disk.old))) }
+    ensures numbered { IsStrictlyIncreasing journal_ids.items → IfOk result IsNumbered }
     ensures same { IsTrue D.honest → Took (D.meaning disk.old) (D.meaning disk.new) [] }
     ensures served { IsTrue D.honest → AllServed (D.meaning disk.old) (D.meaning disk.new) }
     ensures later { (D.meaning disk.old).faults ≤ (D.meaning disk.new).faults }
@@ -170,6 +172,7 @@ fn read_version<D: Disk>(alloc: Global, disk: &mut D) -> Result<Marker>
 /// `OutOfMemory` and `Io` come as ever.
 pub fn read_folder<D: Disk>(alloc: Global, disk: &mut D) -> Result<Option<RecoveredFolder>>
     ensures found { IsTrue D.honest → IfOk result (λ folder. ReadsFolder (seen (D.meaning disk.old)) folder) }
+    ensures numbered { IfOk result (λ folder. IfSome folder IsNumbered) }
     ensures same { IsTrue D.honest → Took (D.meaning disk.old) (D.meaning disk.new) [] }
     ensures served { IsTrue D.honest → AllServed (D.meaning disk.old) (D.meaning disk.new) }
     ensures later { (D.meaning disk.old).faults ≤ (D.meaning disk.new).faults }

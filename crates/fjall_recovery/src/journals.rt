@@ -1,12 +1,14 @@
 //! The journals of a folder, read one after another.
 
-ghost use Rattle.std.specs.Prelude.{◌≡◌, ◌≤◌, ◌⊎◌, ◌++◌, ◌∷◌, [], false, true, IsTrue, IfOk, IfErr, OnOk, ℕ, map, None};
+ghost use Rattle.std.specs.Prelude.{◌≡◌, ◌≤◌, ◌⊎◌, ◌++◌, ◌∷◌, ◌-◌, [], false, true, IsTrue, IfOk, IfErr, OnOk, IsOkUnless, ℕ, length, map, take, None};
 ghost use Rattle.fjall_base.specs.Disk.{Took};
 ghost use Rattle.fjall_base.specs.declared.error.Error.{Error};
 ghost use Rattle.fjall_journal.specs.Batches.{view};
 ghost use Rattle.fjall_journal.specs.declared.batch.Tail.TheVariants.{Clean};
+ghost use Rattle.fjall_manager.specs.Telling.{AreMarksOf, IsSealedAs};
 ghost use Rattle.fjall_versions.specs.Replays.{first_fault, least_after, NamesFault};
 ghost use Rattle.fjall_recovery.specs.Journals.{AreFound, AreSealed, IsReadAs, journal_text, tail_of};
+ghost use Rattle.fjall_recovery.specs.Told.{AreSealedAs, AreTold};
 ghost use Rattle.fjall_recovery.specs.Refusals.{HasRisen, IsDue, IsOpeningRefusal, JournalsRefuse, TailRefuses};
 ghost use Rattle.fjall_files.specs.Calls.{seen, AllServed};
 
@@ -14,6 +16,7 @@ use crate::file::read_text;
 use fjall_base::{Disk, Error, Result};
 use fjall_files::journal_name;
 use fjall_journal::{Batch, Contents, Tail, read_journal};
+use fjall_manager::{JournalManager, SealedJournal, Watermarks};
 use fjall_versions::check_batches;
 use std::alloc::Global;
 
@@ -28,6 +31,10 @@ pub struct RecoveredJournals {
     pub end: usize,
     /// Whether behind them stands what an append left that was cut short.
     pub torn: bool,
+    /// The journals but the active one, by id ascending: how long their files are, and their watermarks.
+    pub sealed: JournalManager,
+    /// The watermarks of the active one.
+    pub watermarks: Watermarks,
 }
 
 /// Refuses what may not stand behind a sealed journal.
@@ -68,6 +75,25 @@ pub(crate) fn read_one<D: Disk>(alloc: Global, disk: &mut D, id: u64) -> Result<
     read_journal(alloc, &text)
 }
 
+/// The watermarks of a journal with these batches.
+fn watermarks_of(alloc: Global, batches: &[Batch]) -> Result<Watermarks>
+    ensures ok { IfOk result (AreMarksOf (map view batches.now)) }
+    ensures only { IsOkUnless result Error.OutOfMemory }
+{
+    let mut watermarks = Watermarks::new(alloc);
+    watermarks.raise_batches(batches)?;
+    Ok(watermarks)
+}
+
+/// What is told of a sealed journal: its file ends where its batches do.
+fn told_of(alloc: Global, id: u64, contents: &Contents) -> Result<SealedJournal>
+    ensures ok { IfOk result (IsSealedAs id (map view contents.now.batches.items) contents.now.end) }
+    ensures only { IsOkUnless result Error.OutOfMemory }
+{
+    let watermarks = watermarks_of(alloc, &contents.batches)?;
+    SealedJournal::new(alloc, id, contents.end as u64, watermarks)
+}
+
 impl RecoveredJournals {
     /// No journal yet.
     fn new(alloc: Global) -> RecoveredJournals
@@ -75,12 +101,16 @@ impl RecoveredJournals {
         ensures least { result.least ≡ 0 }
         ensures end { result.end ≡ 0 }
         ensures torn { result.torn ≡ false }
+        ensures sealed { result.sealed ≡ [] }
+        ensures watermarks { result.watermarks ≡ [] }
     {
         RecoveredJournals {
             batches: Vec::new(alloc),
             least: 0,
             end: 0,
             torn: false,
+            sealed: JournalManager::new(alloc),
+            watermarks: Watermarks::new(alloc),
         }
     }
 
@@ -91,6 +121,7 @@ impl RecoveredJournals {
         ensures least { OnOk result (self.new.least ≡ least_after self.old.least (map view contents.batches.items)) }
         ensures end { OnOk result (self.new.end ≡ contents.end) }
         ensures torn { OnOk result (self.new.torn ≡ self.old.torn) }
+        ensures sealed { OnOk result (self.new.sealed ≡ self.old.sealed) }
         ensures tail { IfOk result (λ tail. tail ≡ contents.tail) }
         ensures cause { IfErr result (λ error. (error ≡ Error.OutOfMemory) ⊎ NamesFault (first_fault self.old.least (map view contents.batches.items)) error) }
     {
@@ -106,6 +137,8 @@ impl RecoveredJournals {
 fn read_sealed<D: Disk>(alloc: Global, disk: &mut D, ids: &[u64]) -> Result<RecoveredJournals>
     ensures found { IsTrue D.honest → IfOk result (λ found. AreSealed (seen (D.meaning disk.old)) ids.now (map view found.batches.items) found.least) }
     ensures torn { IfOk result (λ found. found.torn ≡ false) }
+    ensures told { IsTrue D.honest → IfOk result (λ found. AreSealedAs (seen (D.meaning disk.old)) ids.now found.sealed) }
+    ensures ids { IfOk result (λ found. map (λ s. s.id) found.sealed ≡ ids.now) }
     ensures behind { IsTrue D.honest → (active : ℕ) (error : Error)
         → IfOk result (λ found. JournalsRefuse (seen (D.meaning disk.old)) found.least (active ∷ []) error
         → JournalsRefuse (seen (D.meaning disk.old)) 0 (ids.now ++ active ∷ []) error) }
@@ -119,8 +152,10 @@ fn read_sealed<D: Disk>(alloc: Global, disk: &mut D, ids: &[u64]) -> Result<Reco
     let mut journals = RecoveredJournals::new(alloc);
     for id in ids {
         let contents = read_one(alloc, disk, *id)?;
+        let sealed = told_of(alloc, *id, &contents)?;
         let tail = journals.take(contents)?;
         check_sealed(tail)?;
+        journals.sealed.enqueue(sealed)?;
     }
     Ok(journals)
 }
@@ -133,6 +168,9 @@ fn read_sealed<D: Disk>(alloc: Global, disk: &mut D, ids: &[u64]) -> Result<Reco
 pub fn read_journals<D: Disk>(alloc: Global, disk: &mut D, ids: &[u64]) -> Result<RecoveredJournals>
     ensures found { IsTrue D.honest
         → IfOk result (λ found. AreFound (seen (D.meaning disk.old)) ids.now (map view found.batches.items) found.least found.end found.torn) }
+    ensures told { IsTrue D.honest → IfOk result (λ found. AreTold (seen (D.meaning disk.old)) ids.now found.sealed found.watermarks) }
+    // Of whatever disk, the sealed ones are those of all ids but the last.
+    ensures ids { IfOk result (λ found. map (λ s. s.id) found.sealed ≡ take (length ids.now - 1) ids.now) }
     ensures same { IsTrue D.honest → Took (D.meaning disk.old) (D.meaning disk.new) [] }
     ensures served { IsTrue D.honest → AllServed (D.meaning disk.old) (D.meaning disk.new) }
     ensures later { (D.meaning disk.old).faults ≤ (D.meaning disk.new).faults }
@@ -145,7 +183,9 @@ pub fn read_journals<D: Disk>(alloc: Global, disk: &mut D, ids: &[u64]) -> Resul
     };
     let mut journals = read_sealed(alloc, disk, sealed)?;
     let contents = read_one(alloc, disk, *active)?;
+    let watermarks = watermarks_of(alloc, &contents.batches)?;
     let tail = journals.take(contents)?;
     journals.torn = check_active(tail)?;
+    journals.watermarks = watermarks;
     Ok(journals)
 }

@@ -1,6 +1,7 @@
 //! The journals and the keyspaces that a folder lists.
 
 ghost use Rattle.std.specs.Prelude.{◌≡◌, ◌≤◌, [], IsTrue, IfErr, IfOk, OnOk};
+ghost use Rattle.std.specs.List.Sorted.{IsStrictlyIncreasing};
 ghost use Rattle.fjall_base.specs.declared.error.Error.{Error};
 ghost use Rattle.fjall_base.specs.declared.error.JournalRecoveryError.{JournalRecoveryError};
 ghost use Rattle.fjall_base.specs.Disk.{Took};
@@ -16,6 +17,7 @@ use std::alloc::Global;
 /// The ids of the journals in the root, ascending. A file that is named nearly like one is `InvalidFileName`.
 pub(crate) fn list_journals<D: Disk>(alloc: Global, disk: &mut D) -> Result<Vec<u64>>
     ensures ids { IsTrue D.honest → IfOk result (λ ids. AreJournalIds (seen (D.meaning disk.old)) ids.items) }
+    ensures ascending { IfOk result (λ ids. IsStrictlyIncreasing ids.items) }
     ensures named { IsTrue D.honest → OnOk result (JournalsAreNamed (seen (D.meaning disk.old))) }
     ensures same { IsTrue D.honest → Took (D.meaning disk.old) (D.meaning disk.new) [] }
     ensures served { IsTrue D.honest → AllServed (D.meaning disk.old) (D.meaning disk.new) }

@@ -47,7 +47,9 @@ pub mod Rooted
 pub mod Agreeing
 pub mod Repairing
 pub mod Numbering
+pub mod Fitting
 pub mod Replayed
 pub mod Openings
 pub mod Amid
 pub mod SweepServed
+pub mod Counting

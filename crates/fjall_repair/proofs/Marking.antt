@@ -177,10 +177,11 @@ module _ (old mid new : Meaning) (sealed : List ℕ) (active : ℕ) (awaits : Aw
         | inr out ↦ rw out (sym (at_other q out))
       ]
 
-  pub begun : IsBegunOn (state_in new) active
+  pub begun : IsBegunOn (state_in new) sealed active
   begun = record {
     j = empty_journals sealed active;
     root = subst (λ (s : State). LiesInRoot s (empty_journals sealed active)) is_marked awaits.root;
+    journals = refl;
     active_is = refl;
     later = refl;
     batches = batches_none sealed active;

@@ -1,8 +1,8 @@
 -- What was opened, and the disk until then.
-use Rattle.std.proofs.Common.{◌≡◌, inl, inr, ℕ, zero, suc, ◌<◌, ◌≤◌, ◌==◌, Bool, true, false, if◌then◌else◌, max, List, [], ◌∷◌, length, get_or, map, All, Option, None, Some, Result, Ok, Err, refl, sym, ◌∙◌, ap, subst, arith}
+use Rattle.std.proofs.Common.{◌≡◌, inl, inr, ℕ, zero, suc, ◌<◌, ◌≤◌, ◌^◌, ◌==◌, Bool, true, false, if◌then◌else◌, max, List, [], ◌∷◌, length, get_or, map, All, Option, None, Some, Result, Ok, Err, refl, sym, ◌∙◌, ap, subst, arith}
 use Rattle.std.specs.List.{AllByRecursion}
 use Rattle.std.proofs.lemmas.List.{get_or-map, length-map}
-use Rattle.std.proofs.lemmas.List.Elements.{All-from_recursion, All-nil}
+use Rattle.std.proofs.lemmas.List.Elements.{All-from_recursion}
 use Rattle.std.specs.Prelude.{IfOk, IfErr, IfSome}
 use Rattle.fjall_base.specs.Disk.{Name, State, Image, Survives, LeavesBy, LeavesOnly, Meaning, Took, standing, state_in}
 use Rattle.fjall_base.specs.declared.error.Error.{Error}
@@ -11,14 +11,16 @@ use Rattle.fjall_base.proofs.Moments.{started}
 use Rattle.fjall_files.proofs.Made.{took_both}
 use Rattle.fjall_journal.specs.Batches.{Shown, Written, shown, view}
 use Rattle.fjall_meta.specs.Keyspaces.{Keyspaces, no_keyspaces}
-use Rattle.fjall_versions.specs.declared.version.Version.{Version}
 use Rattle.fjall_journal.specs.Writer.{Journal}
 use Rattle.fjall_files.specs.Names.{journal_name}
 use Rattle.fjall_versions.specs.declared.recovery.Persisted.{Persisted}
-use Rattle.fjall_versions.specs.Versions.{store_of as store_behind}
-use Rattle.fjall_versions.specs.Replays.{bare, first_fault, least_after, persisted_at}
-use Rattle.fjall_contents.specs.Contents.{nothing_stored, store_held as store_with}
-use Rattle.fjall_contents.specs.Memory.{AreTold, versions_beyond}
+use Rattle.fjall_maps.specs.Maps.{store_of as store_behind}
+use Rattle.fjall_versions.specs.Replays.{bare, first_fault, least_after}
+use Rattle.fjall_contents.specs.Contents.{AreWithin, Stored, store_held as store_with}
+use Rattle.fjall_replay.specs.Replayed.{AreLoaded, AreReplayed, AreTold}
+use Rattle.fjall_replay.proofs.Storing.{replayed_store}
+use Rattle.fjall_trees.specs.Forests.{Forest}
+use Rattle.fjall_trees.specs.Views.{forest_of}
 use Rattle.fjall_recovery.specs.Places.{texts_of, contents_with}
 use Rattle.fjall_table.specs.declared.table_info.TableInfo.{TableInfo}
 use Rattle.fjall_tree.specs.Records.{Fields, IsRecord}
@@ -34,15 +36,19 @@ use Rattle.fjall_recovery.specs.Homes.{AreHomesRead, HaveVersionsBut, Versions, 
 use Rattle.fjall_recovery.specs.Refusals.{FolderRefuses, HasRisen, IsDue}
 use Rattle.fjall_journal.proofs.Writing.{took_none}
 use Rattle.fjall_files.specs.declared.marker.Marker.TheVariants.{Whole, Unfinished}
-use Rattle.fjall_recovery.specs.Journals.{batches_in}
+use Rattle.fjall_recovery.specs.Journals.{Journal as FoundJournal, batches_in}
+use Rattle.fjall_recovery.specs.Told.{TellOf}
+use Rattle.fjall_repair.specs.Steps.{active_of}
+use Rattle.fjall_repair.proofs.Counting.{active_lying, tell_lying}
+use Rattle.fjall_repair.proofs.MendOpened.{ids_of}
 use Rattle.fjall_recovery.specs.Held.{Holds, IsFolder, number_held, store_held}
 use Rattle.fjall_recovery.proofs.Holding.{folder_stands, tree_of}
 use Rattle.fjall_recovery.proofs.Damage.{none_damaged, within_but}
 use Rattle.fjall_repair.proofs.Begun as Beginning
 use Rattle.fjall_repair.proofs.Agreeing.{homes_are}
 use Rattle.fjall_repair.proofs.Replayed.{told}
+use Rattle.fjall_repair.proofs.Fitting.{least_small, records_small}
 use Rattle.fjall_contents.proofs.Following.{before_least}
-use Rattle.fjall_contents.proofs.Loaded.{memory_stands_for_the_store}
 use Rattle.fjall_repair.specs.Readings.{TakesRead, names_read, persisted_of}
 use Rattle.fjall_repair.specs.declared.opened.Opened.{Opened}
 use Rattle.fjall_repair.specs.Sweeps.{AreHomesOf, IsSwept, names_of, no_names}
@@ -68,24 +74,28 @@ stands_now old folder holds = started old (λ image. StandsFor image (store_held
 
 -- ---- what was opened
 
+-- trees that show what files hold and what the batches make beyond that, where those that were loaded show what files hold
+abbrev Replays : Keyspaces → List Persisted → Forest → List Shown → Forest → Type 0
+Replays s persisted loaded batches trees =
+    (stored : ℕ → Stored) → AreTold s stored persisted → AreWithin s stored → AreLoaded s stored loaded
+    → (least : ℕ) → first_fault least batches ≡ None → AreReplayed s stored batches trees
+
 -- what was read is what the folder holds
-pub takes_contents : (found : RecoveredFolder) (contents : Contents) (o : Opened) (active : Name) (loaded : List Version) → Shows found contents
+pub takes_contents : (found : RecoveredFolder) (contents : Contents) (o : Opened) (active : Name) (loaded : Forest) → Shows found contents
     → Takes o active found.journals.end found.catalog.catalog found.catalog.keyspaces (persisted_of found) loaded (map view found.journals.batches.items)
     → Takes o active found.journals.end contents.last contents.keyspaces (persisted_of found) loaded (map shown (batches_in contents.journals))
 takes_contents found contents o active loaded shows takes = record {
   journal = takes.journal;
   last_is = takes.last_is ∙ shows.last;
   keyspaces = takes.keyspaces ∙ shows.keyspaces;
-  versions = λ stored are.
-      takes.versions stored (subst (λ (s : Keyspaces). AreTold s stored (persisted_of found)) (sym shows.keyspaces) are)
-      ∙ ap (λ (s : Keyspaces). versions_beyond s stored loaded (map view found.journals.batches.items)) shows.keyspaces
-      ∙ ap (λ (b : List Shown). versions_beyond contents.keyspaces stored loaded b) shows.batches;
+  trees = subst (λ (batches : List Shown). Replays contents.keyspaces (persisted_of found) loaded batches (forest_of o.trees)) shows.batches
+      (subst (λ (s : Keyspaces). Replays s (persisted_of found) loaded (map view found.journals.batches.items) (forest_of o.trees)) shows.keyspaces takes.trees);
 }
 
 -- of a folder in which nothing is wrong for an opening it stands for the store, but for the tables of damaged keyspaces
 pub makes_store : (image : Image) (found : RecoveredFolder) (contents : Contents) (active : Name) (o : Opened) → IsFinished image found → Shows found contents → IsOpenable image contents
     → TakesRead image o active found
-    → (versions : Versions) × HaveVersionsBut o.damaged.items contents.homes versions × (store_behind o.keyspaces o.versions.items ≡ store_of (with_versions versions contents))
+    → (versions : Versions) × HaveVersionsBut o.damaged.items contents.homes versions × (store_behind o.keyspaces (forest_of o.trees) ≡ store_of (with_versions versions contents))
 makes_store image found contents active o read shows is takes =
     let loads = takes.loads contents is shows in
     let s = contents.keyspaces in
@@ -95,30 +105,26 @@ makes_store image found contents active o read shows is takes =
       loads.versions,
       loads.have,
       (
-          ap (λ (k : Keyspaces). store_behind k o.versions.items) own.keyspaces
-          ∙ ap (λ (v : List Version). store_behind s v) (own.versions stored (told image found contents o.damaged.items loads.versions read shows loads.have))
-          ∙ memory_stands_for_the_store s stored takes.loaded 0 batches (within_but o.damaged.items contents.homes loads.versions s.living image is.homes loads.have s refl) loads.are is.journals.sound
+          ap (λ (k : Keyspaces). store_behind k (forest_of o.trees)) own.keyspaces
+          ∙ replayed_store s stored batches (forest_of o.trees)
+          (own.trees stored (told image found contents o.damaged.items loads.versions read shows loads.have)
+          (within_but o.damaged.items contents.homes loads.versions s.living image is.homes loads.have s refl) loads.are 0 is.journals.sound)
           ),
     )
 
 -- of a sound one nothing is damaged, and it stands for its store
 pub makes_sound : (image : Image) (found : RecoveredFolder) (contents : Contents) (active : Name) (o : Opened) → IsFinished image found → Shows found contents → IsSound image contents
-    → TakesRead image o active found → (o.damaged.items ≡ []) × (store_behind o.keyspaces o.versions.items ≡ store_of contents)
+    → TakesRead image o active found → (o.damaged.items ≡ []) × (store_behind o.keyspaces (forest_of o.trees) ≡ store_of contents)
 makes_sound image found contents active o read shows sound takes =
     let made = makes_store image found contents active o read shows sound.openable takes in
     let none = none_damaged o.damaged.items contents.homes made.0 contents.versions made.1 sound.versions in
     (none.0, made.2 ∙ ap (λ (v : Versions). store_of (with_versions v contents)) none.1)
 
 -- a database without keyspaces stands for the store that holds nothing
-nothing_told : AreTold no_keyspaces (λ id. nothing_stored) []
-nothing_told = All-nil (λ (k : LivingKeyspace). persisted_at k.id [] ≡ None)
+pub makes_nothing : (active : Name) (o : Opened) → Takes o active 0 first_catalog no_keyspaces [] [] [] → store_behind o.keyspaces (forest_of o.trees) ≡ bare no_keyspaces
+makes_nothing active o takes = ap (λ (s : Keyspaces). store_behind s (forest_of o.trees)) takes.keyspaces
 
-pub makes_nothing : (active : Name) (o : Opened) → Takes o active 0 first_catalog no_keyspaces [] [] [] → store_behind o.keyspaces o.versions.items ≡ bare no_keyspaces
-makes_nothing active o takes =
-    ap (λ (s : Keyspaces). store_behind s o.versions.items) takes.keyspaces
-    ∙ ap (λ (v : List Version). store_behind no_keyspaces v) (takes.versions (λ id. nothing_stored) nothing_told)
-
-module _ (state : State) (contents : Contents) (active : Name) (end : ℕ) (is : IsRepaired state contents active end) where
+module _ (state : State) (contents : Contents) (journals : List FoundJournal) (active : Name) (end : ℕ) (is : IsRepaired state contents journals active end) where
   same_store : store_of (contents_with is.j (tree_of contents) []) ≡ store_of contents
   same_store = ap (λ (b : List Written). store_with contents.keyspaces (stored_in contents.homes contents.versions) (map shown b)) is.batches
 
@@ -130,10 +136,11 @@ module _ (state : State) (contents : Contents) (active : Name) (end : ℕ) (is :
       writing ∙ ap (λ (n : Name). let w : Journal = record { name = n; buffer = []; len = end } in w) (sym is.active_is)
       ∙ ap (λ (n : ℕ). let w : Journal = record { name = journal_name is.j.active; buffer = []; len = n } in w) (sym is.end_is)
 
-  pub opens_of : (folder : Option Contents) (persisted : List Persisted) (loaded : List Version) (o : Opened)
-      → Takes o active end contents.last contents.keyspaces persisted loaded (map shown (batches_in contents.journals)) → o.damaged.items ≡ [] → store_behind o.keyspaces o.versions.items ≡ store_of contents
+  pub opens_of : (folder : Option Contents) (persisted : List Persisted) (loaded : Forest) (o : Opened)
+      → Takes o active end contents.last contents.keyspaces persisted loaded (map shown (batches_in contents.journals)) → TellOf journals o.sealed o.watermarks → o.active ≡ active_of (ids_of journals)
+      → o.damaged.items ≡ [] → store_behind o.keyspaces (forest_of o.trees) ≡ store_of contents
       → store_of contents ≡ store_held folder → o.number ≡ number_of contents → number_of contents ≡ number_held folder → Opens state folder o
-  opens_of folder persisted loaded o takes whole made store number held = record {
+  opens_of folder persisted loaded o takes tell active_told whole made store number held = record {
     j = is.j;
     records = is.records;
     t = tree_of contents;
@@ -141,6 +148,9 @@ module _ (state : State) (contents : Contents) (active : Name) (end : ℕ) (is :
     tree = is.tree;
     later = is.later;
     journal = at_end o.journal takes.journal;
+    sealed = (tell_lying is.j journals is.journals_are o.sealed o.watermarks tell).0;
+    active = active_told ∙ active_lying is.j journals is.journals_are;
+    marks = (tell_lying is.j journals is.journals_are o.sealed o.watermarks tell).1;
     last = sym takes.last_is;
     keyspaces = sym takes.keyspaces;
     whole = whole;
@@ -196,6 +206,16 @@ module _ (image : Image) (found : RecoveredFolder) (read : IsFinished image foun
   pub numbers : All HasNumbers (records_of found)
   numbers = All-from_recursion HasNumbers (records_of found)
       (record_numbers read.records (fields found.catalog.catalog) read.catalog.files.whole.each read.catalog.files.last_is, home_numbers image found.catalog.keyspaces.living found.homes.items read.homes)
+
+  -- the greatest is below 2^63
+  pub number_small : (number : ℕ) → number ≡ max found.journals.least (past_records (records_of found)) → number ≤ 2 ^ 63
+  number_small number is =
+      let gathers = read.journals.gathers in
+      let batches = map shown (batches_in read.journals.journals) in
+      let last : least_after 0 batches ≤ 2 ^ 63 = least_small 0 batches gathers.sound (omega arith) in
+      let next : found.journals.least ≡ least_after 0 batches = gathers.next in
+      let records : past_records (records_of found) ≤ 2 ^ 63 = records_small (records_of found) numbers in
+      omega (arith, is, last, next, records)
 
   -- each keyspace was made before
   pub made_before : (number : ℕ) (living : List LivingKeyspace) → number ≡ max found.journals.least (past_records (records_of found)) → living ≡ found.catalog.keyspaces.living → All (λ k. k.number < number) living
@@ -261,12 +281,12 @@ unfinished_is image None begun is = refl
 unfinished_is image (Some contents) begun is = let no : Ok Whole ≡ Ok Unfinished = sym is.openable.marker ∙ begun.marker in absurd (let bad : ⊥ = cc in bad)
 
 pub opened_from : (image : Image) (c : Contents) (result : Result Opened Error) → IsOpenable image c
-    → IfOk result (λ o. (versions : Versions) × HaveVersionsBut o.damaged.items c.homes versions × (store_behind o.keyspaces o.versions.items ≡ store_of (with_versions versions c)))
+    → IfOk result (λ o. (versions : Versions) × HaveVersionsBut o.damaged.items c.homes versions × (store_behind o.keyspaces (forest_of o.trees) ≡ store_of (with_versions versions c)))
     → IfOk result (λ o. o.number ≡ number_of c) → IfOk result (IsOpenedFrom image)
 opened_from image c (Ok o) is (versions, have, store) number = (Some (with_versions versions c), (open_with image c versions is, have), store, number)
 opened_from image c (Err e) is store number = tt
 
-pub begun_from : (image : Image) (result : Result Opened Error) → IsUnfinished image → IfOk result (λ o. o.damaged.items ≡ []) → IfOk result (λ o. store_behind o.keyspaces o.versions.items ≡ bare no_keyspaces)
+pub begun_from : (image : Image) (result : Result Opened Error) → IsUnfinished image → IfOk result (λ o. o.damaged.items ≡ []) → IfOk result (λ o. store_behind o.keyspaces (forest_of o.trees) ≡ bare no_keyspaces)
     → IfOk result (λ o. o.number ≡ 0) → IfOk result (IsOpenedFrom image)
 begun_from image (Ok o) is whole store number = (None, (is, whole), store, number)
 begun_from image (Err e) is whole store number = tt

@@ -75,11 +75,10 @@ found_along : (found : FileState) (bytes other : List ℕ) (image one : Image) (
 found_along found bytes other image one name same at_bytes at_image at_name is =
     subst (λ (n : Name). IsFound found other (text_in (image n))) at_name (subst (λ (i : Image). IsFound found other (text_in (i name))) at_image (subst (λ (l : List ℕ). IsFound found l (text_in (one name))) at_bytes is))
 
-pub plan_of : (image one two : Image) (plan : BeginPlan) (ids sealed wanted bytes : List ℕ) → one ≡ image → two ≡ image → ids ≡ sealed ++ plan.active ∷ [] → map string_bytes plan.journals.items ≡ map journal_name ids → AreToBe image ids
+pub plan_of : (image one two : Image) (plan : BeginPlan) (ids wanted bytes : List ℕ) → one ≡ image → two ≡ image → ids ≡ plan.sealed.items ++ plan.active ∷ [] → map string_bytes plan.journals.items ≡ map journal_name ids → AreToBe image ids
     → plan.first.items ≡ first_text → wanted ≡ plan.first.items → IsFound plan.records wanted (text_in (one (codes "keyspaces/0/current")))
     → plan.header.items ≡ header V3 → bytes ≡ plan.header.items → IsFound plan.marker bytes (text_in (two (codes "version"))) → IsPlan image plan
-plan_of image one two plan ids sealed wanted bytes at_one at_two is names to_be first wanted_is records header_is bytes_is marker = record {
-  sealed = sealed;
+plan_of image one two plan ids wanted bytes at_one at_two is names to_be first wanted_is records header_is bytes_is marker = record {
   names = names ∙ ap (λ (l : List ℕ). map journal_name l) is;
   to_be = subst (AreToBe image) is to_be;
   first_is = first;

@@ -23,7 +23,7 @@ use Rattle.fjall_recovery.specs.declared.folder.RecoveredFolder.{RecoveredFolder
 use Rattle.fjall_recovery.specs.Amid.{StandsAmid}
 use Rattle.fjall_recovery.specs.Homes.{last_in, stored_in}
 use Rattle.fjall_recovery.specs.Folders.{Contents, IsFinished, IsSound, IsOpenable, Shows, StandsFor, store_of}
-use Rattle.fjall_recovery.specs.Journals.{batches_in}
+use Rattle.fjall_recovery.specs.Journals.{Journal, batches_in}
 use Rattle.fjall_recovery.specs.Places.{Journaling, LiesInRoot, LiesInTree, RestsInTree, journals_with, texts_of}
 use Rattle.fjall_recovery.proofs.Amidst.{told_twice}
 use Rattle.fjall_recovery.proofs.Damage.{shows_alike}
@@ -66,8 +66,9 @@ module _ (contents : Contents) (mid new : Meaning) (plan : SweepPlan) (records :
   root_kept = root_stays mid new j records (tree_of contents) root rests later spare
 
   -- and at its end the folder is repaired
-  pub repaired : (active : Name) (end : ℕ) → journal_name j.active ≡ active → length (texts_of j.whole) ≡ end → LiesInTree (state_in new) records (tree_of contents) → IsRepaired (state_in new) contents active end
-  repaired active end active_is end_is tree = record {
+  pub repaired : (active : Name) (end : ℕ) (journals : List Journal) → journal_name j.active ≡ active → length (texts_of j.whole) ≡ end → journals_with j [] ≡ journals → LiesInTree (state_in new) records (tree_of contents)
+      → IsRepaired (state_in new) contents journals active end
+  repaired active end journals active_is end_is are tree = record {
     j = j;
     records = records;
     root = root_stays mid new j records (tree_of contents) root rests later spare;
@@ -76,6 +77,7 @@ module _ (contents : Contents) (mid new : Meaning) (plan : SweepPlan) (records :
     active_is = active_is;
     end_is = end_is;
     batches = same;
+    journals_are = are;
   }
 
 -- a plan by names that agree

@@ -1,26 +1,22 @@
--- What the batches of journals make beyond what is stored of keyspaces, as they are replayed at an opening.
-use Rattle.std.proofs.Common.{◌≡◌, ℕ, zero, suc, ◌<◌, ◌==◌, not, Bool, true, false, cond, List, [], ◌∷◌, length, get_or, map, filter, find, All, Option, None, Some, unwrap_or, is_some, refl, sym, ◌∙◌, ap, subst, arith}
-use Rattle.std.proofs.lemmas.Bool.{and_parts, true≢false}
+-- The trees of the keyspaces that live, and the persisted numbers that their records tell, as journals are replayed at an opening.
+use Rattle.std.proofs.Common.{◌≡◌, ℕ, zero, suc, ◌<◌, ◌==◌, Bool, true, false, cond, List, [], ◌∷◌, length, get_or, map, find, All, Option, None, Some, unwrap_or, is_some, refl, sym, ◌∙◌, ap, subst, arith}
+use Rattle.std.proofs.lemmas.Bool.{true≢false}
 use Rattle.std.proofs.lemmas.Bool.Decides.{nat_tests}
-use Rattle.std.proofs.lemmas.List.Elements.{All-append, All-filter, All-head, All-map, All-tail, All-weaker}
-use Rattle.std.specs.List.{list_any}
+use Rattle.std.proofs.lemmas.List.{get_or-map, length-map}
+use Rattle.std.proofs.lemmas.List.Elements.{All-cons, All-map, All-nil, All-weaker}
 use Rattle.std.specs.Option.{option_map}
 use Rattle.std.specs.FinMap.{get}
 use Rattle.fjall_base.specs.Disk.{Image}
-use Rattle.fjall_journal.specs.Batches.{Shown}
 use Rattle.fjall_tree.specs.Records.{Fields}
 use Rattle.fjall_tree.specs.Records as records
 use Rattle.fjall_meta.specs.declared.living.LivingKeyspace.{LivingKeyspace}
-use Rattle.fjall_meta.specs.Keyspaces.{AreKeyspaces, Keyspaces, keyspace_at}
+use Rattle.fjall_meta.specs.Keyspaces.{AreKeyspaces, Keyspaces}
 use Rattle.fjall_versions.specs.declared.recovery.Persisted.{Persisted}
-use Rattle.fjall_versions.specs.declared.version.Version.{Version}
-use Rattle.fjall_versions.specs.Replays.{counts, persisted_at}
-use Rattle.fjall_versions.specs.Versions.{version_of, versions_put, versions_where}
-use Rattle.fjall_versions.proofs.Ids.{living_has}
-use Rattle.fjall_versions.proofs.Naming.{made_were_given}
+use Rattle.fjall_versions.specs.Replays.{persisted_at}
 use Rattle.fjall_versions.proofs.Slots.{same_id}
-use Rattle.fjall_contents.specs.Contents.{Stored, counts_beyond, is_beyond}
-use Rattle.fjall_contents.specs.Memory.{AreTold, versions_beyond}
+use Rattle.fjall_replay.specs.Replayed.{AreTold, ids_of}
+use Rattle.fjall_lsm.specs.Trees.{Shape}
+use Rattle.fjall_trees.specs.Forests.{Forest, Planted, tree_at}
 use Rattle.fjall_recovery.specs.declared.folder.RecoveredFolder.{RecoveredFolder}
 use Rattle.fjall_home.specs.declared.reading.LoadedHome.{LoadedHome}
 use Rattle.fjall_recovery.specs.Folders.{Contents, IsFinished, Shows}
@@ -28,46 +24,42 @@ use Rattle.fjall_recovery.specs.Homes.{AreHomesRead, HaveVersionsBut, Homes, Ver
 use Rattle.fjall_recovery.proofs.Damage.{persisted_but}
 use Rattle.fjall_repair.specs.Readings.{persisted_in, persisted_of}
 
--- ---- ids that were given out
+-- ---- the trees of the keyspaces that live
 
--- what batches make beyond what is stored is of ids that were given out
-pub beyond_given : (s : Keyspaces) → AreKeyspaces s → (stored : ℕ → Stored) (batches : List Shown) (versions : List Version)
-    → All (λ v. v.keyspace_id < s.next) versions → All (λ v. v.keyspace_id < s.next) (versions_beyond s stored versions batches)
-beyond_given s all stored =
-    made_were_given s all (counts_beyond s stored) (λ number id e. (and_parts (counts s number id) (is_beyond (stored id).persisted number) e).0)
+-- what is so of each image is so of each element
+unmapped : {X Y : Type 0} (P : Y → Type 0) (f : X → Y) (xs : List X) → All P (map f xs) → All (λ x. P (f x)) xs
+unmapped P f xs all i d lt = subst P (get_or-map f xs i d (f d) lt) (all i (f d) (subst (λ (n : ℕ). i < n) (sym (length-map xs f)) lt))
 
--- so is what is of keyspaces that live
-pub living_given : (s : Keyspaces) → AreKeyspaces s → (versions : List Version) → All (λ v. is_some (keyspace_at v.keyspace_id s.living) ≡ true) versions → All (λ v. v.keyspace_id < s.next) versions
-living_given s all versions live = All-weaker (λ (v : Version). is_some (keyspace_at v.keyspace_id s.living) ≡ true) (λ (v : Version). v.keyspace_id < s.next)
-    (λ v lives. below (keyspace_at v.keyspace_id s.living) v.keyspace_id refl lives) versions live
-  where
-    below : (k : Option LivingKeyspace) (id : ℕ) → keyspace_at id s.living ≡ k → is_some k ≡ true → id < s.next
-    below (Some k) id at some = living_has (λ i. i < s.next) s.living id k at all.given
-    below None id at some = absurd (true≢false (sym some))
+-- the tree of an id, where that has one
+HasTree : Forest → ℕ → Type 0
+HasTree trees id = is_some (tree_at id trees) ≡ true
 
--- ---- numbers of versions
+first_has : (b : Bool) (shape : Shape) (rest : Option Shape) → b ≡ true → is_some (cond b (Some shape) rest) ≡ true
+first_has true shape rest is = refl
+first_has false shape rest is = absurd (true≢false (sym is))
 
--- what batches make is numbered below whatever they and the versions before are below, whichever test tells what counts of them
-pub made_below : (counted : ℕ → ℕ → Bool) (bound : ℕ) (batches : List Shown) (versions : List Version) → All (λ b. b.number < bound) batches → All (λ v. v.seqno < bound) versions
-    → All (λ v. v.seqno < bound) (versions_where counted versions batches)
-made_below counted bound [] versions low below = below
-made_below counted bound (batch ∷ batches) versions low below =
-    let Low : Version → Type 0 = λ v. v.seqno < bound in
-    let test = λ (v : Version). counted batch.number v.keyspace_id in
-    let made = map (version_of batch.number) batch.items in
-    let first : batch.number < bound = All-head (λ (b : Shown). b.number < bound) batch batches low in
-    made_below counted bound batches (versions_put (counted batch.number) versions batch) (All-tail (λ (b : Shown). b.number < bound) batch batches low)
-    (All-append Low (filter (λ (v : Version). not (list_any (λ id. id == v.keyspace_id) (filter (counted batch.number) batch.clears))) versions) (filter test made)
-    (All-filter _ Low versions below) (All-filter test Low made (All-map Low (version_of batch.number) batch.items (λ i d lt. first))))
+later_has : (b : Bool) (shape : Shape) (rest : Option Shape) → is_some rest ≡ true → is_some (cond b (Some shape) rest) ≡ true
+later_has true shape rest is = refl
+later_has false shape rest is = is
 
--- ---- the numbers that are told
+own_trees : (trees : Forest) → All (HasTree trees) (ids_of trees)
+unfolding HasTree
+own_trees [] = All-nil (HasTree [])
+own_trees (k ∷ trees) =
+    All-cons (HasTree (k ∷ trees)) k.id (ids_of trees) (first_has (k.id == k.id) k.shape (tree_at k.id trees) (grind (arith, nat_tests)))
+    (All-weaker (HasTree trees) (HasTree (k ∷ trees)) (λ id has. later_has (k.id == id) k.shape (tree_at id trees) has) (ids_of trees) (own_trees trees))
 
--- something of which these numbers are told
-abbrev pub told_stored : List Persisted → ℕ → Stored
-told_stored persisted id = record { persisted = persisted_at id persisted; versions = []; clears = [] }
+module _ (s : Keyspaces) (trees : Forest) (ids : ids_of trees ≡ map (λ (k : LivingKeyspace). k.id) s.living) where
+  -- each keyspace that lives has one
+  pub all_planted : All (λ k. is_some (tree_at k.id trees) ≡ true) s.living
+  unfolding HasTree
+  all_planted = unmapped (HasTree trees) (λ (k : LivingKeyspace). k.id) s.living (subst (All (HasTree trees)) ids (own_trees trees))
 
-pub told_by : (s : Keyspaces) (persisted : List Persisted) → AreTold s (told_stored persisted) persisted
-told_by s persisted i d lt = refl
+  -- they are of ids that were given out
+  pub all_given : AreKeyspaces s → All (λ k. k.id < s.next) trees
+  all_given are =
+      unmapped (λ (id : ℕ). id < s.next) (λ (k : Planted). k.id) trees
+      (subst (All (λ (id : ℕ). id < s.next)) (sym ids) (All-map (λ (id : ℕ). id < s.next) (λ (k : LivingKeyspace). k.id) s.living are.given))
 
 -- ---- the persisted numbers that were read
 

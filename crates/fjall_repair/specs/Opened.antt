@@ -1,24 +1,35 @@
 -- A database that was opened.
-use Rattle.std.specs.Prelude.{◌≡◌, ◌⊎◌, ℕ, ◌<◌, ◌^◌, All, IfSome, List, [], ◌∷◌, length, map, Option, None, Some}
+use Rattle.std.specs.Prelude.{◌≡◌, ◌⊎◌, ℕ, ◌<◌, ◌≤◌, ◌^◌, All, IfSome, List, [], ◌∷◌, ◌++◌, is_some, length, map, true, Option, None, Some}
+use Rattle.std.specs.List.{AllZip}
+use Rattle.std.specs.List.Sorted.{IsStrictlyIncreasing}
 use Rattle.std.specs.FinMap.{empty}
-use Rattle.fjall_base.specs.Disk.{Image, Meaning, Name, State, Took, standing, state_in}
+use Rattle.fjall_base.specs.Disk.{Image, IsFile, Meaning, Name, State, Took, standing, state_in}
 use Rattle.fjall_base.specs.declared.error.Error.{Error}
 use Rattle.fjall_base.specs.declared.error.Error.TheVariants.{Io, OutOfMemory}
 use Rattle.fjall_files.specs.Names.{journal_name}
-use Rattle.fjall_journal.specs.Batches.{Shown}
+use Rattle.fjall_journal.specs.declared.batch.Batch.{Batch}
+use Rattle.fjall_journal.specs.declared.batch.ReadBatchItem.{ReadBatchItem}
+use Rattle.fjall_journal.specs.Batches.{Shown, shown}
+use Rattle.fjall_manager.specs.Journals.{Sealed}
+use Rattle.fjall_manager.specs.Marks.{Marks}
+use Rattle.fjall_manager.specs.Telling.{AreMarksOf}
 use Rattle.fjall_tree.specs.Records.{Fields}
 use Rattle.fjall_tree.specs.Records as records
 use Rattle.fjall_meta.specs.Keyspaces.{AreKeyspaces, Keyspaces, no_keyspaces}
 use Rattle.fjall_catalog.specs.declared.catalog.Catalog.{Catalog}
 use Rattle.fjall_catalog.specs.Catalog.{fields, first_catalog}
-use Rattle.fjall_contents.specs.Contents.{Stored}
-use Rattle.fjall_contents.specs.Memory.{AreTold, versions_beyond}
+use Rattle.fjall_contents.specs.Contents.{AreWithin, Stored}
+use Rattle.fjall_maps.specs.Maps.{store_of as store_behind}
+use Rattle.fjall_replay.specs.Replayed.{AreLoaded, AreReplayed, AreTold}
+use Rattle.fjall_trees.specs.Forests.{AreBefore, Forest, IsForest, tree_at}
+use Rattle.fjall_trees.specs.Views.{forest_of}
+use Rattle.fjall_trees.specs.Writes.{AreBare}
+use Rattle.fjall_versions.specs.Replays.{first_fault}
 use Rattle.fjall_versions.specs.declared.recovery.Persisted.{Persisted}
-use Rattle.fjall_versions.specs.declared.version.Version.{Version}
-use Rattle.fjall_versions.specs.Versions.{store_of as store_behind}
 use Rattle.fjall_recovery.specs.declared.folder.RecoveredFolder.{RecoveredFolder}
 use Rattle.fjall_recovery.specs.Folders.{Contents, number_of, store_of}
-use Rattle.fjall_recovery.specs.Journals.{batches_in}
+use Rattle.fjall_recovery.specs.Journals.{Journal, batches_in}
+use Rattle.fjall_recovery.specs.Told.{TellsOf}
 use Rattle.fjall_recovery.specs.Refusals.{FolderRefuses, IsDue}
 use Rattle.fjall_recovery.specs.Halves.{Tree}
 use Rattle.fjall_recovery.specs.Held.{IsFolderBut, IsOpenFolder, number_held, store_held}
@@ -37,34 +48,55 @@ pub record Opens (state : State) (folder : Option Contents) (o : Opened) : Type 
   pub tree : LiesInTree state records t
   pub later : j.later ≡ []
   pub journal : o.journal ≡ record { name = journal_name j.active; buffer = []; len = length (texts_of j.whole) }
+  pub sealed : AllZip TellsOf j.sealed o.sealed
+  pub active : o.active ≡ j.active
+  pub marks : AreMarksOf (map shown j.whole) o.watermarks
   pub last : t.last ≡ o.catalog
   pub keyspaces : t.keyspaces ≡ o.keyspaces
   pub whole : o.damaged.items ≡ []
-  pub made : store_behind o.keyspaces o.versions.items ≡ store_of (contents_with j t [])
+  pub made : store_behind o.keyspaces (forest_of o.trees) ≡ store_of (contents_with j t [])
   pub store : store_of (contents_with j t []) ≡ store_held folder
   pub number : o.number ≡ number_of (contents_with j t [])
   pub same : o.number ≡ number_held folder
 
--- keyspaces and versions were made under lesser numbers than the next one, and versions are of ids that were given out
+-- Keyspaces were made, and all in memory was changed, under lesser numbers than the next one, which is at most 2^63. The trees are
+-- of ids that were given out and have no table, and each keyspace that lives has one. The numbers of the sealed journals ascend,
+-- and the active one's is greater.
 pub record IsLawful (o : Opened) : Type 0 where
   pub keyspaces : AreKeyspaces o.keyspaces
   pub made : All (λ k. k.number < o.number) o.keyspaces.living
-  pub below : All (λ v. v.seqno < o.number) o.versions.items
-  pub given : All (λ v. v.keyspace_id < o.keyspaces.next) o.versions.items
+  pub forest : IsForest (forest_of o.trees)
+  pub planted : All (λ k. is_some (tree_at k.id (forest_of o.trees)) ≡ true) o.keyspaces.living
+  pub given : All (λ k. k.id < o.keyspaces.next) (forest_of o.trees)
+  pub below : AreBefore o.number (forest_of o.trees)
+  pub bare : AreBare (forest_of o.trees)
+  pub small : o.number ≤ 2 ^ 63
+  pub numbered : IsStrictlyIncreasing (map (λ journal. journal.id) o.sealed ++ o.active ∷ [])
 
 -- This is opened: a writer at the end of the active journal, what the last record of tree 0 says, the keyspaces that live, and
--- the versions that were loaded, with those that the batches make, each beyond its keyspace's persisted number.
-pub record Takes (o : Opened) (active : Name) (end : ℕ) (last : Catalog) (s : Keyspaces) (persisted : List Persisted) (loaded : List Version) (batches : List Shown) : Type 0 where
+-- trees that show what files hold and what the batches make beyond that, where those that were loaded show what files hold.
+pub record Takes (o : Opened) (active : Name) (end : ℕ) (last : Catalog) (s : Keyspaces) (persisted : List Persisted) (loaded : Forest) (batches : List Shown) : Type 0 where
   pub journal : o.journal ≡ record { name = active; buffer = []; len = end }
   pub last_is : o.catalog ≡ last
   pub keyspaces : o.keyspaces ≡ s
-  pub versions : (stored : ℕ → Stored) → AreTold s stored persisted → o.versions.items ≡ versions_beyond s stored loaded batches
+  pub trees : (stored : ℕ → Stored) → AreTold s stored persisted → AreWithin s stored → AreLoaded s stored loaded
+      → (least : ℕ) → first_fault least batches ≡ None → AreReplayed s stored batches (forest_of o.trees)
+
+-- these are its sealed journals, the number of its active one, and the watermarks of that
+pub record HasJournals (o : Opened) (sealed : List Sealed) (active : ℕ) (marks : Marks) : Type 0 where
+  pub sealed_are : o.sealed ≡ sealed
+  pub active_is : o.active ≡ active
+  pub marks_are : o.watermarks ≡ marks
 
 -- What was opened is what the image holds, but for the tables of the damaged keyspaces: its store, and one past the greatest
 -- number in it.
 abbrev pub IsOpenedFrom : Image → Opened → Type 0
 IsOpenedFrom image o =
-    (folder : Option Contents) × IsFolderBut image folder o.damaged.items × (store_behind o.keyspaces o.versions.items ≡ store_held folder) × (o.number ≡ number_held folder)
+    (folder : Option Contents) × IsFolderBut image folder o.damaged.items × (store_behind o.keyspaces (forest_of o.trees) ≡ store_held folder) × (o.number ≡ number_held folder)
+
+-- no journal stands there
+abbrev pub HasNoJournal : Image → Type 0
+HasNoJournal image = (id : ℕ) → id < 2 ^ 64 → IsFile (image (journal_name id)) → ⊥
 
 -- Where a folder's making was cut short, whatever may come back in folders that are made anew is such a folder too.
 abbrev pub ComesBack : State → Option Contents → Type 0
@@ -73,8 +105,8 @@ ComesBack state (Some contents) = Unit {0}
 
 -- ---- the repair
 
--- these contents lie on the disk, all of them synced, and this is the file of the active journal and where it ends
-pub record IsRepaired (state : State) (contents : Contents) (active : Name) (end : ℕ) : Type 0 where
+-- these contents lie on the disk with these journals, all of them synced, and this is the file of the active one and where it ends
+pub record IsRepaired (state : State) (contents : Contents) (journals : List Journal) (active : Name) (end : ℕ) : Type 0 where
   pub j : Journaling
   pub records : List Fields
   pub root : LiesInRoot state j
@@ -83,6 +115,7 @@ pub record IsRepaired (state : State) (contents : Contents) (active : Name) (end
   pub active_is : journal_name j.active ≡ active
   pub end_is : length (texts_of j.whole) ≡ end
   pub batches : batches_in (journals_with j []) ≡ batches_in contents.journals
+  pub journals_are : journals_with j [] ≡ journals
 
 -- a database without keyspaces, that nothing was written into
 abbrev pub nothing : Contents
@@ -102,6 +135,19 @@ records_of f = fields f.catalog.catalog ∷ map (λ h. records.view h.record) f.
 pub record TellsBelow (number : ℕ) (f : RecoveredFolder) : Type 0 where
   pub batches : All (λ b. b.seqno < number) f.journals.batches.items
   pub homes : All (λ h. IfSome h.record.persisted (λ n. n < number)) f.homes.items
+
+-- ---- sizes
+
+-- the item's key and value have lengths that a journal spells
+pub record HasSizes (item : ReadBatchItem) : Type 0 where
+  pub some : 0 < length item.key
+  pub key : length item.key < 2 ^ 16
+  pub value : length item.value < 2 ^ 32
+
+-- the batch has a number that a change may have, and items of such lengths
+pub record IsFit (b : Batch) : Type 0 where
+  pub small : b.seqno < 2 ^ 63
+  pub items : All HasSizes b.items.items
 
 -- ---- why it isn't opened
 

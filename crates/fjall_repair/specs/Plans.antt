@@ -17,7 +17,7 @@ use Rattle.fjall_home.specs.Homes.{only}
 use Rattle.fjall_catalog.specs.Catalog.{fields, first_catalog, records_in}
 use Rattle.fjall_recovery.specs.Journals.{Journal}
 use Rattle.fjall_recovery.specs.Halves.{Tree}
-use Rattle.fjall_recovery.specs.Places.{Journaling, LiesInRoot, RestsInTree}
+use Rattle.fjall_recovery.specs.Places.{Journaling, LiesInRoot, RestsInTree, journals_with}
 use Rattle.fjall_repair.specs.declared.beginning.plan.FileState.{FileState}
 use Rattle.fjall_repair.specs.declared.beginning.plan.FileState.TheVariants.{Nothing, Other, Whole}
 use Rattle.fjall_repair.specs.declared.beginning.plan.BeginPlan.{BeginPlan}
@@ -40,11 +40,10 @@ pub record AreToBe (image : Image) (ids : List ℕ) : Type 0 where
   pub each : (id : ℕ) → Contains ids id → IsFile (image (journal_name id)) ⊎ (id ≡ 0)
   pub all : (id : ℕ) → id < 2 ^ 64 → IsFile (image (journal_name id)) → Contains ids id
 
--- The plan fits what stands in the image. The journals have these ids and the active one's.
+-- The plan fits what stands in the image. The journals have the ids of the sealed ones and the active one's.
 pub record IsPlan (image : Image) (plan : BeginPlan) : Type 0 where
-  pub sealed : List ℕ
-  pub names : map string_bytes plan.journals.items ≡ map journal_name (sealed ++ plan.active ∷ [])
-  pub to_be : AreToBe image (sealed ++ plan.active ∷ [])
+  pub names : map string_bytes plan.journals.items ≡ map journal_name (plan.sealed.items ++ plan.active ∷ [])
+  pub to_be : AreToBe image (plan.sealed.items ++ plan.active ∷ [])
   pub first_is : plan.first.items ≡ first_text
   pub records : IsFound plan.records first_text (records_in image)
   pub header_is : plan.header.items ≡ header V3
@@ -61,15 +60,23 @@ pub record HasFirstTree (state : State) : Type 0 where
 abbrev pub first_tree : Tree
 first_tree = record { last = first_catalog; keyspaces = no_keyspaces; homes = empty; versions = empty }
 
+-- the journal of this id, which holds nothing
+abbrev pub empty_journal : ℕ → Journal
+empty_journal id = record { id = id; batches = [] }
+
 -- the journals of these ids, which hold nothing, the last of them active
 abbrev pub empty_journals : List ℕ → ℕ → Journaling
 empty_journals sealed active = record {
-  sealed = map (λ (id : ℕ). (let journal : Journal = record { id = id; batches = [] } in journal)) sealed;
+  sealed = map empty_journal sealed;
   active = active;
   whole = [];
   later = [];
   cut = 0;
 }
+
+-- the journals of a database that is begun by this plan
+abbrev pub journals_begun : BeginPlan → List Journal
+journals_begun plan = journals_with (empty_journals plan.sealed.items plan.active) []
 
 -- the state with a whole marker that is safe
 abbrev pub marked : State → State

@@ -6,13 +6,14 @@ use Rattle.fjall_journal.specs.Batches.{view}
 use Rattle.fjall_home.specs.declared.reading.LoadedHome.{LoadedHome}
 use Rattle.fjall_catalog.specs.Catalog.{listed}
 use Rattle.fjall_versions.specs.declared.recovery.Persisted.{Persisted}
-use Rattle.fjall_versions.specs.declared.version.Version.{Version}
+use Rattle.fjall_trees.specs.Forests.{Forest}
 use Rattle.fjall_recovery.specs.declared.folder.RecoveredFolder.{RecoveredFolder}
 use Rattle.fjall_recovery.specs.Folders.{Contents, IsFinished, IsOpenable, IsSound, Shows}
 use Rattle.fjall_loading.specs.Loading.{Loads}
 use Rattle.fjall_repair.specs.declared.opened.Opened.{Opened}
 use Rattle.fjall_repair.specs.declared.plan.SweepPlan.{SweepPlan}
-use Rattle.fjall_repair.specs.Opened.{Takes}
+use Rattle.fjall_repair.specs.Opened.{HasJournals, Takes}
+use Rattle.fjall_repair.specs.Steps.{active_of}
 use Rattle.fjall_repair.specs.Sweeps.{FindsAll, FindsTables, IsPlan, Names, names_of}
 
 -- P is so of what the folder on the disk holds, where it was read as this
@@ -53,6 +54,7 @@ persisted_of found = map persisted_in found.homes.items
 
 -- This is opened of the folder that was read, with that active journal, and with what its tables hold.
 pub record TakesRead (image : Image) (o : Opened) (active : Name) (found : RecoveredFolder) : Type 0 where
-  pub loaded : List Version
+  pub loaded : Forest
   pub takes : Takes o active found.journals.end found.catalog.catalog found.catalog.keyspaces (persisted_of found) loaded (map view found.journals.batches.items)
+  pub journals : HasJournals o found.journals.sealed (active_of found.journal_ids.items) found.journals.watermarks
   pub loads : (c : Contents) → IsOpenable image c → Shows found c → Loads c o.damaged.items loaded

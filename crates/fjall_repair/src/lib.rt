@@ -11,6 +11,7 @@ mod opening;
 mod plan;
 mod ready;
 mod repair;
+mod sizes;
 mod sweeping;
 
 pub use beginning::{BeginPlan, FileState, begin, plan_beginning};

@@ -5,5 +5,6 @@ mod plan;
 mod steps;
 mod whole;
 
+pub(crate) use plan::active_id;
 pub use plan::{FileEnd, MendPlan};
 pub use whole::{mend, plan_mending};

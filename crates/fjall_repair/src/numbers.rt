@@ -1,6 +1,6 @@
 //! The numbers of changes that a folder tells: all that come later are greater.
 
-ghost use Rattle.std.specs.Prelude.{◌≡◌, ◌<◌, ◌^◌, All, IfErr, IfSome, OnOk, max};
+ghost use Rattle.std.specs.Prelude.{◌≡◌, ◌<◌, ◌≤◌, ◌^◌, All, IfErr, IfSome, OnOk, max};
 ghost use Rattle.fjall_base.specs.declared.error.Error.TheVariants.{Storage, Unrecoverable};
 ghost use Rattle.fjall_base.specs.declared.error.StorageError.TheVariants.{TableDamaged};
 ghost use Rattle.fjall_recovery.specs.Folders.{past, past_records};
@@ -32,6 +32,18 @@ pub(crate) fn number_of(found: &RecoveredFolder) -> u64
         number = number.max(past(record.persisted)).max(past(record.highest));
     }
     number
+}
+
+/// Refuses a number that is more than one past the greatest that a change may have.
+pub(crate) fn check_small(number: u64) -> Result<()>
+    ensures ok { OnOk result (number ≤ 2 ^ 63) }
+    ensures cause { IfErr result (λ e. (e ≡ Unrecoverable) × (number ≤ 2 ^ 63 → ⊥)) }
+{
+    if number <= 1 << 63 {
+        Ok(())
+    } else {
+        Err(Error::Unrecoverable)
+    }
 }
 
 /// Refuses keyspaces of which one was made under this number or a greater one.

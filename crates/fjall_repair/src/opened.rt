@@ -2,18 +2,26 @@
 
 use fjall_catalog::Catalog;
 use fjall_journal::Writer;
+use fjall_manager::{JournalManager, Watermarks};
 use fjall_meta::MetaKeyspace;
-use fjall_versions::Version;
+use fjall_trees::Trees;
 
 /// A database that was opened. All that it holds is synced.
 #[derive(Drop)]
 pub struct Opened {
-    /// What tables and journals hold of the keyspaces that live, oldest first; of the damaged ones what journals hold alone.
-    pub versions: Vec<Version>,
+    /// A tree of each keyspace that lives, which holds what its tables and the journals hold; that of a damaged one what
+    /// journals hold alone.
+    pub trees: Trees,
     /// The keyspaces that have a table with a wrong block, by id ascending.
     pub damaged: Vec<u64>,
     /// A writer that goes on at the end of the active journal.
     pub journal: Writer,
+    /// The journals before the active one, the oldest first.
+    pub sealed: JournalManager,
+    /// The number of the active journal.
+    pub active: u64,
+    /// Up to which number each keyspace has changes in the active journal.
+    pub watermarks: Watermarks,
     /// What the last record of tree 0 says.
     pub catalog: Catalog,
     /// The keyspaces that live.

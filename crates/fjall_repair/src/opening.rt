@@ -5,17 +5,18 @@ ghost use Rattle.fjall_base.specs.declared.error.Error.{Error};
 ghost use Rattle.fjall_base.specs.Disk.{LeavesOnly, state_in};
 ghost use Rattle.fjall_files.specs.Calls.{seen, AllServed};
 ghost use Rattle.fjall_files.specs.Tidy.{IsTidy, StaysTidy};
+ghost use Rattle.fjall_maps.specs.Maps.{store_of as store_behind};
 ghost use Rattle.fjall_meta.specs.Keyspaces.{no_keyspaces};
+ghost use Rattle.fjall_trees.specs.Views.{forest_of};
 ghost use Rattle.fjall_versions.specs.Replays.{bare};
-ghost use Rattle.fjall_versions.specs.Versions.{store_of as store_behind};
 ghost use Rattle.fjall_recovery.specs.Amid.{LeavesAmid, KeepsAmid, WhereAmid};
-ghost use Rattle.fjall_recovery.specs.Folders.{Contents, IsFinished, IsUnfinished, StandsFor, number_of as number_in, store_of, with_versions};
+ghost use Rattle.fjall_recovery.specs.Folders.{Contents, IsFinished, IsNumbered, IsUnfinished, StandsFor, number_of as number_in, store_of, with_versions};
 ghost use Rattle.fjall_recovery.specs.Homes.{HaveVersionsBut, Versions};
 ghost use Rattle.fjall_recovery.specs.Refusals.{AreOne, FolderRefuses, HasRisen, IsDue, IsOpeningRefusal};
 ghost use Rattle.fjall_recovery.specs.Held.{Holds, store_held, IsFolder};
 ghost use Rattle.fjall_repair.specs.Readings.{WhereOpenable, WhereRead, WhereSound};
 ghost use Rattle.fjall_repair.specs.Making.{ComesBackUnfinished};
-ghost use Rattle.fjall_repair.specs.Opened.{ComesBack, IsHeldUp, IsLawful, IsOpenedFrom, IsUnopened, Opens};
+ghost use Rattle.fjall_repair.specs.Opened.{ComesBack, HasNoJournal, IsHeldUp, IsLawful, IsOpenedFrom, IsUnopened, Opens};
 ghost use Rattle.fjall_repair.specs.Sweeps.{IsSwept};
 
 use crate::opened::Opened;
@@ -29,9 +30,10 @@ use std::alloc::Global;
 fn open_unfinished<D: Disk>(alloc: Global, disk: &mut D) -> Result<Opened>
     ensures opened { IsTrue D.honest → Holds (state_in (D.meaning disk.old)) None → IfOk result (Opens (state_in (D.meaning disk.new)) None) }
     ensures swept { IsTrue D.honest → IfOk result (λ o. IsSwept (state_in (D.meaning disk.old)) (state_in (D.meaning disk.new)) o.catalog o.keyspaces.living) }
-    ensures store { IfOk result (λ o. store_behind o.keyspaces o.versions.items ≡ bare no_keyspaces) }
+    ensures store { IfOk result (λ o. store_behind o.keyspaces (forest_of o.trees) ≡ bare no_keyspaces) }
     ensures whole { IfOk result (λ o. o.damaged.items ≡ []) }
     ensures number { IfOk result (λ o. o.number ≡ 0) }
+    ensures fresh { IsTrue D.honest → HasNoJournal (seen (D.meaning disk.old)) → IfOk result (λ o. o.sealed ≡ []) }
     ensures lawful { IfOk result IsLawful }
     ensures any_moment { IsTrue D.honest → Holds (state_in (D.meaning disk.old)) None → ComesBackUnfinished (state_in (D.meaning disk.old))
         → LeavesOnly (D.meaning disk.old) (D.meaning disk.new) (λ image. StandsFor image (bare no_keyspaces)) }
@@ -57,6 +59,7 @@ fn open_unfinished<D: Disk>(alloc: Global, disk: &mut D) -> Result<Opened>
 
 /// Opens a folder that was made to its end and read.
 fn open_finished<D: Disk>(alloc: Global, disk: &mut D, found: RecoveredFolder) -> Result<Opened>
+    requires { IsNumbered found }
     ensures opened { IsTrue D.honest
         → WhereRead (D.meaning disk.old) found (λ contents. Holds (state_in (D.meaning disk.old)) (Some contents)
         → IfOk result (Opens (state_in (D.meaning disk.new)) (Some contents))) }
@@ -64,8 +67,9 @@ fn open_finished<D: Disk>(alloc: Global, disk: &mut D, found: RecoveredFolder) -
         → IfOk result (λ o. IsSwept (state_in (D.meaning disk.old)) (state_in (D.meaning disk.new)) o.catalog o.keyspaces.living) }
     ensures store { IsTrue D.honest
         → WhereOpenable (D.meaning disk.old) found (λ contents. IfOk result (λ o. (versions : Versions) × HaveVersionsBut o.damaged.items contents.homes versions
-        × (store_behind o.keyspaces o.versions.items ≡ store_of (with_versions versions contents)))) }
+        × (store_behind o.keyspaces (forest_of o.trees) ≡ store_of (with_versions versions contents)))) }
     ensures number { IsTrue D.honest → WhereRead (D.meaning disk.old) found (λ contents. IfOk result (λ o. o.number ≡ number_in contents)) }
+    ensures fresh { IsTrue D.honest → IsFinished (seen (D.meaning disk.old)) found → HasNoJournal (seen (D.meaning disk.old)) → IfOk result (λ o. o.sealed ≡ []) }
     ensures lawful { IfOk result IsLawful }
     ensures any_moment { IsTrue D.honest → WhereRead (D.meaning disk.old) found (λ contents. Holds (state_in (D.meaning disk.old)) (Some contents)
         → LeavesOnly (D.meaning disk.old) (D.meaning disk.new) (λ image. StandsFor image (store_of contents))) }
@@ -111,6 +115,8 @@ pub fn open_folder<D: Disk>(alloc: Global, disk: &mut D) -> Result<Opened>
     // Nothing of the engine's own is left that no record names.
     ensures swept { IsTrue D.honest → IfOk result (λ o. IsSwept (state_in (D.meaning disk.old)) (state_in (D.meaning disk.new)) o.catalog o.keyspaces.living) }
     ensures found { IsTrue D.honest → IfOk result (IsOpenedFrom (seen (D.meaning disk.old))) }
+    // None is sealed where there was no journal.
+    ensures fresh { IsTrue D.honest → HasNoJournal (seen (D.meaning disk.old)) → IfOk result (λ o. o.sealed ≡ []) }
     ensures lawful { IfOk result IsLawful }
     // A crash at any moment of the call, also of one that fails, leaves a folder of the same store.
     ensures any_moment { IsTrue D.honest → (folder : Option Contents) → Holds (state_in (D.meaning disk.old)) folder

@@ -1,38 +1,50 @@
 //! All that opening a folder takes, in memory before the disk is changed.
 
-ghost use Rattle.std.specs.Prelude.{◌≡◌, ◌<◌, ◌≤◌, [], ℕ, List, All, IfErr, IfOk, IfSome, IsOkUnless, IsTrue, is_some, map, max, string_bytes, true};
+ghost use Rattle.std.specs.Prelude.{◌≡◌, ◌<◌, ◌≤◌, [], ◌∷◌, ◌++◌, ℕ, List, All, IfErr, IfOk, IfSome, IsOkUnless, IsTrue, None, map, max, string_bytes};
+ghost use Rattle.std.specs.List.{AllZip};
+ghost use Rattle.std.specs.List.Sorted.{IsStrictlyIncreasing};
 ghost use Rattle.fjall_base.specs.Disk.{Image, Took, state_in};
 ghost use Rattle.fjall_journal.specs.Batches.{view};
-ghost use Rattle.fjall_meta.specs.Keyspaces.{AreKeyspaces, keyspace_at, no_keyspaces};
+ghost use Rattle.fjall_meta.specs.Keyspaces.{AreKeyspaces, no_keyspaces};
 ghost use Rattle.fjall_catalog.specs.Catalog.{first_catalog, listed};
 ghost use Rattle.fjall_files.specs.Calls.{seen, AllServed};
 ghost use Rattle.fjall_files.specs.Names.{journal_name};
-ghost use Rattle.fjall_contents.specs.Contents.{Stored};
-ghost use Rattle.fjall_contents.specs.Memory.{AreTold, versions_beyond};
-ghost use Rattle.fjall_recovery.specs.Folders.{IsFinished, IsUnfinished, past_records};
+ghost use Rattle.fjall_contents.specs.Contents.{AreWithin, Stored};
+ghost use Rattle.fjall_replay.specs.Replayed.{AreBegun, AreLoaded, AreReplayed, AreTold, MayReplay, ids_of};
+ghost use Rattle.fjall_trees.specs.Forests.{AreBefore};
+ghost use Rattle.fjall_trees.specs.Views.{forest_of};
+ghost use Rattle.fjall_trees.specs.Writes.{AreBare};
+ghost use Rattle.fjall_versions.specs.Replays.{first_fault};
+ghost use Rattle.fjall_recovery.specs.Folders.{IsFinished, IsNumbered, IsUnfinished, past_records};
+ghost use Rattle.fjall_recovery.specs.Places.{journals_with};
+ghost use Rattle.fjall_recovery.specs.Told.{TellOf, TellsOf};
 ghost use Rattle.fjall_recovery.specs.Naming.{AreFolderIds};
 ghost use Rattle.fjall_recovery.specs.Refusals.{HasRisen, IsDue, IsOpeningRefusal};
 ghost use Rattle.fjall_repair.specs.Readings.{IsSweepOf, FindsUnnamed, TakesRead, persisted_in, persisted_of};
-ghost use Rattle.fjall_repair.specs.Plans.{IsPlan as IsMakingOf};
+ghost use Rattle.fjall_repair.specs.Plans.{IsPlan as IsMakingOf, empty_journal, empty_journals, journals_begun};
 ghost use Rattle.fjall_repair.specs.Mended.{IsMendingOf};
-ghost use Rattle.fjall_repair.specs.Opened.{HasNumbers, IsLawful, Takes, records_of};
+ghost use Rattle.fjall_repair.specs.Steps.{active_of};
+ghost use Rattle.fjall_repair.specs.Opened.{HasJournals, HasNumbers, IsLawful, Takes, records_of};
 ghost use Rattle.fjall_repair.specs.Sweeps.{FindsAll, IsPlan, no_names};
 
-use crate::numbers::{check_made, check_told, number_of};
+use crate::mending::active_id;
+use crate::numbers::{check_made, check_small, check_told, number_of};
 use crate::opened::Opened;
 use crate::plan::{SweepPlan, plan_sweep};
+use crate::sizes::check_sizes;
 use crate::{BeginPlan, MendPlan, plan_beginning, plan_mending};
 use fjall_base::{Disk, Error, Result};
 use fjall_catalog::Catalog;
-use fjall_contents::replay_beyond;
 use fjall_files::journal_name;
 use fjall_home::LoadedHome;
 use fjall_journal::{Batch, Writer};
 use fjall_loading::{Loaded, load_homes};
+use fjall_manager::{JournalManager, SealedJournal, Watermarks};
 use fjall_meta::MetaKeyspace;
 use fjall_recovery::{RecoveredFolder, list_keyspaces};
+use fjall_replay::{Persisted, replay_beyond};
 use fjall_table::TableInfo;
-use fjall_versions::{Persisted, Version};
+use fjall_trees::Trees;
 use std::alloc::Global;
 
 /// What is opened once a database is begun.
@@ -57,9 +69,26 @@ pub(crate) struct ToMend {
     pub sweep: SweepPlan,
 }
 
-/// What a database without keyspaces opens as.
-fn new_database(alloc: Global, active: u64) -> Result<Opened>
+/// What is told of these sealed journals, which hold nothing.
+fn empty_journals(alloc: Global, ids: &[u64]) -> Result<JournalManager>
+    ensures tell { IfOk result (λ sealed. AllZip TellsOf (map empty_journal ids.now) sealed) }
+    ensures ids { IfOk result (λ sealed. map (λ journal. journal.id) sealed ≡ ids.now) }
+    ensures only { IsOkUnless result Error.OutOfMemory }
+{
+    let mut sealed = JournalManager::new(alloc);
+    for id in ids {
+        let journal = SealedJournal::new(alloc, *id, 0, Watermarks::new(alloc))?;
+        sealed.enqueue(journal)?;
+    }
+    Ok(sealed)
+}
+
+/// What a database without keyspaces opens as, whose journals have these numbers.
+fn new_database(alloc: Global, sealed: &[u64], active: u64) -> Result<Opened>
+    requires { IsStrictlyIncreasing (sealed.now ++ active ∷ []) }
     ensures opened { IfOk result (λ o. Takes o (journal_name active) 0 first_catalog no_keyspaces [] [] []) }
+    ensures journals { IfOk result (λ o. TellOf (journals_with (empty_journals sealed.now active) []) o.sealed o.watermarks) }
+    ensures active { IfOk result (λ o. o.active ≡ active) }
     ensures whole { IfOk result (λ o. o.damaged.items ≡ []) }
     ensures number { IfOk result (λ o. o.number ≡ 0) }
     ensures lawful { IfOk result IsLawful }
@@ -67,9 +96,12 @@ fn new_database(alloc: Global, active: u64) -> Result<Opened>
 {
     let name = journal_name(alloc, active)?;
     Ok(Opened {
-        versions: Vec::new(alloc),
+        trees: Trees::new(alloc),
         damaged: Vec::new(alloc),
         journal: Writer::from_file(alloc, name.as_str(), 0)?,
+        sealed: empty_journals(alloc, sealed)?,
+        active,
+        watermarks: Watermarks::new(alloc),
         catalog: Catalog::new(),
         keyspaces: MetaKeyspace::new(alloc),
         number: 0,
@@ -83,6 +115,8 @@ pub(crate) fn ready_to_begin<D: Disk>(alloc: Global, disk: &mut D) -> Result<ToB
     ensures finds { IsTrue D.honest
         → IfOk result (λ r. (ids : List ℕ) × AreFolderIds (seen (D.meaning disk.old)) ids × FindsAll (state_in (D.meaning disk.old)) no_names [] ids r.sweep) }
     ensures opened { IfOk result (λ r. Takes r.opened (journal_name r.making.active) 0 first_catalog no_keyspaces [] [] []) }
+    ensures journals { IfOk result (λ r. TellOf (journals_begun r.making) r.opened.sealed r.opened.watermarks) }
+    ensures active { IfOk result (λ r. r.opened.active ≡ r.making.active) }
     ensures whole { IfOk result (λ r. r.opened.damaged.items ≡ []) }
     ensures number { IfOk result (λ r. r.opened.number ≡ 0) }
     ensures lawful { IfOk result (λ r. IsLawful r.opened) }
@@ -97,7 +131,7 @@ pub(crate) fn ready_to_begin<D: Disk>(alloc: Global, disk: &mut D) -> Result<ToB
     let sweep = plan_sweep(alloc, disk, &[], &[], &[], &ids)?;
     let making = plan_beginning(alloc, disk)?;
     Ok(ToBegin {
-        opened: new_database(alloc, making.active)?,
+        opened: new_database(alloc, &making.sealed, making.active)?,
         making,
         sweep,
     })
@@ -130,27 +164,30 @@ fn persisted_of(alloc: Global, homes: &[LoadedHome]) -> Result<Vec<Persisted>>
     Ok(persisted)
 }
 
-/// These versions of keyspaces that live, and those that the batches of the journals make, each beyond its keyspace's persisted
+/// These trees of the keyspaces that live, with what the batches of the journals make, each beyond its keyspace's persisted
 /// number.
 fn replayed(
     keyspaces: &MetaKeyspace,
     persisted: &[Persisted],
-    loaded: Vec<Version>,
+    loaded: Trees,
     batches: Vec<Batch>,
-) -> Result<Vec<Version>>
-    requires live { All (λ v. is_some (keyspace_at v.keyspace_id keyspaces.now.living) ≡ true) loaded.items }
-    ensures ok { (stored : ℕ → Stored) → AreTold keyspaces.now stored persisted.now
-        → IfOk result (λ versions. versions.items ≡ versions_beyond keyspaces.now stored loaded.items (map view batches.items)) }
-    ensures given { IfOk result (λ versions. All (λ v. v.keyspace_id < keyspaces.now.next) versions.items) }
-    ensures below { (bound : ℕ) → All (λ v. v.seqno < bound) loaded.items → All (λ b. b.seqno < bound) batches.items
-        → IfOk result (λ versions. All (λ v. v.seqno < bound) versions.items) }
+) -> Result<Trees>
+    requires fits { All (λ b. MayReplay (view b)) batches.items }
+    requires begun { AreBegun (forest_of loaded) }
+    ensures ok { (stored : ℕ → Stored) → AreTold keyspaces.now stored persisted.now → AreWithin keyspaces.now stored
+        → AreLoaded keyspaces.now stored (forest_of loaded) → (least : ℕ) → first_fault least (map view batches.items) ≡ None
+        → IfOk result (λ trees. AreReplayed keyspaces.now stored (map view batches.items) (forest_of trees)) }
+    ensures ids { IfOk result (λ trees. ids_of (forest_of trees) ≡ ids_of (forest_of loaded)) }
+    ensures bare { AreBare (forest_of loaded) → IfOk result (λ trees. AreBare (forest_of trees)) }
+    ensures below { (bound : ℕ) → AreBefore bound (forest_of loaded) → All (λ b. b.seqno < bound) batches.items
+        → IfOk result (λ trees. AreBefore bound (forest_of trees)) }
     ensures lawful { AreKeyspaces keyspaces.now }
     ensures only { IsOkUnless result Error.OutOfMemory }
 {
     prove!(0 < keyspaces.next_id());
-    let mut versions = loaded;
-    replay_beyond(keyspaces, persisted, batches, &mut versions)?;
-    Ok(versions)
+    let mut trees = loaded;
+    replay_beyond(keyspaces, persisted, batches, &mut trees)?;
+    Ok(trees)
 }
 
 /// What a folder opens as that was read, of whose tables this was loaded, and whose journal goes on at the end of this file.
@@ -160,12 +197,16 @@ fn database_of(
     loaded: Loaded,
     active: &str,
 ) -> Result<Opened>
-    requires live { All (λ v. is_some (keyspace_at v.keyspace_id found.catalog.keyspaces.living) ≡ true) loaded.versions.items }
+    requires live { ids_of (forest_of loaded.trees) ≡ map (λ k. k.id) found.catalog.keyspaces.living }
     requires below { (bound : ℕ) → All (λ h. IfSome h.record.persisted (λ n. n < bound)) found.homes.items
-        → All (λ v. v.seqno < bound) loaded.versions.items }
-    ensures opened { IfOk result (λ o. Takes o active.now found.journals.end found.catalog.catalog found.catalog.keyspaces (persisted_of found) loaded.versions.items
+        → AreBefore bound (forest_of loaded.trees) }
+    requires bare { AreBare (forest_of loaded.trees) }
+    requires begun { AreBegun (forest_of loaded.trees) }
+    requires numbered { IsNumbered found }
+    ensures opened { IfOk result (λ o. Takes o active.now found.journals.end found.catalog.catalog found.catalog.keyspaces (persisted_of found) (forest_of loaded.trees)
         (map view found.journals.batches.items)) }
     ensures damaged { IfOk result (λ o. o.damaged.items ≡ loaded.damaged.items) }
+    ensures journals { IfOk result (λ o. HasJournals o found.journals.sealed (active_of found.journal_ids.items) found.journals.watermarks) }
     ensures number { All HasNumbers (records_of found) → IfOk result (λ o. o.number ≡ max found.journals.least (past_records (records_of found))) }
     ensures lawful { IfOk result IsLawful }
     ensures risen { (faults : ℕ) → IfErr result (HasRisen faults faults) }
@@ -173,9 +214,12 @@ fn database_of(
     ensures listed { IfErr result IsOpeningRefusal }
 {
     let number = number_of(&found);
+    check_small(number)?;
     check_made(found.catalog.keyspaces.living(), number)?;
     check_told(&found, number)?;
+    check_sizes(&found.journals.batches)?;
     let journal = Writer::from_file(alloc, active, found.journals.end as u64)?;
+    let id = active_id(&found.journal_ids);
     let RecoveredFolder {
         journals,
         catalog,
@@ -183,16 +227,19 @@ fn database_of(
         ..
     } = found;
     let persisted = persisted_of(alloc, &homes)?;
-    let versions = replayed(
+    let trees = replayed(
         &catalog.keyspaces,
         &persisted,
-        loaded.versions,
+        loaded.trees,
         journals.batches,
     )?;
     Ok(Opened {
-        versions,
+        trees,
         damaged: loaded.damaged,
         journal,
+        sealed: journals.sealed,
+        active: id,
+        watermarks: journals.watermarks,
         catalog: catalog.catalog,
         keyspaces: catalog.keyspaces,
         number,
@@ -205,6 +252,7 @@ pub(crate) fn ready_to_mend<D: Disk>(
     disk: &mut D,
     found: RecoveredFolder,
 ) -> Result<ToMend>
+    requires { IsNumbered found }
     ensures mending { (image : Image) → IsFinished image found → IfOk result (λ r. IsMendingOf image found r.mending) }
     ensures sweep { IsTrue D.honest → (image : Image) → IsFinished image found → IfOk result (λ r. IsSweepOf found r.sweep) }
     ensures finds { IsTrue D.honest → (image : Image) → IsFinished image found

@@ -13,9 +13,10 @@ ghost use Rattle.fjall_recovery.specs.Folders.{IsFinished, IsUnfinished, StandsF
 ghost use Rattle.fjall_recovery.specs.Held.{Holds};
 ghost use Rattle.fjall_repair.specs.Readings.{WhereOpenable, WhereRead, WhereSound, IsSweepOf, FindsNamed};
 ghost use Rattle.fjall_repair.specs.Making.{ComesBackUnfinished};
-ghost use Rattle.fjall_repair.specs.Plans.{IsPlan as IsMakingOf};
+ghost use Rattle.fjall_repair.specs.Plans.{IsPlan as IsMakingOf, journals_begun};
 ghost use Rattle.fjall_repair.specs.Mended.{IsMendingOf};
 ghost use Rattle.fjall_repair.specs.Opened.{IsRepaired, nothing};
+ghost use Rattle.fjall_repair.specs.Steps.{opened};
 ghost use Rattle.fjall_repair.specs.Sweeps.{AreGone, BringsNoTable, FindsTables, IsPlan, planned, no_names, HasAll};
 
 use crate::plan::SweepPlan;
@@ -36,7 +37,7 @@ pub(crate) fn mend_and_sweep<D: Disk>(
     ensures ok { IsTrue D.honest → (found : RecoveredFolder)
         → WhereRead (D.meaning disk.old) found (λ contents. Holds (state_in (D.meaning disk.old)) (Some contents)
         → IsMendingOf (seen (D.meaning disk.old)) found mending.now → IsSweepOf found plan.now → FindsNamed (state_in (D.meaning disk.old)) found plan.now
-        → OnOk result (IsRepaired (state_in (D.meaning disk.new)) contents (string_bytes mending.now.active) found.journals.end)) }
+        → OnOk result (IsRepaired (state_in (D.meaning disk.new)) contents (opened contents.journals) (string_bytes mending.now.active) found.journals.end)) }
     ensures gone { IsTrue D.honest → OnOk result (AreGone (state_in (D.meaning disk.new)) (planned plan.now)) }
     ensures cause { OnlyFaults (D.meaning disk.old) (D.meaning disk.new) result }
     ensures tables { IsTrue D.honest → (found : RecoveredFolder) → IsMendingOf (seen (D.meaning disk.old)) found mending.now
@@ -48,7 +49,7 @@ pub(crate) fn mend_and_sweep<D: Disk>(
     ensures repaired { IsTrue D.honest → (found : RecoveredFolder)
         → WhereSound (D.meaning disk.old) found (λ contents. IsMendingOf (seen (D.meaning disk.old)) found mending.now → IsSweepOf found plan.now
         → WhereAmid (D.meaning disk.old) (FindsNamed (state_in (D.meaning disk.old)) found plan.now
-        → OnOk result (IsRepaired (state_in (D.meaning disk.new)) contents (string_bytes mending.now.active) found.journals.end))) }
+        → OnOk result (IsRepaired (state_in (D.meaning disk.new)) contents (opened contents.journals) (string_bytes mending.now.active) found.journals.end))) }
     ensures held { IsTrue D.honest → (found : RecoveredFolder)
         → WhereOpenable (D.meaning disk.old) found (λ contents. IsMendingOf (seen (D.meaning disk.old)) found mending.now
         → IsSweepOf found plan.now → KeepsAmid (D.meaning disk.old) (D.meaning disk.new)) }
@@ -73,7 +74,7 @@ pub(crate) fn begin_and_sweep<D: Disk>(
         → LeavesOnly (D.meaning disk.old) (D.meaning disk.new) (λ image. StandsFor image (bare no_keyspaces)) }
     ensures ok { IsTrue D.honest → Holds (state_in (D.meaning disk.old)) None → IsMakingOf (seen (D.meaning disk.old)) making.now → IsPlan no_names [] plan.now
         → FindsTables (state_in (D.meaning disk.old)) no_names (map string_bytes plan.now.tables.items)
-        → OnOk result (IsRepaired (state_in (D.meaning disk.new)) nothing (journal_name making.now.active) 0) }
+        → OnOk result (IsRepaired (state_in (D.meaning disk.new)) nothing (journals_begun making.now) (journal_name making.now.active) 0) }
     ensures gone { IsTrue D.honest → OnOk result (AreGone (state_in (D.meaning disk.new)) (planned plan.now)) }
     ensures cause { OnlyFaults (D.meaning disk.old) (D.meaning disk.new) result }
     ensures tables { IsTrue D.honest → IsMakingOf (seen (D.meaning disk.old)) making.now
@@ -83,7 +84,7 @@ pub(crate) fn begin_and_sweep<D: Disk>(
         → LeavesAmid (D.meaning disk.old) (D.meaning disk.new) }
     ensures repaired { IsTrue D.honest → IsUnfinished (seen (D.meaning disk.old)) → IsMakingOf (seen (D.meaning disk.old)) making.now → IsPlan no_names [] plan.now
         → FindsTables (state_in (D.meaning disk.old)) no_names (map string_bytes plan.now.tables.items)
-        → OnOk result (IsRepaired (state_in (D.meaning disk.new)) nothing (journal_name making.now.active) 0) }
+        → OnOk result (IsRepaired (state_in (D.meaning disk.new)) nothing (journals_begun making.now) (journal_name making.now.active) 0) }
     ensures held { IsTrue D.honest → IsUnfinished (seen (D.meaning disk.old)) → IsMakingOf (seen (D.meaning disk.old)) making.now → IsPlan no_names [] plan.now
         → KeepsAmid (D.meaning disk.old) (D.meaning disk.new) }
     ensures kinds { IsTrue D.honest → IsMakingOf (seen (D.meaning disk.old)) making.now → StaysTidy (D.meaning disk.old) (D.meaning disk.new) }

@@ -17,7 +17,7 @@ use Rattle.fjall_state.specs.Shapes.{Shape, shape_of}
 use Rattle.fjall_lines.specs.declared.command.Command.{Command}
 use Rattle.fjall_lines.specs.declared.command.Command.TheVariants.{Ask, Crash, Reopen}
 use Rattle.fjall_lines.specs.declared.command.Request.{Request}
-use Rattle.fjall_lines.specs.declared.command.Request.TheVariants.{Keyspace, Delete, Insert, Remove, RemoveWeak, Batch, Get, Len, Scan, Snapshot, GetAt, CloseSnapshot, Gc, Persist}
+use Rattle.fjall_lines.specs.declared.command.Request.TheVariants.{Keyspace, Delete, Insert, Remove, RemoveWeak, Clear, Batch, Get, Len, Scan, Snapshot, GetAt, CloseSnapshot, Gc, Rotate, Persist}
 use Rattle.fjall_script.specs.Answers.{bad_line, ok_line, reply_text}
 use Rattle.fjall_core.specs.Holding.{Held}
 use Rattle.fjall_core.specs.Standing.{Gives, Owes, OwesAll}
@@ -53,6 +53,7 @@ pairs_are_named n (Delete id) pairs first = omega arith
 pairs_are_named n (Insert id key value) pairs first = omega arith
 pairs_are_named n (Remove id key) pairs first = omega arith
 pairs_are_named n (RemoveWeak id key) pairs first = omega arith
+pairs_are_named n (Clear id) pairs first = omega arith
 pairs_are_named n (Batch writes) pairs first = omega arith
 pairs_are_named n (Get id key) pairs first = omega arith
 pairs_are_named n (Scan id) pairs first = omega arith
@@ -60,6 +61,7 @@ pairs_are_named n Snapshot pairs first = omega arith
 pairs_are_named n (GetAt number id key) pairs first = omega arith
 pairs_are_named n (CloseSnapshot number) pairs first = omega arith
 pairs_are_named n Gc pairs first = omega arith
+pairs_are_named n (Rotate id) pairs first = omega arith
 pairs_are_named n Persist pairs first = omega arith
 
 numbers_are_named : (number : ℕ) (request : Request) (count : ℕ) → first_of (reply_text number request (Number count)) ≡ 101 → ⊥
@@ -68,6 +70,7 @@ numbers_are_named n (Delete id) count first = omega arith
 numbers_are_named n (Insert id key value) count first = omega arith
 numbers_are_named n (Remove id key) count first = omega arith
 numbers_are_named n (RemoveWeak id key) count first = omega arith
+numbers_are_named n (Clear id) count first = omega arith
 numbers_are_named n (Batch writes) count first = omega arith
 numbers_are_named n (Get id key) count first = omega arith
 numbers_are_named n (Len id) count first = omega arith
@@ -76,6 +79,7 @@ numbers_are_named n Snapshot count first = omega arith
 numbers_are_named n (GetAt number id key) count first = omega arith
 numbers_are_named n (CloseSnapshot number) count first = omega arith
 numbers_are_named n Gc count first = omega arith
+numbers_are_named n (Rotate id) count first = omega arith
 numbers_are_named n Persist count first = omega arith
 
 -- no answer to a call is the one for bad lines
@@ -115,6 +119,7 @@ fits (Delete id) place ids call reply old new is gives = subst (IsReplyTo (Delet
 fits (Insert id key value) place ids call reply old new is gives = subst (IsReplyTo (Insert id key value)) (sym (subst (Given ids reply old new) is gives).0) tt
 fits (Remove id key) place ids call reply old new is gives = subst (IsReplyTo (Remove id key)) (sym (subst (Given ids reply old new) is gives).0) tt
 fits (RemoveWeak id key) place ids call reply old new is gives = subst (IsReplyTo (RemoveWeak id key)) (sym (subst (Given ids reply old new) is gives).0) tt
+fits (Clear id) place ids call reply old new is gives = subst (IsReplyTo (Clear id)) (sym (subst (Given ids reply old new) is gives).0) tt
 fits (Batch writes) place ids call reply old new is gives = subst (IsReplyTo (Batch writes)) (sym (subst (Given ids reply old new) is.is gives).0) tt
 fits (Get id key) place ids call reply old new is gives = subst (IsReplyTo (Get id key)) (sym (subst (Given ids reply old new) is gives).0) tt
 fits (Len id) place ids call reply old new is gives = subst (IsReplyTo (Len id)) (sym (subst (Given ids reply old new) is gives).0.1) tt
@@ -123,6 +128,7 @@ fits Snapshot place ids call reply old new is gives = subst (IsReplyTo Snapshot)
 fits (GetAt number id key) place ids call reply old new is gives = subst (IsReplyTo (GetAt number id key)) (sym (subst (Given ids reply old new) is gives).0) tt
 fits (CloseSnapshot number) place ids call reply old new is gives = subst (IsReplyTo (CloseSnapshot number)) (sym (subst (Given ids reply old new) is gives).0.0) tt
 fits Gc place ids call reply old new is gives = subst (IsReplyTo Gc) (sym (subst (Given ids reply old new) is gives).0.0) tt
+fits (Rotate id) place ids call reply old new is gives = subst (IsReplyTo (Rotate id)) (sym (subst (Given ids reply old new) is gives).0) tt
 fits Persist place ids call reply old new is gives = subst (IsReplyTo Persist) (sym (subst (Given ids reply old new) is gives).0) tt
 
 refusal_fits : (request : Request) (error : Error) → IsReplyTo request (Refused error)

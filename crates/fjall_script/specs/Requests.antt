@@ -16,7 +16,7 @@ use Rattle.fjall_state.specs.declared.call.Call.TheVariants as calls
 use Rattle.fjall_lines.specs.declared.command.Command.{Command}
 use Rattle.fjall_lines.specs.declared.command.Command.TheVariants.{Ask, Crash, Reopen}
 use Rattle.fjall_lines.specs.declared.command.Request.{Request}
-use Rattle.fjall_lines.specs.declared.command.Request.TheVariants.{Keyspace, Delete, Insert, Remove, RemoveWeak, Batch, Get, Len, Scan, Snapshot, GetAt, CloseSnapshot, Gc, Persist}
+use Rattle.fjall_lines.specs.declared.command.Request.TheVariants.{Keyspace, Delete, Insert, Remove, RemoveWeak, Clear, Batch, Get, Len, Scan, Snapshot, GetAt, CloseSnapshot, Gc, Rotate, Persist}
 use Rattle.fjall_lines.specs.Lines.{Write}
 
 -- what a line asks of the engine; none for one that is no command, a crash or a reopening
@@ -105,6 +105,7 @@ IsCallOf place (Delete id) call = call ≡ calls.DeleteKeyspace id
 IsCallOf place (Insert id key value) call = call ≡ calls.Insert id key value
 IsCallOf place (Remove id key) call = call ≡ calls.Remove id key
 IsCallOf place (RemoveWeak id key) call = call ≡ calls.RemoveWeak id key
+IsCallOf place (Clear id) call = call ≡ calls.Clear id
 IsCallOf place (Batch writes) call = IsBatch writes call
 IsCallOf place (Get id key) call = call ≡ calls.GetAt Present id key
 IsCallOf place (Len id) call = call ≡ all_pairs id
@@ -113,6 +114,7 @@ IsCallOf place Snapshot call = call ≡ calls.Snapshot
 IsCallOf place (GetAt number id key) call = call ≡ calls.GetAt (At (named (place number))) id key
 IsCallOf place (CloseSnapshot number) call = call ≡ calls.CloseSnapshot (named (place number))
 IsCallOf place Gc call = call ≡ calls.Gc
+IsCallOf place (Rotate id) call = call ≡ calls.RotateMemtable id
 IsCallOf place Persist call = call ≡ calls.Persist SyncAll
 
 -- the calls of one list of lines, where so many snapshots were asked for before it

@@ -9,11 +9,11 @@ use Rattle.fjall_core.specs.Holding.{Held}
 use Rattle.fjall_state.specs.declared.call.Call.{Call}
 use Rattle.fjall_state.specs.Places.{resolved_all}
 use Rattle.fjall_history.specs.declared.reply.Reply.{Reply}
-use Rattle.fjall_history.specs.declared.reply.Reply.TheVariants.{Done, Value, Pairs, Number, Opened, Refused}
+use Rattle.fjall_history.specs.declared.reply.Reply.TheVariants.{Done, Flag, Value, Pairs, Number, Opened, Refused}
 use Rattle.fjall_lines.specs.declared.command.Command.{Command}
 use Rattle.fjall_lines.specs.declared.command.Command.TheVariants.{Ask, Crash, Reopen}
 use Rattle.fjall_lines.specs.declared.command.Request.{Request}
-use Rattle.fjall_lines.specs.declared.command.Request.TheVariants.{Keyspace, Delete, Insert, Remove, RemoveWeak, Batch, Get, Len, Scan, Snapshot, GetAt, CloseSnapshot, Gc, Persist}
+use Rattle.fjall_lines.specs.declared.command.Request.TheVariants.{Keyspace, Delete, Insert, Remove, RemoveWeak, Clear, Batch, Get, Len, Scan, Snapshot, GetAt, CloseSnapshot, Gc, Rotate, Persist}
 use Rattle.fjall_script.specs.Answers.{reply_text, bad_line, ok_line, text_of}
 use Rattle.fjall_script.specs.Outputs.{AppendsFront, IsIo}
 use Rattle.fjall_script.specs.Requests.{AreCalls, asked_with, is_stop, snapshots_before, snapshots_in}
@@ -37,6 +37,7 @@ IsReplyTo (Delete id) Done = Unit {0}
 IsReplyTo (Insert id key value) Done = Unit {0}
 IsReplyTo (Remove id key) Done = Unit {0}
 IsReplyTo (RemoveWeak id key) Done = Unit {0}
+IsReplyTo (Clear id) Done = Unit {0}
 IsReplyTo (Batch writes) Done = Unit {0}
 IsReplyTo (Get id key) (Value found) = Unit {0}
 IsReplyTo (Len id) (Pairs pairs) = Unit {0}
@@ -45,6 +46,7 @@ IsReplyTo Snapshot (Opened ticket) = Unit {0}
 IsReplyTo (GetAt number id key) (Value found) = Unit {0}
 IsReplyTo (CloseSnapshot number) Done = Unit {0}
 IsReplyTo Gc (Number watermark) = Unit {0}
+IsReplyTo (Rotate id) (Flag is_sealed) = Unit {0}
 IsReplyTo Persist Done = Unit {0}
 IsReplyTo request reply = ⊥
 

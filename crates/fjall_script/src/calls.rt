@@ -115,6 +115,7 @@ fn call_of(alloc: Global, request: &Request, places: &[u64], earlier: usize) -> 
         Request::Insert(id, key, value) => Ok(Call::Insert(*id, key.clone()?, value.clone()?)),
         Request::Remove(id, key) => Ok(Call::Remove(*id, key.clone()?)),
         Request::RemoveWeak(id, key) => Ok(Call::RemoveWeak(*id, key.clone()?)),
+        Request::Clear(id) => Ok(Call::Clear(*id)),
         Request::Batch(writes) => {
             let items = items_of(alloc, writes.as_slice())?;
             Ok(Call::CommitBatch(items, Some(PersistMode::Buffer)))
@@ -130,6 +131,7 @@ fn call_of(alloc: Global, request: &Request, places: &[u64], earlier: usize) -> 
             Ok(Call::CloseSnapshot(ticket_of(places, earlier, *number)))
         }
         Request::Gc => Ok(Call::Gc),
+        Request::Rotate(id) => Ok(Call::RotateMemtable(*id)),
         Request::Persist => Ok(Call::Persist(PersistMode::SyncAll)),
     }
 }

@@ -8,12 +8,13 @@ use Rattle.fjall_meta.specs.declared.living.LivingKeyspace.{LivingKeyspace}
 use Rattle.fjall_meta.specs.Keyspaces.{Keyspaces, keyspace_at}
 use Rattle.fjall_options.specs.declared.options.stored_option.StoredOption.TheVariants.{ManualJournalPersist}
 use Rattle.fjall_options.specs.Options.{effective_settings, is_set, value_at, value_of}
-use Rattle.fjall_versions.specs.declared.version.Version.{Version}
 use Rattle.fjall_versions.specs.Replays.{option_pairs}
-use Rattle.fjall_versions.specs.Versions.{store_of}
-use Rattle.fjall_versions.proofs.Naming.{living_names, settings}
+use Rattle.fjall_versions.proofs.Naming.{settings}
+use Rattle.fjall_trees.specs.Forests.{Forest}
+use Rattle.fjall_maps.specs.Maps.{store_of}
 use Rattle.fjall_state.specs.Machine.{State, is_by_hand, persists_by_hand, present}
 use Rattle.fjall_state.specs.Remembered.{Remembered, StandsFor}
+use Rattle.fjall_state.proofs.Facts.{living_names}
 
 -- ---- what is held
 
@@ -35,10 +36,10 @@ found_says : (found : Option LivingKeyspace) → (is_some found && is_by_hand (u
 found_says None = refl
 found_says (Some k) = settings_say k.options
 
-pub held_says : (s : Keyspaces) (versions : List Version) (id : ℕ) → persists_by_hand (store_of s versions) id ≡ says_by_hand (option_map (λ k. k.options) (keyspace_at id s.living))
-held_says s versions id =
-    ap (λ b. b && is_by_hand (unwrap_or (get (store_of s versions).options id) [])) (living_names s versions id)
-    ∙ ap (λ (o : Option Options). is_some (keyspace_at id s.living) && is_by_hand (unwrap_or o [])) (settings s versions id)
+pub held_says : (s : Keyspaces) (trees : Forest) (id : ℕ) → persists_by_hand (store_of s trees) id ≡ says_by_hand (option_map (λ k. k.options) (keyspace_at id s.living))
+held_says s trees id =
+    ap (λ b. b && is_by_hand (unwrap_or (get (store_of s trees).options id) [])) (living_names s trees id)
+    ∙ ap (λ (o : Option Options). is_some (keyspace_at id s.living) && is_by_hand (unwrap_or o [])) (settings s [] id)
     ∙ found_says (keyspace_at id s.living)
 
 -- ---- what is kept
@@ -54,5 +55,5 @@ kept_says s id =
     ∙ both_times (p id) (get s.options id)
 
 -- the present says what is held
-pub options_agree : (m : Remembered) (table : ℕ) (s : State) → StandsFor m table s → (id : ℕ) → persists_by_hand (present s) id ≡ persists_by_hand (store_of m.keyspaces m.versions) id
-options_agree m table s stands id = sym (kept_says (present s) id) ∙ ap (λ (t : Store). persists_by_hand t id) stands.present ∙ kept_says (store_of m.keyspaces m.versions) id
+pub options_agree : (m : Remembered) (table : ℕ) (s : State) → StandsFor m table s → (id : ℕ) → persists_by_hand (present s) id ≡ persists_by_hand (store_of m.keyspaces m.trees) id
+options_agree m table s stands id = sym (kept_says (present s) id) ∙ ap (λ (t : Store). persists_by_hand t id) stands.present ∙ kept_says (store_of m.keyspaces m.trees) id

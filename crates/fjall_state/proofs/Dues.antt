@@ -8,10 +8,11 @@ use Rattle.std.specs.List.{AllByRecursion, list_any}
 use Rattle.fjall_base.specs.Pairs.{Bytes}
 use Rattle.fjall_base.specs.declared.error.Error.{Error}
 use Rattle.fjall_base.specs.declared.error.Error.TheVariants.{KeyEmpty, KeyTooLong, TooManyItems, ValueTooLong}
+use Rattle.fjall_journal.specs.Changes.{Change, Items, Emptied}
 use Rattle.fjall_journal.specs.Ops.{BatchItem}
 use Rattle.fjall_meta.specs.Keyspaces.{is_name}
 use Rattle.fjall_state.specs.Shapes.{OneLess}
-use Rattle.fjall_state.specs.Machine.{Facts, change_refusals, creation_refusals, deletion_refusals, first_due, handle_refusals, handles_of, has_name, is_living}
+use Rattle.fjall_state.specs.Machine.{Facts, change_refusals, clear_refusals, creation_refusals, deletion_refusals, first_due, handle_refusals, handles_of, has_name, is_living, items_refusals}
 use Rattle.fjall_state.specs.Allowed.{MayChange, MayCreate, MayDelete}
 
 pub none_due : (refusals : List (Bool × Error)) → first_due refusals ≡ None → AllByRecursion (λ refusal. refusal.0 ≡ false) refusals
@@ -49,14 +50,22 @@ none_of test (x ∷ xs) none =
 abbrev refusal_by : Bool → Bool → Bool → Bool → Option Error
 refusal_by empty key value many = if empty then Some KeyEmpty else (if key then Some KeyTooLong else (if value then Some ValueTooLong else (if many then Some TooManyItems else None)))
 
-pub may_change : (f : Facts) (items : List BatchItem) → first_due (change_refusals f items) ≡ None → MayChange f items
-may_change f items none =
-    let causes = none_due (change_refusals f items) none in
+pub may_change : (f : Facts) (change : Change) → first_due (change_refusals f change) ≡ None → MayChange f change
+may_change f (Items items) none =
+    let causes = none_due (items_refusals f items) none in
     record {
       living = none_of (λ (item : BatchItem). is_living f.store item.0) items causes.1.1.1.1.0;
       well = causes.1.1.1.1.1.0;
       numbered = below f.next (2 ^ 63) causes.1.1.1.1.1.1.1.0;
       fits = λ i. refusal_by (causes.0 i) (causes.1.0 i) (causes.1.1.0 i) (causes.1.1.1.1.1.1.0 i);
+    }
+may_change f (Emptied id) none =
+    let causes = none_due (clear_refusals f id) none in
+    record {
+      living = is_so (is_living f.store id) causes.1.0;
+      well = causes.1.1.0;
+      numbered = below f.next (2 ^ 63) causes.1.1.1.0;
+      fits = tt;
     }
 
 pub may_create : (f : Facts) (name : Bytes) → first_due (creation_refusals f name) ≡ None → MayCreate f name

@@ -1,45 +1,75 @@
 -- What is held stays lawful.
-use Rattle.std.proofs.Common.{◌≡◌, ◌≢◌, inl, inr, ℕ, zero, suc, ◌+◌, ◌-◌, ◌<◌, ◌≤◌, ◌^◌, ◌==◌, max, not, Bool, true, false, cond, if◌then◌else◌, List, [], ◌∷◌, map, All, None, Some, Result, Ok, Err, IfOk, OnOk, OnErr, refl, sym, ap, subst, ◌∙◌, arith}
+use Rattle.std.proofs.Common.{◌≡◌, ◌≢◌, inl, inr, ℕ, zero, suc, ◌+◌, ◌-◌, ◌<◌, ◌≤◌, ◌^◌, ◌==◌, ◌&&◌, max, not, Bool, true, false, cond, if◌then◌else◌, List, [], ◌∷◌, All, Option, None, Some, Result, Ok, Err, IfOk, OnOk, OnErr, refl, sym, ap, subst, ◌∙◌, arith}
+use Rattle.std.proofs.lemmas.Bool.{true≢false}
 use Rattle.std.proofs.lemmas.Bool.Decides.{nat_tests}
 use Rattle.std.proofs.lemmas.Option.{none-some}
-use Rattle.std.proofs.lemmas.List.Elements.{All-append, All-cons, All-filter, All-head, All-nil, All-push, All-tail, All-weaker}
+use Rattle.std.proofs.lemmas.List.Elements.{All-cons, All-filter, All-nil, All-push, All-weaker}
 use Rattle.std.specs.Cmp.{nat_cmp_total}
 use Rattle.std.specs.FinMap.{get, get-remove, remove, values}
+use Rattle.std.specs.List.{slice_index_or}
+use Rattle.std.specs.Option.{is_some}
 use Rattle.std.specs.Ordering.{eq_by_cmp, nat_cmp}
 use Rattle.fjall_base.specs.Pairs.{Bytes}
 use Rattle.fjall_base.specs.declared.error.Error.{Error}
-use Rattle.fjall_journal.specs.Ops.{BatchItem}
+use Rattle.fjall_journal.specs.Changes.{Change, Emptied, Items}
+use Rattle.fjall_journal.specs.Ops.{BatchItem, items_refusal}
 use Rattle.fjall_meta.specs.declared.living.LivingKeyspace.{LivingKeyspace}
-use Rattle.fjall_meta.specs.Keyspaces.{AreKeyspaces, Keyspaces, id_of, is_name}
+use Rattle.fjall_meta.specs.Keyspaces.{AreKeyspaces, Keyspaces, id_of, is_name, keyspace_at}
 use Rattle.fjall_meta.proofs.Changes.{none_named, one_more_are, some_are}
 use Rattle.fjall_options.specs.Options.{AreOptions}
-use Rattle.fjall_versions.specs.declared.version.Version.{Version}
-use Rattle.fjall_versions.specs.Versions.{store_of, version_made}
-use Rattle.fjall_versions.proofs.Slots.{get_put}
+use Rattle.fjall_versions.proofs.Found.{found_has, found_passes}
+use Rattle.fjall_versions.proofs.Slots.{get_put, same_id}
+use Rattle.fjall_lsm.specs.Trees.{emptied, sealed_off}
+use Rattle.fjall_trees.specs.Forests.{AreBefore, Forest, Planted, altered_at, tree_at}
+use Rattle.fjall_trees.specs.Forests as forests
+use Rattle.fjall_lsm.specs.Puts.{bare_tree}
+use Rattle.fjall_trees.specs.Writes.{MayPush, pushed, with_tree}
+use Rattle.fjall_maps.specs.Maps.{store_of}
 use Rattle.fjall_history.specs.declared.ticket.Ticket.{Ticket}
 use Rattle.fjall_history.specs.Tickets.{Tickets, Tracked, closed, collected, least, opened}
 use Rattle.fjall_history.proofs.Values.{all_inserted, all_removed, of_value}
-use Rattle.fjall_state.specs.Machine.{is_living, one_less, without}
-use Rattle.fjall_state.specs.Remembered.{IsLawful, IsReadAt, Remembered, is_last, let_go, poisoned, released, retained, versions_without, with_creation, with_deletion, with_items, with_tickets}
-use Rattle.fjall_state.proofs.Facts.{living_given}
+use Rattle.fjall_state.specs.Allowed.{FitsBatch}
+use Rattle.fjall_state.specs.Machine.{handles_of, is_living, one_less, without}
+use Rattle.fjall_state.specs.Remembered.{IsLawful, IsReadAt, Remembered, is_last, let_go, poisoned, released, retained, rotated, with_change, with_creation, with_deletion, with_tickets}
+use Rattle.fjall_state.proofs.Facts.{living_names, some_there}
+use Rattle.fjall_maps.proofs.Emptied.{emptied_bare, emptied_before, emptied_forest, emptied_has, emptied_ids}
+use Rattle.fjall_maps.proofs.Pushed.{pushed_bare, pushed_before, pushed_forest, pushed_has, pushed_ids}
+use Rattle.fjall_maps.proofs.Planted.{planted_bare, planted_before, planted_forest, planted_has, planted_here}
+use Rattle.fjall_maps.proofs.Changed.{changed_has}
+use Rattle.fjall_maps.proofs.Dropped.{dropped_each, dropped_forest, dropped_has}
+use Rattle.fjall_maps.proofs.Rotated.{rotated_bare, rotated_before, rotated_forest, rotated_has}
 
--- what is lawful depends on keyspaces, versions, the next number and the tickets alone
-pub alike : (a b : Remembered) → IsLawful a → b.keyspaces ≡ a.keyspaces → b.versions ≡ a.versions → b.next ≡ a.next → b.tickets ≡ a.tickets → IsLawful b
-alike a b is keyspaces versions next tickets = record {
-  keyspaces = subst AreKeyspaces (sym keyspaces) is.keyspaces;
-  made = subst (λ (s : Keyspaces). All (λ k. k.number < b.next) s.living) (sym keyspaces) (subst (λ n. All (λ k. k.number < n) a.keyspaces.living) (sym next) is.made);
-  given = subst (λ (l : List Version). All (λ v. v.keyspace_id < b.keyspaces.next) l) (sym versions) (subst (λ (s : Keyspaces). All (λ v. v.keyspace_id < s.next) a.versions) (sym keyspaces) is.given);
-  below = subst (λ (l : List Version). All (λ v. v.seqno < b.next) l) (sym versions) (subst (λ n. All (λ v. v.seqno < n) a.versions) (sym next) is.below);
-  reached = subst (λ (t : Tickets). All (λ i. i ≤ b.next) (values t.instants)) (sym tickets) (subst (λ n. All (λ i. i ≤ n) (values a.tickets.instants)) (sym next) is.reached);
-  spared = subst (λ n. 0 < b.tickets.watermark → b.tickets.watermark < n) (sym next) (subst (λ (t : Tickets). 0 < t.watermark → t.watermark < a.next) (sym tickets) is.spared);
+-- the same, with these keyspaces, trees, next number and tickets
+abbrev standing_as : Remembered → Remembered → Remembered
+standing_as a b = record b { keyspaces = a.keyspaces; trees = a.trees; next = a.next; tickets = a.tickets }
+
+-- what is lawful depends on these alone
+as_lawful : (a b : Remembered) → IsLawful a → IsLawful (standing_as a b)
+as_lawful a b is = record {
+  keyspaces = is.keyspaces;
+  made = is.made;
+  forest = is.forest;
+  planted = is.planted;
+  given = is.given;
+  below = is.below;
+  bare = is.bare;
+  small = is.small;
+  reached = is.reached;
+  spared = is.spared;
 }
+
+pub alike : (a b : Remembered) → IsLawful a → b.keyspaces ≡ a.keyspaces → b.trees ≡ a.trees → b.next ≡ a.next → b.tickets ≡ a.tickets → IsLawful b
+alike a b is keyspaces trees next tickets = subst IsLawful (sym same) (as_lawful a b is)
+  where
+    same : b ≡ standing_as a b
+    same = λ i. record { keyspaces = keyspaces i; trees = trees i; next = next i; poisoned = b.poisoned; handles = b.handles; lasting = b.lasting; damaged = b.damaged; tickets = tickets i; sealed = b.sealed }
 
 module _ (m : Remembered) (is : IsLawful m) where
   later : All (λ k. k.number < m.next + 1) m.keyspaces.living
   later = All-weaker (λ k. k.number < m.next) (λ k. k.number < m.next + 1) (λ k h. omega arith) m.keyspaces.living is.made
 
-  below_later : All (λ v. v.seqno < m.next + 1) m.versions
-  below_later = All-weaker (λ (v : Version). v.seqno < m.next) (λ v. v.seqno < m.next + 1) (λ v h. omega arith) m.versions is.below
+  below_later : AreBefore (m.next + 1) m.trees
+  below_later = All-weaker (λ (k : Planted). k.shape.memory.active.until ≤ m.next) (λ k. k.shape.memory.active.until ≤ m.next + 1) (λ k h. omega arith) m.trees is.below
 
   reached_later : All (λ i. i ≤ m.next + 1) (values m.tickets.instants)
   reached_later = All-weaker (λ i. i ≤ m.next) (λ i. i ≤ m.next + 1) (λ i h. omega arith) (values m.tickets.instants) is.reached
@@ -47,35 +77,79 @@ module _ (m : Remembered) (is : IsLawful m) where
   spared_later : 0 < m.tickets.watermark → m.tickets.watermark < m.next + 1
   spared_later some = let lt = is.spared some in omega (arith, lt)
 
-made_given : (items : List BatchItem) (n : ℕ) (s : Keyspaces) (versions : List Version) → AreKeyspaces s → All (λ item. is_living (store_of s versions) item.0 ≡ true) items → All (λ v. v.keyspace_id < s.next) (map (version_made n) items)
-made_given [] n s versions are living = All-nil (λ (v : Version). v.keyspace_id < s.next)
-made_given (item ∷ items) n s versions are living =
-    All-cons (λ (v : Version). v.keyspace_id < s.next) (version_made n item) (map (version_made n) items)
-    (living_given s are versions item.0 (All-head (λ (i : BatchItem). is_living (store_of s versions) i.0 ≡ true) item items living))
-    (made_given items n s versions are (All-tail (λ (i : BatchItem). is_living (store_of s versions) i.0 ≡ true) item items living))
+-- ---- what holds of trees
 
-made_late : (items : List BatchItem) (n : ℕ) → All (λ v. v.seqno < n + 1) (map (version_made n) items)
-made_late [] n = All-nil (λ (v : Version). v.seqno < n + 1)
-made_late (item ∷ items) n = All-cons (λ (v : Version). v.seqno < n + 1) (version_made n item) (map (version_made n) items) (omega arith) (made_late items n)
+both_all : {X : Type 0} (P Q R : X → Type 0) → ((x : X) → P x → Q x → R x) → (xs : List X) → All P xs → All Q xs → All R xs
+both_all P Q R f xs ps qs = λ k d lt. f (slice_index_or xs k d) (ps k d lt) (qs k d lt)
 
-pub items_are_lawful : (items : List BatchItem) (m : Remembered) → IsLawful m → All (λ item. is_living (store_of m.keyspaces m.versions) item.0 ≡ true) items → IsLawful (with_items items m)
-items_are_lawful items m is living = record {
+pub itself : (id : ℕ) → (id == id) ≡ true
+itself id = grind (arith, nat_tests)
+
+-- where each keyspace that lives has a tree, one of a living id has one
+pub tree_there : (s : Keyspaces) (trees : Forest) → All (λ k. is_some (tree_at k.id trees) ≡ true) s.living → (id : ℕ) → is_some (keyspace_at id s.living) ≡ true → is_some (tree_at id trees) ≡ true
+tree_there s trees planted id lives =
+    let there = some_there (keyspace_at id s.living) lives in
+    let k = there.0 in
+    subst (λ i. is_some (tree_at i trees) ≡ true) (same_id k.id id (found_passes (λ j. j.id == id) s.living k there.1)) (found_has (λ j. j.id == id) (λ j. is_some (tree_at j.id trees) ≡ true) s.living k there.1 planted)
+
+-- a batch of these items may be pushed under the next number
+pub may_push : (items : List BatchItem) (m : Remembered) → IsLawful m → m.next < 2 ^ 63 → items_refusal items ≡ None → MayPush m.next items m.trees
+may_push items m is small fits = record { forest = is.forest; before = is.below; small = small; fits = fits }
+
+pub items_are_lawful : (items : List BatchItem) (m : Remembered) → IsLawful m → m.next < 2 ^ 63 → items_refusal items ≡ None → IsLawful (with_change (Items items) m)
+items_are_lawful items m is small fits =
+    let may = may_push items m is small fits in
+    record {
+      keyspaces = is.keyspaces;
+      made = later m is;
+      forest = pushed_forest m.next items m.trees may;
+      planted = All-weaker (λ k. is_some (tree_at k.id m.trees) ≡ true) (λ k. is_some (tree_at k.id (pushed m.next items m.trees)) ≡ true) (λ k h. pushed_has m.next items m.trees k.id ∙ h) m.keyspaces.living is.planted;
+      given = pushed_ids (λ id. id < m.keyspaces.next) m.next items m.trees is.given;
+      below = pushed_before m.next items m.trees may;
+      bare = pushed_bare m.next items m.trees is.bare;
+      small = omega (arith, small);
+      reached = reached_later m is;
+      spared = spared_later m is;
+    }
+
+pub clear_is_lawful : (id : ℕ) (m : Remembered) → IsLawful m → m.next < 2 ^ 63 → IsLawful (with_change (Emptied id) m)
+clear_is_lawful id m is small = record {
   keyspaces = is.keyspaces;
   made = later m is;
-  given = All-append (λ (v : Version). v.keyspace_id < m.keyspaces.next) m.versions (map (version_made m.next) items) is.given (made_given items m.next m.keyspaces m.versions is.keyspaces living);
-  below = All-append (λ (v : Version). v.seqno < m.next + 1) m.versions (map (version_made m.next) items) (below_later m is) (made_late items m.next);
+  forest = emptied_forest m.next id m.trees is.forest is.below small;
+  planted =
+      All-weaker (λ k. is_some (tree_at k.id m.trees) ≡ true) (λ k. is_some (tree_at k.id (altered_at id (emptied m.next) m.trees)) ≡ true) (λ k h. emptied_has m.next id k.id m.trees ∙ h)
+      m.keyspaces.living is.planted;
+  given = emptied_ids (λ other. other < m.keyspaces.next) m.next id m.trees is.given;
+  below = emptied_before m.next id m.trees is.below;
+  bare = emptied_bare m.next id m.trees is.bare;
+  small = omega (arith, small);
   reached = reached_later m is;
   spared = spared_later m is;
 }
 
-pub made_is_lawful : (name : Bytes) (options : List Bytes) (m : Remembered) → IsLawful m → AreKeyspaces (with_creation name options m).keyspaces → IsLawful (with_creation name options m)
-made_is_lawful name options m is are =
+pub change_is_lawful : (change : Change) (m : Remembered) → IsLawful m → m.next < 2 ^ 63 → FitsBatch change → IsLawful (with_change change m)
+change_is_lawful (Items items) m is small fits = items_are_lawful items m is small fits
+change_is_lawful (Emptied id) m is small fits = clear_is_lawful id m is small
+
+pub made_is_lawful : (name : Bytes) (options : List Bytes) (m : Remembered) → IsLawful m → m.next < 2 ^ 63 → AreKeyspaces (with_creation name options m).keyspaces → IsLawful (with_creation name options m)
+made_is_lawful name options m is small are =
     let k : LivingKeyspace = record { id = m.keyspaces.next; number = m.next; name = name; options = options } in
+    let id = m.keyspaces.next in
+    let new = with_tree id m.next m.trees in
     record {
       keyspaces = are;
       made = All-push (λ j. j.number < m.next + 1) m.keyspaces.living k (later m is) (omega arith);
-      given = All-weaker (λ v. v.keyspace_id < m.keyspaces.next) (λ v. v.keyspace_id < m.keyspaces.next + 1) (λ v h. omega arith) m.versions is.given;
-      below = below_later m is;
+      forest = planted_forest id m.next m.trees is.forest is.given is.small;
+      planted =
+          All-push (λ j. is_some (tree_at j.id new) ≡ true) m.keyspaces.living k
+          (All-weaker (λ j. is_some (tree_at j.id m.trees) ≡ true) (λ j. is_some (tree_at j.id new) ≡ true) (λ j h. planted_has id m.next m.trees j.id h) m.keyspaces.living is.planted) (planted_here id m.next m.trees is.given);
+      given =
+          All-push (λ (j : Planted). j.id < m.keyspaces.next + 1) m.trees (record { id = id; shape = bare_tree m.next })
+          (All-weaker (λ (j : Planted). j.id < m.keyspaces.next) (λ j. j.id < m.keyspaces.next + 1) (λ j h. omega arith) m.trees is.given) (omega arith);
+      below = planted_before (m.next + 1) id m.next m.trees (below_later m is) (omega arith);
+      bare = planted_bare id m.next m.trees is.bare;
+      small = omega (arith, small);
       reached = reached_later m is;
       spared = spared_later m is;
     }
@@ -83,18 +157,22 @@ made_is_lawful name options m is are =
 not_last : (n : ℕ) → n < 2 ^ 64 → n ≢ 2 ^ 64 - 1 → n + 1 < 2 ^ 64
 not_last n fits other = grind (arith, nat_tests, fits, other)
 
-pub creation_is_lawful : (name : Bytes) (options : List Bytes) (m : Remembered) → IsLawful m → is_name name ≡ true → id_of name m.keyspaces.living ≡ None → AreOptions options → m.keyspaces.next ≢ 2 ^ 64 - 1 → IsLawful (with_creation name options m)
-creation_is_lawful name options m is named fresh are free =
+pub creation_is_lawful : (name : Bytes) (options : List Bytes) (m : Remembered) → IsLawful m → is_name name ≡ true → id_of name m.keyspaces.living ≡ None → AreOptions options → m.keyspaces.next ≢ 2 ^ 64 - 1 → m.next < 2 ^ 63 → IsLawful (with_creation name options m)
+creation_is_lawful name options m is named fresh are free small =
     let k : LivingKeyspace = record { id = m.keyspaces.next; number = m.next; name = name; options = options } in
     let fits : m.keyspaces.next < 2 ^ 64 = is.keyspaces.fits in
-    made_is_lawful name options m is (one_more_are m.keyspaces.living k is.keyspaces (not_last m.keyspaces.next fits free) named (none_named name m.keyspaces.living fresh) are)
+    made_is_lawful name options m is small (one_more_are m.keyspaces.living k is.keyspaces (not_last m.keyspaces.next fits free) named (none_named name m.keyspaces.living fresh) are)
 
-pub deletion_is_lawful : (id : ℕ) (m : Remembered) → IsLawful m → IsLawful (with_deletion id m)
-deletion_is_lawful id m is = record {
+pub deletion_is_lawful : (id : ℕ) (m : Remembered) → IsLawful m → m.next < 2 ^ 63 → IsLawful (with_deletion id m)
+deletion_is_lawful id m is small = record {
   keyspaces = some_are m.keyspaces.living m.keyspaces.next (λ k. not (k.id == id)) is.keyspaces;
   made = All-filter (λ k. not (k.id == id)) (λ k. k.number < m.next + 1) m.keyspaces.living (later m is);
+  forest = is.forest;
+  planted = All-filter (λ k. not (k.id == id)) (λ k. is_some (tree_at k.id m.trees) ≡ true) m.keyspaces.living is.planted;
   given = is.given;
   below = below_later m is;
+  bare = is.bare;
+  small = omega (arith, small);
   reached = reached_later m is;
   spared = spared_later m is;
 }
@@ -105,26 +183,57 @@ retained_is_lawful id m is = alike m (retained id m) is refl refl refl refl
 pub poisoned_is_lawful : (m : Remembered) → IsLawful m → IsLawful (poisoned m)
 poisoned_is_lawful m is = alike m (poisoned m) is refl refl refl refl
 
-pub let_go_is_lawful : (id : ℕ) (m : Remembered) → IsLawful m → IsLawful (let_go id m)
-let_go_is_lawful id m is = record {
+-- where no keyspace of an id lives, each that lives has another id
+others_live : (living : List LivingKeyspace) (id : ℕ) → keyspace_at id living ≡ None → All (λ k. k.id ≢ id) living
+others_live [] id none = All-nil (λ (k : LivingKeyspace). k.id ≢ id)
+others_live (k ∷ living) id none = either (k.id == id) refl none (others_live living id)
+  where
+    either : (b : Bool) → (k.id == id) ≡ b → cond b (Some k) (keyspace_at id living) ≡ None → (keyspace_at id living ≡ None → All (λ j. j.id ≢ id) living) → All (λ j. j.id ≢ id) (k ∷ living)
+    either true same e rest = absurd (none-some k (sym e))
+    either false other e rest = All-cons (λ j. j.id ≢ id) k living (λ same. true≢false (sym (itself id) ∙ ap (λ i. i == id) (sym same) ∙ other)) (rest e)
+
+-- a deleted keyspace is found no more
+pub gone_is_none : (m : Remembered) (id : ℕ) → is_living (store_of m.keyspaces m.trees) id ≡ false → keyspace_at id m.keyspaces.living ≡ None
+gone_is_none m id gone = nothing (keyspace_at id m.keyspaces.living) (sym (living_names m.keyspaces m.trees id) ∙ gone)
+  where
+    nothing : (found : Option LivingKeyspace) → is_some found ≡ false → found ≡ None
+    nothing None e = refl
+    nothing (Some k) e = absurd (true≢false e)
+
+pub let_go_is_lawful : (id : ℕ) (m : Remembered) → IsLawful m → is_living (store_of m.keyspaces m.trees) id ≡ false → IsLawful (let_go id m)
+let_go_is_lawful id m is gone = record {
   keyspaces = is.keyspaces;
   made = is.made;
-  given = All-filter (λ (v : Version). not (v.keyspace_id == id)) (λ v. v.keyspace_id < m.keyspaces.next) m.versions is.given;
-  below = All-filter (λ (v : Version). not (v.keyspace_id == id)) (λ v. v.seqno < m.next) m.versions is.below;
+  forest = dropped_forest id m.trees is.forest;
+  planted =
+      both_all (λ k. is_some (tree_at k.id m.trees) ≡ true) (λ k. k.id ≢ id) (λ k. is_some (tree_at k.id (forests.without id m.trees)) ≡ true) (λ k there other. ap is_some (dropped_has id k.id m.trees other) ∙ there)
+      m.keyspaces.living is.planted (others_live m.keyspaces.living id (gone_is_none m id gone));
+  given = dropped_each (λ k. k.id < m.keyspaces.next) id m.trees is.given;
+  below = dropped_each (λ k. k.shape.memory.active.until ≤ m.next) id m.trees is.below;
+  bare = dropped_each (λ k. k.shape.tables ≡ []) id m.trees is.bare;
+  small = is.small;
   reached = is.reached;
   spared = is.spared;
 }
 
--- one handle less is counted, and what is held is dropped where that was the last one
+-- a keyspace whose last handle is counted is deleted
+pub last_gone : (m : Remembered) (id : ℕ) → is_last m id ≡ true → is_living (store_of m.keyspaces m.trees) id ≡ false
+last_gone m id = first (is_living (store_of m.keyspaces m.trees) id) (handles_of m.handles id == 1)
+  where
+    first : (lives one : Bool) → (not lives && one) ≡ true → lives ≡ false
+    first true one e = absurd (true≢false (sym e))
+    first false one e = refl
+
+-- one handle less is counted, and the tree is dropped where that was the last one
 abbrev pub after_release : Remembered → ℕ → Bool → Remembered
-after_release m id last = record m { handles = one_less m.handles id; lasting = if last then without m.lasting id else m.lasting; versions = if last then versions_without id m.versions else m.versions }
+after_release m id last = record m { handles = one_less m.handles id; lasting = if last then without m.lasting id else m.lasting; trees = if last then forests.without id m.trees else m.trees }
 
 pub released_is_lawful : (id : ℕ) (m : Remembered) → IsLawful m → IsLawful (released id m)
-released_is_lawful id m is = either (is_last m id)
+released_is_lawful id m is = either (is_last m id) (λ e. last_gone m id e)
   where
-    either : (last : Bool) → IsLawful (after_release m id last)
-    either true = alike (let_go id m) (after_release m id true) (let_go_is_lawful id m is) refl refl refl refl
-    either false = alike m (after_release m id false) is refl refl refl refl
+    either : (last : Bool) → (last ≡ true → is_living (store_of m.keyspaces m.trees) id ≡ false) → IsLawful (after_release m id last)
+    either true gone = alike (let_go id m) (after_release m id true) (let_go_is_lawful id m is (gone refl)) refl refl refl refl
+    either false gone = alike m (after_release m id false) is refl refl refl refl
 
 -- ---- tickets
 
@@ -138,8 +247,12 @@ pub tickets_are_lawful : (m : Remembered) (tickets : Tickets) → IsLawful m →
 tickets_are_lawful m tickets is times = record {
   keyspaces = is.keyspaces;
   made = is.made;
+  forest = is.forest;
+  planted = is.planted;
   given = is.given;
   below = is.below;
+  bare = is.bare;
+  small = is.small;
   reached = times.reached;
   spared = times.spared;
 }
@@ -190,6 +303,26 @@ module _ (m : Remembered) (is : IsLawful m) where
       counting : (b : Bool) → IsTime m (if b then collected m.next (record m.tickets { instants = remove m.tickets.instants id; closings = 0 }) else record m.tickets { instants = remove m.tickets.instants id; closings = m.tickets.closings + 1 })
       counting true = time_collected_of (record m.tickets { instants = remove m.tickets.instants id; closings = 0 }) (gone 0)
       counting false = gone (m.tickets.closings + 1)
+
+-- ---- a rotation
+
+pub rotated_is_lawful : (id : ℕ) (m : Remembered) → IsLawful m → IsLawful (rotated id m)
+rotated_is_lawful id m is =
+    let times = time_collected m is in
+    record {
+      keyspaces = is.keyspaces;
+      made = is.made;
+      forest = rotated_forest id m.trees is.forest;
+      planted =
+          All-weaker (λ k. is_some (tree_at k.id m.trees) ≡ true) (λ k. is_some (tree_at k.id (altered_at id sealed_off m.trees)) ≡ true) (λ k h. rotated_has id k.id m.trees ∙ h)
+          m.keyspaces.living is.planted;
+      given = changed_has (λ k. k.id < m.keyspaces.next) (λ k shape. cond (k == id) (sealed_off shape) shape) m.trees is.given;
+      below = rotated_before m.next id m.trees is.below;
+      bare = rotated_bare id m.trees is.bare;
+      small = is.small;
+      reached = times.reached;
+      spared = times.spared;
+    }
 
 -- ---- tickets as calls leave them
 

@@ -1,4 +1,7 @@
 pub mod Counting
+pub mod Taking
+pub mod Showing
+pub mod Writing
 pub mod Facts
 pub mod Viewing
 pub mod Lawful
@@ -7,3 +10,4 @@ pub mod Dues
 pub mod Refusing
 pub mod Moving
 pub mod ByHand
+pub mod Sizes

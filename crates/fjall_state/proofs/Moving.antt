@@ -5,7 +5,7 @@ use Rattle.fjall_base.specs.Pairs.{Bytes}
 use Rattle.fjall_base.specs.Store.{Create, Delete}
 use Rattle.fjall_base.specs.declared.error.Error.{Error}
 use Rattle.fjall_base.specs.declared.error.Error.TheVariants.{Io, OutOfMemory, SnapshotClosed, ValueTooLong}
-use Rattle.fjall_journal.specs.Ops.{write_of}
+use Rattle.fjall_journal.specs.Changes.{Emptied, Items, command_of}
 use Rattle.fjall_versions.specs.Replays.{option_pairs}
 use Rattle.fjall_history.specs.declared.reply.Reply.{Reply}
 use Rattle.fjall_history.specs.declared.reply.Reply.TheVariants.{Refused}
@@ -13,8 +13,8 @@ use Rattle.fjall_history.specs.Histories.{number, plain}
 use Rattle.fjall_history.specs.Moves.{Accepts, Closes, Collects, Moves, MovesOn, NoMove, OneMove, Opens, Rests}
 use Rattle.fjall_history.specs.Tickets.{Tickets, closing_refusal, is_open}
 use Rattle.fjall_state.specs.declared.call.Call.{Call}
-use Rattle.fjall_state.specs.Shapes.{Clone, Close, Collect, OfChange, OfCount, OfCreation, OfDeletion, OfHandle, OfPersist, OfRead, OfTickets, OneLess, OneMore, Open, Shape, TicketCall, shape_of}
-use Rattle.fjall_state.specs.Machine.{Answers, CreatesOrFinds, MayFail, Refuses, Run, State, Step, StepOf, TurnsTickets, deleted, due, is_living, present, ticket_refusal, times}
+use Rattle.fjall_state.specs.Shapes.{Clone, Close, Collect, OfChange, OfCount, OfCreation, OfDeletion, OfHandle, OfPersist, OfRead, OfRotation, OfTickets, OneLess, OneMore, Open, Shape, TicketCall, shape_of}
+use Rattle.fjall_state.specs.Machine.{Answers, CreatesOrFinds, MayFail, Refuses, Run, State, Step, StepOf, TurnsTickets, deleted, due, is_living, present, rotated, rotates, ticket_refusal, times}
 
 still : (s t : State) → times t ≡ times s → Moves (times s) (times t)
 still s t same = Rests same
@@ -23,7 +23,7 @@ as_it_was : (s t : State) → t ≡ s → Moves (times s) (times t)
 as_it_was s t same = Rests (ap times same)
 
 failure_moves : (s t : State) (shape : Shape) (error : Error) → MayFail shape error s t → Moves (times s) (times t)
-failure_moves s t shape (Io kind) (changes, fault) = still s t (ap times fault)
+failure_moves s t shape (Io kind) (changes, (fault, trees, sealed)) = still s t (ap times fault)
 failure_moves s t shape OutOfMemory (takes, same) = as_it_was s t same
 failure_moves s t shape ValueTooLong (long, same) = as_it_was s t same
 failure_moves s t shape error none = absurd none
@@ -40,6 +40,10 @@ deleted_moves : (s t : State) (id : ℕ) (living : Bool) → t ≡ (if living th
 deleted_moves s t id true is = Accepts (plain (Delete id)) (ap times is)
 deleted_moves s t id false is = as_it_was s t is
 
+rotated_moves : (s t : State) (id : ℕ) (seals : Bool) → t ≡ (if seals then rotated s id else s) → Moves (times s) (times t)
+rotated_moves s t id true is = Collects (ap times is)
+rotated_moves s t id false is = as_it_was s t is
+
 -- a ticket whose closing nothing refuses is open
 pub open_there : (t : Tickets) (id : ℕ) → closing_refusal id t ≡ None → is_open t id ≡ true
 open_there t id none = either (is_open t id) none
@@ -55,12 +59,14 @@ tickets_move s t (Close id) reply none (told, is) same = Closes id (open_there s
 tickets_move s t Collect reply none (told, is) same = Collects (ap times same ∙ ap (λ (k : Tickets). record (times s) { tickets = k }) is)
 
 answer_moves : (s t : State) (shape : Shape) (reply : Reply) → due s shape ≡ None → Answers s shape reply t → Moves (times s) (times t)
-answer_moves s t (OfChange [] how) reply none (told, is) = as_it_was s t is
-answer_moves s t (OfChange (item ∷ items) how) reply none (told, is) = Accepts (plain (write_of (item ∷ items))) (ap times is)
+answer_moves s t (OfChange (Items []) how) reply none (told, is) = as_it_was s t is
+answer_moves s t (OfChange (Items (item ∷ items)) how) reply none (told, is) = Accepts (plain (command_of (Items (item ∷ items)))) (ap times is)
+answer_moves s t (OfChange (Emptied id) how) reply none (told, is) = Accepts (plain (command_of (Emptied id))) (ap times is)
 answer_moves s t (OfCreation name options) reply none (id, told, makes) = created_moves s t name options id makes
 answer_moves s t (OfDeletion id) reply none (told, is) = deleted_moves s t id (is_living (present s) id) is
 answer_moves s t (OfHandle OneMore id) reply none (told, is) = still s t (ap times is)
 answer_moves s t (OfHandle OneLess id) reply none (told, is) = still s t (ap times is)
+answer_moves s t (OfRotation id) reply none (told, is) = rotated_moves s t id (rotates s.parts.trees id) is
 answer_moves s t (OfRead view id query) reply none (told, same) = as_it_was s t same
 answer_moves s t (OfTickets call) reply none (turns, same) = tickets_move s t call reply none turns same
 answer_moves s t (OfPersist mode) reply none (told, is) = still s t (ap times is)

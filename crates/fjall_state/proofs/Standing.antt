@@ -1,55 +1,63 @@
 -- What calls make of what is held stands for what they make of states.
 use Rattle.std.proofs.Common.{◌≡◌, ◌≢◌, ◌⊎◌, ⊎_elim, inl, inr, ℕ, ◌+◌, ◌-◌, ◌<◌, ◌≤◌, ◌^◌, ◌==◌, ◌||◌, ◌&&◌, ◌↔◌, not, nat_le, Bool, true, false, cond, if◌then◌else◌, List, [], ◌∷◌, ◌++◌, length, map, All, Option, None, Some, unwrap_or, refl, sym, ap, subst, ◌∙◌, arith}
 use Rattle.std.proofs.lemmas.Bool.{true≢false, false_from_ne_true}
-use Rattle.std.proofs.lemmas.Bool.Decides.{nat_tests}
-use Rattle.std.proofs.lemmas.List.Elements.{All-cons, All-filter, All-nil, All-weaker}
+use Rattle.std.proofs.lemmas.List.Elements.{All-weaker}
 use Rattle.std.proofs.lemmas.Option.{none-some}
 use Rattle.std.specs.FinMap.{FinMap, contains_key, empty, get, get-empty, insert, len, values}
 use Rattle.std.specs.Ordering.{nat_cmp}
-use Rattle.std.specs.Option.{is_some}
+use Rattle.std.specs.Option.{is_some, option_map}
 use Rattle.fjall_base.specs.Pairs.{Bytes, Pairs}
 use Rattle.fjall_base.specs.Store.{Command, Create, Delete, Store, apply, kept, map_at}
 use Rattle.fjall_base.specs.declared.error.Error.{Error}
 use Rattle.fjall_base.specs.declared.error.Error.TheVariants.{KeyspaceDeleted, SnapshotClosed, Storage, UnknownKeyspace}
 use Rattle.fjall_base.specs.declared.error.StorageError.TheVariants.{TableDamaged}
+use Rattle.fjall_journal.specs.Changes.{Change, Emptied, Items, command_of}
 use Rattle.fjall_journal.specs.Ops.{BatchItem, write_of}
 use Rattle.fjall_meta.specs.declared.living.LivingKeyspace.{LivingKeyspace}
-use Rattle.fjall_meta.specs.Keyspaces.{Keyspaces, id_of, is_name, keyspace_at}
+use Rattle.fjall_meta.specs.Keyspaces.{id_of, is_name, keyspace_at}
 use Rattle.fjall_options.specs.Options.{AreOptions}
-use Rattle.fjall_versions.specs.declared.version.Version.{Version}
-use Rattle.fjall_versions.specs.Replays.{bare, option_pairs}
-use Rattle.fjall_versions.specs.Versions.{before, pairs_in, store_of, version_made}
-use Rattle.fjall_versions.proofs.Creating.{creation_of_versions}
-use Rattle.fjall_versions.proofs.Keeping.{deletion_of_versions}
-use Rattle.fjall_versions.proofs.Kept.{kept_along, same_kept}
-use Rattle.fjall_versions.proofs.Living.{found_other, found_without}
-use Rattle.fjall_versions.proofs.Naming.{living_names, names_answer, rest_is_bare}
-use Rattle.fjall_versions.proofs.Newest.{a_keyspace_reads}
-use Rattle.fjall_versions.proofs.Seen.{all_seen, later_unseen, no_pair, others_pairs}
-use Rattle.fjall_versions.proofs.Writes.{items_map, items_store}
-use Rattle.fjall_versions.proofs.Slots.{get_put, same_id, slot-filter, slot_after, slot_at}
+use Rattle.fjall_versions.specs.Replays.{option_pairs}
+use Rattle.fjall_versions.proofs.Kept.{kept_along}
+use Rattle.fjall_versions.proofs.Living.{found_other, found_without, none_found}
+use Rattle.fjall_versions.proofs.Naming.{names_answer}
+use Rattle.fjall_versions.proofs.Slots.{get_put, same_id}
+use Rattle.fjall_trees.specs.Forests.{Forest, Planted}
+use Rattle.fjall_trees.specs.Forests as forests
+use Rattle.fjall_trees.specs.Writes.{MayPush, with_tree}
+use Rattle.fjall_lsm.specs.Trees.{sealed_off}
+use Rattle.fjall_maps.specs.Maps.{pairs_in, store_of}
 use Rattle.fjall_history.specs.declared.ticket.View.{View}
 use Rattle.fjall_history.specs.declared.ticket.View.TheVariants.{Present, At}
 use Rattle.fjall_history.specs.Histories.{grown, latest, number, plain, view}
 use Rattle.fjall_history.specs.Tickets.{Tickets, closed, collected, is_open, no_tickets, opened}
-use Rattle.fjall_state.specs.Shapes.{OfChange, OfCount, OfCreation, OfDeletion, OfHandle, OfPersist, OfRead, OfTickets, OneLess, OneMore, Persistence, Shape}
+use Rattle.fjall_state.specs.Shapes.{OfChange, OfCount, OfCreation, OfDeletion, OfHandle, OfPersist, OfRead, OfRotation, OfTickets, OneLess, OneMore, Persistence, Shape}
+use Rattle.fjall_state.specs.Allowed.{FitsBatch, IsOfLiving}
 use Rattle.fjall_state.specs.Machine as machine
-use Rattle.fjall_state.specs.Machine.{Facts, IsPoisoned, Parts, State, accepted, created, deleted, due, due_in, facts, first_due, handles_of, has_name, instant_of, is_among, is_deleted, is_living, is_read, is_unknown, maps_in, one_less, one_more, opened_state, present, read_refusals, view_refusals, without}
-use Rattle.fjall_state.specs.Remembered.{IsLawful, IsReadAt, Remembered, StandsFor, facts_of, is_held, is_last, poisoned, released, retained, versions_in, versions_without, with_creation, with_deletion, with_items, with_tickets}
-use Rattle.fjall_state.proofs.Facts.{counted_is, named_is, names_are, none_named}
-use Rattle.fjall_state.proofs.Lawful.{after_release, creation_is_lawful, deletion_is_lawful, items_are_lawful, poisoned_is_lawful, released_is_lawful, retained_is_lawful, tickets_are_lawful, IsTime, time_closed, time_collected, time_opened}
+use Rattle.fjall_state.specs.Machine.{Facts, IsPoisoned, Parts, State, accepted, changed, created, deleted, due, due_in, facts, first_due, handles_of, has_name, instant_of, is_among, is_deleted, is_living, is_read, is_unknown, maps_in, one_less, one_more, opened_state, present, read_refusals, rotates, view_refusals, without}
+use Rattle.fjall_state.specs.Remembered.{IsLawful, IsReadAt, Remembered, StandsFor, facts_of, instant_in, is_held, is_last, poisoned, released, retained, rotated, with_change, with_creation, with_deletion, with_tickets}
+use Rattle.fjall_state.proofs.Facts.{counted_is, living_names, named_is, names_are, none_named, some_there}
+use Rattle.fjall_state.proofs.Lawful.{after_release, change_is_lawful, creation_is_lawful, deletion_is_lawful, gone_is_none, itself, last_gone, may_push, poisoned_is_lawful, released_is_lawful, retained_is_lawful, rotated_is_lawful, tickets_are_lawful, IsTime, time_closed, time_collected, time_opened, tree_there}
+use Rattle.fjall_maps.proofs.Reading.{a_keyspace_reads, pairs_above, read_nothing, store_is_kept}
+use Rattle.fjall_maps.proofs.Emptied.{emptied_early, emptied_late, emptied_store}
+use Rattle.fjall_maps.proofs.Pushed.{pushed_early, pushed_late, pushed_store}
+use Rattle.fjall_maps.proofs.Planted.{creation_of_trees, deletion_of_trees, no_tree, planted_pairs}
+use Rattle.fjall_maps.proofs.Dropped.{dropped_each, dropped_pairs, dropped_store}
+use Rattle.fjall_maps.proofs.Rotated.{rotated_pairs, rotated_store}
+use Rattle.fjall_maps.proofs.Stores.{held_at}
 use Rattle.fjall_state.proofs.Viewing.{GoesOn, among-append, among_without, Ways, held_by, it_lasts, it_lives, it_waits, latest_grown, number_grown, present_map, view_latest, views_go_on, ways}
 
 -- ---- what refusals look at
 
 -- they look at nothing that isn't kept
 kept_due : (f : Facts) (shape : Shape) → due_in f shape ≡ due_in (record f { store = kept f.store }) shape
-kept_due f (OfChange [] how) = refl
-kept_due f (OfChange (item ∷ items) how) = refl
+kept_due f (OfChange (Items []) how) = refl
+kept_due f (OfChange (Items (item ∷ items)) how) = refl
+kept_due f (OfChange (Emptied id) how) = refl
 kept_due f (OfCreation name options) = refl
 kept_due f (OfDeletion id) = refl
 kept_due f (OfHandle OneMore id) = refl
 kept_due f (OfHandle OneLess id) = refl
+kept_due f (OfRotation id) = refl
 kept_due f (OfRead Present id query) = refl
 kept_due f (OfRead (At ticket) id query) = refl
 kept_due f (OfTickets call) = refl
@@ -62,69 +70,134 @@ facts_agree m table s stands shape =
     ∙ (λ i. due_in (record { store = stands.present i; next = stands.number i; poisoned = stands.poisoned i; lasting = stands.lasting i; damaged = stands.damaged i; handles = stands.handles i; tickets = stands.tickets i; table = stands.next_table i }) shape)
     ∙ sym (kept_due (facts_of m table) shape)
 
-same_names : (m : Remembered) (table : ℕ) (s : State) → StandsFor m table s → (present s).names ≡ (store_of m.keyspaces m.versions).names
+same_names : (m : Remembered) (table : ℕ) (s : State) → StandsFor m table s → (present s).names ≡ (store_of m.keyspaces m.trees).names
 same_names m table s stands = ap (λ (t : Store). t.names) stands.present
 
 -- ---- one command more
 
-kept_after : (m : Remembered) (table : ℕ) (s : State) → StandsFor m table s → (c : Command) → kept (latest (grown s.history (plain c))) ≡ kept (apply (store_of m.keyspaces m.versions) c)
-kept_after m table s stands c = ap kept (latest_grown s.history (plain c)) ∙ kept_along (present s) (store_of m.keyspaces m.versions) (c ∷ []) stands.present
+kept_after : (m : Remembered) (table : ℕ) (s : State) → StandsFor m table s → (c : Command) → kept (latest (grown s.history (plain c))) ≡ kept (apply (store_of m.keyspaces m.trees) c)
+kept_after m table s stands c = ap kept (latest_grown s.history (plain c)) ∙ kept_along (present s) (store_of m.keyspaces m.trees) (c ∷ []) stands.present
 
 one_number_more : (m : Remembered) (table : ℕ) (s : State) → StandsFor m table s → (c : Command) → number (grown s.history (plain c)) ≡ m.next + 1
 one_number_more m table s stands c = number_grown s.history (plain c) ∙ ap (λ n. n + 1) stands.number
 
 -- ---- a change
 
-made_below : (items : List BatchItem) (n : ℕ) → All (λ v. n ≤ v.seqno) (map (version_made n) items)
-made_below [] n = All-nil (λ (v : Version). n ≤ v.seqno)
-made_below (item ∷ items) n = All-cons (λ (v : Version). n ≤ v.seqno) (version_made n item) (map (version_made n) items) (omega arith) (made_below items n)
+-- what is above the last number shows what stands below it
+still_shown : (m : Remembered) → IsLawful m → (id : ℕ) → pairs_in id m.next m.trees ≡ pairs_in id (m.next + 1) m.trees
+still_shown m is id = sym (pairs_above m.next m.trees is.forest is.below id (m.next + 1) (omega arith))
 
-changed_goes_on : (m : Remembered) (table : ℕ) (s : State) (stands : StandsFor m table s) (items : List BatchItem) → IsLawful (with_items items m) → GoesOn m (with_items items m) table s stands (write_of items)
-changed_goes_on m table s stands items is = record {
-  next = refl;
-  tickets = refl;
-  held = λ id held. held;
-  early = λ instant id le held. ap (pairs_in id) (later_unseen m.versions (map (version_made m.next) items) instant (All-weaker (λ (v : Version). m.next ≤ v.seqno) (λ v. instant ≤ v.seqno) (λ v h. omega arith) (map (version_made m.next) items) (made_below items m.next)));
-  late = λ id held. items_map (present s) m.versions items m.next id (present_map m table s stands id held);
-  below = is.below;
+-- a keyspace whose id was not given out yet has nothing
+waits_empty : (m : Remembered) (trees : Forest) → All (λ k. k.id < m.keyspaces.next) trees → (id instant : ℕ) → m.keyspaces.next ≤ id → pairs_in id instant trees ≡ empty
+waits_empty m trees given id instant le = read_nothing id instant trees (no_tree id trees (All-weaker (λ (k : Planted). k.id < m.keyspaces.next) (λ k. k.id < id) (λ k h. omega (arith, h, le)) trees given))
+
+-- a change that what is held goes on by is one of the state
+after_change : (m : Remembered) (table : ℕ) (s : State) (stands : StandsFor m table s) (change : Change) → GoesOn m (with_change change m) table s stands (command_of change)
+    → kept (apply (store_of m.keyspaces m.trees) (command_of change)) ≡ store_of m.keyspaces (changed m.next change m.trees) → IsLawful (with_change change m)
+    → (parts : Parts) → parts.table ≡ s.parts.table → parts.trees ≡ changed (number s.history) change s.parts.trees → parts.sealed ≡ s.parts.sealed
+    → StandsFor (with_change change m) table (record s { history = grown s.history (plain (command_of change)); parts = parts })
+after_change m table s stands change on store is parts same trees sealed = record {
+  present = kept_after m table s stands (command_of change) ∙ store ∙ sym (store_is_kept m.keyspaces (changed m.next change m.trees));
+  views = views_go_on m (with_change change m) table s stands (command_of change) on;
+  number = one_number_more m table s stands (command_of change);
+  poisoned = stands.poisoned;
+  handles = stands.handles;
+  lasting = stands.lasting;
+  damaged = stands.damaged;
+  tickets = stands.tickets;
+  jobs = stands.jobs;
+  next_job = stands.next_job;
+  next_table = same ∙ stands.next_table;
+  trees = trees ∙ (λ i. changed (stands.number i) change (stands.trees i));
+  sealed = sealed ∙ stands.sealed;
+  lawful = is;
 }
 
-pub changed_stands : (m : Remembered) (table : ℕ) (s : State) → StandsFor m table s → (items : List BatchItem) (parts : Parts) → parts.table ≡ s.parts.table → All (λ item. is_living (store_of m.keyspaces m.versions) item.0 ≡ true) items
-    → StandsFor (with_items items m) table (record s { history = grown s.history (plain (write_of items)); parts = parts })
-changed_stands m table s stands items parts same living =
-    let is = items_are_lawful items m stands.lawful living in
+module _ (m : Remembered) (table : ℕ) (s : State) (stands : StandsFor m table s) (items : List BatchItem) (living : All (λ item. is_living (store_of m.keyspaces m.trees) item.0 ≡ true) items) (may : MayPush m.next items m.trees) where
+  pub living_items : All (λ item. is_some (keyspace_at item.0 m.keyspaces.living) ≡ true) items
+  living_items =
+      All-weaker (λ (item : BatchItem). is_living (store_of m.keyspaces m.trees) item.0 ≡ true) (λ item. is_some (keyspace_at item.0 m.keyspaces.living) ≡ true)
+      (λ item h. sym (living_names m.keyspaces m.trees item.0) ∙ h) items living
+
+  planted_items : All (λ item. is_some (forests.tree_at item.0 m.trees) ≡ true) items
+  planted_items =
+      All-weaker (λ (item : BatchItem). is_some (keyspace_at item.0 m.keyspaces.living) ≡ true) (λ item. is_some (forests.tree_at item.0 m.trees) ≡ true)
+      (λ item h. tree_there m.keyspaces m.trees stands.lawful.planted item.0 h) items living_items
+
+  pub items_go_on : GoesOn m (with_change (Items items) m) table s stands (write_of items)
+  items_go_on = record {
+    next = refl;
+    tickets = refl;
+    held = λ id held. held;
+    early = λ instant id le held. pushed_early m.next items m.trees may id instant le;
+    late = λ id held. pushed_late m.next items m.trees may planted_items (present s) id (present_map m table s stands id held);
+  }
+
+clear_goes_on : (m : Remembered) (table : ℕ) (s : State) (stands : StandsFor m table s) (id : ℕ) → GoesOn m (with_change (Emptied id) m) table s stands (command_of (Emptied id))
+clear_goes_on m table s stands id =
+    let is = stands.lawful in
     record {
-      present = kept_after m table s stands (write_of items) ∙ ap kept (sym (items_store m.keyspaces m.versions items m.next));
-      views = views_go_on m (with_items items m) table s stands (write_of items) (changed_goes_on m table s stands items is);
-      number = one_number_more m table s stands (write_of items);
-      poisoned = stands.poisoned;
-      handles = stands.handles;
-      lasting = stands.lasting;
-      damaged = stands.damaged;
-      tickets = stands.tickets;
-      jobs = stands.jobs;
-      next_job = stands.next_job;
-      next_table = same ∙ stands.next_table;
-      lawful = is;
+      next = refl;
+      tickets = refl;
+      held = λ other held. held;
+      early = λ instant other le held. emptied_early m.next id m.trees is.forest is.below other instant le;
+      late = λ other held. emptied_late m.next id m.trees is.forest is.below (present s) other (present_map m table s stands other held);
     }
 
-pub a_change_stands : (m : Remembered) (table : ℕ) (s : State) → StandsFor m table s → (items : List BatchItem) (how : Persistence) → items ≢ [] → All (λ item. is_living (store_of m.keyspaces m.versions) item.0 ≡ true) items
-    → StandsFor (with_items items m) table (accepted s items how)
-a_change_stands m table s stands [] how some living = absurd (some refl)
-a_change_stands m table s stands (item ∷ items) how some living = changed_stands m table s stands (item ∷ items) (accepted s (item ∷ items) how).parts refl living
+-- what a change makes of a state stands for what it makes of what is held
+change_made : (m : Remembered) (table : ℕ) (s : State) → StandsFor m table s → (change : Change) (how : Persistence) → IsOfLiving (store_of m.keyspaces m.trees) change → FitsBatch change → m.next < 2 ^ 63
+    → StandsFor (with_change change m) table (machine.made s change how)
+change_made m table s stands (Items items) how living fits small =
+    let may = may_push items m stands.lawful small fits in
+    let store = pushed_store m.next items m.trees may m.keyspaces stands.lawful.planted (living_items m table s stands items living may) in
+    after_change m table s stands (Items items) (items_go_on m table s stands items living may) store (change_is_lawful (Items items) m stands.lawful small fits) (machine.made s (Items items) how).parts refl refl refl
+change_made m table s stands (Emptied id) how living fits small =
+    let is = stands.lawful in
+    let store = emptied_store m.next id m.trees is.forest is.below small m.keyspaces (sym (living_names m.keyspaces m.trees id) ∙ living) in
+    after_change m table s stands (Emptied id) (clear_goes_on m table s stands id) store (change_is_lawful (Emptied id) m is small tt) (machine.made s (Emptied id) how).parts refl refl refl
+
+pub a_change_stands : (m : Remembered) (table : ℕ) (s : State) → StandsFor m table s → (change : Change) (how : Persistence) → change ≢ Items [] → IsOfLiving (store_of m.keyspaces m.trees) change
+    → FitsBatch change → m.next < 2 ^ 63 → StandsFor (with_change change m) table (accepted s change how)
+a_change_stands m table s stands (Items []) how some living fits small = absurd (some refl)
+a_change_stands m table s stands (Items (item ∷ items)) how some living fits small = change_made m table s stands (Items (item ∷ items)) how living fits small
+a_change_stands m table s stands (Emptied id) how some living fits small = change_made m table s stands (Emptied id) how living fits small
+
+-- ---- a rotation
+
+-- what is shown stays, and the watermark is raised
+pub a_rotation_stands : (m : Remembered) (table : ℕ) (s : State) → StandsFor m table s → (id : ℕ) → StandsFor (rotated id m) table (machine.rotated s id)
+a_rotation_stands m table s stands id = record {
+  present = stands.present ∙ ap kept (sym (rotated_store id m.keyspaces m.trees));
+  views = λ instant at other held. stands.views instant at other held ∙ sym (rotated_pairs id other instant m.trees);
+  number = stands.number;
+  poisoned = stands.poisoned;
+  handles = stands.handles;
+  lasting = stands.lasting;
+  damaged = stands.damaged;
+  tickets = λ i. collected (stands.number i) (stands.tickets i);
+  jobs = stands.jobs;
+  next_job = stands.next_job;
+  next_table = stands.next_table;
+  trees = ap (forests.altered_at id sealed_off) stands.trees;
+  sealed = stands.sealed;
+  lawful = rotated_is_lawful id m stands.lawful;
+}
+
+pub rotations_agree : (m : Remembered) (table : ℕ) (s : State) → StandsFor m table s → (id : ℕ) → rotates s.parts.trees id ≡ rotates m.trees id
+rotations_agree m table s stands id = ap (λ trees. rotates trees id) stands.trees
 
 -- ---- a creation
 
-created_map : (maps : FinMap nat_cmp Pairs) (next : ℕ) (versions : List Version) → pairs_in next versions ≡ empty → (id : ℕ) → map_at maps id ≡ pairs_in id versions → map_at (insert maps next empty) id ≡ pairs_in id versions
-created_map maps next versions none id same =
+created_map : (maps : FinMap nat_cmp Pairs) (next : ℕ) (shown : ℕ → Pairs) → shown next ≡ empty → (id : ℕ) → map_at maps id ≡ shown id → map_at (insert maps next empty) id ≡ shown id
+created_map maps next shown none id same =
     ap (λ slot. unwrap_or slot empty) (get_put maps next empty id) ∙ in_slot (id == next) (get maps id) ∙ either (id == next) refl
   where
     in_slot : (b : Bool) (slot : Option Pairs) → unwrap_or (cond b (Some empty) slot) empty ≡ cond b empty (unwrap_or slot empty)
     in_slot true slot = refl
     in_slot false slot = refl
 
-    either : (b : Bool) → (id == next) ≡ b → cond b empty (map_at maps id) ≡ pairs_in id versions
-    either true e = sym none ∙ ap (λ i. pairs_in i versions) (sym (same_id id next e))
+    either : (b : Bool) → (id == next) ≡ b → cond b empty (map_at maps id) ≡ shown id
+    either true e = sym none ∙ ap shown (sym (same_id id next e))
     either false e = same
 
 module _ (m : Remembered) (table : ℕ) (s : State) (stands : StandsFor m table s) (name : Bytes) (options : List Bytes) where
@@ -140,28 +213,29 @@ module _ (m : Remembered) (table : ℕ) (s : State) (stands : StandsFor m table 
   created_ways id (it_lasts e) = it_lasts e
   created_ways id (it_waits le) = it_waits (omega (arith, le))
 
-  created_goes_on : IsLawful (with_creation name options m) → GoesOn m (with_creation name options m) table s stands (Create name (option_pairs options))
-  created_goes_on is =
-      let next : (present s).next ≡ m.keyspaces.next = ap (λ (t : Store). t.next) stands.present ∙ (rest_is_bare m.keyspaces m.versions).2 in
-      let none = ap (pairs_in m.keyspaces.next) (sym (all_seen m.versions m.next stands.lawful.below)) ∙ no_pair m.versions m.keyspaces.next m.keyspaces.next stands.lawful.given (omega arith) m.next in
+  created_goes_on : GoesOn m (with_creation name options m) table s stands (Create name (option_pairs options))
+  created_goes_on =
+      let is = stands.lawful in
+      let next : (present s).next ≡ m.keyspaces.next = ap (λ (t : Store). t.next) stands.present in
+      let none = waits_empty m m.trees is.given m.keyspaces.next m.next (omega arith) in
       let held = λ (id : ℕ) (h : is_held (with_creation name options m) id ≡ true). held_by m id (created_ways id (ways (with_creation name options m) id h)) in
       record {
         next = refl;
         tickets = refl;
         held = held;
-        early = λ instant id le h. refl;
-        late = λ id h. ap (λ n. map_at (insert (present s).maps n empty) id) next ∙ created_map (present s).maps m.keyspaces.next m.versions none id (present_map m table s stands id (held id h));
-        below = is.below;
+        early = λ instant id le h. planted_pairs m.keyspaces.next m.next m.trees is.given id instant;
+        late = λ id h. ap (λ n. map_at (insert (present s).maps n empty) id) next
+            ∙ created_map (present s).maps m.keyspaces.next (λ i. pairs_in i m.next m.trees) none id (present_map m table s stands id (held id h))
+            ∙ still_shown m is id ∙ sym (planted_pairs m.keyspaces.next m.next m.trees is.given id (m.next + 1));
       }
 
-  pub a_creation_stands : is_name name ≡ true → has_name (store_of m.keyspaces m.versions) name ≡ false → AreOptions options → m.keyspaces.next ≢ 2 ^ 64 - 1 → StandsFor (with_creation name options m) (table + 1) (created s name options)
-  a_creation_stands named fresh are free =
+  pub a_creation_stands : is_name name ≡ true → has_name (store_of m.keyspaces m.trees) name ≡ false → AreOptions options → m.keyspaces.next ≢ 2 ^ 64 - 1 → m.next < 2 ^ 63 → StandsFor (with_creation name options m) (table + 1) (created s name options)
+  a_creation_stands named fresh are free small =
       let is = stands.lawful in
       let c = Create name (option_pairs options) in
-      let lawful = creation_is_lawful name options m is named (none_named m.keyspaces is.keyspaces m.versions name fresh) are free in
       record {
-        present = kept_after m table s stands c ∙ ap kept (sym (creation_of_versions name options m.next m.keyspaces is.keyspaces m.versions is.given));
-        views = views_go_on m (with_creation name options m) table s stands c (created_goes_on lawful);
+        present = kept_after m table s stands c ∙ ap kept (sym (creation_of_trees name options m.next m.keyspaces is.keyspaces m.next m.trees is.given));
+        views = views_go_on m (with_creation name options m) table s stands c created_goes_on;
         number = one_number_more m table s stands c;
         poisoned = stands.poisoned;
         handles = stands.handles;
@@ -171,41 +245,41 @@ module _ (m : Remembered) (table : ℕ) (s : State) (stands : StandsFor m table 
         jobs = stands.jobs;
         next_job = stands.next_job;
         next_table = ap (λ n. n + 1) stands.next_table;
-        lawful = lawful;
+        sealed = stands.sealed;
+        trees = λ i. with_tree ((stands.present i).next) (stands.number i) (stands.trees i);
+        lawful = creation_is_lawful name options m is named (none_named m.keyspaces is.keyspaces m.trees name fresh) are free small;
       }
 
 -- ---- a deletion
 
-module _ (m : Remembered) (table : ℕ) (s : State) (stands : StandsFor m table s) (id : ℕ) (living : is_living (store_of m.keyspaces m.versions) id ≡ true) where
+module _ (m : Remembered) (table : ℕ) (s : State) (stands : StandsFor m table s) (id : ℕ) (living : is_living (store_of m.keyspaces m.trees) id ≡ true) where
   deleted_ways : (q : ℕ) → Ways (with_deletion id m) q → Ways m q
   deleted_ways q (it_lives e) = it_lives (either (q == id) (ap is_some (sym (found_without m.keyspaces.living id q)) ∙ e))
     where
       either : (b : Bool) → is_some (cond b None (keyspace_at q m.keyspaces.living)) ≡ true → is_some (keyspace_at q m.keyspaces.living) ≡ true
       either true f = absurd (true≢false (sym f))
       either false f = f
-  deleted_ways q (it_lasts e) = ⊎_elim (λ f. it_lasts f) (λ same. it_lives (subst (λ i. is_some (keyspace_at i m.keyspaces.living) ≡ true) same (sym (living_names m.keyspaces m.versions id) ∙ living))) (among-append m.lasting id q e)
+  deleted_ways q (it_lasts e) = ⊎_elim (λ f. it_lasts f) (λ same. it_lives (subst (λ i. is_some (keyspace_at i m.keyspaces.living) ≡ true) same (sym (living_names m.keyspaces m.trees id) ∙ living))) (among-append m.lasting id q e)
   deleted_ways q (it_waits le) = it_waits le
 
-  deleted_goes_on : IsLawful (with_deletion id m) → GoesOn m (with_deletion id m) table s stands (Delete id)
-  deleted_goes_on is =
+  deleted_goes_on : GoesOn m (with_deletion id m) table s stands (Delete id)
+  deleted_goes_on =
       let held = λ (q : ℕ) (h : is_held (with_deletion id m) q ≡ true). held_by m q (deleted_ways q (ways (with_deletion id m) q h)) in
       record {
         next = refl;
         tickets = refl;
         held = held;
         early = λ instant q le h. refl;
-        late = λ q h. present_map m table s stands q (held q h);
-        below = is.below;
+        late = λ q h. present_map m table s stands q (held q h) ∙ still_shown m stands.lawful q;
       }
 
-  pub a_deletion_stands : StandsFor (with_deletion id m) (if nat_le 2 (len (store_of m.keyspaces m.versions).names) then table + 1 else table) (deleted s id)
-  a_deletion_stands =
+  pub a_deletion_stands : m.next < 2 ^ 63 → StandsFor (with_deletion id m) (if nat_le 2 (len (store_of m.keyspaces m.trees).names) then table + 1 else table) (deleted s id)
+  a_deletion_stands small =
       let c = Delete id in
       let names = same_names m table s stands in
-      let is = deletion_is_lawful id m stands.lawful in
       record {
-        present = kept_after m table s stands c ∙ sym (deletion_of_versions id m.keyspaces m.versions);
-        views = views_go_on m (with_deletion id m) table s stands c (deleted_goes_on is);
+        present = kept_after m table s stands c ∙ sym (deletion_of_trees id m.keyspaces m.trees);
+        views = views_go_on m (with_deletion id m) table s stands c deleted_goes_on;
         number = one_number_more m table s stands c;
         poisoned = stands.poisoned;
         handles = stands.handles;
@@ -215,7 +289,9 @@ module _ (m : Remembered) (table : ℕ) (s : State) (stands : StandsFor m table 
         jobs = stands.jobs;
         next_job = stands.next_job;
         next_table = λ i. if nat_le 2 (len (names i)) then stands.next_table i + 1 else stands.next_table i;
-        lawful = is;
+        trees = stands.trees;
+        sealed = stands.sealed;
+        lawful = deletion_is_lawful id m stands.lawful small;
       }
 
 -- ---- handles
@@ -233,69 +309,45 @@ a_retained_stands m table s stands id = record {
   jobs = stands.jobs;
   next_job = stands.next_job;
   next_table = stands.next_table;
+  trees = stands.trees;
+  sealed = stands.sealed;
   lawful = retained_is_lawful id m stands.lawful;
 }
 
--- what another keyspace has when the versions of one are dropped
-slot_without : (versions : List Version) (id q : ℕ) (slot : Option Pairs) → (q == id) ≡ false → slot_after slot q (versions_without id versions) ≡ slot_after slot q versions
-slot_without versions id q slot other = slot-filter versions (λ k. not (k == id)) slot q ∙ ap (λ b. cond (not b) (slot_after slot q versions) slot) other
-
-get_without : (s : Keyspaces) (versions : List Version) (id q : ℕ) → (q == id) ≡ false → get (store_of s (versions_without id versions)).maps q ≡ get (store_of s versions).maps q
-get_without s versions id q other =
-    slot_at (versions_without id versions) (bare s) q ∙ slot_without versions id q (get (bare s).maps q) other ∙ sym (slot_at versions (bare s) q)
-
--- without the versions of a deleted keyspace the same is kept
-kept_without : (s : Keyspaces) (versions : List Version) (id : ℕ) → is_deleted (store_of s versions) id ≡ true → kept (store_of s versions) ≡ kept (store_of s (versions_without id versions))
-kept_without s versions id gone =
-    let was = rest_is_bare s versions in
-    let is = rest_is_bare s (versions_without id versions) in
-    same_kept (store_of s versions) (store_of s (versions_without id versions)) (was.0 ∙ sym is.0)
-    (λ q lives. sym (get_without s versions id q (other q (ap (λ n. contains_key n q) (was.0 ∙ sym is.0) ∙ lives))))
-    (λ q lives. ap (λ o. get o q) (was.1 ∙ sym is.1))
-    (was.2 ∙ sym is.2)
-  where
-    clash : (b : Bool) → b ≡ true → not b ≡ true → ⊥
-    clash true e f = true≢false (sym f)
-    clash false e f = true≢false (sym e)
-
-    other : (q : ℕ) → contains_key (store_of s versions).names q ≡ true → (q == id) ≡ false
-    other q lives = false_from_ne_true (q == id) (λ e. clash (contains_key (store_of s versions).names id) (subst (λ i. contains_key (store_of s versions).names i ≡ true) (same_id q id e) lives) gone)
-
-itself : (id : ℕ) → (id == id) ≡ true
-itself id = grind (arith, nat_tests)
-
 module _ (m : Remembered) (table : ℕ) (s : State) (stands : StandsFor m table s) (id : ℕ) where
   -- what is held then was held before, and is of another keyspace, or was never made
-  left_ways : is_deleted (store_of m.keyspaces m.versions) id ≡ true → (q : ℕ) → Ways (after_release m id true) q → (is_held m q ≡ true) × (((q == id) ≡ false) ⊎ (m.keyspaces.next ≤ q))
-  left_ways gone q (it_lives e) = (held_by m q (it_lives e), inl (false_from_ne_true (q == id) (λ same. clash _ (living_names m.keyspaces m.versions id ∙ subst (λ i. is_some (keyspace_at i m.keyspaces.living) ≡ true) (same_id q id same) e) gone)))
-    where
-      clash : (b : Bool) → b ≡ true → not b ≡ true → ⊥
-      clash true f g = true≢false (sym g)
-      clash false f g = true≢false (sym f)
+  left_ways : is_living (store_of m.keyspaces m.trees) id ≡ false → (q : ℕ) → Ways (after_release m id true) q → (is_held m q ≡ true) × (((q == id) ≡ false) ⊎ (m.keyspaces.next ≤ q))
+  left_ways gone q (it_lives e) =
+      (held_by m q (it_lives e), inl (false_from_ne_true (q == id) (λ same. true≢false (sym (living_names m.keyspaces m.trees id ∙ subst (λ i. is_some (keyspace_at i m.keyspaces.living) ≡ true) (same_id q id same) e) ∙ gone))))
   left_ways gone q (it_lasts e) = let rest = among_without m.lasting id q e in (held_by m q (it_lasts rest.0), inl rest.1)
   left_ways gone q (it_waits le) = (held_by m q (it_waits le), inr le)
 
-  same_left : (instant q : ℕ) → ((q == id) ≡ false) ⊎ (m.keyspaces.next ≤ q) → pairs_in q (before instant (versions_without id m.versions)) ≡ pairs_in q (before instant m.versions)
-  same_left instant q (inl other) = others_pairs id q (λ same. true≢false (sym (itself id) ∙ ap (λ i. i == id) same ∙ other)) m.versions instant
+  same_left : (instant q : ℕ) → ((q == id) ≡ false) ⊎ (m.keyspaces.next ≤ q) → pairs_in q instant (forests.without id m.trees) ≡ pairs_in q instant m.trees
+  same_left instant q (inl other) = dropped_pairs id q m.trees (λ same. true≢false (sym (itself id) ∙ ap (λ i. i == id) (sym same) ∙ other)) instant
   same_left instant q (inr le) =
-      no_pair (versions_without id m.versions) m.keyspaces.next q (All-filter (λ (v : Version). not (v.keyspace_id == id)) (λ v. v.keyspace_id < m.keyspaces.next) m.versions stands.lawful.given) le instant
-      ∙ sym (no_pair m.versions m.keyspaces.next q stands.lawful.given le instant)
+      let given = stands.lawful.given in
+      waits_empty m (forests.without id m.trees) (dropped_each (λ k. k.id < m.keyspaces.next) id m.trees given) q instant le ∙ sym (waits_empty m m.trees given q instant le)
 
-  views_left : (last : Bool) → (last ≡ true → is_deleted (store_of m.keyspaces m.versions) id ≡ true) → (instant : ℕ) → IsReadAt (after_release m id last) instant → (q : ℕ) → is_held (after_release m id last) q ≡ true
-      → map_at (view s.history instant).maps q ≡ pairs_in q (before instant (after_release m id last).versions)
+  views_left : (last : Bool) → (last ≡ true → is_living (store_of m.keyspaces m.trees) id ≡ false) → (instant : ℕ) → IsReadAt (after_release m id last) instant → (q : ℕ) → is_held (after_release m id last) q ≡ true
+      → map_at (view s.history instant).maps q ≡ pairs_in q instant (after_release m id last).trees
   views_left false gone instant at q held = stands.views instant at q held
   views_left true gone instant at q held =
       let left = left_ways (gone refl) q (ways (after_release m id true) q held) in
       stands.views instant at q left.0 ∙ sym (same_left instant q left.1)
 
-  present_left : (last : Bool) → (last ≡ true → is_deleted (store_of m.keyspaces m.versions) id ≡ true) → kept (present s) ≡ kept (store_of m.keyspaces (if last then versions_without id m.versions else m.versions))
+  -- without the tree of a deleted keyspace the same is kept
+  present_left : (last : Bool) → (last ≡ true → is_living (store_of m.keyspaces m.trees) id ≡ false) → kept (present s) ≡ kept (store_of m.keyspaces (if last then forests.without id m.trees else m.trees))
   present_left false gone = stands.present
-  present_left true gone = stands.present ∙ kept_without m.keyspaces m.versions id (gone refl)
+  present_left true gone = stands.present ∙ ap kept (sym (dropped_store id m.keyspaces m.trees (gone_is_none m id (gone refl))))
 
   abbrev released_as : Bool → State
-  released_as last = record s { handles = one_less s.handles id; lasting = if last then without s.lasting id else s.lasting }
+  released_as last = record s {
+    handles = one_less s.handles id;
+    lasting = if last then without s.lasting id else s.lasting;
+    parts = record s.parts { trees = if last then forests.without id s.parts.trees else s.parts.trees };
+  }
 
-  released_stands : (last : Bool) → (last ≡ true → is_deleted (store_of m.keyspaces m.versions) id ≡ true) → IsLawful (after_release m id last) → StandsFor (after_release m id last) table (released_as last)
+  released_stands : (last : Bool) → (last ≡ true → is_living (store_of m.keyspaces m.trees) id ≡ false) → IsLawful (after_release m id last) → StandsFor (after_release m id last) table (released_as last)
   released_stands last gone is = record {
     present = present_left last gone;
     views = views_left last gone;
@@ -308,6 +360,8 @@ module _ (m : Remembered) (table : ℕ) (s : State) (stands : StandsFor m table 
     jobs = stands.jobs;
     next_job = stands.next_job;
     next_table = stands.next_table;
+    trees = ap (λ (trees : Forest). if last then forests.without id trees else trees) stands.trees;
+    sealed = stands.sealed;
     lawful = is;
   }
 
@@ -317,11 +371,7 @@ module _ (m : Remembered) (table : ℕ) (s : State) (stands : StandsFor m table 
   pub a_release_stands : StandsFor (released id m) table (machine.released s id)
   a_release_stands =
       subst (λ last. StandsFor (released id m) table (released_as last)) (sym same_last)
-      (released_stands (is_last m id) (λ e. first (is_deleted (store_of m.keyspaces m.versions) id) _ e) (released_is_lawful id m stands.lawful))
-    where
-      first : (a b : Bool) → (a && b) ≡ true → a ≡ true
-      first true b e = refl
-      first false b e = e
+      (released_stands (is_last m id) (last_gone m id) (released_is_lawful id m stands.lawful))
 
 -- ---- tickets
 
@@ -339,6 +389,8 @@ with_tickets_stands m table s stands tickets times = record {
   jobs = stands.jobs;
   next_job = stands.next_job;
   next_table = stands.next_table;
+  trees = stands.trees;
+  sealed = stands.sealed;
   lawful = tickets_are_lawful m tickets stands.lawful times;
 }
   where
@@ -363,8 +415,8 @@ collected_stands m table s stands = on_state m table s (collected m.next) stands
 
 -- ---- faults, and the journal
 
-pub a_fault_stands : (m : Remembered) (table : ℕ) (s : State) → StandsFor m table s → (parts : Parts) → StandsFor (poisoned m) parts.table (record s { poisoned = true; parts = parts })
-a_fault_stands m table s stands parts = record {
+pub a_fault_stands : (m : Remembered) (table : ℕ) (s : State) → StandsFor m table s → (parts : Parts) → parts.trees ≡ m.trees → parts.sealed ≡ m.sealed → StandsFor (poisoned m) parts.table (record s { poisoned = true; parts = parts })
+a_fault_stands m table s stands parts trees sealed = record {
   present = stands.present;
   views = stands.views;
   number = stands.number;
@@ -376,14 +428,16 @@ a_fault_stands m table s stands parts = record {
   jobs = stands.jobs;
   next_job = stands.next_job;
   next_table = refl;
+  trees = trees;
+  sealed = sealed;
   lawful = poisoned_is_lawful m stands.lawful;
 }
 
-pub a_fault_poisons : (s : State) (parts : Parts) → IsPoisoned s (record s { poisoned = true; parts = parts })
-a_fault_poisons s parts = refl
+pub a_fault_poisons : (s : State) (parts : Parts) → parts.trees ≡ s.parts.trees → parts.sealed ≡ s.parts.sealed → IsPoisoned s (record s { poisoned = true; parts = parts })
+a_fault_poisons s parts trees sealed = (refl, trees, sealed)
 
-pub other_parts_stand : (m : Remembered) (table : ℕ) (s : State) → StandsFor m table s → (parts : Parts) → parts.table ≡ table → StandsFor m table (record s { parts = parts })
-other_parts_stand m table s stands parts is = record {
+pub other_parts_stand : (m : Remembered) (table : ℕ) (s : State) → StandsFor m table s → (parts : Parts) → parts.table ≡ table → parts.trees ≡ m.trees → parts.sealed ≡ m.sealed → StandsFor m table (record s { parts = parts })
+other_parts_stand m table s stands parts is trees sealed = record {
   present = stands.present;
   views = stands.views;
   number = stands.number;
@@ -395,6 +449,8 @@ other_parts_stand m table s stands parts is = record {
   jobs = stands.jobs;
   next_job = stands.next_job;
   next_table = is;
+  trees = trees;
+  sealed = sealed;
   lawful = stands.lawful;
 }
 
@@ -408,10 +464,10 @@ none_refused false false damaged none = absurd (true≢false (ap is_some none))
 -- what is read is held
 read_held : (m : Remembered) (table id : ℕ) → first_due (read_refusals (facts_of m table) id) ≡ None → is_held m id ≡ true
 read_held m table id none =
-    either (is_living (store_of m.keyspaces m.versions) id) refl (none_refused (is_unknown (store_of m.keyspaces m.versions) id) (is_read (facts_of m table) id) (is_among m.damaged id) none)
+    either (is_living (store_of m.keyspaces m.trees) id) refl (none_refused (is_unknown (store_of m.keyspaces m.trees) id) (is_read (facts_of m table) id) (is_among m.damaged id) none)
   where
-    either : (b : Bool) → is_living (store_of m.keyspaces m.versions) id ≡ b → (b || is_among m.lasting id) ≡ true → is_held m id ≡ true
-    either true here found = held_by m id (it_lives (sym (living_names m.keyspaces m.versions id) ∙ here))
+    either : (b : Bool) → is_living (store_of m.keyspaces m.trees) id ≡ b → (b || is_among m.lasting id) ≡ true → is_held m id ≡ true
+    either true here found = held_by m id (it_lives (sym (living_names m.keyspaces m.trees id) ∙ here))
     either false gone found = held_by m id (it_lasts found)
 
 -- a ticket that isn't refused is open
@@ -426,7 +482,7 @@ reads_there m id there = some (get m.tickets.instants id) there
     some (Some instant) e = refl
     some None e = absurd (true≢false (sym e))
 
-pub pairs_agree : (m : Remembered) (table : ℕ) (s : State) → StandsFor m table s → (view : View) (id : ℕ) → first_due (view_refusals (facts_of m table) view id) ≡ None → pairs_in id (versions_in m view) ≡ map_at (maps_in s view) id
+pub pairs_agree : (m : Remembered) (table : ℕ) (s : State) → StandsFor m table s → (view : View) (id : ℕ) → first_due (view_refusals (facts_of m table) view id) ≡ None → pairs_in id (instant_in m view) m.trees ≡ map_at (maps_in s view) id
 pairs_agree m table s stands Present id none =
     let n = stands.number in
     sym (stands.views m.next (inl refl) id (read_held m table id none)) ∙ ap (λ (t : Store). map_at t.maps id) (view_latest s.history m.next (omega (arith, n)))
@@ -438,35 +494,46 @@ pairs_agree m table s stands (At ticket) id none =
 -- ---- names
 
 module _ (m : Remembered) (table : ℕ) (s : State) (stands : StandsFor m table s) where
-  names : (present s).names ≡ (store_of m.keyspaces m.versions).names
+  names : (present s).names ≡ (store_of m.keyspaces m.trees).names
   names = same_names m table s stands
 
   pub names_listed : values (present s).names ≡ map (λ k. k.name) m.keyspaces.living
-  names_listed = ap values names ∙ names_are m.keyspaces stands.lawful.keyspaces m.versions
+  names_listed = ap values names ∙ names_are m.keyspaces stands.lawful.keyspaces m.trees
 
   pub names_counted : len (present s).names ≡ length m.keyspaces.living
-  names_counted = ap len names ∙ counted_is m.keyspaces stands.lawful.keyspaces m.versions
+  names_counted = ap len names ∙ counted_is m.keyspaces stands.lawful.keyspaces m.trees
 
   pub a_name_there : (name : Bytes) → has_name (present s) name ≡ is_some (id_of name m.keyspaces.living)
-  a_name_there name = (λ i. has_name (stands.present i) name) ∙ named_is m.keyspaces stands.lawful.keyspaces m.versions name
+  a_name_there name = (λ i. has_name (stands.present i) name) ∙ named_is m.keyspaces stands.lawful.keyspaces m.trees name
 
   pub a_name_resolved : (id : ℕ) (name : Bytes) → (get (present s).names id ≡ Some name) ↔ (id_of name m.keyspaces.living ≡ Some id)
   a_name_resolved id name =
-      let answer = names_answer m.keyspaces stands.lawful.keyspaces m.versions id name in
+      let answer = names_answer m.keyspaces stands.lawful.keyspaces [] id name in
       let same = ap (λ n. get n id) names in
       (λ e. answer.1 (sym same ∙ e), λ e. same ∙ answer.0 e)
 
-  pub living_agree : (id : ℕ) → is_living (present s) id ≡ is_living (store_of m.keyspaces m.versions) id
+  pub living_agree : (id : ℕ) → is_living (present s) id ≡ is_living (store_of m.keyspaces m.trees) id
   living_agree id = ap (λ n. contains_key n id) names
 
   pub next_agrees : (present s).next ≡ m.keyspaces.next
-  next_agrees = ap (λ (t : Store). t.next) stands.present ∙ (rest_is_bare m.keyspaces m.versions).2
+  next_agrees = ap (λ (t : Store). t.next) stands.present
 
 -- ---- an opening
 
+-- what is held at an opening lives, or was never made
+opened_map : (m : Remembered) → IsLawful m → m.lasting ≡ [] → (id : ℕ) → Ways m id → map_at (store_of m.keyspaces m.trees).maps id ≡ pairs_in id m.next m.trees
+opened_map m is lasting id (it_lives e) =
+    let there = some_there (keyspace_at id m.keyspaces.living) e in
+    a_keyspace_reads m.keyspaces m.trees id there.0 there.1 ∙ pairs_above m.next m.trees is.forest is.below id (2 ^ 63) is.small
+opened_map m is lasting id (it_lasts e) = absurd (true≢false (sym e ∙ ap (λ ids. is_among ids id) lasting))
+opened_map m is lasting id (it_waits le) =
+    let none = none_found m.keyspaces.living m.keyspaces.next id is.keyspaces.given le in
+    ap (λ slot. unwrap_or slot empty) (held_at m.keyspaces m.trees id ∙ ap (λ found. option_map (λ (k : LivingKeyspace). pairs_in id (2 ^ 63) m.trees) found) none)
+    ∙ sym (waits_empty m m.trees is.given id m.next le)
+
 pub an_opening_stands : (m : Remembered) → IsLawful m → m.handles ≡ empty → m.lasting ≡ [] → m.poisoned ≡ false → m.tickets ≡ no_tickets
-    → (table : ℕ) (parts : Parts) → parts.table ≡ table → StandsFor m table (opened_state (store_of m.keyspaces m.versions) m.damaged m.next parts)
-an_opening_stands m is handles lasting well tickets table parts at = record {
+    → (table : ℕ) (parts : Parts) → parts.table ≡ table → parts.trees ≡ m.trees → parts.sealed ≡ m.sealed → StandsFor m table (opened_state (store_of m.keyspaces m.trees) m.damaged m.next parts)
+an_opening_stands m is handles lasting well tickets table parts at trees sealed = record {
   present = refl;
   views = shown;
   number = omega arith;
@@ -478,11 +545,13 @@ an_opening_stands m is handles lasting well tickets table parts at = record {
   jobs = refl;
   next_job = refl;
   next_table = at;
+  trees = trees;
+  sealed = sealed;
   lawful = is;
 }
   where
-    shown : (instant : ℕ) → IsReadAt m instant → (id : ℕ) → is_held m id ≡ true → map_at (view (opened_state (store_of m.keyspaces m.versions) m.damaged m.next parts).history instant).maps id ≡ pairs_in id (before instant m.versions)
+    shown : (instant : ℕ) → IsReadAt m instant → (id : ℕ) → is_held m id ≡ true → map_at (view (opened_state (store_of m.keyspaces m.trees) m.damaged m.next parts).history instant).maps id ≡ pairs_in id instant m.trees
     shown instant (inl same) id held =
-        ap (λ (t : Store). map_at t.maps id) (view_latest (opened_state (store_of m.keyspaces m.versions) m.damaged m.next parts).history instant (omega (arith, same)))
-        ∙ a_keyspace_reads m.keyspaces m.versions id ∙ ap (pairs_in id) (sym (all_seen m.versions m.next is.below) ∙ ap (λ i. before i m.versions) (sym same))
+        ap (λ (t : Store). map_at t.maps id) (view_latest (opened_state (store_of m.keyspaces m.trees) m.damaged m.next parts).history instant (omega (arith, same)))
+        ∙ opened_map m is lasting id (ways m id held) ∙ ap (λ i. pairs_in id i m.trees) (sym same)
     shown instant (inr (ticket, there)) id held = absurd (none-some instant (sym (get-empty nat_cmp ticket) ∙ ap (λ (t : Tickets). get t.instants ticket) (sym tickets) ∙ there))

@@ -1,17 +1,29 @@
 -- What holds where nothing refuses a call.
-use Rattle.std.specs.Prelude.{◌≡◌, ◌≢◌, ℕ, ◌<◌, ◌-◌, ◌^◌, true, false, nat_le, List, All, None}
+use Rattle.std.specs.Prelude.{◌≡◌, ◌≢◌, ℕ, ◌<◌, ◌-◌, ◌^◌, true, false, nat_le, All, None}
 use Rattle.std.specs.FinMap.{len}
 use Rattle.fjall_base.specs.Pairs.{Bytes}
-use Rattle.fjall_journal.specs.Ops.{BatchItem, items_refusal}
+use Rattle.fjall_base.specs.Store.{Store}
+use Rattle.fjall_journal.specs.Changes.{Change, Items, Emptied}
+use Rattle.fjall_journal.specs.Ops.{items_refusal}
 use Rattle.fjall_meta.specs.Keyspaces.{is_name}
 use Rattle.fjall_state.specs.Machine.{Facts, has_name, is_living, is_unknown}
 
--- The keyspaces of the items live, no fault has poisoned the engine, a number is left, and a batch has these items.
-pub record MayChange (f : Facts) (items : List BatchItem) : Type 0 where
-  pub living : All (λ item. is_living f.store item.0 ≡ true) items
+-- the keyspaces that a change is of live
+abbrev pub IsOfLiving : Store → Change → Type 0
+IsOfLiving s (Items items) = All (λ item. is_living s item.0 ≡ true) items
+IsOfLiving s (Emptied id) = is_living s id ≡ true
+
+-- a batch may have the items of the change
+abbrev pub FitsBatch : Change → Type 0
+FitsBatch (Items items) = items_refusal items ≡ None
+FitsBatch (Emptied id) = Unit {0}
+
+-- The keyspaces of the change live, no fault has poisoned the engine, a number is left, and a batch may have the change.
+pub record MayChange (f : Facts) (change : Change) : Type 0 where
+  pub living : IsOfLiving f.store change
   pub well : f.poisoned ≡ false
   pub numbered : f.next < 2 ^ 63
-  pub fits : items_refusal items ≡ None
+  pub fits : FitsBatch change
 
 -- No fault has poisoned the engine, and a number, an id for a table and an id for a keyspace are left.
 pub record HasRoom (f : Facts) : Type 0 where

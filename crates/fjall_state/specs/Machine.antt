@@ -1,9 +1,10 @@
 -- The engine as a machine: what each call may answer, and the state after it.
-use Rattle.std.specs.Prelude.{◌≡◌, ◌⊎◌, ℕ, ◌+◌, ◌-◌, ◌≤◌, Any, Bool, true, false, nat_le, not, ◌==◌, ◌||◌, ◌&&◌, ◌^◌, if◌then◌else◌, List, [], ◌∷◌, ◌++◌, codes, filter, length, Option, None, Some, is_none, unwrap_or, IsPermutation, IsSorted, Vec}
-use Rattle.std.specs.List.{list_any}
+use Rattle.std.specs.Prelude.{◌≡◌, ◌⊎◌, ℕ, ◌+◌, ◌-◌, ◌≤◌, Any, Bool, true, false, nat_le, nat_lt, not, ◌==◌, ◌||◌, ◌&&◌, ◌^◌, if◌then◌else◌, List, [], ◌∷◌, ◌++◌, codes, filter, length, Option, None, Some, is_none, unwrap_or, IsPermutation, IsSorted, Vec}
+use Rattle.std.specs.List.{list_any, sum_by}
+use Rattle.byteorder.specs.Endian.{little_number}
 use Rattle.std.specs.Str.{bytes_eq}
 use Rattle.std.specs.Ordering.{nat_cmp}
-use Rattle.std.specs.FinMap.{FinMap, contains_key, empty, get, insert, len, remove, values}
+use Rattle.std.specs.FinMap.{FinMap, contains_key, empty, entries, get, insert, len, remove, values}
 use Rattle.std.specs.declared.alloc.Global.{Global}
 use Rattle.fjall_base.specs.Pairs.{Bytes, Pairs, byte_order}
 use Rattle.fjall_base.specs.Store.{Store, Options, Create, Delete, apply, kept, map_at}
@@ -13,7 +14,17 @@ use Rattle.fjall_base.specs.declared.error.StorageError.TheVariants.{TableDamage
 use Rattle.fjall_journal.specs.declared.persist_mode.PersistMode.{PersistMode}
 use Rattle.fjall_journal.specs.declared.persist_mode.PersistMode.TheVariants.{Buffer}
 use Rattle.fjall_journal.specs.Writer.{counted, goes_out}
-use Rattle.fjall_journal.specs.Ops.{BatchItem, are_too_many, items_text, some_key_empty, some_key_too_long, some_value_too_long, write_of}
+use Rattle.fjall_journal.specs.Changes.{Change, Items, Emptied, change_text, command_of}
+use Rattle.fjall_journal.specs.Ops.{BatchItem, are_too_many, some_key_empty, some_key_too_long, some_value_too_long}
+use Rattle.fjall_manager.specs.Journals.{Sealed, bytes_of}
+use Rattle.fjall_memtable.specs.Entries.{size_of}
+use Rattle.fjall_parts.specs.Parts.{holds_nothing, parts_of, versions_in}
+use Rattle.fjall_lsm.specs.Trees as lsm
+use Rattle.fjall_lsm.specs.Trees.{emptied, sealed_off}
+use Rattle.fjall_trees.specs.Forests.{Forest, altered_at, tree_at}
+use Rattle.fjall_trees.specs.Forests as forests
+use Rattle.fjall_trees.specs.Tables.{shape_in}
+use Rattle.fjall_trees.specs.Writes.{pushed, with_tree}
 use Rattle.fjall_options.specs.Options.{is_set, value_of}
 use Rattle.fjall_meta.specs.Keyspaces.{is_name}
 use Rattle.fjall_versions.specs.Replays.{option_pairs}
@@ -26,15 +37,19 @@ use Rattle.fjall_history.specs.Tickets.{Tickets, cloning_refusal, closed, closin
 use Rattle.fjall_history.specs.Moves.{Times}
 use Rattle.fjall_history.specs.Queries.{Tells}
 use Rattle.fjall_state.specs.declared.call.Call.{Call}
-use Rattle.fjall_state.specs.Shapes.{AsKeyspace, ByMode, Clone, Close, Collect, Count, Exists, HandleCall, JournalSpace, Keyspaces, Next, OfChange, OfCount, OfCreation, OfDeletion, OfHandle, OfPersist, OfRead, OfTickets, OneLess, OneMore, Open, OpenTickets, Persistence, Shape, TicketCall, Visible, shape_of}
+use Rattle.fjall_state.specs.Shapes.{AsKeyspace, ByMode, Clone, Close, Collect, Count, Exists, HandleCall, JournalSpace, Journals, Keyspaces, Next, OfChange, OfCount, OfCreation, OfDeletion, OfHandle, OfPersist, OfRead, OfRotation, OfTickets, OneLess, OneMore, Open, OpenTickets, Persistence, Entries, SealedMemtables, Shape, TicketCall, Visible, WriteBuffer, shape_of}
 use Rattle.fjall_state.specs.Shapes as shapes
 use Rattle.fjall_state.specs.Jobs.{Job}
 
--- How many bytes the journal's file has, how many wait in the buffer, and the id that tree 0's next table gets.
+-- The sealed journals, the oldest first: of each its number, how many bytes its file has, and up to which number each keyspace
+-- has changes in it. How many bytes the active journal's file has, how many wait in the buffer, the id that tree 0's next table
+-- gets, and the trees of the keyspaces that are read: of each its memtables, sealed ones and an active one.
 pub record Parts : Type 0 where
+  pub sealed : List Sealed
   pub journal : ℕ
   pub buffer : ℕ
   pub table : ℕ
+  pub trees : Forest
 
 -- The history, whether a fault of the disk has poisoned the engine, how many handles of each keyspace are counted, the
 -- deleted keyspaces whose last maps are still read, the keyspaces that have a table with a wrong block, which are not
@@ -168,10 +183,10 @@ some_unknown s items = list_any (λ item. is_unknown s item.0) items
 abbrev pub some_deleted : Store → List BatchItem → Bool
 some_deleted s items = list_any (λ item. is_deleted s item.0) items
 
--- The refusals of a change of these items, cause by cause over all of them: keys have 1 to 65,535 bytes, values at most
+-- The refusals of a change by these items, cause by cause over all of them: keys have 1 to 65,535 bytes, values at most
 -- 4,294,967,295, a batch has at most 4,294,967,295 items, and numbers lie below 2^63.
-abbrev pub change_refusals : Facts → List BatchItem → List (Bool × Error)
-change_refusals f items =
+abbrev pub items_refusals : Facts → List BatchItem → List (Bool × Error)
+items_refusals f items =
     (some_key_empty items, KeyEmpty)
     ∷ (some_key_too_long items, KeyTooLong)
     ∷ (some_value_too_long items, ValueTooLong)
@@ -181,6 +196,19 @@ change_refusals f items =
     ∷ (are_too_many items, TooManyItems)
     ∷ (nat_le (2 ^ 63) f.next, NumbersUsedUp)
     ∷ []
+
+-- the refusals of a change that empties a keyspace
+abbrev pub clear_refusals : Facts → ℕ → List (Bool × Error)
+clear_refusals f id = (is_unknown f.store id, UnknownKeyspace) ∷ (is_deleted f.store id, KeyspaceDeleted) ∷ (f.poisoned, Poisoned) ∷ (nat_le (2 ^ 63) f.next, NumbersUsedUp) ∷ []
+
+-- the refusals of a change
+abbrev pub change_refusals : Facts → Change → List (Bool × Error)
+change_refusals f (Items items) = items_refusals f items
+change_refusals f (Emptied id) = clear_refusals f id
+
+-- the refusals of a rotation of a keyspace's memtable
+abbrev pub rotation_refusals : Facts → ℕ → List (Bool × Error)
+rotation_refusals f id = (is_unknown f.store id, UnknownKeyspace) ∷ (is_deleted f.store id, KeyspaceDeleted) ∷ (f.poisoned, Poisoned) ∷ []
 
 -- the keyspace lives, or is deleted and still read
 abbrev pub is_read : Facts → ℕ → Bool
@@ -231,11 +259,13 @@ ticket_refusal t Collect = None
 -- The refusal that is due for a call, before memory or the disk is asked for anything. A change of no items is refused by
 -- nothing.
 abbrev pub due_in : Facts → Shape → Option Error
-due_in f (OfChange [] how) = None
-due_in f (OfChange (item ∷ items) how) = first_due (change_refusals f (item ∷ items))
+due_in f (OfChange (Items []) how) = None
+due_in f (OfChange (Items (item ∷ items)) how) = first_due (items_refusals f (item ∷ items))
+due_in f (OfChange (Emptied id) how) = first_due (clear_refusals f id)
 due_in f (OfCreation name options) = first_due (creation_refusals f name)
 due_in f (OfDeletion id) = first_due (deletion_refusals f id)
 due_in f (OfHandle call id) = first_due (handle_refusals f call id)
+due_in f (OfRotation id) = first_due (rotation_refusals f id)
 due_in f (OfRead view id query) = first_due (view_refusals f view id)
 due_in f (OfTickets call) = ticket_refusal f.tickets call
 due_in f (OfPersist mode) = first_due ((f.poisoned, Poisoned) ∷ [])
@@ -251,8 +281,13 @@ IsListed shapes.Names = Unit {0}
 IsListed (Exists name) = ⊥
 IsListed Next = ⊥
 IsListed Visible = ⊥
+IsListed Journals = ⊥
 IsListed JournalSpace = ⊥
 IsListed OpenTickets = ⊥
+IsListed (Entries id) = ⊥
+IsListed (SealedMemtables id) = ⊥
+IsListed WriteBuffer = ⊥
+IsListed (shapes.WantsRotation id) = ⊥
 
 abbrev pub OpensTicket : TicketCall → Type 0
 OpensTicket Open = Unit {0}
@@ -262,11 +297,13 @@ OpensTicket Collect = ⊥
 
 -- a call that takes memory
 abbrev pub TakesMemory : Shape → Type 0
-TakesMemory (OfChange [] how) = ⊥
-TakesMemory (OfChange (item ∷ items) how) = Unit {0}
+TakesMemory (OfChange (Items []) how) = ⊥
+TakesMemory (OfChange (Items (item ∷ items)) how) = Unit {0}
+TakesMemory (OfChange (Emptied id) how) = Unit {0}
 TakesMemory (OfCreation name options) = Unit {0}
 TakesMemory (OfDeletion id) = Unit {0}
 TakesMemory (OfHandle call id) = Unit {0}
+TakesMemory (OfRotation id) = Unit {0}
 TakesMemory (OfRead view id query) = Unit {0}
 TakesMemory (OfTickets call) = OpensTicket call
 TakesMemory (OfPersist mode) = ⊥
@@ -279,25 +316,28 @@ mode_in s (AsKeyspace id) = if persists_by_hand s id then None else Some Buffer
 mode_in s (ByMode mode) = mode
 
 -- a change leaves the journal's buffer, in which so many bytes wait: it has a mode, or 8,192 bytes or more wait with it
-abbrev pub leaves_buffer : Facts → ℕ → List BatchItem → Persistence → Bool
-leaves_buffer f waiting items how = goes_out (is_none (mode_in f.store how)) (waiting + length (items_text items f.next))
+abbrev pub leaves_buffer : Facts → ℕ → Change → Persistence → Bool
+leaves_buffer f waiting change how = goes_out (is_none (mode_in f.store how)) (waiting + length (change_text change f.next))
 
 -- a call that changes the disk, where so many bytes wait in the journal's buffer
 abbrev pub ChangesDisk : Facts → ℕ → Shape → Type 0
-ChangesDisk f waiting (OfChange [] how) = ⊥
-ChangesDisk f waiting (OfChange (item ∷ items) how) = leaves_buffer f waiting (item ∷ items) how ≡ true
+ChangesDisk f waiting (OfChange (Items []) how) = ⊥
+ChangesDisk f waiting (OfChange (Items (item ∷ items)) how) = leaves_buffer f waiting (Items (item ∷ items)) how ≡ true
+ChangesDisk f waiting (OfChange (Emptied id) how) = leaves_buffer f waiting (Emptied id) how ≡ true
 ChangesDisk f waiting (OfCreation name options) = Unit {0}
 ChangesDisk f waiting (OfDeletion id) = Unit {0}
 ChangesDisk f waiting (OfHandle OneMore id) = ⊥
 ChangesDisk f waiting (OfHandle OneLess id) = Unit {0}
+ChangesDisk f waiting (OfRotation id) = ⊥
 ChangesDisk f waiting (OfRead view id query) = ⊥
 ChangesDisk f waiting (OfTickets call) = ⊥
 ChangesDisk f waiting (OfPersist mode) = Unit {0}
 ChangesDisk f waiting (OfCount count) = ⊥
 
--- after a fault in a call that changes the disk the engine is poisoned, and its parts are not known
+-- After a fault in a call that changes the disk the engine is poisoned, and of its parts the trees and the sealed journals
+-- alone are known, which are as before.
 abbrev pub IsPoisoned : State → State → Type 0
-IsPoisoned old new = new ≡ record old { poisoned = true; parts = new.parts }
+IsPoisoned old new = (new ≡ record old { poisoned = true; parts = new.parts }) × (new.parts.trees ≡ old.parts.trees) × (new.parts.sealed ≡ old.parts.sealed)
 
 -- the settings of some keyspace have a value of 2^32 bytes or more, for which no table has room
 abbrev pub HasLongOption : Store → Type 0
@@ -305,10 +345,11 @@ HasLongOption s = (id : ℕ) × (options : Options) × (get s.options id ≡ Som
 
 -- a creation or a deletion writes the settings of all keyspaces that live after it
 abbrev pub TooLong : Store → Shape → Type 0
-TooLong s (OfChange items how) = ⊥
+TooLong s (OfChange change how) = ⊥
 TooLong s (OfCreation name options) = HasLongOption (kept (apply s (Create name (option_pairs options))))
 TooLong s (OfDeletion id) = HasLongOption (kept (apply s (Delete id)))
 TooLong s (OfHandle call id) = ⊥
+TooLong s (OfRotation id) = ⊥
 TooLong s (OfRead view id query) = ⊥
 TooLong s (OfTickets call) = ⊥
 TooLong s (OfPersist mode) = ⊥
@@ -332,20 +373,34 @@ Refuses None shape error old new = MayFail shape error old new
 
 -- ---- what a call does
 
--- A change was accepted: it is the next command, and its batch is in the journal's file with all that waited, or waits too.
--- A change of no items is none.
-abbrev pub accepted : State → List BatchItem → Persistence → State
-accepted s [] how = s
-accepted s (item ∷ items) how = record s {
-  history = grown s.history (plain (write_of (item ∷ items)));
-  parts = written (leaves_buffer (facts s) s.parts.buffer (item ∷ items) how) s.parts (length (items_text (item ∷ items) (number s.history)));
+-- What a change of that number makes of the trees: each item is a version more in the active memtable of its keyspace; a
+-- keyspace that is emptied has a clear more there.
+abbrev pub changed : ℕ → Change → Forest → Forest
+changed n (Items items) trees = pushed n items trees
+changed n (Emptied id) trees = altered_at id (emptied n) trees
+
+-- A change was made: it is the next command, its batch is in the journal's file with all that waited, or waits too, and it
+-- stands in the trees.
+abbrev pub made : State → Change → Persistence → State
+made s change how = record s {
+  history = grown s.history (plain (command_of change));
+  parts = record (written (leaves_buffer (facts s) s.parts.buffer change how) s.parts (length (change_text change (number s.history)))) {
+    trees = changed (number s.history) change s.parts.trees;
+  };
 }
 
--- a keyspace of this name was made: that is the next command; the journal is written out, and tree 0 has a new table
+-- a change was accepted; one of no items is none
+abbrev pub accepted : State → Change → Persistence → State
+accepted s (Items []) how = s
+accepted s (Items (item ∷ items)) how = made s (Items (item ∷ items)) how
+accepted s (Emptied id) how = made s (Emptied id) how
+
+-- A keyspace of this name was made: that is the next command; the journal is written out, tree 0 has a new table, and the
+-- keyspace has a tree of nothing.
 abbrev pub created : State → Bytes → List Bytes → State
 created s name options = record s {
   history = grown s.history (plain (Create name (option_pairs options)));
-  parts = record (written_out s.parts 0) { table = s.parts.table + 1 };
+  parts = record (written_out s.parts 0) { table = s.parts.table + 1; trees = with_tree (present s).next (number s.history) s.parts.trees };
 }
 
 -- The keyspace was deleted: that is the next command. Its last map is still read. Where a keyspace is left, tree 0 has a
@@ -361,13 +416,33 @@ deleted s id = record s {
 abbrev pub is_last : State → ℕ → Bool
 is_last s id = is_deleted (present s) id && (handles_of s.handles id == 1)
 
--- a handle less is counted, and with the last one of a deleted keyspace its map is read no more
+-- a handle less is counted, and with the last one of a deleted keyspace its map is read no more, and its tree is gone
 abbrev pub released : State → ℕ → State
-released s id = record s { handles = one_less s.handles id; lasting = if is_last s id then without s.lasting id else s.lasting }
+released s id = record s {
+  handles = one_less s.handles id;
+  lasting = if is_last s id then without s.lasting id else s.lasting;
+  parts = record s.parts { trees = if is_last s id then forests.without id s.parts.trees else s.parts.trees };
+}
 
 abbrev pub handled : HandleCall → State → ℕ → State
 handled OneMore s id = record s { handles = one_more s.handles id }
 handled OneLess s id = released s id
+
+-- the active memtable of a keyspace holds something: a version or a clear
+abbrev pub holds_some : Option lsm.Shape → Bool
+holds_some None = false
+holds_some (Some tree) = not (holds_nothing tree.memory.active)
+
+-- whether a rotation seals a memtable of the keyspace
+abbrev pub rotates : Forest → ℕ → Bool
+rotates trees id = holds_some (tree_at id trees)
+
+-- the active memtable of a keyspace is sealed, an empty one begins, and the watermark is raised
+abbrev pub rotated : State → ℕ → State
+rotated s id = record s {
+  tickets = collected (number s.history) s.tickets;
+  parts = record s.parts { trees = altered_at id sealed_off s.parts.trees };
+}
 
 -- a name that a keyspace has answers its id; another one's keyspace gets the next id
 abbrev pub CreatesOrFinds : State → Bytes → List Bytes → ℕ → State → Type 0
@@ -384,6 +459,29 @@ TurnsTickets visible old (Clone id) reply new =
 TurnsTickets visible old (Close id) reply new = (reply ≡ Done) × (new ≡ closed visible id old)
 TurnsTickets visible old Collect reply new = (reply ≡ Number new.watermark) × (new ≡ collected visible old)
 
+-- how many versions a tree has, in its tables and in its memtables
+abbrev pub version_count : lsm.Shape → ℕ
+version_count tree = sum_by (λ t. t.info.entry_count) tree.tables + length (versions_in (parts_of tree.memory))
+
+-- the sizes of all versions in its memtables, and of those in the active one: of each its key, its value and 16 bytes
+abbrev pub memtable_size : lsm.Shape → ℕ
+memtable_size tree = sum_by size_of (versions_in (parts_of tree.memory))
+
+abbrev pub active_size : lsm.Shape → ℕ
+active_size tree = sum_by size_of tree.memory.active.versions
+
+-- the sizes of the memtables of all keyspaces that live
+abbrev pub buffer_size : Store → Forest → ℕ
+buffer_size s trees = sum_by (λ e. counted (memtable_size (shape_in e.0 trees))) (entries s.names)
+
+-- up to which size these settings let a memtable grow
+abbrev pub max_memtable_size : Options → ℕ
+max_memtable_size options = little_number 8 (unwrap_or (value_of (codes "max_memtable_size") options) [])
+
+-- the keyspace lives, and its active memtable is larger than its settings let it grow
+abbrev pub wants_rotation : Store → Forest → ℕ → Bool
+wants_rotation s trees id = is_living s id && nat_lt (max_memtable_size (unwrap_or (get s.options id) [])) (counted (active_size (shape_in id trees)))
+
 -- counts are functions of the state
 abbrev pub CountIs : State → Count → Reply → Type 0
 CountIs s Keyspaces reply = reply ≡ Number (len (present s).names)
@@ -391,15 +489,21 @@ CountIs s shapes.Names reply = (names : Vec Bytes Global) × (reply ≡ Names na
 CountIs s (Exists name) reply = reply ≡ Flag (has_name (present s) name)
 CountIs s Next reply = reply ≡ Number (number s.history)
 CountIs s Visible reply = reply ≡ Number (number s.history)
-CountIs s JournalSpace reply = reply ≡ Number s.parts.journal
+CountIs s Journals reply = reply ≡ Number (length s.parts.sealed + 1)
+CountIs s JournalSpace reply = reply ≡ Number (counted (bytes_of s.parts.sealed + s.parts.journal))
 CountIs s OpenTickets reply = reply ≡ Number (len s.tickets.instants)
+CountIs s (Entries id) reply = reply ≡ Number (counted (version_count (shape_in id s.parts.trees)))
+CountIs s (SealedMemtables id) reply = reply ≡ Number (length (shape_in id s.parts.trees).memory.sealed)
+CountIs s WriteBuffer reply = reply ≡ Number (counted (buffer_size (present s) s.parts.trees))
+CountIs s (shapes.WantsRotation id) reply = reply ≡ Flag (wants_rotation (present s) s.parts.trees id)
 
 -- where nothing refuses it, a call may give this reply, and leaves this
 abbrev pub Answers : State → Shape → Reply → State → Type 0
-Answers old (OfChange items how) reply new = (reply ≡ Done) × (new ≡ accepted old items how)
+Answers old (OfChange change how) reply new = (reply ≡ Done) × (new ≡ accepted old change how)
 Answers old (OfCreation name options) reply new = (id : ℕ) × (reply ≡ Number id) × CreatesOrFinds old name options id new
 Answers old (OfDeletion id) reply new = (reply ≡ Done) × (new ≡ (if is_living (present old) id then deleted old id else old))
 Answers old (OfHandle call id) reply new = (reply ≡ Done) × (new ≡ handled call old id)
+Answers old (OfRotation id) reply new = (reply ≡ Flag (rotates old.parts.trees id)) × (new ≡ (if rotates old.parts.trees id then rotated old id else old))
 Answers old (OfRead view id query) reply new = Tells query (map_at (maps_in old view) id) reply × (new ≡ old)
 Answers old (OfTickets call) reply new = TurnsTickets (number old.history) old.tickets call reply new.tickets × (new ≡ record old { tickets = new.tickets })
 Answers old (OfPersist mode) reply new = (reply ≡ Done) × (new ≡ record old { parts = written_out old.parts 0 })

@@ -1,41 +1,51 @@
 -- What an engine holds in memory, and the states that it stands for.
-use Rattle.std.specs.Prelude.{◌≡◌, ◌⊎◌, ℕ, ◌+◌, ◌≤◌, ◌<◌, ◌||◌, Bool, true, false, not, nat_le, Some, ◌==◌, ◌&&◌, if◌then◌else◌, List, [], ◌∷◌, ◌++◌, All, filter, is_some, map}
+use Rattle.std.specs.Prelude.{◌≡◌, ◌⊎◌, ℕ, ◌+◌, ◌≤◌, ◌<◌, ◌^◌, ◌||◌, Bool, true, false, nat_le, Some, ◌==◌, ◌&&◌, if◌then◌else◌, List, [], ◌∷◌, ◌++◌, All, is_some}
 use Rattle.std.specs.Ordering.{nat_cmp}
 use Rattle.std.specs.Coded.{Coded, coded_ℕ}
 use Rattle.std.specs.FinMap.{FinMap, code, empty, get, values}
 use Rattle.fjall_base.specs.Pairs.{Bytes}
 use Rattle.fjall_base.specs.Store.{kept, map_at}
-use Rattle.fjall_journal.specs.Ops.{BatchItem}
+use Rattle.fjall_journal.specs.Changes.{Change}
+use Rattle.fjall_manager.specs.Journals.{Sealed}
 use Rattle.fjall_meta.specs.Keyspaces.{AreKeyspaces, Keyspaces, keyspace_at, with_keyspace, without_keyspace}
-use Rattle.fjall_versions.specs.declared.version.Version.{Version}
-use Rattle.fjall_versions.specs.Versions.{before, pairs_in, store_of, version_made}
+use Rattle.fjall_lsm.specs.Trees.{sealed_off}
+use Rattle.fjall_trees.specs.Forests.{AreBefore, Forest, IsForest, altered_at, tree_at}
+use Rattle.fjall_trees.specs.Forests as forests
+use Rattle.fjall_trees.specs.Writes.{AreBare, with_tree}
+use Rattle.fjall_maps.specs.Maps.{pairs_in, store_of}
 use Rattle.fjall_history.specs.declared.ticket.View.{View}
 use Rattle.fjall_history.specs.declared.ticket.View.TheVariants.{Present, At}
 use Rattle.fjall_history.specs.Histories.{number, view}
-use Rattle.fjall_history.specs.Tickets.{Tickets, no_tickets}
+use Rattle.fjall_history.specs.Tickets.{Tickets, collected, no_tickets}
 pub use Rattle.fjall_history.specs.Tickets.{IsDueOrMemory}
-use Rattle.fjall_state.specs.Machine.{Facts, State, handles_of, instant_of, is_among, is_deleted, one_less, one_more, present, without}
+use Rattle.fjall_state.specs.Machine.{Facts, State, changed, handles_of, instant_of, is_among, is_deleted, one_less, one_more, present, without}
 
--- The keyspaces that live, the versions of all keyspaces, oldest first, the next number, whether a fault has poisoned
--- the engine, how many handles of each keyspace are counted, the deleted keyspaces whose last maps are still read, the
--- keyspaces that have a table with a wrong block, which are not read, and the tickets.
+-- The keyspaces that live, the trees of keyspaces, the next number, whether a fault has poisoned the engine, how many
+-- handles of each keyspace are counted, the deleted keyspaces whose last maps are still read, the keyspaces that have a
+-- table with a wrong block, which are not read, the tickets, and the sealed journals.
 pub record Remembered : Type 0 where
   pub keyspaces : Keyspaces
-  pub versions : List Version
+  pub trees : Forest
   pub next : ℕ
   pub poisoned : Bool
   pub handles : FinMap nat_cmp ℕ
   pub lasting : List ℕ
   pub damaged : List ℕ
   pub tickets : Tickets
+  pub sealed : List Sealed
 
--- Keyspaces and versions were made under lesser numbers than the next one, versions are of ids that were given out, and tickets
--- read at numbers up to the next one, above the watermark.
+-- Keyspaces and what trees hold were made under lesser numbers than the next one, which is at most 2^63. Each keyspace that
+-- lives has a tree, and trees are of ids that were given out; no tree has a table. Tickets read at numbers up to the next one,
+-- above the watermark.
 pub record IsLawful (m : Remembered) : Type 0 where
   pub keyspaces : AreKeyspaces m.keyspaces
   pub made : All (λ k. k.number < m.next) m.keyspaces.living
-  pub given : All (λ v. v.keyspace_id < m.keyspaces.next) m.versions
-  pub below : All (λ v. v.seqno < m.next) m.versions
+  pub forest : IsForest m.trees
+  pub planted : All (λ k. is_some (tree_at k.id m.trees) ≡ true) m.keyspaces.living
+  pub given : All (λ k. k.id < m.keyspaces.next) m.trees
+  pub below : AreBefore m.next m.trees
+  pub bare : AreBare m.trees
+  pub small : m.next ≤ 2 ^ 63
   pub reached : All (λ instant. instant ≤ m.next) (values m.tickets.instants)
   pub spared : 0 < m.tickets.watermark → m.tickets.watermark < m.next
 
@@ -45,12 +55,12 @@ handles_code = code coded_ℕ coded_ℕ
 
 -- what refusals look at, the id of tree 0's next table being this one
 abbrev pub facts_of : Remembered → ℕ → Facts
-facts_of m table = record { store = store_of m.keyspaces m.versions; next = m.next; poisoned = m.poisoned; lasting = m.lasting; damaged = m.damaged; handles = m.handles; tickets = m.tickets; table = table }
+facts_of m table = record { store = store_of m.keyspaces m.trees; next = m.next; poisoned = m.poisoned; lasting = m.lasting; damaged = m.damaged; handles = m.handles; tickets = m.tickets; table = table }
 
--- the versions that a view shows
-abbrev pub versions_in : Remembered → View → List Version
-versions_in m Present = before m.next m.versions
-versions_in m (At ticket) = before (instant_of m.tickets ticket.id) m.versions
+-- the instant at which a view reads: the next number, or where its ticket does
+abbrev pub instant_in : Remembered → View → ℕ
+instant_in m Present = m.next
+instant_in m (At ticket) = instant_of m.tickets ticket.id
 
 -- an instant at which something reads: the present's, or an open ticket's
 abbrev pub IsReadAt : Remembered → ℕ → Type 0
@@ -60,12 +70,12 @@ IsReadAt m instant = (instant ≡ m.next) ⊎ ((ticket : ℕ) × (get m.tickets.
 abbrev pub is_held : Remembered → ℕ → Bool
 is_held m id = is_some (keyspace_at id m.keyspaces.living) || (is_among m.lasting id || nat_le m.keyspaces.next id)
 
--- The state is one that an engine may be in that holds this in memory: its present is what the versions make of the
--- keyspaces, but for deleted ones; at each instant at which something reads, the view's maps are what the versions below it
--- make; and the tickets are the same ones.
+-- The state is one that an engine may be in that holds this in memory: its present is what the trees show of the
+-- keyspaces, but for deleted ones; at each instant at which something reads, the view's maps are what the trees show then;
+-- and the tickets and the sealed journals are the same ones.
 pub record StandsFor (m : Remembered) (table : ℕ) (s : State) : Type 0 where
-  pub present : kept (present s) ≡ kept (store_of m.keyspaces m.versions)
-  pub views : (instant : ℕ) → IsReadAt m instant → (id : ℕ) → is_held m id ≡ true → map_at (view s.history instant).maps id ≡ pairs_in id (before instant m.versions)
+  pub present : kept (present s) ≡ kept (store_of m.keyspaces m.trees)
+  pub views : (instant : ℕ) → IsReadAt m instant → (id : ℕ) → is_held m id ≡ true → map_at (view s.history instant).maps id ≡ pairs_in id instant m.trees
   pub number : number s.history ≡ m.next
   pub poisoned : s.poisoned ≡ m.poisoned
   pub handles : s.handles ≡ m.handles
@@ -75,32 +85,39 @@ pub record StandsFor (m : Remembered) (table : ℕ) (s : State) : Type 0 where
   pub jobs : s.jobs ≡ []
   pub next_job : s.next_job ≡ 0
   pub next_table : s.parts.table ≡ table
+  pub trees : s.parts.trees ≡ m.trees
+  pub sealed : s.parts.sealed ≡ m.sealed
   pub lawful : IsLawful m
 
 -- just opened, where these keyspaces have a table with a wrong block
-abbrev pub remembered : Keyspaces → List Version → List ℕ → ℕ → Remembered
-remembered keyspaces versions damaged next = record {
+abbrev pub remembered : Keyspaces → Forest → List ℕ → ℕ → List Sealed → Remembered
+remembered keyspaces trees damaged next sealed = record {
   keyspaces = keyspaces;
-  versions = versions;
+  trees = trees;
   next = next;
   poisoned = false;
   handles = empty;
   lasting = [];
   damaged = damaged;
   tickets = no_tickets;
+  sealed = sealed;
 }
 
 -- ---- what calls make of it
 
--- with a version of each item more, which took the next number
-abbrev pub with_items : List BatchItem → Remembered → Remembered
-with_items items m = record m { versions = m.versions ++ map (version_made m.next) items; next = m.next + 1 }
+-- with a change more, which took the next number
+abbrev pub with_change : Change → Remembered → Remembered
+with_change change m = record m { trees = changed m.next change m.trees; next = m.next + 1 }
 
--- with a keyspace more, made under the next number
+-- with a keyspace more, made under the next number, and its tree, which holds nothing
 abbrev pub with_creation : Bytes → List Bytes → Remembered → Remembered
-with_creation name options m = record m { keyspaces = with_keyspace name options m.next m.keyspaces; next = m.next + 1 }
+with_creation name options m = record m {
+  keyspaces = with_keyspace name options m.next m.keyspaces;
+  trees = with_tree m.keyspaces.next m.next m.trees;
+  next = m.next + 1;
+}
 
--- with a keyspace less, which took the next number; its last map is still read
+-- with a keyspace less, which took the next number; its tree stays, since its last map is still read
 abbrev pub with_deletion : ℕ → Remembered → Remembered
 with_deletion id m = record m { keyspaces = without_keyspace id m.keyspaces; next = m.next + 1; lasting = m.lasting ++ id ∷ [] }
 
@@ -108,25 +125,25 @@ with_deletion id m = record m { keyspaces = without_keyspace id m.keyspaces; nex
 abbrev pub retained : ℕ → Remembered → Remembered
 retained id m = record m { handles = one_more m.handles id }
 
--- the versions but those of this id
-abbrev pub versions_without : ℕ → List Version → List Version
-versions_without id versions = filter (λ version. not (version.keyspace_id == id)) versions
-
--- what a deleted keyspace held is dropped
+-- the tree of a deleted keyspace is dropped
 abbrev pub let_go : ℕ → Remembered → Remembered
-let_go id m = record m { lasting = without m.lasting id; versions = versions_without id m.versions }
+let_go id m = record m { lasting = without m.lasting id; trees = forests.without id m.trees }
 
 -- the last handle of a deleted keyspace is counted
 abbrev pub is_last : Remembered → ℕ → Bool
-is_last m id = is_deleted (store_of m.keyspaces m.versions) id && (handles_of m.handles id == 1)
+is_last m id = is_deleted (store_of m.keyspaces m.trees) id && (handles_of m.handles id == 1)
 
--- A handle less is counted. With the last one of a deleted keyspace goes what it held.
+-- A handle less is counted. With the last one of a deleted keyspace goes its tree.
 abbrev pub released : ℕ → Remembered → Remembered
 released id m = record m {
   handles = one_less m.handles id;
   lasting = if is_last m id then without m.lasting id else m.lasting;
-  versions = if is_last m id then versions_without id m.versions else m.versions;
+  trees = if is_last m id then forests.without id m.trees else m.trees;
 }
+
+-- with the active memtable of a keyspace sealed, and the watermark raised
+abbrev pub rotated : ℕ → Remembered → Remembered
+rotated id m = record m { trees = altered_at id sealed_off m.trees; tickets = collected m.next m.tickets }
 
 -- with these tickets
 abbrev pub with_tickets : Tickets → Remembered → Remembered

@@ -2,12 +2,14 @@
 use Rattle.std.specs.Prelude.{ℕ, List, [], ◌∷◌, Option}
 use Rattle.fjall_base.specs.Pairs.{Bytes}
 use Rattle.fjall_journal.specs.Ops.{BatchItem}
+use Rattle.fjall_journal.specs.Changes.{Change, Items, Emptied}
 use Rattle.fjall_journal.specs.declared.op.Op.TheVariants as ops
 use Rattle.fjall_journal.specs.declared.persist_mode.PersistMode.{PersistMode}
 use Rattle.fjall_history.specs.declared.ticket.View.{View}
 use Rattle.fjall_history.specs.Queries.{Query, Get, Page}
 use Rattle.fjall_state.specs.declared.call.Call.{Call}
-use Rattle.fjall_state.specs.declared.call.Call.TheVariants.{Keyspace, DeleteKeyspace, Retain, Release, Insert, Remove, RemoveWeak, CommitBatch, GetAt, PageAt, Snapshot, CloneSnapshot, CloseSnapshot, Gc, Persist, KeyspaceCount, ListKeyspaceNames, KeyspaceExists, Seqno, VisibleSeqno, JournalDiskSpace, OpenSnapshots}
+use Rattle.fjall_state.specs.declared.call.Call.TheVariants as calls
+use Rattle.fjall_state.specs.declared.call.Call.TheVariants.{Keyspace, DeleteKeyspace, Retain, Release, Insert, Remove, RemoveWeak, Clear, CommitBatch, RotateMemtable, GetAt, PageAt, Snapshot, CloneSnapshot, CloseSnapshot, Gc, Persist, KeyspaceCount, ListKeyspaceNames, KeyspaceExists, Seqno, VisibleSeqno, JournalCount, JournalDiskSpace, OpenSnapshots, ApproximateLen, SealedMemtableCount, WriteBufferSize}
 
 -- How a change is persisted: as the option of the keyspace of this id says, or by a mode or none that came with it.
 pub data Persistence : Type 0 where
@@ -33,15 +35,22 @@ pub data Count : Type 0 where
   Exists : (name : Bytes) → Count
   Next : Count
   Visible : Count
+  Journals : Count
   JournalSpace : Count
   OpenTickets : Count
+  Entries : (id : ℕ) → Count
+  SealedMemtables : (id : ℕ) → Count
+  WriteBuffer : Count
+  WantsRotation : (id : ℕ) → Count
 
--- A change is one command with its batch; a read is a query on a keyspace's map in a view.
+-- A change is one command with its batch; a rotation seals a keyspace's active memtable; a read is a query on a keyspace's
+-- map in a view.
 pub data Shape : Type 0 where
-  OfChange : (items : List BatchItem) (how : Persistence) → Shape
+  OfChange : (change : Change) (how : Persistence) → Shape
   OfCreation : (name : Bytes) (options : List Bytes) → Shape
   OfDeletion : (id : ℕ) → Shape
   OfHandle : (call : HandleCall) (id : ℕ) → Shape
+  OfRotation : (id : ℕ) → Shape
   OfRead : (view : View) (id : ℕ) (query : Query) → Shape
   OfTickets : (call : TicketCall) → Shape
   OfPersist : (mode : PersistMode) → Shape
@@ -49,7 +58,11 @@ pub data Shape : Type 0 where
 
 -- a write of one key, which is persisted as its keyspace says
 abbrev pub of_write : BatchItem → Shape
-of_write item = OfChange (item ∷ []) (AsKeyspace item.0)
+of_write item = OfChange (Items (item ∷ [])) (AsKeyspace item.0)
+
+-- a clear of a keyspace, which is persisted as that says
+abbrev pub of_clear : ℕ → Shape
+of_clear id = OfChange (Emptied id) (AsKeyspace id)
 
 abbrev pub shape_of : Call → Shape
 shape_of (Keyspace name options) = OfCreation name options
@@ -59,7 +72,9 @@ shape_of (Release id) = OfHandle OneLess id
 shape_of (Insert id key value) = of_write (id, key, ops.Put value)
 shape_of (Remove id key) = of_write (id, key, ops.Remove)
 shape_of (RemoveWeak id key) = of_write (id, key, ops.RemoveWeak)
-shape_of (CommitBatch items mode) = OfChange items.items (ByMode mode)
+shape_of (Clear id) = of_clear id
+shape_of (CommitBatch items mode) = OfChange (Items items.items) (ByMode mode)
+shape_of (RotateMemtable id) = OfRotation id
 shape_of (GetAt view id key) = OfRead view id (Get key)
 shape_of (PageAt view id range back max) = OfRead view id (Page range back max)
 shape_of Snapshot = OfTickets Open
@@ -72,5 +87,10 @@ shape_of ListKeyspaceNames = OfCount Names
 shape_of (KeyspaceExists name) = OfCount (Exists name)
 shape_of Seqno = OfCount Next
 shape_of VisibleSeqno = OfCount Visible
+shape_of JournalCount = OfCount Journals
 shape_of JournalDiskSpace = OfCount JournalSpace
 shape_of OpenSnapshots = OfCount OpenTickets
+shape_of (ApproximateLen id) = OfCount (Entries id)
+shape_of (SealedMemtableCount id) = OfCount (SealedMemtables id)
+shape_of WriteBufferSize = OfCount WriteBuffer
+shape_of (calls.WantsRotation id) = OfCount (WantsRotation id)

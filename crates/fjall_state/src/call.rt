@@ -24,8 +24,12 @@ pub enum Call {
     Remove(u64, UserKey),
     /// `remove_weak`: keyspace id and key.
     RemoveWeak(u64, UserKey),
+    /// `clear`: keyspace id.
+    Clear(u64),
     /// `commit_batch`: the items, and how they are persisted.
     CommitBatch(Vec<BatchItem>, Option<PersistMode>),
+    /// `rotate_memtable`: keyspace id.
+    RotateMemtable(u64),
     /// `get_at`: view, keyspace id and key.
     GetAt(View, u64, UserKey),
     /// `page_at`: view, keyspace id, range of keys, whether from behind, and how many pairs at most.
@@ -50,8 +54,18 @@ pub enum Call {
     Seqno,
     /// `visible_seqno`.
     VisibleSeqno,
+    /// `journal_count`.
+    JournalCount,
     /// `journal_disk_space`.
     JournalDiskSpace,
     /// `open_snapshots`.
     OpenSnapshots,
+    /// `approximate_len`: keyspace id.
+    ApproximateLen(u64),
+    /// `sealed_memtable_count`: keyspace id.
+    SealedMemtableCount(u64),
+    /// `write_buffer_size`.
+    WriteBufferSize,
+    /// `wants_rotation`: keyspace id.
+    WantsRotation(u64),
 }

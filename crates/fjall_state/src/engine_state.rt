@@ -1,48 +1,53 @@
-//! What an engine holds in memory: keyspaces that were made under lesser numbers than the next one, and versions
-//! of ids that were given out.
+//! What an engine holds in memory: keyspaces that were made under lesser numbers than the next one, and the trees of
+//! keyspaces.
 
-ghost use Rattle.std.specs.Prelude.{◌≡◌, ◌≢◌, ◌<◌, ◌+◌, ◌-◌, ◌^◌, ◌++◌, ◌∷◌, [], ℕ, List, All, None, is_some, not, true, false, length, map, IfOk, IfErr, OnOk, OnErr, IsOkUnless, IsPermutation, IsSorted};
+ghost use Rattle.std.specs.Prelude.{◌≡◌, ◌≢◌, ◌<◌, ◌≤◌, ◌+◌, ◌-◌, ◌^◌, ◌++◌, ◌∷◌, [], List, All, None, is_some, not, true, false, length, map, IfOk, IfErr, OnOk, OnErr, IsOkUnless, IsPermutation, IsSorted};
 ghost use Rattle.std.specs.FinMap.{empty, from_entries, get, len, values};
-ghost use Rattle.std.specs.Option.{option_copied};
-ghost use Rattle.fjall_base.specs.Pairs.{Bytes, byte_order, page, pairs_between};
+ghost use Rattle.fjall_base.specs.Pairs.{Bytes, byte_order, lookup, page, pairs_between};
 ghost use Rattle.fjall_base.specs.declared.error.Error.TheVariants.{KeyspaceDeleted, UnknownKeyspace};
+ghost use Rattle.fjall_manager.specs.Journals.{bytes_of};
 ghost use Rattle.fjall_meta.specs.Keyspaces.{id_of, is_name};
-ghost use Rattle.fjall_journal.specs.Ops.{BatchItem as Item};
-ghost use Rattle.fjall_versions.specs.declared.version.Version.{Version};
-ghost use Rattle.fjall_versions.specs.Versions.{before, newest, pairs_in, store_of};
+ghost use Rattle.fjall_trees.specs.Forests.{AreBefore, tree_at};
+ghost use Rattle.fjall_trees.specs.Views.{forest_of};
+ghost use Rattle.fjall_trees.specs.Writes.{AreBare};
+ghost use Rattle.fjall_maps.specs.Maps.{pairs_in, store_of};
 ghost use Rattle.fjall_history.specs.Tickets.{closed, closing_refusal, cloning_refusal, collected, is_open as is_open_in, opened, opening_refusal};
 ghost use Rattle.fjall_state.specs.Machine.{first_due, handle_refusals, handles_of, has_name, is_among, is_living, is_read, is_unknown, one_less, persists_by_hand, read_refusals, view_refusals};
 ghost use Rattle.fjall_state.specs.Shapes.{OneMore};
-ghost use Rattle.fjall_state.specs.Remembered.{IsDueOrMemory, IsLawful, Remembered, facts_of, is_last, let_go, poisoned, released, remembered, retained, versions_in, with_creation, with_deletion, with_items, with_tickets};
+ghost use Rattle.fjall_state.specs.Remembered.{IsDueOrMemory, IsLawful, Remembered, facts_of, instant_in, is_last, let_go, poisoned, released, remembered, retained, with_creation, with_deletion, with_tickets};
 
 use fjall_base::{Error, KvPair, Result, Slice, StorageError, UserValue};
 use fjall_history::{Ticket, Tickets, View};
-use fjall_journal::BatchItem;
+use fjall_manager::JournalManager;
 use fjall_meta::{LivingKeyspace, MetaKeyspace};
 use fjall_options::KeyspaceCreateOptions;
-use fjall_versions::{KeyRange, Version, newest_value, page, push_items};
+use fjall_reading::bounds_of;
+use fjall_trees::Trees;
+use fjall_versions::KeyRange;
 use std::alloc::Global;
 use std::collections::BTreeMap;
 use std::marker::Model;
 
-/// What an engine holds in memory: the keyspaces that live, the versions of all keyspaces, oldest first, the tickets of
-/// snapshots with the next number, at which a new one reads, whether a fault has poisoned it, how many handles of each
-/// keyspace are counted, the deleted keyspaces that are still read, and the keyspaces that aren't read since a block of one
-/// of their tables is wrong.
+/// What an engine holds in memory: the keyspaces that live, the trees of these and of the deleted ones that are still read,
+/// the tickets of snapshots with the next number, at which a new one reads, whether a fault has poisoned it, how many handles
+/// of each keyspace are counted, the deleted keyspaces that are still read, the keyspaces that aren't read since a block of one
+/// of their tables is wrong, and the sealed journals.
 #[derive(Drop)]
 pub struct EngineState {
-    keyspaces: MetaKeyspace,
-    versions: Vec<Version>,
-    tickets: Tickets,
+    pub(crate) keyspaces: MetaKeyspace,
+    pub(crate) trees: Trees,
+    pub(crate) tickets: Tickets,
     poisoned: bool,
     handles: BTreeMap<u64, u64>,
     lasting: Vec<u64>,
     damaged: Vec<u64>,
+    sealed: JournalManager,
 }
 
 impl Model for EngineState {
     ghost use Rattle.std.specs.Coded.{codes};
     ghost use Rattle.std.specs.FinMap.{from_entries};
+    ghost use Rattle.fjall_trees.specs.Views.{forest_of};
     ghost use Rattle.fjall_state.specs.Remembered.{IsLawful, Remembered, handles_code};
 
     ghost Value = { Remembered };
@@ -51,24 +56,26 @@ impl Model for EngineState {
 
     ghost view = { λ m. record {
       keyspaces = m.keyspaces;
-      versions = m.versions.items;
+      trees = forest_of m.trees;
       next = m.tickets.visible;
       poisoned = m.poisoned;
       handles = from_entries m.handles.entries;
       lasting = m.lasting.items;
       damaged = m.damaged.items;
       tickets = m.tickets.tickets;
+      sealed = m.sealed;
     } };
 
     ghost invariant = { λ m. IsLawful (record {
       keyspaces = m.keyspaces;
-      versions = m.versions.items;
+      trees = forest_of m.trees;
       next = m.tickets.visible;
       poisoned = m.poisoned;
       handles = from_entries m.handles.entries;
       lasting = m.lasting.items;
       damaged = m.damaged.items;
       tickets = m.tickets.tickets;
+      sealed = m.sealed;
     }) };
 }
 
@@ -92,40 +99,34 @@ fn count_less(handles: &mut BTreeMap<u64, u64>, id: u64)
     }
 }
 
-/// Another owner of a value, where there is one.
-fn shared_value(value: Option<&UserValue>) -> Result<Option<UserValue>>
-    ensures ok { IfOk result (λ shared. shared ≡ option_copied value.entry) }
-    ensures only { IsOkUnless result Error.OutOfMemory }
-{
-    match value {
-        Some(value) => Ok(Some(value.clone()?)),
-        None => Ok(None),
-    }
-}
-
 impl EngineState {
-    /// These keyspaces, with these versions, whose next change takes this number. The damaged ones have a table with
-    /// a wrong block.
+    /// These keyspaces, with these trees, whose next change takes this number. The damaged ones have a table with a wrong
+    /// block. Before the active journal there are these sealed ones.
     pub fn new(
         alloc: Global,
         keyspaces: MetaKeyspace,
-        versions: Vec<Version>,
+        trees: Trees,
         damaged: Vec<u64>,
         next: u64,
+        sealed: JournalManager,
     ) -> EngineState
         requires made { All (λ k. k.number < next) keyspaces.living }
-        requires given { All (λ v. v.keyspace_id < keyspaces.next) versions.items }
-        requires below { All (λ v. v.seqno < next) versions.items }
-        ensures { result ≡ remembered keyspaces versions.items damaged.items next }
+        requires planted { All (λ k. is_some (tree_at k.id (forest_of trees)) ≡ true) keyspaces.living }
+        requires given { All (λ k. k.id < keyspaces.next) (forest_of trees) }
+        requires below { AreBefore next (forest_of trees) }
+        requires bare { AreBare (forest_of trees) }
+        requires small { next ≤ 2 ^ 63 }
+        ensures { result ≡ remembered keyspaces (forest_of trees) damaged.items next sealed }
     {
         EngineState {
             keyspaces,
-            versions,
+            trees,
             tickets: Tickets::new(alloc, next),
             poisoned: false,
             handles: BTreeMap::new(alloc),
             lasting: Vec::new(alloc),
             damaged,
+            sealed,
         }
     }
 
@@ -144,13 +145,6 @@ impl EngineState {
         self.keyspaces.living()
     }
 
-    /// The versions of all keyspaces, oldest first.
-    pub fn versions(&self) -> &[Version]
-        ensures { result.now ≡ self.now.versions }
-    {
-        &self.versions
-    }
-
     /// The number that the next change takes.
     pub fn seqno(&self) -> u64
         ensures { result ≡ self.now.next }
@@ -161,7 +155,7 @@ impl EngineState {
     /// The id that the next keyspace gets.
     pub fn next_id(&self) -> u64
         ensures value { result ≡ self.now.keyspaces.next }
-        ensures stored { result ≡ (store_of self.now.keyspaces self.now.versions).next }
+        ensures stored { result ≡ (store_of self.now.keyspaces self.now.trees).next }
     {
         self.keyspaces.next_id()
     }
@@ -173,10 +167,24 @@ impl EngineState {
         self.poisoned
     }
 
+    /// How many journals there are: the sealed ones and the active one.
+    pub fn journal_count(&self) -> usize
+        ensures { result ≡ length self.now.sealed + 1 }
+    {
+        self.sealed.journal_count()
+    }
+
+    /// How many bytes the files of the sealed journals have, at most the greatest `u64`.
+    pub fn sealed_journal_space(&self) -> u64
+        ensures { result ≡ bytes_of self.now.sealed }
+    {
+        self.sealed.disk_space_used()
+    }
+
     /// How many keyspaces live.
     pub fn keyspace_count(&self) -> usize
         ensures living { result ≡ length self.now.keyspaces.living }
-        ensures named { result ≡ len (store_of self.now.keyspaces self.now.versions).names }
+        ensures named { result ≡ len (store_of self.now.keyspaces self.now.trees).names }
     {
         self.keyspaces.keyspace_count()
     }
@@ -184,7 +192,7 @@ impl EngineState {
     /// The names of the keyspaces that live, in the order of their bytes. Refuses for want of memory alone.
     pub fn list_keyspace_names(&self, alloc: Global) -> Result<Vec<Slice>>
         ensures names { IfOk result (λ names. IsPermutation (map (λ k. k.name) self.now.keyspaces.living) names.items) }
-        ensures named { IfOk result (λ names. IsPermutation (values (store_of self.now.keyspaces self.now.versions).names) names.items) }
+        ensures named { IfOk result (λ names. IsPermutation (values (store_of self.now.keyspaces self.now.trees).names) names.items) }
         ensures sorted { IfOk result (λ names. IsSorted byte_order names.items) }
         ensures only { IsOkUnless result Error.OutOfMemory }
     {
@@ -193,7 +201,7 @@ impl EngineState {
 
     /// Whether a keyspace has this name.
     pub fn keyspace_exists(&self, name: &[u8]) -> bool
-        ensures { result ≡ has_name (store_of self.now.keyspaces self.now.versions) name.now }
+        ensures { result ≡ has_name (store_of self.now.keyspaces self.now.trees) name.now }
     {
         self.keyspaces.keyspace_exists(name)
     }
@@ -201,28 +209,28 @@ impl EngineState {
     /// The id of the keyspace that has this name.
     pub fn resolve(&self, name: &[u8]) -> Option<u64>
         ensures id { result ≡ id_of name.now self.now.keyspaces.living }
-        ensures named { is_some result ≡ has_name (store_of self.now.keyspaces self.now.versions) name.now }
+        ensures named { is_some result ≡ has_name (store_of self.now.keyspaces self.now.trees) name.now }
     {
         self.keyspaces.resolve_id(name)
     }
 
     /// Whether no keyspace ever had this id.
     pub fn is_unknown(&self, id: u64) -> bool
-        ensures { result ≡ is_unknown (store_of self.now.keyspaces self.now.versions) id }
+        ensures { result ≡ is_unknown (store_of self.now.keyspaces self.now.trees) id }
     {
         id == 0 || self.keyspaces.next_id() <= id
     }
 
     /// Whether the keyspace of this id lives.
     pub fn is_living(&self, id: u64) -> bool
-        ensures { result ≡ is_living (store_of self.now.keyspaces self.now.versions) id }
+        ensures { result ≡ is_living (store_of self.now.keyspaces self.now.trees) id }
     {
         self.keyspaces.get(id).is_some()
     }
 
     /// Whether the keyspace of this id lives and persists by hand: its writes wait in the journal's buffer.
     pub fn persists_by_hand(&self, id: u64) -> bool
-        ensures { result ≡ persists_by_hand (store_of self.now.keyspaces self.now.versions) id }
+        ensures { result ≡ persists_by_hand (store_of self.now.keyspaces self.now.trees) id }
     {
         match self.keyspaces.options_of(id) {
             Some(options) => options.effective().manual_journal_persist,
@@ -296,7 +304,7 @@ fn read_refusal(memory: &EngineState, id: u64) -> Option<Error>
 impl EngineState {
     // The instant at which a view reads; 0 where its ticket isn't open.
     fn instant_of(&self, view: View) -> u64
-        ensures { versions_in self.now view ≡ before result self.now.versions }
+        ensures { result ≡ instant_in self.now view }
     {
         match view {
             View::Present => self.seqno(),
@@ -323,12 +331,12 @@ impl EngineState {
     /// its tables is wrong, `OutOfMemory`.
     pub fn get(&self, view: View, id: u64, key: &[u8]) -> Result<Option<UserValue>>
         ensures due { OnOk result (first_due (view_refusals (facts_of self.now 0) view id) ≡ None) }
-        ensures ok { IfOk result (λ found. found ≡ newest (versions_in self.now view) id key.now) }
+        ensures ok { IfOk result (λ found. found ≡ lookup (pairs_in id (instant_in self.now view) self.now.trees) key.now) }
         ensures cause { IfErr result (IsDueOrMemory (first_due (view_refusals (facts_of self.now 0) view id))) }
     {
         match self.view_refusal(view, id) {
             Some(error) => Err(error),
-            None => shared_value(newest_value(&self.versions, self.instant_of(view), id, key)),
+            None => self.trees.get_in_memory(id, key, self.instant_of(view)),
         }
     }
 
@@ -347,14 +355,15 @@ impl EngineState {
         max: usize,
     ) -> Result<Vec<KvPair>>
         ensures due { OnOk result (first_due (view_refusals (facts_of self.now 0) view id) ≡ None) }
-        ensures ok { IfOk result (λ found. found.items ≡ page back max (pairs_between range.now (pairs_in id (versions_in self.now view)))) }
+        ensures ok { IfOk result (λ found. found.items ≡ page back max (pairs_between range.now (pairs_in id (instant_in self.now view) self.now.trees))) }
         ensures cause { IfErr result (IsDueOrMemory (first_due (view_refusals (facts_of self.now 0) view id))) }
     {
         if let Some(error) = self.view_refusal(view, id) {
             return Err(error);
         }
         let instant = self.instant_of(view);
-        page(alloc, &self.versions, instant, id, range, back, max)
+        self.trees
+            .page_in_memory(alloc, id, bounds_of(range), instant, back, max)
     }
 }
 
@@ -420,32 +429,8 @@ impl EngineState {
         self.poisoned = true;
     }
 
-    /// Keeps a version of each item, all of the next number. After a refusal, for want of memory alone, nothing has
-    /// changed.
-    pub fn push_items(&mut self, items: &[BatchItem]) -> Result<()>
-        requires living { All (λ item. is_living (store_of self.old.keyspaces self.old.versions) item.0 ≡ true) items.now }
-        requires numbered { self.old.next < 2 ^ 63 }
-        ensures ok { OnOk result (self.new ≡ with_items items.now self.old) }
-        ensures lawful { IsLawful self.old }
-        ensures unchanged { OnErr result (self.new ≡ self.old) }
-        ensures only { IsOkUnless result Error.OutOfMemory }
-    {
-        push_items(&mut self.versions, items, self.tickets.seqno())?;
-        self.tickets.publish();
-        Ok(())
-    }
-
-    /// Takes back the versions of so many items, which it was given last, and their number.
-    pub fn take_items(&mut self, count: usize)
-        requires { (items : List Item) × (m : Remembered) × IsLawful m × (length items ≡ count) × (self.old ≡ with_items items m) }
-        ensures { (items : List Item) (m : Remembered) → IsLawful m → length items ≡ count → self.old ≡ with_items items m → self.new ≡ m }
-    {
-        self.versions.truncate(self.versions.len() - count);
-        self.tickets.retract();
-    }
-
-    /// Makes a keyspace of this name with these options, under the next number, and answers its id. After a
-    /// refusal, for want of memory alone, nothing has changed.
+    /// Makes a keyspace of this name with these options, under the next number, with a tree that holds nothing, and answers
+    /// its id. After a refusal, for want of memory alone, nothing has changed.
     pub fn create(&mut self, name: Slice, options: KeyspaceCreateOptions) -> Result<u64>
         requires named { is_name name ≡ true }
         requires fresh { id_of name self.old.keyspaces.living ≡ None }
@@ -458,18 +443,28 @@ impl EngineState {
         ensures only { IsOkUnless result Error.OutOfMemory }
     {
         let number = self.tickets.seqno();
-        let id = self.keyspaces.create_keyspace(name, options, number)?;
-        self.tickets.publish();
-        Ok(id)
+        let next = self.keyspaces.next_id();
+        self.trees.plant(next, number)?;
+        match self.keyspaces.create_keyspace(name, options, number) {
+            Ok(id) => {
+                self.tickets.publish();
+                Ok(id)
+            }
+            Err(error) => {
+                self.trees.let_go(next);
+                Err(error)
+            }
+        }
     }
 
     /// Takes back the keyspace that was made last, where that was the last change: its id and its number are free
-    /// again.
+    /// again, and its tree is dropped.
     pub fn take_back(&mut self)
         requires { (name : Bytes) × (options : List Bytes) × (m : Remembered) × IsLawful m × (self.old ≡ with_creation name options m) }
         ensures { (name : Bytes) (options : List Bytes) (m : Remembered) → IsLawful m → self.old ≡ with_creation name options m → self.new ≡ m }
     {
         self.keyspaces.take_back();
+        self.trees.let_go(self.keyspaces.next_id());
         self.tickets.retract();
     }
 
@@ -487,7 +482,7 @@ impl EngineState {
     /// Deletes a keyspace, under the next number; it is still read. It takes no memory, since it is given what
     /// [`prepare_deletion`](EngineState::prepare_deletion) made.
     pub fn delete(&mut self, id: u64, lasting: Vec<u64>)
-        requires living { is_living (store_of self.old.keyspaces self.old.versions) id ≡ true }
+        requires living { is_living (store_of self.old.keyspaces self.old.trees) id ≡ true }
         requires numbered { self.old.next < 2 ^ 63 }
         requires prepared { lasting.items ≡ self.old.lasting ++ id ∷ [] }
         ensures { self.new ≡ with_deletion id self.old }
@@ -517,12 +512,13 @@ impl EngineState {
         Ok(())
     }
 
-    // Drops what a deleted keyspace held.
+    // Drops the tree of a deleted keyspace.
     fn let_go(&mut self, id: u64)
+        requires { is_living (store_of self.old.keyspaces self.old.trees) id ≡ false }
         ensures { self.new ≡ let_go id self.old }
     {
         self.lasting.retain(|other| *other != id);
-        self.versions.retain(|version| version.keyspace_id != id);
+        self.trees.let_go(id);
     }
 
     // Counts one handle less.
@@ -533,8 +529,8 @@ impl EngineState {
         count_less(&mut self.handles, id);
     }
 
-    /// Counts one handle less of a keyspace of which one is counted. With the last one of a deleted keyspace goes
-    /// what it held. It takes no memory.
+    /// Counts one handle less of a keyspace of which one is counted. With the last one of a deleted keyspace goes its
+    /// tree. It takes no memory.
     pub fn release(&mut self, id: u64)
         requires counted { 0 < handles_of self.old.handles id }
         ensures { self.new ≡ released id self.old }

@@ -1,14 +1,14 @@
 //! What holds of the definitions.
 
-ghost use Rattle.std.specs.Prelude.{◌≡◌, ◌≢◌, ◌<◌, ◌+◌, ◌-◌, ◌^◌, ◌↔◌, [], All, true, false, nat_le, if◌then◌else◌, ℕ, List, None, Some, is_some, length, map};
+ghost use Rattle.std.specs.Prelude.{◌≡◌, ◌≢◌, ◌<◌, ◌+◌, ◌-◌, ◌^◌, ◌↔◌, [], true, false, nat_le, if◌then◌else◌, ℕ, List, None, Some, is_some, length, map};
 ghost use Rattle.std.specs.FinMap.{empty, get, len, values};
 ghost use Rattle.fjall_base.specs.Pairs.{Bytes};
 ghost use Rattle.fjall_base.specs.Store.{Store, map_at};
 ghost use Rattle.fjall_base.specs.declared.error.Error.{Error};
-ghost use Rattle.fjall_journal.specs.Ops.{BatchItem as Item};
+ghost use Rattle.fjall_journal.specs.Changes.{Change, Items};
 ghost use Rattle.fjall_meta.specs.Keyspaces.{id_of, is_name};
 ghost use Rattle.fjall_options.specs.Options.{AreOptions};
-ghost use Rattle.fjall_versions.specs.Versions.{pairs_in, store_of};
+ghost use Rattle.fjall_maps.specs.Maps.{pairs_in, store_of};
 ghost use Rattle.fjall_history.specs.declared.ticket.View.{View as Seen};
 ghost use Rattle.fjall_history.specs.declared.reply.Reply.{Reply as Told};
 ghost use Rattle.fjall_history.specs.declared.reply.Reply.TheVariants.{Refused};
@@ -16,11 +16,12 @@ ghost use Rattle.fjall_history.specs.Histories.{view};
 ghost use Rattle.fjall_history.specs.Moves.{AreSound, Moves};
 ghost use Rattle.fjall_history.specs.Tickets.{closed, collected, no_tickets, opened};
 ghost use Rattle.fjall_state.specs.declared.call.Call.{Call as Asked};
-ghost use Rattle.fjall_state.specs.Allowed.{MayChange, MayCreate, MayDelete};
+ghost use Rattle.fjall_state.specs.Allowed.{FitsBatch, IsOfLiving, MayChange, MayCreate, MayDelete};
 ghost use Rattle.fjall_state.specs.Shapes.{OneLess, Persistence, Shape};
 ghost use Rattle.fjall_state.specs.Machine as machine;
-ghost use Rattle.fjall_state.specs.Machine.{Facts, IsPoisoned, Parts, Run, State, Step, StepOf, TakesMemory, accepted, change_refusals, created, creation_refusals, deleted, deletion_refusals, due, due_in, first_due, handle_refusals, handles_of, has_name, is_living, maps_in, one_more, opened_state, persists_by_hand, present, times, view_refusals};
-ghost use Rattle.fjall_state.specs.Remembered.{IsDueOrMemory, IsLawful, Remembered, StandsFor, facts_of, poisoned, released, retained, versions_in, with_creation, with_deletion, with_items, with_tickets};
+ghost use Rattle.fjall_state.specs.Machine.{Facts, IsPoisoned, Parts, Run, State, Step, StepOf, TakesMemory, accepted, change_refusals, created, creation_refusals, deleted, deletion_refusals};
+ghost use Rattle.fjall_state.specs.Machine.{due, due_in, first_due, handle_refusals, handles_of, has_name, is_living, maps_in, one_more, opened_state, persists_by_hand, present, rotates, times, view_refusals};
+ghost use Rattle.fjall_state.specs.Remembered.{IsDueOrMemory, IsLawful, Remembered, StandsFor, facts_of, instant_in, poisoned, released, retained, rotated, with_change, with_creation, with_deletion, with_tickets};
 
 /// What is held tells which refusal is due in each state that it stands for.
 pub fn facts_agree()
@@ -35,24 +36,29 @@ pub fn a_refusal_is_a_step()
         → IsDueOrMemory (due_in (facts_of m table) shape) error → StepOf s shape (Refused error) s }
 {}
 
-/// A version of each item more is an accepted change.
+/// A change more of keyspaces that live is an accepted one: a version of each item, or a clear.
 pub fn a_change_stands()
-    ensures { (m : Remembered) (table : ℕ) (s : State) → StandsFor m table s → (items : List Item) (how : Persistence) → items ≢ []
-        → All (λ item. is_living (store_of m.keyspaces m.versions) item.0 ≡ true) items
-        → StandsFor (with_items items m) table (accepted s items how) }
+    ensures { (m : Remembered) (table : ℕ) (s : State) → StandsFor m table s → (change : Change) (how : Persistence) → change ≢ Items []
+        → IsOfLiving (store_of m.keyspaces m.trees) change → FitsBatch change → m.next < 2 ^ 63
+        → StandsFor (with_change change m) table (accepted s change how) }
+{}
+
+/// A memtable that is sealed is a rotation.
+pub fn a_rotation_stands()
+    ensures { (m : Remembered) (table : ℕ) (s : State) → StandsFor m table s → (id : ℕ) → StandsFor (rotated id m) table (machine.rotated s id) }
 {}
 
 /// A keyspace more is a creation.
 pub fn a_creation_stands()
     ensures { (m : Remembered) (table : ℕ) (s : State) → StandsFor m table s → (name : Bytes) (options : List Bytes) → is_name name ≡ true
-        → has_name (store_of m.keyspaces m.versions) name ≡ false
-        → AreOptions options → m.keyspaces.next ≢ 2 ^ 64 - 1 → StandsFor (with_creation name options m) (table + 1) (created s name options) }
+        → has_name (store_of m.keyspaces m.trees) name ≡ false
+        → AreOptions options → m.keyspaces.next ≢ 2 ^ 64 - 1 → m.next < 2 ^ 63 → StandsFor (with_creation name options m) (table + 1) (created s name options) }
 {}
 
 /// A keyspace less is a deletion.
 pub fn a_deletion_stands()
-    ensures { (m : Remembered) (table : ℕ) (s : State) → StandsFor m table s → (id : ℕ) → is_living (store_of m.keyspaces m.versions) id ≡ true
-        → StandsFor (with_deletion id m) (if nat_le 2 (len (store_of m.keyspaces m.versions).names) then table + 1 else table) (deleted s id) }
+    ensures { (m : Remembered) (table : ℕ) (s : State) → StandsFor m table s → (id : ℕ) → is_living (store_of m.keyspaces m.trees) id ≡ true
+        → m.next < 2 ^ 63 → StandsFor (with_deletion id m) (if nat_le 2 (len (store_of m.keyspaces m.trees).names) then table + 1 else table) (deleted s id) }
 {}
 
 /// A handle more is counted.
@@ -66,23 +72,23 @@ pub fn a_release_stands()
     ensures { (m : Remembered) (table : ℕ) (s : State) → StandsFor m table s → (id : ℕ) → StandsFor (released id m) table (machine.released s id) }
 {}
 
-/// After a fault what is held stands for poisoned states, whatever their parts are.
+/// After a fault what is held stands for poisoned states, whatever their parts but the trees and the sealed journals are.
 pub fn a_fault_stands()
     ensures stands { (m : Remembered) (table : ℕ) (s : State) → StandsFor m table s → (parts : Parts)
-        → StandsFor (poisoned m) parts.table (record s { poisoned = true; parts = parts }) }
-    ensures poisoned { (s : State) (parts : Parts) → IsPoisoned s (record s { poisoned = true; parts = parts }) }
+        → parts.trees ≡ m.trees → parts.sealed ≡ m.sealed → StandsFor (poisoned m) parts.table (record s { poisoned = true; parts = parts }) }
+    ensures poisoned { (s : State) (parts : Parts) → parts.trees ≡ s.parts.trees → parts.sealed ≡ s.parts.sealed → IsPoisoned s (record s { poisoned = true; parts = parts }) }
 {}
 
 /// How many bytes the journal has is nothing that memory tells of.
 pub fn other_parts_stand()
-    ensures { (m : Remembered) (table : ℕ) (s : State) → StandsFor m table s → (parts : Parts) → parts.table ≡ table
+    ensures { (m : Remembered) (table : ℕ) (s : State) → StandsFor m table s → (parts : Parts) → parts.table ≡ table → parts.trees ≡ m.trees → parts.sealed ≡ m.sealed
         → StandsFor m table (record s { parts = parts }) }
 {}
 
-/// Where no refusal of a read is due, versions tell what the view has.
+/// Where no refusal of a read is due, trees tell what the view has.
 pub fn reads_agree()
     ensures { (m : Remembered) (table : ℕ) (s : State) → StandsFor m table s → (view : Seen) (id : ℕ) → first_due (view_refusals (facts_of m table) view id) ≡ None
-        → pairs_in id (versions_in m view) ≡ map_at (maps_in s view) id }
+        → pairs_in id (instant_in m view) m.trees ≡ map_at (maps_in s view) id }
 {}
 
 /// Tickets that are opened, closed or collected are the state's: a new one reads at the next number, or where another one
@@ -113,6 +119,11 @@ pub fn a_snapshot_keeps_its_view()
     ensures opened { (store : Store) (damaged : List ℕ) (base : ℕ) (parts : Parts) → AreSound (times (opened_state store damaged base parts)) }
 {}
 
+/// A rotation seals something where the state's does.
+pub fn rotations_agree()
+    ensures { (m : Remembered) (table : ℕ) (s : State) → StandsFor m table s → (id : ℕ) → rotates s.parts.trees id ≡ rotates m.trees id }
+{}
+
 /// The present's keyspaces are those that are held.
 pub fn names_agree()
     ensures listed { (m : Remembered) (table : ℕ) (s : State) → StandsFor m table s → values (present s).names ≡ map (λ k. k.name) m.keyspaces.living }
@@ -122,25 +133,26 @@ pub fn names_agree()
     ensures resolved { (m : Remembered) (table : ℕ) (s : State) → StandsFor m table s → (id : ℕ) (name : Bytes)
         → (get (present s).names id ≡ Some name) ↔ (id_of name m.keyspaces.living ≡ Some id) }
     ensures living { (m : Remembered) (table : ℕ) (s : State) → StandsFor m table s → (id : ℕ)
-        → is_living (present s) id ≡ is_living (store_of m.keyspaces m.versions) id }
+        → is_living (present s) id ≡ is_living (store_of m.keyspaces m.trees) id }
     ensures next { (m : Remembered) (table : ℕ) (s : State) → StandsFor m table s → (present s).next ≡ m.keyspaces.next }
 {}
 
 /// A keyspace of the present persists by hand where the one that is held does.
 pub fn options_agree()
     ensures { (m : Remembered) (table : ℕ) (s : State) → StandsFor m table s → (id : ℕ)
-        → persists_by_hand (present s) id ≡ persists_by_hand (store_of m.keyspaces m.versions) id }
+        → persists_by_hand (present s) id ≡ persists_by_hand (store_of m.keyspaces m.trees) id }
 {}
 
 /// What was just opened stands for the state just opened, whichever keyspaces are damaged.
 pub fn an_opening_stands()
     ensures { (m : Remembered) → IsLawful m → m.handles ≡ empty → m.lasting ≡ [] → m.poisoned ≡ false → m.tickets ≡ no_tickets
-        → (table : ℕ) (parts : Parts) → parts.table ≡ table → StandsFor m table (opened_state (store_of m.keyspaces m.versions) m.damaged m.next parts) }
+        → (table : ℕ) (parts : Parts) → parts.table ≡ table → parts.trees ≡ m.trees → parts.sealed ≡ m.sealed
+        → StandsFor m table (opened_state (store_of m.keyspaces m.trees) m.damaged m.next parts) }
 {}
 
 /// Where nothing refuses a call, what it asks for is there.
 pub fn nothing_refused()
-    ensures change { (f : Facts) (items : List Item) → first_due (change_refusals f items) ≡ None → MayChange f items }
+    ensures change { (f : Facts) (change : Change) → first_due (change_refusals f change) ≡ None → MayChange f change }
     ensures creation { (f : Facts) (name : Bytes) → first_due (creation_refusals f name) ≡ None → MayCreate f name }
     ensures deletion { (f : Facts) (id : ℕ) → first_due (deletion_refusals f id) ≡ None → MayDelete f id }
     ensures release { (f : Facts) (id : ℕ) → first_due (handle_refusals f OneLess id) ≡ None → 0 < handles_of f.handles id }

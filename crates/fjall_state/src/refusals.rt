@@ -1,7 +1,7 @@
 //! What refuses a call before memory or the disk is asked for anything: the first refusal whose cause holds.
 
 ghost use Rattle.std.specs.Prelude.{◌≡◌, ◌==◌, ◌||◌, ◌-◌, ◌^◌, true};
-ghost use Rattle.fjall_state.specs.Machine.{are_used_up, change_refusals, creation_refusals, deletion_refusals, first_due, handle_refusals, some_deleted, some_unknown};
+ghost use Rattle.fjall_state.specs.Machine.{are_used_up, clear_refusals, creation_refusals, deletion_refusals, first_due, handle_refusals, items_refusals, rotation_refusals, some_deleted, some_unknown};
 ghost use Rattle.fjall_state.specs.Shapes.{OneLess};
 ghost use Rattle.fjall_state.specs.Remembered.{facts_of};
 
@@ -30,7 +30,7 @@ impl EngineState {
 
     /// What refuses a change of these items, cause by cause over all of them.
     pub fn change_refusal(&self, items: &[BatchItem]) -> Option<Error>
-        ensures { result ≡ first_due (change_refusals (facts_of self.now 0) items.now) }
+        ensures { result ≡ first_due (items_refusals (facts_of self.now 0) items.now) }
     {
         if has_empty_key(items) {
             return Some(Error::KeyEmpty);
@@ -52,6 +52,35 @@ impl EngineState {
         }
         if items.len() > BATCH_LIMIT {
             return Some(Error::TooManyItems);
+        }
+        if self.seqno() >= SEQNO_LIMIT {
+            return Some(Error::NumbersUsedUp);
+        }
+        None
+    }
+
+    /// What refuses a rotation of the memtable of the keyspace of this id.
+    pub fn rotation_refusal(&self, id: u64) -> Option<Error>
+        ensures { result ≡ first_due (rotation_refusals (facts_of self.now 0) id) }
+    {
+        if self.is_unknown(id) {
+            return Some(Error::UnknownKeyspace);
+        }
+        if !self.is_living(id) {
+            return Some(Error::KeyspaceDeleted);
+        }
+        if self.is_poisoned() {
+            return Some(Error::Poisoned);
+        }
+        None
+    }
+
+    /// What refuses a clear of the keyspace of this id: what refuses a rotation, or that no number is left.
+    pub fn clear_refusal(&self, id: u64) -> Option<Error>
+        ensures { result ≡ first_due (clear_refusals (facts_of self.now 0) id) }
+    {
+        if let Some(error) = self.rotation_refusal(id) {
+            return Some(error);
         }
         if self.seqno() >= SEQNO_LIMIT {
             return Some(Error::NumbersUsedUp);

@@ -1,5 +1,10 @@
+pub mod Changing
 pub mod Marking
 pub mod Others
+pub mod Outstanding
 pub mod Places
 pub mod Pushing
+pub mod Reading
+pub mod Rooms
+pub mod Same
 pub mod Searches

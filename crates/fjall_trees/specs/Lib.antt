@@ -1,4 +1,5 @@
 pub mod Forests
 pub mod Lists
+pub mod Tables
 pub mod Views
 pub mod Writes

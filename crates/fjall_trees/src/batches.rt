@@ -1,8 +1,10 @@
-//! Batches, and what takes them back.
+//! Batches and clears, and what takes them back.
 
-ghost use Rattle.std.specs.Prelude.{◌≡◌, ◌∷◌, [], IfOk, OnOk, OnErr};
+ghost use Rattle.std.specs.Prelude.{◌≡◌, ◌∷◌, ◌<◌, ◌^◌, [], IfOk, OnOk, OnErr};
 ghost use Rattle.std.specs.Option.{option_map};
 ghost use Rattle.fjall_journal.specs.Ops.{value_in};
+ghost use Rattle.fjall_lsm.specs.Trees.{emptied};
+ghost use Rattle.fjall_trees.specs.Forests.{AreBefore, altered_at};
 ghost use Rattle.fjall_trees.specs.Writes.{MayPush, pushed};
 
 use crate::marks::Marks;
@@ -60,6 +62,25 @@ impl Trees {
         let tree = &mut self.trees[place].tree;
         marks.push_reserved(tree.mark());
         tree.put(key.as_slice(), number, value_of(op))?;
+        Ok(Marks { from: place, marks })
+    }
+
+    /// Empties a keyspace by the change of that number, above all that its tree holds; without a tree nothing changes. It
+    /// answers marks of the trees as they were. It is refused for want of memory alone, and an `Err` leaves all as it was.
+    pub fn clear(&mut self, id: u64, number: u64) -> Result<Marks, AllocError>
+        requires before { AreBefore number (forest_of self.old) }
+        requires small { number < 2 ^ 63 }
+        ensures ok { OnOk result (forest_of self.new ≡ altered_at id (emptied number) (forest_of self.old)) }
+        ensures marks { IfOk result (λ marks. AreMarksOf self.new marks × (forest_before marks self.new ≡ forest_of self.old)) }
+        ensures err { OnErr result (forest_of self.new ≡ forest_of self.old) }
+    {
+        let mut marks = Vec::with_capacity(self.alloc, 1)?;
+        let Some(place) = place_of(self.trees.as_slice(), id) else {
+            return Ok(Marks { from: 0, marks });
+        };
+        let tree = &mut self.trees[place].tree;
+        marks.push_reserved(tree.mark());
+        tree.clear(number)?;
         Ok(Marks { from: place, marks })
     }
 

@@ -2,12 +2,18 @@
 #![tactic(auto)]
 
 mod batches;
+mod counts;
+mod jobs;
 mod laws;
 mod marks;
 mod memory;
+mod reads;
 mod trees;
 mod writes;
 
-pub use laws::other_trees_stay;
+pub use laws::{
+    finished_jobs_change_one_keyspace, flushes_of_trees_stay_out, merges_of_trees_stay_out,
+    other_trees_stay, the_tables_stay_read,
+};
 pub use marks::Marks;
 pub use trees::Trees;

@@ -1,11 +1,11 @@
 //! The trees of all keyspaces.
 
-ghost use Rattle.std.specs.Prelude.{◌≡◌, ◌≢◌, ◌++◌, ◌∷◌, ◌<◌, ◌≤◌, ◌^◌, [], List, All, length, map, not, IfOk, OnOk, OnErr, IsOkUnless, MatchOption, IsSomeAnd, Some, None, Ok, true, false, slice_get, unwrap_or};
+ghost use Rattle.std.specs.Prelude.{◌≡◌, ◌≢◌, ◌++◌, ◌∷◌, ◌<◌, [], List, All, length, map, not, IfOk, OnOk, OnErr, IsOkUnless, MatchOption, IsSomeAnd, Some, None, Ok, true, false, slice_get, unwrap_or};
 ghost use Rattle.std.specs.Option.{option_copied, option_map};
 ghost use Rattle.fjall_parts.specs.Parts.{holds_nothing};
 ghost use Rattle.fjall_lsm.specs.Shapes.{shape_of};
-ghost use Rattle.fjall_lsm.specs.Trees.{emptied, sealed_off};
-ghost use Rattle.fjall_trees.specs.Forests.{AreBefore, IsForest, altered_at, forest_prop, tree_at, without};
+ghost use Rattle.fjall_lsm.specs.Trees.{sealed_off};
+ghost use Rattle.fjall_trees.specs.Forests.{IsForest, altered_at, forest_prop, tree_at, without};
 ghost use Rattle.fjall_trees.specs.Lists.{forest_in};
 
 use fjall_lsm::Tree;
@@ -77,20 +77,6 @@ impl Trees {
         match place_of(self.trees.as_slice(), id) {
             Some(place) => Some(&self.trees[place].tree),
             None => None,
-        }
-    }
-
-    /// Empties a keyspace by the change of that number, above all that its tree holds; without a tree nothing changes. It is
-    /// refused for want of memory alone, and an `Err` leaves all as it was.
-    pub fn clear(&mut self, id: u64, number: u64) -> Result<(), AllocError>
-        requires before { AreBefore number (forest_of self.old) }
-        requires small { number < 2 ^ 63 }
-        ensures ok { OnOk result (forest_of self.new ≡ altered_at id (emptied number) (forest_of self.old)) }
-        ensures err { OnErr result (forest_of self.new ≡ forest_of self.old) }
-    {
-        match place_of(self.trees.as_slice(), id) {
-            Some(place) => self.trees[place].tree.clear(number),
-            None => Ok(()),
         }
     }
 

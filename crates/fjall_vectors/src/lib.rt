@@ -14,6 +14,8 @@ mod meta;
 #[cfg(test)]
 mod reading;
 #[cfg(test)]
+mod refusals;
+#[cfg(test)]
 mod tree;
 #[cfg(test)]
 mod tx;

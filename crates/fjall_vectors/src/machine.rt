@@ -1,10 +1,13 @@
 //! What an engine holds in memory: keyspaces made, written, deleted and read, and refusals in their order.
 
 use fjall_base::{Error, KvPair, Result, Slice, StorageError};
-use fjall_journal::{BatchItem, Op, PersistMode, ValueType};
+use fjall_journal::{BatchItem, Op, PersistMode, ValueType, Writer};
+use fjall_manager::JournalManager;
+use fjall_memory::MemoryDisk;
 use fjall_meta::MetaKeyspace;
 use fjall_options::KeyspaceCreateOptions;
 use fjall_state::{Call, EngineState, Reply, Ticket, View};
+use fjall_trees::Trees;
 use std::alloc::Global;
 use std::fmt::Debug;
 use std::ops::Bound;
@@ -53,16 +56,39 @@ fn items_of(alloc: Global, items: &[Item]) -> Result<Vec<BatchItem>> {
     Ok(batch)
 }
 
-/// Changes keys of keyspaces by these items, where nothing refuses it.
-fn push(memory: &mut EngineState, items: &[BatchItem]) -> Result<()> {
+/// Changes keys of keyspaces by these items, where nothing refuses it, with a journal of its own.
+fn push(alloc: Global, memory: &mut EngineState, items: &[BatchItem]) -> Result<()> {
+    if items.is_empty() {
+        return Ok(());
+    }
     if let Some(error) = memory.change_refusal(items) {
         return Err(error);
     }
-    memory.push_items(items)
+    let mut disk = MemoryDisk::new(alloc);
+    let mut journal = Writer::create_new(alloc, &mut disk, "0.jnl")?;
+    memory.write(&mut journal, &mut disk, items, None)
 }
 
 fn write(alloc: Global, memory: &mut EngineState, items: &[Item]) -> Result<()> {
-    push(memory, &items_of(alloc, items)?)
+    push(alloc, memory, &items_of(alloc, items)?)
+}
+
+/// Empties a keyspace, where nothing refuses it, with a journal of its own.
+fn clear(alloc: Global, memory: &mut EngineState, id: u64) -> Result<()> {
+    if let Some(error) = memory.clear_refusal(id) {
+        return Err(error);
+    }
+    let mut disk = MemoryDisk::new(alloc);
+    let mut journal = Writer::create_new(alloc, &mut disk, "0.jnl")?;
+    memory.clear(&mut journal, &mut disk, id, None)
+}
+
+/// Seals the memtable of a keyspace, where nothing refuses it; answers 1 where it held something, else 0.
+fn rotate(memory: &mut EngineState, id: u64) -> Result<u64> {
+    if let Some(error) = memory.rotation_refusal(id) {
+        return Err(error);
+    }
+    Ok(u64::from(memory.rotate_memtable(id)?))
 }
 
 /// Deletes a keyspace, where nothing refuses it.
@@ -97,9 +123,10 @@ fn empty(alloc: Global) -> EngineState {
     EngineState::new(
         alloc,
         MetaKeyspace::new(alloc),
-        Vec::new(alloc),
+        Trees::new(alloc),
         Vec::new(alloc),
         1,
+        JournalManager::new(alloc),
     )
 }
 
@@ -108,9 +135,10 @@ fn first_damaged(alloc: Global) -> Result<EngineState> {
     Ok(EngineState::new(
         alloc,
         MetaKeyspace::new(alloc),
-        Vec::new(alloc),
+        Trees::new(alloc),
         Vec::from_slice(alloc, &[1])?,
         1,
+        JournalManager::new(alloc),
     ))
 }
 
@@ -123,14 +151,14 @@ fn two_empty(alloc: Global) -> Result<EngineState> {
 }
 
 /// The same, where k=v in the first one.
-fn two(alloc: Global) -> Result<EngineState> {
+pub fn two(alloc: Global) -> Result<EngineState> {
     let mut memory = two_empty(alloc)?;
     write(alloc, &mut memory, &[(1, b"k", Change::Put(b"v"))])?;
     Ok(memory)
 }
 
 /// The same, where the first one is deleted, and read by one handle.
-fn one_deleted(alloc: Global) -> Result<EngineState> {
+pub fn one_deleted(alloc: Global) -> Result<EngineState> {
     let mut memory = two(alloc)?;
     retain(&mut memory, 1)?;
     delete(alloc, &mut memory, 1)?;
@@ -145,6 +173,8 @@ enum Step {
     NewDamaged,
     Create(&'static [u8]),
     Write(&'static [Item]),
+    Clear(u64),
+    Rotate(u64),
     Delete(u64),
     Retain(u64),
     Release(u64),
@@ -170,13 +200,16 @@ fn take_ticket(memory: &mut EngineState, step: Step) -> Result<u64> {
     }
 }
 
-/// Takes a step, and answers the id that a creation answers or that of a ticket, or the watermark, else 0.
+/// Takes a step, and answers the id that a creation answers or that of a ticket, or the watermark, or what a rotation
+/// answers, else 0.
 fn take(alloc: Global, memory: &mut EngineState, step: Step) -> Result<u64> {
     match step {
         Step::New => *memory = empty(alloc),
         Step::NewDamaged => *memory = first_damaged(alloc)?,
         Step::Create(name) => return create(alloc, memory, name),
         Step::Write(items) => write(alloc, memory, items)?,
+        Step::Clear(id) => clear(alloc, memory, id)?,
+        Step::Rotate(id) => return rotate(memory, id),
         Step::Delete(id) => delete(alloc, memory, id)?,
         Step::Retain(id) => retain(memory, id)?,
         Step::Release(id) => release(memory, id)?,
@@ -201,15 +234,14 @@ fn are_named(alloc: Global, memory: &EngineState, wanted: &[(&[u8], u64)]) -> Re
     Ok(are_wanted(memory, &names, wanted) && memory.resolve(b"c").is_none())
 }
 
-/// What is counted: keyspaces, the next id, the next number, versions, and pairs of the meta keyspace.
-type Counts = (usize, u64, u64, usize, usize);
+/// What is counted: keyspaces, the next id, the next number, and pairs of the meta keyspace.
+type Counts = (usize, u64, u64, usize);
 
 fn counts_of(memory: &EngineState) -> Counts {
     (
         memory.keyspace_count(),
         memory.next_id(),
         memory.seqno(),
-        memory.versions().len(),
         memory.keyspaces().len(),
     )
 }
@@ -298,11 +330,11 @@ type Row = (
 
 const ROWS: &[Row] = &[
     // The newest version answers.
-    (Step::New, Ok(0), (0, 1, 1, 0, 0), &[], 1, GONE, UNKNOWN),
+    (Step::New, Ok(0), (0, 1, 1, 0), &[], 1, GONE, UNKNOWN),
     (
         Step::Create(b"b"),
         Ok(1),
-        (1, 2, 2, 0, 21),
+        (1, 2, 2, 21),
         &[(b"b", 1)],
         1,
         LIVES,
@@ -311,7 +343,7 @@ const ROWS: &[Row] = &[
     (
         Step::Create(b"a"),
         Ok(2),
-        (2, 3, 3, 0, 42),
+        (2, 3, 3, 42),
         BOTH,
         1,
         LIVES,
@@ -320,7 +352,7 @@ const ROWS: &[Row] = &[
     (
         Step::Create(b"a"),
         Ok(2),
-        (2, 3, 3, 0, 42),
+        (2, 3, 3, 42),
         BOTH,
         2,
         LIVES,
@@ -329,7 +361,7 @@ const ROWS: &[Row] = &[
     (
         PUT_V,
         Ok(0),
-        (2, 3, 4, 1, 42),
+        (2, 3, 4, 42),
         BOTH,
         1,
         LIVES,
@@ -338,7 +370,7 @@ const ROWS: &[Row] = &[
     (
         PUT_W,
         Ok(0),
-        (2, 3, 5, 2, 42),
+        (2, 3, 5, 42),
         BOTH,
         1,
         LIVES,
@@ -347,37 +379,93 @@ const ROWS: &[Row] = &[
     (
         Step::Ask,
         Ok(0),
-        (2, 3, 5, 2, 42),
+        (2, 3, 5, 42),
         BOTH,
         2,
         LIVES,
         Ok((None, 0)),
     ),
-    (AWAY, Ok(0), (2, 3, 6, 3, 42), BOTH, 1, LIVES, Ok((None, 0))),
+    (AWAY, Ok(0), (2, 3, 6, 42), BOTH, 1, LIVES, Ok((None, 0))),
+    (BATCH, Ok(0), (2, 3, 7, 42), BOTH, 1, LIVES, Ok((None, 0))),
     (
-        BATCH,
+        Step::Ask,
         Ok(0),
-        (2, 3, 7, 6, 42),
+        (2, 3, 7, 42),
+        BOTH,
+        2,
+        LIVES,
+        Ok((Some(b"w"), 1)),
+    ),
+    // A rotation seals what is there, also a clear alone, and changes nothing that is read.
+    (
+        Step::Rotate(1),
+        Ok(1),
+        (2, 3, 7, 42),
+        BOTH,
+        2,
+        LIVES,
+        Ok((Some(b"w"), 1)),
+    ),
+    (
+        Step::Rotate(1),
+        Ok(0),
+        (2, 3, 7, 42),
         BOTH,
         1,
         LIVES,
         Ok((None, 0)),
     ),
     (
-        Step::Ask,
-        Ok(0),
-        (2, 3, 7, 6, 42),
+        Step::Rotate(2),
+        Ok(1),
+        (2, 3, 7, 42),
         BOTH,
         2,
         LIVES,
         Ok((Some(b"w"), 1)),
+    ),
+    (
+        Step::Clear(2),
+        Ok(0),
+        (2, 3, 8, 42),
+        BOTH,
+        2,
+        LIVES,
+        Ok((None, 0)),
+    ),
+    (
+        Step::Rotate(2),
+        Ok(1),
+        (2, 3, 8, 42),
+        BOTH,
+        2,
+        LIVES,
+        Ok((None, 0)),
+    ),
+    (
+        PUT_V,
+        Ok(0),
+        (2, 3, 9, 42),
+        BOTH,
+        1,
+        LIVES,
+        Ok((Some(b"v"), 1)),
+    ),
+    (
+        Step::Clear(2),
+        Ok(0),
+        (2, 3, 10, 42),
+        BOTH,
+        1,
+        LIVES,
+        Ok((Some(b"v"), 1)),
     ),
     // A deleted keyspace goes with its last handle.
-    (Step::New, Ok(0), (0, 1, 1, 0, 0), &[], 1, GONE, UNKNOWN),
+    (Step::New, Ok(0), (0, 1, 1, 0), &[], 1, GONE, UNKNOWN),
     (
         Step::Create(b"b"),
         Ok(1),
-        (1, 2, 2, 0, 21),
+        (1, 2, 2, 21),
         &[(b"b", 1)],
         1,
         LIVES,
@@ -386,7 +474,7 @@ const ROWS: &[Row] = &[
     (
         Step::Create(b"a"),
         Ok(2),
-        (2, 3, 3, 0, 42),
+        (2, 3, 3, 42),
         BOTH,
         1,
         LIVES,
@@ -395,7 +483,7 @@ const ROWS: &[Row] = &[
     (
         PUT_V,
         Ok(0),
-        (2, 3, 4, 1, 42),
+        (2, 3, 4, 42),
         BOTH,
         1,
         LIVES,
@@ -404,7 +492,7 @@ const ROWS: &[Row] = &[
     (
         Step::Retain(1),
         Ok(0),
-        (2, 3, 4, 1, 42),
+        (2, 3, 4, 42),
         BOTH,
         1,
         (true, true, false, 1),
@@ -413,7 +501,7 @@ const ROWS: &[Row] = &[
     (
         Step::Delete(1),
         Ok(0),
-        (1, 3, 5, 1, 21),
+        (1, 3, 5, 21),
         &[(b"a", 2)],
         1,
         (false, true, true, 1),
@@ -422,7 +510,7 @@ const ROWS: &[Row] = &[
     (
         Step::Release(1),
         Ok(0),
-        (1, 3, 5, 0, 21),
+        (1, 3, 5, 21),
         &[(b"a", 2)],
         1,
         GONE,
@@ -431,7 +519,7 @@ const ROWS: &[Row] = &[
     (
         Step::Release(1),
         Err(Error::UnknownKeyspace),
-        (1, 3, 5, 0, 21),
+        (1, 3, 5, 21),
         &[(b"a", 2)],
         1,
         GONE,
@@ -440,26 +528,18 @@ const ROWS: &[Row] = &[
     (
         Step::Ask,
         Ok(0),
-        (1, 3, 5, 0, 21),
+        (1, 3, 5, 21),
         &[(b"a", 2)],
         2,
         LIVES,
         Ok((None, 0)),
     ),
-    // A damaged keyspace is written, held and deleted, and never read.
-    (
-        Step::NewDamaged,
-        Ok(0),
-        (0, 1, 1, 0, 0),
-        &[],
-        1,
-        GONE,
-        UNKNOWN,
-    ),
+    // A damaged keyspace is written, cleared, held and deleted, and never read.
+    (Step::NewDamaged, Ok(0), (0, 1, 1, 0), &[], 1, GONE, UNKNOWN),
     (
         Step::Create(b"b"),
         Ok(1),
-        (1, 2, 2, 0, 21),
+        (1, 2, 2, 21),
         &[(b"b", 1)],
         1,
         LIVES,
@@ -468,17 +548,35 @@ const ROWS: &[Row] = &[
     (
         Step::Create(b"a"),
         Ok(2),
-        (2, 3, 3, 0, 42),
+        (2, 3, 3, 42),
         BOTH,
         2,
         LIVES,
         Ok((None, 0)),
     ),
-    (PUT_V, Ok(0), (2, 3, 4, 1, 42), BOTH, 1, LIVES, DAMAGED),
+    (PUT_V, Ok(0), (2, 3, 4, 42), BOTH, 1, LIVES, DAMAGED),
+    (
+        Step::Rotate(1),
+        Ok(1),
+        (2, 3, 4, 42),
+        BOTH,
+        1,
+        LIVES,
+        DAMAGED,
+    ),
+    (
+        Step::Clear(1),
+        Ok(0),
+        (2, 3, 5, 42),
+        BOTH,
+        1,
+        LIVES,
+        DAMAGED,
+    ),
     (
         Step::Retain(1),
         Ok(0),
-        (2, 3, 4, 1, 42),
+        (2, 3, 5, 42),
         BOTH,
         1,
         (true, true, false, 1),
@@ -487,7 +585,7 @@ const ROWS: &[Row] = &[
     (
         Step::Delete(1),
         Ok(0),
-        (1, 3, 5, 1, 21),
+        (1, 3, 6, 21),
         &[(b"a", 2)],
         1,
         (false, true, true, 1),
@@ -496,7 +594,7 @@ const ROWS: &[Row] = &[
     (
         Step::Release(1),
         Ok(0),
-        (1, 3, 5, 0, 21),
+        (1, 3, 6, 21),
         &[(b"a", 2)],
         1,
         GONE,
@@ -556,6 +654,13 @@ const VIEWS: &[(Step, Result<u64>, u64, u64, Result<Option<&[u8]>>)] = &[
     (Step::Close(2), Ok(0), 1, 3, Ok(None)),
     (Step::Close(3), Ok(0), 0, 3, CLOSED),
     (Step::Collect, Ok(4), 0, u64::MAX, CLOSED),
+    (PUT_V, Ok(0), 0, 4, CLOSED),
+    (Step::Open, Ok(4), 1, 4, Ok(Some(b"v"))),
+    (Step::Clear(1), Ok(0), 1, 4, Ok(Some(b"v"))),
+    (Step::Rotate(1), Ok(1), 1, 4, Ok(Some(b"v"))),
+    (Step::Open, Ok(5), 2, 5, Ok(None)),
+    (PUT_W, Ok(0), 2, 4, Ok(Some(b"v"))),
+    (Step::Clear(1), Ok(0), 2, 5, Ok(None)),
 ];
 
 /// What is read by a ticket in keyspace 1 at "k".
@@ -585,157 +690,6 @@ fn tickets_keep_their_views(rt: HostRuntime) {
                 is_seen(&memory, id, value)
             ),
             (answer, count, true),
-            "row {row}"
-        );
-    }
-}
-
-/// A memory that a row names: with two keyspaces; with one of them deleted; the same poisoned; one whose numbers are
-/// used up.
-#[derive(Clone, Copy)]
-enum Given {
-    Two,
-    OneDeleted,
-    Poisoned,
-    UsedUp,
-}
-
-fn memory_of(alloc: Global, named: Given) -> Result<EngineState> {
-    Ok(match named {
-        Given::Two => two(alloc)?,
-        Given::OneDeleted => one_deleted(alloc)?,
-        Given::Poisoned => {
-            let mut memory = one_deleted(alloc)?;
-            memory.poison();
-            memory
-        }
-        Given::UsedUp => EngineState::new(
-            alloc,
-            MetaKeyspace::new(alloc),
-            Vec::new(alloc),
-            Vec::new(alloc),
-            1 << 63,
-        ),
-    })
-}
-
-/// A refusal that a row asks for.
-#[derive(Clone, Copy)]
-enum Asked {
-    /// Of a batch that takes keys of these lengths away in these keyspaces.
-    Write(&'static [(u64, usize)]),
-    /// Of a creation and a deletion, with this number of the next table.
-    Creation(&'static [u8], u64),
-    Deletion(u64, u64),
-}
-
-use Asked::*;
-
-/// An item that takes a key of this length away.
-fn removal(alloc: Global, id: u64, len: usize) -> Result<BatchItem> {
-    let key = vec![in alloc; b'k'; len]?;
-    Ok((id, Slice::new(alloc, &key)?, Op::Remove))
-}
-
-fn removals(alloc: Global, keys: &[(u64, usize)]) -> Result<Vec<BatchItem>> {
-    let mut batch = Vec::new(alloc);
-    for (id, len) in keys {
-        batch.push(removal(alloc, *id, *len)?)?;
-    }
-    Ok(batch)
-}
-
-fn refusal(alloc: Global, memory: &EngineState, asked: Asked) -> Result<Option<Error>> {
-    Ok(match asked {
-        Write(keys) => memory.change_refusal(&removals(alloc, keys)?),
-        Creation(name, next_table_id) => memory.creation_refusal(name, next_table_id),
-        Deletion(id, next_table_id) => memory.deletion_refusal(id, next_table_id),
-    })
-}
-
-const REFUSALS: &[(Given, Asked, Option<Error>)] = &[
-    // Refusals of batches come in this order, each looked for in all items.
-    (
-        Given::Poisoned,
-        Write(&[(9, 1), (1, 65_536), (2, 0)]),
-        Some(Error::KeyEmpty),
-    ),
-    (
-        Given::Poisoned,
-        Write(&[(9, 1), (1, 1), (2, 65_536)]),
-        Some(Error::KeyTooLong),
-    ),
-    (
-        Given::Poisoned,
-        Write(&[(1, 1), (2, 1), (9, 1)]),
-        Some(Error::UnknownKeyspace),
-    ),
-    (
-        Given::Poisoned,
-        Write(&[(1, 1), (0, 1)]),
-        Some(Error::UnknownKeyspace),
-    ),
-    (
-        Given::Poisoned,
-        Write(&[(2, 1), (1, 1)]),
-        Some(Error::KeyspaceDeleted),
-    ),
-    (
-        Given::Poisoned,
-        Write(&[(2, 1), (2, 1)]),
-        Some(Error::Poisoned),
-    ),
-    (Given::OneDeleted, Write(&[(2, 1), (2, 65_535)]), None),
-    // So do those of changes of keyspaces.
-    (
-        Given::OneDeleted,
-        Creation(b"c", u64::MAX),
-        Some(Error::NumbersUsedUp),
-    ),
-    (Given::OneDeleted, Deletion(2, u64::MAX), None),
-    (
-        Given::Poisoned,
-        Creation(b"", u64::MAX),
-        Some(Error::InvalidName),
-    ),
-    (Given::Poisoned, Creation(b"a", u64::MAX), None),
-    (
-        Given::Poisoned,
-        Creation(b"c", u64::MAX),
-        Some(Error::Poisoned),
-    ),
-    (
-        Given::Poisoned,
-        Deletion(3, u64::MAX),
-        Some(Error::UnknownKeyspace),
-    ),
-    (Given::Poisoned, Deletion(1, u64::MAX), None),
-    (
-        Given::Poisoned,
-        Deletion(2, u64::MAX),
-        Some(Error::Poisoned),
-    ),
-    // Numbers end.
-    (Given::UsedUp, Creation(b"a", 0), Some(Error::NumbersUsedUp)),
-    (
-        Given::Two,
-        Deletion(1, u64::MAX),
-        Some(Error::NumbersUsedUp),
-    ),
-];
-
-/// What the memory of a row refuses.
-fn refusal_of(alloc: Global, named: Given, asked: Asked) -> Result<Option<Error>> {
-    let memory = memory_of(alloc, named)?;
-    refusal(alloc, &memory, asked)
-}
-
-#[test]
-fn refusals_come_in_order(rt: HostRuntime) {
-    for (row, &(named, asked, error)) in REFUSALS.iter().enumerate() {
-        assert_eq!(rt;
-            refusal_of(rt.alloc(), named, asked),
-            Ok(error),
             "row {row}"
         );
     }

@@ -68,6 +68,9 @@ names_listed s all =
     let rise = from_pairs (λ (j : LivingKeyspace) (k : LivingKeyspace). j.id < k.id) s.living all.ascending in
     ap (map (λ (e : ℕ × Bytes). e.1)) (in_order (λ k. k.name) s.living rise) ∙ seconds (λ k. k.name) s.living
 
+pub named_in_order : (s : Keyspaces) → AreKeyspaces s → entries (bare s).names ≡ map (λ k. (k.id, k.name)) s.living
+named_in_order s all = in_order (λ k. k.name) s.living (from_pairs (λ (j : LivingKeyspace) (k : LivingKeyspace). j.id < k.id) s.living all.ascending)
+
 pub names_counted : (s : Keyspaces) → AreKeyspaces s → len (bare s).names ≡ length s.living
 names_counted s all =
     let rise = from_pairs (λ (j : LivingKeyspace) (k : LivingKeyspace). j.id < k.id) s.living all.ascending in

@@ -20,8 +20,8 @@ use fjall_base::{Disk, Result};
 /// Makes all but the marker: tree 0 and the journals.
 fn prepare<D: Disk>(disk: &mut D, plan: &BeginPlan) -> Result<()>
     ensures goes { IsTrue D.honest → IsPlan (seen (D.meaning disk.old)) plan.now → GoesOn false (D.meaning disk.old) (D.meaning disk.new) }
-    ensures awaits { IsTrue D.honest → (fits : IsPlan (seen (D.meaning disk.old)) plan.now) → IsMaking false (seen (D.meaning disk.old))
-        → OnOk result (AwaitsMarker (state_in (D.meaning disk.new)) fits.sealed plan.now.active) }
+    ensures awaits { IsTrue D.honest → IsPlan (seen (D.meaning disk.old)) plan.now → IsMaking false (seen (D.meaning disk.old))
+        → OnOk result (AwaitsMarker (state_in (D.meaning disk.new)) plan.now.sealed.items plan.now.active) }
     ensures marker { IsTrue D.honest → IsPlan (seen (D.meaning disk.old)) plan.now → OnOk result (KeepsMarker (D.meaning disk.old) (D.meaning disk.new)) }
     ensures cause { OnlyFaults (D.meaning disk.old) (D.meaning disk.new) result }
     ensures kinds { IsTrue D.honest → IsPlan (seen (D.meaning disk.old)) plan.now → StaysTidy (D.meaning disk.old) (D.meaning disk.new) }
@@ -44,7 +44,7 @@ pub fn begin<D: Disk>(disk: &mut D, plan: &BeginPlan) -> Result<()>
     ensures any_moment { IsTrue D.honest → IsPlan (seen (D.meaning disk.old)) plan.now → ComesBackUnfinished (state_in (D.meaning disk.old))
         → LeavesOnly (D.meaning disk.old) (D.meaning disk.new) (λ image. StandsFor image (bare no_keyspaces)) }
     ensures ok { IsTrue D.honest → IsPlan (seen (D.meaning disk.old)) plan.now → IsUnfinished (seen (D.meaning disk.old))
-        → OnOk result (IsBegunOn (state_in (D.meaning disk.new)) plan.now.active) }
+        → OnOk result (IsBegunOn (state_in (D.meaning disk.new)) plan.now.sealed.items plan.now.active) }
     // No table comes or goes, whatever the answer.
     ensures tables { IsTrue D.honest → IsPlan (seen (D.meaning disk.old)) plan.now
         → KeepsTables (state_in (D.meaning disk.old)) (state_in (D.meaning disk.new)) }

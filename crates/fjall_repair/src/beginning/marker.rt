@@ -28,7 +28,7 @@ pub(crate) fn mark<D: Disk>(disk: &mut D, found: FileState, header: &[u8]) -> Re
     ensures tables { IsTrue D.honest → KeepsTables (state_in (D.meaning disk.old)) (state_in (D.meaning disk.new)) }
     ensures begun { IsTrue D.honest → header.now ≡ header_of V3 → FindsAt (seen (D.meaning disk.old)) (codes "version") (header_of V3) found
         → (sealed : List ℕ) (active : ℕ) → AwaitsMarker (state_in (D.meaning disk.old)) sealed active
-        → OnOk result (IsBegunOn (state_in (D.meaning disk.new)) active) }
+        → OnOk result (IsBegunOn (state_in (D.meaning disk.new)) sealed active) }
     ensures cause { OnlyFaults (D.meaning disk.old) (D.meaning disk.new) result }
     ensures kinds { IsTrue D.honest → StaysTidy (D.meaning disk.old) (D.meaning disk.new) }
     ensures homes { IsTrue D.honest → KeepsHomes (state_in (D.meaning disk.old)) (state_in (D.meaning disk.new)) }

@@ -1,6 +1,7 @@
 //! What is to be done, found out before anything is changed: from then on no memory is asked for.
 
 ghost use Rattle.std.specs.Prelude.{◌≡◌, ◌≢◌, ◌≤◌, ◌∷◌, ◌++◌, ℕ, [], IfErr, IfOk, IsOkUnless, IsTrue, List, map, string_bytes};
+ghost use Rattle.std.specs.List.Sorted.{IsStrictlyIncreasing};
 ghost use Rattle.fjall_base.specs.Disk.{HasCause, Took};
 ghost use Rattle.fjall_base.specs.declared.error.FormatVersion.TheVariants.{V3};
 ghost use Rattle.fjall_files.specs.Texts.{text_in};
@@ -34,6 +35,8 @@ pub enum FileState {
 pub struct BeginPlan {
     /// The names of the journals, by id ascending.
     pub journals: Vec<String>,
+    /// The ids of all but the last one.
+    pub sealed: Vec<u64>,
     /// The id of the last one, which is active.
     pub active: u64,
     /// The text of tree 0's first record.
@@ -75,6 +78,7 @@ fn find<D: Disk>(alloc: Global, disk: &mut D, name: &str, wanted: &[u8]) -> Resu
 /// The ids of the journals that are there, ascending.
 fn list_ids<D: Disk>(alloc: Global, disk: &mut D) -> Result<Vec<u64>>
     ensures ids { IsTrue D.honest → IfOk result (λ ids. AreJournalIds (seen (D.meaning disk.old)) ids.items) }
+    ensures ascending { IfOk result (λ ids. IsStrictlyIncreasing ids.items) }
     ensures same { IsTrue D.honest → Took (D.meaning disk.old) (D.meaning disk.new) [] }
     ensures served { IsTrue D.honest → AllServed (D.meaning disk.old) (D.meaning disk.new) }
     ensures later { (D.meaning disk.old).faults ≤ (D.meaning disk.new).faults }
@@ -90,6 +94,7 @@ fn list_ids<D: Disk>(alloc: Global, disk: &mut D) -> Result<Vec<u64>>
 fn journal_ids<D: Disk>(alloc: Global, disk: &mut D) -> Result<Vec<u64>>
     ensures ids { IsTrue D.honest → IfOk result (λ ids. AreToBe (seen (D.meaning disk.old)) ids.items) }
     ensures some { IfOk result (λ ids. ids.items ≢ []) }
+    ensures ascending { IfOk result (λ ids. IsStrictlyIncreasing ids.items) }
     ensures same { IsTrue D.honest → Took (D.meaning disk.old) (D.meaning disk.new) [] }
     ensures served { IsTrue D.honest → AllServed (D.meaning disk.old) (D.meaning disk.new) }
     ensures later { (D.meaning disk.old).faults ≤ (D.meaning disk.new).faults }
@@ -116,14 +121,15 @@ fn journal_names(alloc: Global, ids: &[u64]) -> Result<Vec<String>>
     Ok(names)
 }
 
-/// The last of these ids, of which there is one.
-fn last_id(ids: &[u64]) -> u64
-    requires { ids.now ≢ [] }
-    ensures { (front : List ℕ) × (ids.now ≡ front ++ result ∷ []) }
+/// All but the last of these ids, of which there is one, and the last one.
+fn apart(ids: Vec<u64>) -> (Vec<u64>, u64)
+    requires { ids.items ≢ [] }
+    ensures { ids.items ≡ result.0.items ++ result.1 ∷ [] }
 {
-    match ids {
-        [.., last] => *last,
-        [] => unreachable!(),
+    let mut front = ids;
+    match front.pop() {
+        Some(last) => (front, last),
+        None => unreachable!(),
     }
 }
 
@@ -145,6 +151,8 @@ fn header(alloc: Global) -> Result<Vec<u8>>
 pub fn plan_beginning<D: Disk>(alloc: Global, disk: &mut D) -> Result<BeginPlan>
     ensures plan { IsTrue D.honest → IfOk result (IsPlan (seen (D.meaning disk.old))) }
     ensures active { IsTrue D.honest → IfOk result (λ plan. IsActive (seen (D.meaning disk.old)) plan.active) }
+    // Of whatever disk the numbers of the journals ascend.
+    ensures numbered { IfOk result (λ plan. IsStrictlyIncreasing (plan.sealed.items ++ plan.active ∷ [])) }
     ensures same { IsTrue D.honest → Took (D.meaning disk.old) (D.meaning disk.new) [] }
     ensures served { IsTrue D.honest → AllServed (D.meaning disk.old) (D.meaning disk.new) }
     ensures later { (D.meaning disk.old).faults ≤ (D.meaning disk.new).faults }
@@ -158,9 +166,11 @@ pub fn plan_beginning<D: Disk>(alloc: Global, disk: &mut D) -> Result<BeginPlan>
     let records = find(alloc, disk, TREE_RECORDS, &first)?;
     let header = header(alloc)?;
     let marker = find(alloc, disk, MARKER_FILE, &header)?;
+    let (sealed, active) = apart(ids);
     Ok(BeginPlan {
         journals,
-        active: last_id(&ids),
+        sealed,
+        active,
         first,
         records,
         header,

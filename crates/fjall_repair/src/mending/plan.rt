@@ -35,7 +35,7 @@ pub struct MendPlan {
 }
 
 /// The id of the active journal: the last one, and 1 where there is no journal.
-fn active_id(ids: &[u64]) -> u64
+pub(crate) fn active_id(ids: &[u64]) -> u64
     ensures { result ≡ active_of ids.now }
 {
     match ids {

@@ -3,6 +3,7 @@ use Rattle.fjall_base.specs.Disk.{Meaning, Sync, SyncFolder, Took}
 use Rattle.fjall_journal.specs.Writer.{making_file, making_synced}
 use Rattle.fjall_journal.proofs.Writing.{took_then}
 use Rattle.fjall_manager.proofs.Evicting.{err_second, err_then, ok_then}
+use Rattle.fjall_manager.proofs.Rotating.{free_made}
 use Rattle.fjall_manager.proofs.rotation.make_safe.Goals as goal
 
 pub returns-clause-took : goal.returns-clause-took
@@ -23,3 +24,8 @@ returns-clause-part g c = λ h.
     err_second c.sync_folder.result (Took old new []) (Took old new (making_file old name) ⊎ Took old new (making_synced old name))
     (err_second c.sync_folder.result (Took old new (making_file old name)) (Took old new (making_synced old name))
     (err_then c.sync_folder.result old (m c.sync.new.self) new (making_synced old name) first (c.sync_folder.ensures.err h)))
+
+pub returns-clause-free : goal.returns-clause-free
+returns-clause-free g c = λ h.
+    let m : _ → Meaning = g.D.Disk.meaning in
+    free_made c.sync_folder.result (m c.args.disk.now) (m c.create.new.self) c.args.name.now (c.in_ok-create.ensures.ok h) (c.in_ok-create.ensures.file h)

@@ -1,6 +1,6 @@
 use Rattle.std.proofs.Common.{◌∙◌}
 use Rattle.fjall_base.specs.Disk.{Meaning}
-use Rattle.fjall_manager.proofs.Rotating.{can_make, made_in_part, persisted_in_part, rotated}
+use Rattle.fjall_manager.proofs.Rotating.{can_make, free_before, made_in_part, persisted_in_part, rotated}
 use Rattle.fjall_manager.proofs.rotation.rotate.Goals as goal
 
 pub returns-in_err-persist-clause-part : goal.returns-in_err-persist-clause-part
@@ -24,3 +24,8 @@ returns-clause-served g c = λ h root some file none.
     let m : _ → Meaning = g.D.Disk.meaning in
     c.make_safe.ensures.served h (can_make (m c.args.disk.now) (m c.persist.new.disk) c.args.journal.now c.args.next.now (c.in_ok-persist.ensures.took h) root some none)
     ∙ c.in_ok-persist.ensures.served h file
+
+pub returns-clause-free : goal.returns-clause-free
+returns-clause-free g c = λ h.
+    let m : _ → Meaning = g.D.Disk.meaning in
+    free_before c.make_safe.result (m c.args.disk.now) (m c.persist.new.disk) c.args.journal.now c.args.next.now (c.in_ok-persist.ensures.took h) (c.make_safe.ensures.free h)

@@ -55,7 +55,7 @@ returns-clause-found g c honest ids =
     let next = ap standing (c.in_ok-catalog.ensures.same honest).state in
     let folders = folders_along _ _ _ _ (sym step) c.deref-2.ensures.value (c.in_ok-folder_ids.ensures.ids honest) in
     let later = folders_along _ _ _ _ (sym (next ∙ step)) c.deref-3.ensures.value (c.in_ok-folder_ids.ensures.ids honest) in
-    finished_of image _ _ _ _ c.deref.result.now _ one (step ∙ one) (next ∙ (step ∙ one)) c.deref.ensures.value ids (c.in_ok-journals.ensures.found honest) (c.in_ok-folder_ids.ensures.ids honest) (c.in_ok-folder_ids.ensures.named honest)
+    finished_of image _ _ _ _ c.deref.result.now _ one (step ∙ one) (next ∙ (step ∙ one)) c.deref.ensures.value ids (c.in_ok-journals.ensures.found honest) (c.in_ok-journals.ensures.told honest) (c.in_ok-folder_ids.ensures.ids honest) (c.in_ok-folder_ids.ensures.named honest)
     (c.in_ok-catalog.ensures.folder honest folders) (c.in_ok-catalog.ensures.says honest) (c.in_ok-catalog.ensures.end honest) c.in_ok-catalog.ensures.made c.living.ensures (c.in_ok-homes.ensures.read honest later)
 
 pub returns-in_err-journals-clause-openable : goal.returns-in_err-journals-clause-openable

@@ -1,7 +1,13 @@
-use Rattle.std.proofs.Common.{◌∙◌, true, refl, sym, ap, subst}
+use Rattle.std.proofs.Common.{◌∙◌, List, map, true, refl, sym, ap, subst}
 use Rattle.std.proofs.lemmas.Result.{err_from_is_err_and}
-use Rattle.fjall_base.specs.Disk.{standing, state_in}
+use Rattle.fjall_base.specs.Disk.{Image, standing, state_in}
+use Rattle.fjall_journal.specs.declared.batch.Batch.{Batch}
+use Rattle.fjall_journal.specs.Batches.{view}
+use Rattle.fjall_manager.specs.Journals.{Sealed}
+use Rattle.fjall_manager.specs.Telling.{AreMarksOf}
+use Rattle.fjall_recovery.specs.Told.{AreTold}
 use Rattle.fjall_recovery.specs.Refusals.{TailRefuses}
+use Rattle.fjall_recovery.proofs.Telling.{last_told, none_told}
 use Rattle.fjall_recovery.proofs.Gathering.{front_refuses, active_batch, active_tail, last_found}
 use Rattle.fjall_recovery.proofs.journals.read_journals.Goals as goal
 
@@ -37,3 +43,16 @@ returns-clause-found g c honest =
     let taken = c.in_ok-tail.ensures in
     last_found image _ c.args.ids.now c.in-len1-up.len_at_least same _ _ _ _ _ _ _ _ _ taken.end (c.in_ok-journals.ensures.found honest) (c.in_ok-contents.ensures.found honest) (sym taken.tail ∙ c.in_ok-journals-2.ensures.ok) taken.batches taken.sound
     taken.least
+
+pub returns-in_default-clause-told : goal.returns-in_default-clause-told
+returns-in_default-clause-told g c honest = none_told (standing (state_in (g.D.Disk.meaning c.args.disk.now))) c.args.ids.now _ _ c.in_default.len_below c.new.ensures.sealed c.new.ensures.watermarks
+
+pub returns-clause-told : goal.returns-clause-told
+returns-clause-told g c honest =
+    let image : Image = standing (state_in (g.D.Disk.meaning c.args.disk.now)) in
+    let taken = c.in_ok-tail.ensures in
+    let sealed = taken.sealed in
+    let marks = subst (λ (l : List Batch). AreMarksOf (map view l) c.in_ok-watermarks.watermarks) c.deref.ensures.value c.in_ok-watermarks.ensures.ok in
+    subst (λ (l : List Sealed). AreTold image c.args.ids.now l c.in_ok-watermarks.watermarks) (sym sealed)
+    (last_told image _ c.args.ids.now c.in_ok-journals.journals.sealed c.in_ok-watermarks.watermarks _ _ _ _ c.in-len1-up.len_at_least (ap standing (c.in_ok-journals.ensures.same honest).state)
+    (c.in_ok-journals.ensures.told honest) (c.in_ok-contents.ensures.found honest) (sym taken.tail ∙ c.in_ok-journals-2.ensures.ok) marks)

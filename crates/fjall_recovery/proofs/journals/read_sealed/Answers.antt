@@ -1,8 +1,11 @@
-use Rattle.std.proofs.Common.{◌∙◌, [], false, sym, ap, subst, arith}
+use Rattle.std.proofs.Common.{◌∙◌, ◌+◌, ◌++◌, ◌∷◌, List, take, [], false, sym, ap, subst, arith}
 use Rattle.std.proofs.lemmas.Result.{err_from_is_err_and}
 use Rattle.fjall_base.specs.Disk.{standing, state_in}
 use Rattle.fjall_journal.proofs.Writing.{took_none}
 use Rattle.fjall_recovery.specs.Refusals.{TailRefuses}
+use Rattle.fjall_manager.specs.Journals.{Sealed}
+use Rattle.fjall_recovery.specs.Told.{AreSealedAs}
+use Rattle.fjall_recovery.proofs.Telling.{turn_ids, turn_told}
 use Rattle.fjall_recovery.proofs.Gathering.{turn_batch, turn_tail, turn_on, turn_found}
 use Rattle.fjall_recovery.proofs.journals.read_sealed.Goals as goal
 
@@ -31,10 +34,16 @@ loop-id-preserved g c =
     let read = c.in_ok-contents.ensures in
     let taken = c.in_ok-tail.ensures in
     let clean = sym taken.tail ∙ c.in_ok-check_sealed.ensures.ok in
+    let journal : Sealed = c.in_ok-sealed.sealed in
+    let pushed = c.in_ok-enqueue.ensures.ok ∙ ap (λ (l : List Sealed). l ++ journal ∷ []) taken.sealed in
     let faults = so_far.later in let more = read.later in
     record {
       found = λ honest. turn_found (standing (state_in (g.D.Disk.meaning c.args.disk.now))) _ c.args.ids.now c.loop-id.id-index _ _ _ _ _ _ _ c.loop-id-test.true (ap standing (so_far.same honest).state) (so_far.found honest) (read.found honest) clean taken.batches taken.sound taken.least;
       torn = taken.torn ∙ so_far.torn;
+      told = λ honest. subst (AreSealedAs (standing (state_in (g.D.Disk.meaning c.args.disk.now))) (take (c.loop-id.id-index + 1) c.args.ids.now)) (sym pushed)
+          (turn_told (standing (state_in (g.D.Disk.meaning c.args.disk.now))) _ c.args.ids.now c.loop-id.id-index c.loop-id.journals.sealed journal _ _ _ c.loop-id-test.true (ap standing (so_far.same honest).state)
+          (so_far.told honest) (read.found honest) clean c.in_ok-sealed.ensures.ok);
+      ids = turn_ids c.args.ids.now c.loop-id.id-index c.loop-id.journals.sealed c.enqueue.new.self journal c.loop-id-test.true so_far.ids c.in_ok-sealed.ensures.ok.id_is pushed;
       same = λ honest. took_none _ _ _ [] (so_far.same honest) (read.same honest);
       served = λ honest. read.served honest ∙ so_far.served honest;
       later = omega (arith, faults, more);

@@ -15,6 +15,8 @@ use Rattle.fjall_files.specs.Tidy.{IsTidy}
 use Rattle.fjall_files.proofs.Tidying.{stays_both, stays_none as tidy_none}
 use Rattle.fjall_repair.proofs.Amid.{amid_now, amid_on}
 use Rattle.fjall_repair.specs.Readings.{names_read, persisted_of}
+use Rattle.fjall_repair.specs.Steps.{opened}
+use Rattle.fjall_repair.proofs.Counting.{active_contents, none_read, tell_as, told_contents}
 use Rattle.fjall_repair.proofs.opening.open_finished.Goals as goal
 
 pub returns-in_err-opened-clause-any_moment : goal.returns-in_err-opened-clause-any_moment
@@ -52,8 +54,9 @@ returns-clause-opened g c honest contents read shows holds =
     (subst (λ (s : State). FindsTables s (names_read found) (map string_bytes ready.sweep.tables.items)) (sym same.state) (c.in_ok-opened.ensures.finds honest _ read).tables) in
     let takes = c.in_ok-opened.ensures.opened honest read in
     let made = makes_sound image found contents (string_bytes ready.mending.active) ready.opened read shows holds.now takes in
-    opens_of (state_in (m c.mend_and_sweep.new.disk)) contents (string_bytes ready.mending.active) found.journals.end repaired (Some contents) (persisted_of found) takes.loaded ready.opened
-    (takes_contents found contents ready.opened (string_bytes ready.mending.active) takes.loaded shows takes.takes) made.0 made.1 refl
+    let told = told_contents image found contents read shows holds.now.openable in
+    opens_of (state_in (m c.mend_and_sweep.new.disk)) contents (opened contents.journals) (string_bytes ready.mending.active) found.journals.end repaired (Some contents) (persisted_of found) takes.loaded ready.opened
+    (takes_contents found contents ready.opened (string_bytes ready.mending.active) takes.loaded shows takes.takes) (tell_as (opened contents.journals) found ready.opened takes.journals told) (takes.journals.active_is ∙ active_contents found contents shows) made.0 made.1 refl
     (number_is image found read contents ready.opened.number shows (c.in_ok-opened.ensures.number (numbers image found read))) refl
 
 pub returns-clause-swept : goal.returns-clause-swept
@@ -207,6 +210,11 @@ returns-clause-opens g c honest contents read shows sound base pending holds =
     (subst (λ (s : State). FindsTables s (names_read found) (map string_bytes ready.sweep.tables.items)) (sym same.state) (c.in_ok-opened.ensures.finds honest _ read).tables) in
     let takes = c.in_ok-opened.ensures.opened honest read in
     let made = makes_sound image found contents (string_bytes ready.mending.active) ready.opened read shows sound takes in
-    opens_of (state_in (m c.mend_and_sweep.new.disk)) contents (string_bytes ready.mending.active) found.journals.end repaired (Some contents) (persisted_of found) takes.loaded ready.opened
-    (takes_contents found contents ready.opened (string_bytes ready.mending.active) takes.loaded shows takes.takes) made.0 made.1 refl
+    let told = told_contents image found contents read shows sound.openable in
+    opens_of (state_in (m c.mend_and_sweep.new.disk)) contents (opened contents.journals) (string_bytes ready.mending.active) found.journals.end repaired (Some contents) (persisted_of found) takes.loaded ready.opened
+    (takes_contents found contents ready.opened (string_bytes ready.mending.active) takes.loaded shows takes.takes) (tell_as (opened contents.journals) found ready.opened takes.journals told) (takes.journals.active_is ∙ active_contents found contents shows) made.0 made.1 refl
     (number_is image found read contents ready.opened.number shows (c.in_ok-opened.ensures.number (numbers image found read))) refl
+
+pub returns-clause-fresh : goal.returns-clause-fresh
+returns-clause-fresh g c honest read none =
+    none_read (standing (state_in (g.D.Disk.meaning c.args.disk.now))) c.args.found c.in_ok-opened.field-0.opened read c.requires none (c.in_ok-opened.ensures.opened honest read).journals

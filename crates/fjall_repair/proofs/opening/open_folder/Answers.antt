@@ -9,7 +9,7 @@ use Rattle.fjall_recovery.proofs.Kept.{open_folder_is_kept}
 use Rattle.fjall_recovery.specs.Held.{Holds, store_held}
 use Rattle.fjall_recovery.proofs.Damage.{shows_alike}
 use Rattle.fjall_repair.specs.Making.{ComesBackUnfinished}
-use Rattle.fjall_repair.specs.Opened.{ComesBack, Opens}
+use Rattle.fjall_repair.specs.Opened.{ComesBack, HasNoJournal, Opens}
 use Rattle.fjall_repair.proofs.Openings.{begun_from, finished_is, held_up, holds_on, opened_from, run_on, stands_now, swept_on, unfinished_is, unopened}
 use Rattle.fjall_files.specs.Tidy.{IsTidy}
 use Rattle.fjall_files.proofs.Tidying.{stays_both, stays_none as tidy_none}
@@ -239,3 +239,15 @@ returns-in-None-clause-refuses g c honest error refused =
     let image : Image = standing (state_in (g.D.Disk.meaning c.args.disk.now)) in
     let read : ReadsFolder image None = subst (ReadsFolder image) c.in-None.is (c.in_ok-found.ensures.found honest) in
     absurd (open_folder_is_kept image None error read refused)
+
+pub returns-in-Some-clause-fresh : goal.returns-in-Some-clause-fresh
+returns-in-Some-clause-fresh g c honest none =
+    let m : _ → Meaning = g.D.Disk.meaning in
+    let image : Image = standing (state_in (m c.args.disk.now)) in
+    let read : ReadsFolder image (Some c.in-Some.found) = subst (ReadsFolder image) c.in-Some.is (c.in_ok-found.ensures.found honest) in
+    let same = sym (c.in_ok-found.ensures.same honest).state in
+    c.open_finished.ensures.fresh honest (subst (λ (s : State). IsFinished (standing s) c.in-Some.found) same read.0) (subst (λ (s : State). HasNoJournal (standing s)) same none)
+
+pub returns-in-None-clause-fresh : goal.returns-in-None-clause-fresh
+returns-in-None-clause-fresh g c honest none =
+    c.open_unfinished.ensures.fresh honest (subst (λ (s : State). HasNoJournal (standing s)) (sym (c.in_ok-found.ensures.same honest).state) none)

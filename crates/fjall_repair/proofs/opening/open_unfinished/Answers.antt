@@ -18,6 +18,8 @@ use Rattle.fjall_files.specs.Tidy.{IsTidy}
 use Rattle.fjall_files.proofs.Tidying.{stays_both, stays_none as tidy_none}
 use Rattle.fjall_repair.proofs.Amid.{amid_now, amid_on}
 use Rattle.fjall_recovery.specs.Folders.{IsUnfinished}
+use Rattle.fjall_repair.specs.Plans.{journals_begun}
+use Rattle.fjall_repair.proofs.Counting.{active_begun, none_begun}
 use Rattle.fjall_repair.proofs.opening.open_unfinished.Goals as goal
 
 pub returns-in_err-opened-clause-any_moment : goal.returns-in_err-opened-clause-any_moment
@@ -48,7 +50,7 @@ returns-clause-opened g c honest holds =
     let repaired = c.in_ok-begin_and_sweep.ensures.ok honest (holds_on (m c.args.disk.now) (m c.ready_to_begin.new.disk) same None holds)
     (subst (λ (s : State). IsMakingOf (standing s) ready.making) (sym same.state) (c.in_ok-opened.ensures.making honest)) (c.in_ok-opened.ensures.sweep honest)
     (subst (λ (s : State). FindsTables s no_names (map string_bytes ready.sweep.tables.items)) (sym same.state) (c.in_ok-opened.ensures.finds honest).2.tables) in
-    opens_of (state_in (m c.begin_and_sweep.new.disk)) nothing (journal_name ready.making.active) 0 repaired None [] [] ready.opened c.in_ok-opened.ensures.opened c.in_ok-opened.ensures.whole
+    opens_of (state_in (m c.begin_and_sweep.new.disk)) nothing (journals_begun ready.making) (journal_name ready.making.active) 0 repaired None [] [] ready.opened c.in_ok-opened.ensures.opened c.in_ok-opened.ensures.journals (c.in_ok-opened.ensures.active ∙ active_begun ready.making) c.in_ok-opened.ensures.whole
     (makes_nothing (journal_name ready.making.active) ready.opened c.in_ok-opened.ensures.opened) refl c.in_ok-opened.ensures.number refl
 
 -- no table is named where none are
@@ -149,7 +151,7 @@ returns-clause-opens g c honest unfinished =
     let repaired = c.in_ok-begin_and_sweep.ensures.repaired honest (subst (λ (s : State). IsUnfinished (standing s)) (sym same.state) unfinished)
     (subst (λ (s : State). IsMakingOf (standing s) ready.making) (sym same.state) (c.in_ok-opened.ensures.making honest)) (c.in_ok-opened.ensures.sweep honest)
     (subst (λ (s : State). FindsTables s no_names (map string_bytes ready.sweep.tables.items)) (sym same.state) (c.in_ok-opened.ensures.finds honest).2.tables) in
-    opens_of (state_in (m c.begin_and_sweep.new.disk)) nothing (journal_name ready.making.active) 0 repaired None [] [] ready.opened c.in_ok-opened.ensures.opened c.in_ok-opened.ensures.whole
+    opens_of (state_in (m c.begin_and_sweep.new.disk)) nothing (journals_begun ready.making) (journal_name ready.making.active) 0 repaired None [] [] ready.opened c.in_ok-opened.ensures.opened c.in_ok-opened.ensures.journals (c.in_ok-opened.ensures.active ∙ active_begun ready.making) c.in_ok-opened.ensures.whole
     (makes_nothing (journal_name ready.making.active) ready.opened c.in_ok-opened.ensures.opened) refl c.in_ok-opened.ensures.number refl
 
 pub returns-in_err-opened-clause-held : goal.returns-in_err-opened-clause-held
@@ -170,3 +172,8 @@ returns-clause-held g c honest unfinished base pending holds =
     let same = c.in_ok-opened.ensures.same honest in
     c.in_ok-begin_and_sweep.ensures.held honest (subst (λ (s : State). IsUnfinished (standing s)) (sym same.state) unfinished)
     (subst (λ (s : State). IsMakingOf (standing s) ready.making) (sym same.state) (c.in_ok-opened.ensures.making honest)) (c.in_ok-opened.ensures.sweep honest) base pending (amid_on (m c.args.disk.now) (m c.ready_to_begin.new.disk) same base pending holds)
+
+pub returns-clause-fresh : goal.returns-clause-fresh
+returns-clause-fresh g c honest none =
+    let ready = c.in_ok-opened.field-0 in
+    none_begun (standing (state_in (g.D.Disk.meaning c.args.disk.now))) ready.making ready.opened.sealed ready.opened.watermarks (c.in_ok-opened.ensures.making honest) none c.in_ok-opened.ensures.journals

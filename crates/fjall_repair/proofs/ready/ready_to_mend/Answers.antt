@@ -7,6 +7,7 @@ use Rattle.fjall_recovery.specs.Folders.{IsOpenable}
 use Rattle.fjall_recovery.specs.Homes.{AreHomesRead}
 use Rattle.fjall_repair.specs.Opened.{Takes}
 use Rattle.fjall_loading.specs.Loading.{Loads}
+use Rattle.fjall_trees.specs.Views.{forest_of}
 use Rattle.fjall_repair.specs.Readings.{names_read, persisted_of}
 use Rattle.fjall_repair.specs.Sweeps.{FindsAll, IsPlan, Names}
 use Rattle.fjall_repair.proofs.Openings.{due_to_memory, homes_as, named_as, no_fault}
@@ -51,9 +52,10 @@ returns-clause-opened g c honest read =
     let same : state_in (g.D.Disk.meaning c.plan_sweep.new.disk) ≡ state_in (g.D.Disk.meaning c.args.disk.now) = (c.in_ok-sweep.ensures.same honest).state in
     let homes = subst (λ (i : State). AreHomesRead (standing i) s.living c.deref-4.result.now) (sym same) (subst (AreHomesRead (standing (state_in (g.D.Disk.meaning c.args.disk.now))) s.living) (sym c.deref-4.ensures.value) read.homes) in
     record {
-      loaded = loaded.versions.items;
-      takes = subst (λ (active : Name). Takes c.in_ok-database_of.field-0 active found.journals.end found.catalog.catalog s (persisted_of found) loaded.versions.items (map view found.journals.batches.items)) c.as_str.ensures.value made.opened;
-      loads = λ contents is shows. subst (λ (ids : List ℕ). Loads contents ids loaded.versions.items) (sym made.damaged)
+      loaded = forest_of loaded.trees;
+      takes = subst (λ (active : Name). Takes c.in_ok-database_of.field-0 active found.journals.end found.catalog.catalog s (persisted_of found) (forest_of loaded.trees) (map view found.journals.batches.items)) c.as_str.ensures.value made.opened;
+      journals = made.journals;
+      loads = λ contents is shows. subst (λ (ids : List ℕ). Loads contents ids (forest_of loaded.trees)) (sym made.damaged)
           (c.in_ok-loaded.ensures.loads honest contents (subst (λ (i : State). IsOpenable (standing i) contents) (sym same) is) (sym shows.keyspaces) homes);
     }
 

@@ -15,6 +15,7 @@ use Rattle.fjall_repair.proofs.Repairing.{finds_still, no_end, nothing_planned, 
 use Rattle.fjall_files.proofs.Tidying.{stays_both, tidy_on}
 use Rattle.fjall_repair.proofs.SweepServed.{have_all_on}
 use Rattle.fjall_repair.proofs.Amid.{held_begun, held_swept, run_amid}
+use Rattle.fjall_repair.specs.Plans.{journals_begun}
 use Rattle.fjall_repair.proofs.repair.begin_and_sweep.Goals as goal
 
 pub returns-clause-any_moment : goal.returns-clause-any_moment
@@ -30,8 +31,8 @@ returns-clause-ok g c honest holds making is finds =
     let active = c.args.making.now.active in
     let begun = c.in_ok-begin.ensures.ok honest making holds.now in
     let still = finds_still (state_in (m c.args.disk.now)) (state_in (m c.begin.new.disk)) no_names _ (λ n small. c.in_ok-begin.ensures.tables honest making 0 n (lit< tt) small) finds in
-    on_ok_then c.sweep.result (LiesInTree (state_in (m c.sweep.new.disk)) (fields first_catalog ∷ []) (tree_of nothing)) (IsRepaired (state_in (m c.sweep.new.disk)) nothing (journal_name active) 0)
-    (repaired nothing (m c.begin.new.disk) (m c.sweep.new.disk) c.args.plan.now (fields first_catalog ∷ []) begun.j begun.root begun.later begun.batches begun.tree (nothing_planned c.args.plan.now is) (c.sweep.ensures.removes honest) (journal_name active) 0 (ap journal_name begun.active_is) (no_end begun.j begun.batches))
+    on_ok_then c.sweep.result (LiesInTree (state_in (m c.sweep.new.disk)) (fields first_catalog ∷ []) (tree_of nothing)) (IsRepaired (state_in (m c.sweep.new.disk)) nothing (journals_begun c.args.making.now) (journal_name active) 0)
+    (repaired nothing (m c.begin.new.disk) (m c.sweep.new.disk) c.args.plan.now (fields first_catalog ∷ []) begun.j begun.root begun.later begun.batches begun.tree (nothing_planned c.args.plan.now is) (c.sweep.ensures.removes honest) (journal_name active) 0 (journals_begun c.args.making.now) (ap journal_name begun.active_is) (no_end begun.j begun.batches) begun.journals)
     (c.sweep.ensures.ok honest (fields first_catalog ∷ []) (tree_of nothing) (nothing_planned c.args.plan.now is) begun.tree still)
 
 pub returns-clause-kinds : goal.returns-clause-kinds
@@ -72,8 +73,8 @@ returns-clause-repaired g c honest unfinished making is finds =
     let active = c.args.making.now.active in
     let begun = c.in_ok-begin.ensures.ok honest making unfinished in
     let still = finds_still (state_in (m c.args.disk.now)) (state_in (m c.begin.new.disk)) no_names _ (λ n small. c.in_ok-begin.ensures.tables honest making 0 n (lit< tt) small) finds in
-    on_ok_then c.sweep.result (LiesInTree (state_in (m c.sweep.new.disk)) (fields first_catalog ∷ []) (tree_of nothing)) (IsRepaired (state_in (m c.sweep.new.disk)) nothing (journal_name active) 0)
-    (repaired nothing (m c.begin.new.disk) (m c.sweep.new.disk) c.args.plan.now (fields first_catalog ∷ []) begun.j begun.root begun.later begun.batches begun.tree (nothing_planned c.args.plan.now is) (c.sweep.ensures.removes honest) (journal_name active) 0 (ap journal_name begun.active_is) (no_end begun.j begun.batches))
+    on_ok_then c.sweep.result (LiesInTree (state_in (m c.sweep.new.disk)) (fields first_catalog ∷ []) (tree_of nothing)) (IsRepaired (state_in (m c.sweep.new.disk)) nothing (journals_begun c.args.making.now) (journal_name active) 0)
+    (repaired nothing (m c.begin.new.disk) (m c.sweep.new.disk) c.args.plan.now (fields first_catalog ∷ []) begun.j begun.root begun.later begun.batches begun.tree (nothing_planned c.args.plan.now is) (c.sweep.ensures.removes honest) (journal_name active) 0 (journals_begun c.args.making.now) (ap journal_name begun.active_is) (no_end begun.j begun.batches) begun.journals)
     (c.sweep.ensures.ok honest (fields first_catalog ∷ []) (tree_of nothing) (nothing_planned c.args.plan.now is) begun.tree still)
 
 pub returns-in_err-begin-clause-held : goal.returns-in_err-begin-clause-held

@@ -15,6 +15,7 @@ use Rattle.fjall_repair.proofs.Repairing.{finds_of, finds_still, on_ok_then, pla
 use Rattle.fjall_files.proofs.Tidying.{stays_both, tidy_on}
 use Rattle.fjall_repair.proofs.SweepServed.{have_all_on}
 use Rattle.fjall_repair.proofs.Amid.{held_swept, run_amid}
+use Rattle.fjall_repair.specs.Steps.{opened}
 use Rattle.fjall_repair.proofs.repair.mend_and_sweep.Goals as goal
 
 pub returns-in_err-mend-clause-any_moment : goal.returns-in_err-mend-clause-any_moment
@@ -35,8 +36,8 @@ returns-clause-ok g c honest found contents read shows holds mending is finds =
     let mended = c.in_ok-mend.ensures.ok honest found contents read shows mending holds in
     let plan = plan_of (seen (m c.args.disk.now)) found contents c.args.plan.now read shows is in
     let still = finds_still (state_in (m c.args.disk.now)) (state_in (m c.mend.new.disk)) (names_in (tree_of contents)) _ (λ n small. c.in_ok-mend.ensures.tables honest _ found mending 0 n) (finds_of (state_in (m c.args.disk.now)) found contents _ shows finds) in
-    on_ok_then c.sweep.result (LiesInTree (state_in (m c.sweep.new.disk)) mended.records (tree_of contents)) (IsRepaired (state_in (m c.sweep.new.disk)) contents active found.journals.end)
-    (repaired contents (m c.mend.new.disk) (m c.sweep.new.disk) c.args.plan.now mended.records mended.j mended.root mended.later mended.batches mended.tree plan (c.sweep.ensures.removes honest) active found.journals.end mended.active_is mended.end)
+    on_ok_then c.sweep.result (LiesInTree (state_in (m c.sweep.new.disk)) mended.records (tree_of contents)) (IsRepaired (state_in (m c.sweep.new.disk)) contents (opened contents.journals) active found.journals.end)
+    (repaired contents (m c.mend.new.disk) (m c.sweep.new.disk) c.args.plan.now mended.records mended.j mended.root mended.later mended.batches mended.tree plan (c.sweep.ensures.removes honest) active found.journals.end (opened contents.journals) mended.active_is mended.end mended.journals)
     (c.sweep.ensures.ok honest mended.records (tree_of contents) plan mended.tree still)
 
 pub returns-clause-kinds : goal.returns-clause-kinds
@@ -94,8 +95,8 @@ returns-clause-repaired g c honest found contents read shows sound mending is ba
     let mended = c.in_ok-mend.ensures.mended honest found contents read shows sound mending base pending holds in
     let plan = plan_of (seen (m c.args.disk.now)) found contents c.args.plan.now read shows is in
     let still = finds_still (state_in (m c.args.disk.now)) (state_in (m c.mend.new.disk)) (names_in (tree_of contents)) _ (λ n small. c.in_ok-mend.ensures.tables honest _ found mending 0 n) (finds_of (state_in (m c.args.disk.now)) found contents _ shows finds) in
-    on_ok_then c.sweep.result (LiesInTree (state_in (m c.sweep.new.disk)) mended.records (tree_of contents)) (IsRepaired (state_in (m c.sweep.new.disk)) contents active found.journals.end)
-    (repaired contents (m c.mend.new.disk) (m c.sweep.new.disk) c.args.plan.now mended.records mended.j mended.root mended.later mended.batches mended.tree plan (c.sweep.ensures.removes honest) active found.journals.end mended.active_is mended.end)
+    on_ok_then c.sweep.result (LiesInTree (state_in (m c.sweep.new.disk)) mended.records (tree_of contents)) (IsRepaired (state_in (m c.sweep.new.disk)) contents (opened contents.journals) active found.journals.end)
+    (repaired contents (m c.mend.new.disk) (m c.sweep.new.disk) c.args.plan.now mended.records mended.j mended.root mended.later mended.batches mended.tree plan (c.sweep.ensures.removes honest) active found.journals.end (opened contents.journals) mended.active_is mended.end mended.journals)
     (c.sweep.ensures.ok honest mended.records (tree_of contents) plan mended.tree still)
 
 pub returns-in_err-mend-clause-tables : goal.returns-in_err-mend-clause-tables

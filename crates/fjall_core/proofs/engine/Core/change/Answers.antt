@@ -1,4 +1,5 @@
 use Rattle.std.proofs.Common.{IsTrue, None, sym, ◌∙◌}
+use Rattle.fjall_journal.specs.Changes.{Items}
 use Rattle.fjall_state.specs.Shapes.{ByMode, OfChange}
 use Rattle.fjall_core.proofs.ServedCalls.{due_owes, due_serves}
 use Rattle.fjall_core.proofs.WriteCalls.{all_live, change_owes, change_serves, found_due, no_items_owe, no_items_serve}
@@ -12,12 +13,12 @@ returns-then-is_empty-clause-owes g c = λ how same. no_items_owe c.args.self.no
 
 pub returns-in-Some-clause-serves : goal.returns-in-Some-clause-serves
 returns-in-Some-clause-serves g c = λ h how same.
-    due_serves c.args.self.now (OfChange c.args.items.now how) c.in-Some.error
+    due_serves c.args.self.now (OfChange (Items c.args.items.now) how) c.in-Some.error
     (found_due _ c.args.self.now c.args.items.now how c.self.view_is (sym c.is_empty.ensures ∙ c.if-is_empty.false) c.change_refusal.result c.change_refusal.ensures ∙ c.in-Some.is)
 
 pub returns-in-Some-clause-owes : goal.returns-in-Some-clause-owes
 returns-in-Some-clause-owes g c = λ how same.
-    due_owes c.args.self.now (OfChange c.args.items.now how) c.in-Some.error
+    due_owes c.args.self.now (OfChange (Items c.args.items.now) how) c.in-Some.error
     (found_due _ c.args.self.now c.args.items.now how c.self.view_is (sym c.is_empty.ensures ∙ c.if-is_empty.false) c.change_refusal.result c.change_refusal.ensures ∙ c.in-Some.is)
 
 pub write-requires-clause-living : goal.write-requires-clause-living

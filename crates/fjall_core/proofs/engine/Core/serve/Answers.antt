@@ -1,7 +1,7 @@
 use Rattle.std.proofs.Common.{ap}
-use Rattle.fjall_history.specs.declared.reply.Reply.TheVariants.{Number}
-use Rattle.fjall_state.specs.Shapes.{JournalSpace, Keyspaces, Next, OpenTickets, Visible, shape_of}
-use Rattle.fjall_core.proofs.CallsInMemory.{number_owes, number_serves}
+use Rattle.fjall_history.specs.declared.reply.Reply.TheVariants.{Flag, Number}
+use Rattle.fjall_state.specs.Shapes.{Entries, JournalSpace, Journals, Keyspaces, Next, OpenTickets, SealedMemtables, Visible, WantsRotation, WriteBuffer, shape_of}
+use Rattle.fjall_core.proofs.CallsInMemory.{flag_owes, flag_serves, number_owes, number_serves}
 use Rattle.fjall_core.proofs.engine.Core.serve.Goals as goal
 
 pub returns-in-KeyspaceCount-clause-serves : goal.returns-in-KeyspaceCount-clause-serves
@@ -33,3 +33,33 @@ returns-in-OpenSnapshots-clause-serves g c = λ _. number_serves c.args.self.now
 
 pub returns-in-OpenSnapshots-clause-owes : goal.returns-in-OpenSnapshots-clause-owes
 returns-in-OpenSnapshots-clause-owes g c = number_owes c.args.self.now (shape_of c.args.call) OpenTickets c.open_snapshots.result (ap shape_of c.in-OpenSnapshots.is) (ap Number c.open_snapshots.ensures.held)
+
+pub returns-in-ApproximateLen-clause-serves : goal.returns-in-ApproximateLen-clause-serves
+returns-in-ApproximateLen-clause-serves g c = λ _. number_serves c.args.self.now (shape_of c.args.call) (Entries c.in-ApproximateLen.id) c.approximate_len.result (ap shape_of c.in-ApproximateLen.is) (ap Number c.approximate_len.ensures.held)
+
+pub returns-in-ApproximateLen-clause-owes : goal.returns-in-ApproximateLen-clause-owes
+returns-in-ApproximateLen-clause-owes g c = number_owes c.args.self.now (shape_of c.args.call) (Entries c.in-ApproximateLen.id) c.approximate_len.result (ap shape_of c.in-ApproximateLen.is) (ap Number c.approximate_len.ensures.held)
+
+pub returns-in-SealedMemtableCount-clause-serves : goal.returns-in-SealedMemtableCount-clause-serves
+returns-in-SealedMemtableCount-clause-serves g c = λ _. number_serves c.args.self.now (shape_of c.args.call) (SealedMemtables c.in-SealedMemtableCount.id) c.sealed_memtable_count.result (ap shape_of c.in-SealedMemtableCount.is) (ap Number c.sealed_memtable_count.ensures.held)
+
+pub returns-in-SealedMemtableCount-clause-owes : goal.returns-in-SealedMemtableCount-clause-owes
+returns-in-SealedMemtableCount-clause-owes g c = number_owes c.args.self.now (shape_of c.args.call) (SealedMemtables c.in-SealedMemtableCount.id) c.sealed_memtable_count.result (ap shape_of c.in-SealedMemtableCount.is) (ap Number c.sealed_memtable_count.ensures.held)
+
+pub returns-in-WriteBufferSize-clause-serves : goal.returns-in-WriteBufferSize-clause-serves
+returns-in-WriteBufferSize-clause-serves g c = λ _. number_serves c.args.self.now (shape_of c.args.call) WriteBuffer c.write_buffer_size.result (ap shape_of c.in-WriteBufferSize.is) (ap Number c.write_buffer_size.ensures.held)
+
+pub returns-in-WriteBufferSize-clause-owes : goal.returns-in-WriteBufferSize-clause-owes
+returns-in-WriteBufferSize-clause-owes g c = number_owes c.args.self.now (shape_of c.args.call) WriteBuffer c.write_buffer_size.result (ap shape_of c.in-WriteBufferSize.is) (ap Number c.write_buffer_size.ensures.held)
+
+pub returns-in-WantsRotation-clause-serves : goal.returns-in-WantsRotation-clause-serves
+returns-in-WantsRotation-clause-serves g c = λ _. flag_serves c.args.self.now (shape_of c.args.call) (WantsRotation c.in-WantsRotation.id) c.wants_rotation.result (ap shape_of c.in-WantsRotation.is) (ap Flag c.wants_rotation.ensures.held)
+
+pub returns-in-WantsRotation-clause-owes : goal.returns-in-WantsRotation-clause-owes
+returns-in-WantsRotation-clause-owes g c = flag_owes c.args.self.now (shape_of c.args.call) (WantsRotation c.in-WantsRotation.id) c.wants_rotation.result (ap shape_of c.in-WantsRotation.is) (ap Flag c.wants_rotation.ensures.held)
+
+pub returns-in-JournalCount-clause-serves : goal.returns-in-JournalCount-clause-serves
+returns-in-JournalCount-clause-serves g c = λ _. number_serves c.args.self.now (shape_of c.args.call) Journals c.journal_count.result (ap shape_of c.in-JournalCount.is) (ap Number c.journal_count.ensures.held)
+
+pub returns-in-JournalCount-clause-owes : goal.returns-in-JournalCount-clause-owes
+returns-in-JournalCount-clause-owes g c = number_owes c.args.self.now (shape_of c.args.call) Journals c.journal_count.result (ap shape_of c.in-JournalCount.is) (ap Number c.journal_count.ensures.held)

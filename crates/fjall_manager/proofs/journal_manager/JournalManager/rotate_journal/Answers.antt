@@ -18,3 +18,9 @@ returns-clause-served g c = λ h file none.
     let is : c.deref-2.result.now ≡ journal_name (c.args.id.now + 1) = c.deref-2.ensures ∙ c.in_ok-next_name.ensures.name in
     let root = ap (λ (n : Name). folder_of n) is ∙ folder_of-journal (c.args.id.now + 1) (omega arith) in
     c.in_ok-rotate.ensures.served h root (λ e. journal_some (c.args.id.now + 1) (sym is ∙ e)) file (subst (λ (n : Name). IsNoFolder (state_in (m c.args.disk.now) n).now) (sym is) none)
+
+pub returns-clause-free : goal.returns-clause-free
+returns-clause-free g c = λ h.
+    let m : _ → Meaning = g.D.Disk.meaning in
+    let is : c.deref-2.result.now ≡ journal_name (c.args.id.now + 1) = c.deref-2.ensures ∙ c.in_ok-next_name.ensures.name in
+    subst (λ (n : Name). IsNoFolder (state_in (m c.args.disk.now) n).now) is (c.in_ok-rotate.ensures.free h)

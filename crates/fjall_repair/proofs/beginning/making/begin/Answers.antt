@@ -25,13 +25,13 @@ returns-clause-any_moment g c honest fits back =
     let mid = m c.prepare.new.disk in
     let found = subst (λ (e : Entry). IsFound c.args.plan.now.marker (header V3) (text_in e)) (sym (done.marker honest fits)) fits.marker in
     then_done (m c.args.disk.now) mid (m c.mark.new.disk) (before (m c.args.disk.now) mid kept (done.goes honest fits))
-    (c.mark.ensures.any_moment honest (c.deref.ensures.value ∙ fits.header_is) found (kept_more (state_in mid) ((done.goes honest fits).kept kept)) fits.sealed c.args.plan.now.active (done.awaits honest fits kept.now))
+    (c.mark.ensures.any_moment honest (c.deref.ensures.value ∙ fits.header_is) found (kept_more (state_in mid) ((done.goes honest fits).kept kept)) c.args.plan.now.sealed.items c.args.plan.now.active (done.awaits honest fits kept.now))
 
 pub returns-clause-ok : goal.returns-clause-ok
 returns-clause-ok g c honest fits unfinished =
     let done = c.in_ok-prepare.ensures in
     let found = subst (λ (e : Entry). IsFound c.args.plan.now.marker (header V3) (text_in e)) (sym (done.marker honest fits)) fits.marker in
-    c.mark.ensures.begun honest (c.deref.ensures.value ∙ fits.header_is) found fits.sealed c.args.plan.now.active (done.awaits honest fits (making_of (standing (state_in (g.D.Disk.meaning c.args.disk.now))) unfinished))
+    c.mark.ensures.begun honest (c.deref.ensures.value ∙ fits.header_is) found c.args.plan.now.sealed.items c.args.plan.now.active (done.awaits honest fits (making_of (standing (state_in (g.D.Disk.meaning c.args.disk.now))) unfinished))
 
 pub returns-in_err-prepare-clause-back : goal.returns-in_err-prepare-clause-back
 returns-in_err-prepare-clause-back g c honest fits back begun =
@@ -56,7 +56,7 @@ pub returns-clause-journal : goal.returns-clause-journal
 returns-clause-journal g c honest fits back contents sound none =
     let m : _ → Meaning = g.D.Disk.meaning in
     let kept = comes_back_kept (state_in (m c.args.disk.now)) back in
-    let at = c.mark.ensures.journal honest fits.sealed c.args.plan.now.active (c.in_ok-prepare.ensures.awaits honest fits kept.now) in
+    let at = c.mark.ensures.journal honest c.args.plan.now.sealed.items c.args.plan.now.active (c.in_ok-prepare.ensures.awaits honest fits kept.now) in
     has_some (standing (state_in (m c.mark.new.disk))) contents c.args.plan.now.active at.0 at.1 sound none
 
 pub returns-clause-kinds : goal.returns-clause-kinds

@@ -1,4 +1,5 @@
 use Rattle.std.proofs.Common.{◌∙◌, ap}
+use Rattle.fjall_trees.specs.Views.{forest_of}
 use Rattle.fjall_state.specs.Machine.{one_less}
 use Rattle.fjall_state.specs.Remembered.{Remembered}
 use Rattle.fjall_state.proofs.engine_state.EngineState.count_less.Goals as goal
@@ -8,12 +9,13 @@ returns c =
     (λ i.
     record {
       keyspaces = c.self.inside.keyspaces;
-      versions = c.self.inside.versions.items;
+      trees = forest_of c.self.inside.trees;
       next = c.self.inside.tickets.visible;
       poisoned = c.self.inside.poisoned;
       handles = c.count_less.ensures i;
       lasting = c.self.inside.lasting.items;
       damaged = c.self.inside.damaged.items;
       tickets = c.self.inside.tickets.tickets;
+      sealed = c.self.inside.sealed;
     })
     ∙ ap (λ (m : Remembered). record m { handles = one_less m.handles c.args.id }) c.self.view_is

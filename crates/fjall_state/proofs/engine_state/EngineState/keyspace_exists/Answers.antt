@@ -8,4 +8,4 @@ use Rattle.fjall_state.proofs.engine_state.EngineState.keyspace_exists.Goals as 
 pub returns : goal.returns
 returns c =
     let is = subst IsLawful c.self.view_is c.self.invariant in
-    c.keyspace_exists.ensures ∙ ap (λ (m : Remembered). is_some (id_of c.args.name.now m.keyspaces.living)) c.self.view_is ∙ sym (named_is c.args.self.now.keyspaces is.keyspaces c.args.self.now.versions c.args.name.now)
+    c.keyspace_exists.ensures ∙ ap (λ (m : Remembered). is_some (id_of c.args.name.now m.keyspaces.living)) c.self.view_is ∙ sym (named_is c.args.self.now.keyspaces is.keyspaces c.args.self.now.trees c.args.name.now)

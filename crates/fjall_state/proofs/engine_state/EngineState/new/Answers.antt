@@ -1,18 +1,24 @@
 use Rattle.std.proofs.Common.{◌≤◌, refl, ap, arith, rules}
 use Rattle.fjall_history.specs.Tickets.{Tracked}
 use Rattle.fjall_history.proofs.Values.{all_none}
+use Rattle.fjall_trees.specs.Views.{forest_of}
+use Rattle.fjall_trees.proofs.Places.{forest_is}
 use Rattle.fjall_state.specs.Remembered.{IsLawful, remembered}
 use Rattle.fjall_state.proofs.Lawful.{alike}
 use Rattle.fjall_state.proofs.engine_state.EngineState.new.Goals as goal
 
 pub invariant_of-result : goal.invariant_of-result
 invariant_of-result c =
-    let m = remembered c.args.keyspaces c.args.versions.items c.args.damaged.items c.args.next in
+    let m = remembered c.args.keyspaces (forest_of c.args.trees) c.args.damaged.items c.args.next c.args.sealed in
     let is : IsLawful m = record {
       keyspaces = search rules;
       made = c.requires.made;
+      forest = forest_is c.args.trees;
+      planted = c.requires.planted;
       given = c.requires.given;
       below = c.requires.below;
+      bare = c.requires.bare;
+      small = c.requires.small;
       reached = all_none (λ i. i ≤ c.args.next);
       spared = λ some. absurd (omega arith);
     } in

@@ -1,7 +1,6 @@
-use Rattle.std.proofs.Common.{◌∙◌, ap, sym}
-use Rattle.fjall_versions.proofs.Naming.{rest_is_bare}
+use Rattle.std.proofs.Common.{◌∙◌, ap}
 use Rattle.fjall_state.specs.Remembered.{Remembered}
 use Rattle.fjall_state.proofs.engine_state.EngineState.next_id.Goals as goal
 
 pub returns-clause-stored : goal.returns-clause-stored
-returns-clause-stored c = c.next_id.ensures.value ∙ ap (λ (m : Remembered). m.keyspaces.next) c.self.view_is ∙ sym (rest_is_bare c.args.self.now.keyspaces c.args.self.now.versions).2
+returns-clause-stored c = c.next_id.ensures.value ∙ ap (λ (m : Remembered). m.keyspaces.next) c.self.view_is

@@ -12,10 +12,10 @@ returns-in-Some c =
     let s = c.args.self.now in
     ap (λ (e : EffectiveSettings). e.manual_journal_persist) c.effective.ensures.settings
     ∙ ap says_by_hand (ap (λ o. option_copied o) (sym c.in-Some.is) ∙ c.options_of.ensures ∙ ap (λ (m : Remembered). option_map (λ (k : LivingKeyspace). k.options) (keyspace_at c.args.id m.keyspaces.living)) c.self.view_is)
-    ∙ sym (held_says s.keyspaces s.versions c.args.id)
+    ∙ sym (held_says s.keyspaces s.trees c.args.id)
 
 pub returns-in-None : goal.returns-in-None
 returns-in-None c =
     let s = c.args.self.now in
     ap says_by_hand (ap (λ o. option_copied o) (sym c.in-None.is) ∙ c.options_of.ensures ∙ ap (λ (m : Remembered). option_map (λ (k : LivingKeyspace). k.options) (keyspace_at c.args.id m.keyspaces.living)) c.self.view_is)
-    ∙ sym (held_says s.keyspaces s.versions c.args.id)
+    ∙ sym (held_says s.keyspaces s.trees c.args.id)

@@ -9,4 +9,4 @@ pub returns-clause-named : goal.returns-clause-named
 returns-clause-named c =
     let is = subst IsLawful c.self.view_is c.self.invariant in
     ap is_some (c.resolve_id.ensures ∙ ap (λ (m : Remembered). id_of c.args.name.now m.keyspaces.living) c.self.view_is)
-    ∙ sym (named_is c.args.self.now.keyspaces is.keyspaces c.args.self.now.versions c.args.name.now)
+    ∙ sym (named_is c.args.self.now.keyspaces is.keyspaces c.args.self.now.trees c.args.name.now)

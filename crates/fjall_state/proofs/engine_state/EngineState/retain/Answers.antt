@@ -1,5 +1,6 @@
 use Rattle.std.proofs.Common.{◌≡◌, ◌+◌, ◌∙◌, ap, sym}
 use Rattle.std.specs.FinMap.{insert}
+use Rattle.fjall_trees.specs.Views.{forest_of}
 use Rattle.fjall_state.specs.Machine.{handles_of, one_more}
 use Rattle.fjall_state.specs.Remembered.{Remembered, retained}
 use Rattle.fjall_state.proofs.Counting.{inserted, map_of}
@@ -16,12 +17,13 @@ returns-clause-ok c =
     (λ i.
     record {
       keyspaces = c.self.inside.keyspaces;
-      versions = c.self.inside.versions.items;
+      trees = forest_of c.self.inside.trees;
       next = c.self.inside.tickets.visible;
       poisoned = c.self.inside.poisoned;
       handles = more i;
       lasting = c.self.inside.lasting.items;
       damaged = c.self.inside.damaged.items;
       tickets = c.self.inside.tickets.tickets;
+      sealed = c.self.inside.sealed;
     })
     ∙ ap (retained id) c.self.view_is

@@ -1,10 +1,24 @@
-use Rattle.std.proofs.Common.{◌≡◌, ◌≤◌, List, None, arith, subst, sym}
+use Rattle.std.proofs.Common.{◌≡◌, ◌≤◌, List, [], ◌∷◌, ◌++◌, None, ap, drop, set, subst, sym, ◌∙◌, arith}
+use Rattle.fjall_parts.specs.declared.mark.Mark.{Mark}
 use Rattle.fjall_lsm.specs.Trees.{emptied}
-use Rattle.fjall_trees.specs.Forests.{Planted, tree_at}
 use Rattle.fjall_trees.specs.declared.trees.KeyspaceTree.{KeyspaceTree}
-use Rattle.fjall_trees.specs.Lists.{forest_in}
-use Rattle.fjall_trees.proofs.Places.{altered_none, err_so, found_tree, ok_so, place_has, set_altered, set_forest, set_same}
+use Rattle.fjall_trees.specs.Forests.{Planted, tree_at}
+use Rattle.fjall_trees.specs.Lists.{AreMarks, forest_from, forest_in}
+use Rattle.fjall_trees.proofs.Marking.{set_one}
+use Rattle.fjall_trees.proofs.Places.{altered_none, err_given, found_tree, place_has, place_within, set_altered, set_forest, set_same}
 use Rattle.fjall_trees.proofs.trees.Trees.clear.Goals as goal
+
+pub returns-in_default-clause-ok : goal.returns-in_default-clause-ok
+returns-in_default-clause-ok c =
+    let trees = forest_in c.args.self.now.trees.items in
+    let none = subst (λ (xs : List KeyspaceTree). tree_at c.args.id (forest_in xs) ≡ None) c.as_slice.ensures.value c.in_default.ensures in
+    sym (altered_none c.args.id (emptied c.args.number) trees none)
+
+pub index_mut-requires : goal.index_mut-requires
+index_mut-requires c =
+    let trees = c.args.self.now.trees in
+    let within = place_within trees.items c.as_slice.result.now c.in-Some.place (λ (k : KeyspaceTree). k.id ≡ c.args.id) c.as_slice.ensures.value c.in-Some.ensures in
+    omega (arith, within, trees.ok.0)
 
 pub clear-requires-clause-from : goal.clear-requires-clause-from
 clear-requires-clause-from c =
@@ -32,22 +46,29 @@ invariant_of-self c =
     let here = found_tree ks c.as_slice.result.now c.in-Some.place c.args.id k c.as_slice.ensures.value c.in-Some.ensures c.index_mut.ensures.value in
     record { lawful = set_forest ks c.in-Some.place k c.clear.new.self t.lawful here.0 }
 
-pub returns-in-Some-clause-ok : goal.returns-in-Some-clause-ok
-returns-in-Some-clause-ok c =
+pub returns-in_err-clear-clause-err : goal.returns-in_err-clear-clause-err
+returns-in_err-clear-clause-err c =
+    let ks = c.args.self.now.trees.items in
+    let k = c.index_mut.result.now in
+    let here = found_tree ks c.as_slice.result.now c.in-Some.place c.args.id k c.as_slice.ensures.value c.in-Some.ensures c.index_mut.ensures.value in
+    err_given c.from_residual-in_err-clear.result _ (set_same ks c.in-Some.place k c.clear.new.self here.0 c.in_err-clear.ensures.err)
+
+pub returns-clause-ok : goal.returns-clause-ok
+returns-clause-ok c =
     let t = c.args.self.now in
     let ks = t.trees.items in
     let k = c.index_mut.result.now in
     let here = found_tree ks c.as_slice.result.now c.in-Some.place c.args.id k c.as_slice.ensures.value c.in-Some.ensures c.index_mut.ensures.value in
-    ok_so c.clear.result _ _ (λ made. set_altered ks c.in-Some.place c.args.id k c.clear.new.self (emptied c.args.number) t.lawful here.0 here.1 made) c.clear.ensures.ok
+    set_altered ks c.in-Some.place c.args.id k c.clear.new.self (emptied c.args.number) t.lawful here.0 here.1 c.in_ok-clear.ensures.ok
 
-pub returns-in-Some-clause-err : goal.returns-in-Some-clause-err
-returns-in-Some-clause-err c =
+pub returns-clause-marks : goal.returns-clause-marks
+returns-clause-marks c =
     let ks = c.args.self.now.trees.items in
     let k = c.index_mut.result.now in
-    let here = found_tree ks c.as_slice.result.now c.in-Some.place c.args.id k c.as_slice.ensures.value c.in-Some.ensures c.index_mut.ensures.value in
-    err_so c.clear.result _ _ (λ made. set_same ks c.in-Some.place k c.clear.new.self here.0 made) c.clear.ensures.err
-
-pub returns-in-None-clause-ok : goal.returns-in-None-clause-ok
-returns-in-None-clause-ok c =
-    let none = subst (λ (xs : List KeyspaceTree). tree_at c.args.id (forest_in xs) ≡ None) c.as_slice.ensures.value c.in-None.ensures in
-    sym (altered_none c.args.id (emptied c.args.number) (forest_in c.args.self.now.trees.items) none)
+    let place = c.in-Some.place in
+    let mark = c.mark.result in
+    let here = found_tree ks c.as_slice.result.now place c.args.id k c.as_slice.ensures.value c.in-Some.ensures c.index_mut.ensures.value in
+    let others : List KeyspaceTree = set ks place (record { id = k.id; tree = c.clear.new.self }) in
+    let alone = c.push_reserved.ensures.items ∙ ap (λ (ms : List Mark). ms ++ mark ∷ []) c.in_ok-marks.ensures.items in
+    let kept = set_one ks place k c.clear.new.self mark here.0 c.in_ok-clear.ensures.marks c.mark.ensures.mark c.mark.ensures.shape in
+    (subst (AreMarks (drop place others)) (sym alone) kept.0, ap (λ (ms : List Mark). forest_from place ms others) alone ∙ kept.1)

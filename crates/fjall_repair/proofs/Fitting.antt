@@ -1,0 +1,119 @@
+-- What was read of journals has sizes that trees take, and the numbers of a folder are below 2^63.
+use Rattle.std.proofs.Common.{◌≡◌, inl, inr, ℕ, ◌+◌, ◌<◌, ◌≤◌, ◌^◌, List, [], ◌∷◌, ◌++◌, length, map, All, Option, None, Some, sym, ◌∙◌, ap, subst, arith}
+use Rattle.std.proofs.lemmas.List.Elements.{All-from_recursion, All-head, All-tail, All-weaker}
+use Rattle.std.specs.List.{AllByRecursion}
+use Rattle.std.specs.Prelude.{IfSome}
+use Rattle.fjall_base.specs.Disk.{Image}
+use Rattle.fjall_journal.specs.declared.batch.Batch.{Batch}
+use Rattle.fjall_journal.specs.declared.batch.ReadBatchItem.{ReadBatchItem}
+use Rattle.fjall_journal.specs.declared.entry.Entry.{Entry}
+use Rattle.fjall_journal.specs.declared.entry.Entry.TheVariants.{Start, Item, End, Clear}
+use Rattle.fjall_journal.specs.declared.entry.ValueType.{ValueType}
+use Rattle.fjall_journal.specs.declared.entry.ValueType.TheVariants.{Value, Tombstone, WeakTombstone, Indirection}
+use Rattle.fjall_journal.specs.Batches.{IsChange, IsWritten, Shown, Written, items_of, shown, view}
+use Rattle.fjall_tree.specs.Records.{Fields}
+use Rattle.fjall_table.specs.Blocks.{IsEntry, value_bytes}
+use Rattle.fjall_versions.specs.Replays.{fault_of, first_fault, least_after, value_of}
+use Rattle.fjall_versions.specs.Views.{entry_of}
+use Rattle.fjall_versions.proofs.Viewing.{no_fault, number_fits}
+use Rattle.fjall_recovery.specs.declared.folder.RecoveredFolder.{RecoveredFolder}
+use Rattle.fjall_recovery.specs.Folders.{IsFinished, past, past_records}
+use Rattle.fjall_recovery.specs.Journals.{AreRead, Journal, batches_in}
+use Rattle.fjall_replay.specs.Replayed.{MayReplay}
+use Rattle.fjall_repair.specs.Opened.{HasNumbers, HasSizes, IsFit}
+
+-- ---- what trees take
+
+-- what an item makes of its key is no longer than its value
+value_size : (kind : ValueType) (value : List ℕ) → length value < 2 ^ 32 → length (value_bytes (value_of kind value)) < 2 ^ 32
+value_size Value value lt = lt
+value_size Tombstone value lt = omega arith
+value_size WeakTombstone value lt = omega arith
+value_size Indirection value lt = omega arith
+
+item_fits : (number : ℕ) (item : ReadBatchItem) → number < 2 ^ 63 → HasSizes item → IsEntry (entry_of number item)
+item_fits number item small is = record { some = is.some; key = is.key; number = omega (arith, small); value = value_size item.value_type item.value is.value }
+
+pub may_replay : (b : Batch) → IsFit b → MayReplay (view b)
+may_replay b is = record {
+  small = is.small;
+  items = All-weaker HasSizes (λ (item : ReadBatchItem). IsEntry (entry_of b.seqno item)) (λ item sizes. item_fits b.seqno item is.small sizes) b.items.items is.items;
+}
+
+-- ---- what was read
+
+-- the items of changes that have a spelling have such sizes
+item_sizes : (changes : List Entry) → AllByRecursion IsChange changes → AllByRecursion HasSizes (items_of changes)
+item_sizes [] are = tt
+item_sizes (Start count number ∷ changes) are = absurd are.0
+item_sizes (Item id key value kind compression ∷ changes) are = (record { some = are.0.1; key = are.0.2; value = are.0.3 }, item_sizes changes are.1)
+item_sizes (End found ∷ changes) are = absurd are.0
+item_sizes (Clear id ∷ changes) are = item_sizes changes are.1
+
+both : (first bs : List Written) → AllByRecursion IsWritten first → AllByRecursion IsWritten bs → AllByRecursion IsWritten (first ++ bs)
+both [] bs each more = more
+both (b ∷ first) bs each more = (each.0, both first bs each.1 more)
+
+-- what is read of journals was written
+read_written : (image : Image) (journals : List Journal) → AreRead image journals → AllByRecursion IsWritten (batches_in journals)
+read_written image [] read = tt
+read_written image (j ∷ []) (inl read) = both j.batches [] read.whole.each tt
+read_written image (j ∷ []) (inr read) = both j.batches [] read.whole.each tt
+read_written image (j ∷ k ∷ journals) read = both j.batches (batches_in (k ∷ journals)) read.0.whole.each (read_written image (k ∷ journals) read.1)
+
+-- the items of a batch have such sizes
+AreSized : Shown → Type 0
+AreSized b = AllByRecursion HasSizes b.items
+
+shown_sized : (bs : List Written) → AllByRecursion IsWritten bs → AllByRecursion AreSized (map shown bs)
+unfolding AreSized
+shown_sized [] are = tt
+shown_sized (b ∷ bs) are = (item_sizes b.changes are.0.each, shown_sized bs are.1)
+
+-- its number is one of a change
+IsLow : Shown → Type 0
+IsLow b = b.number < 2 ^ 63
+
+low_numbers : (least : ℕ) (batches : List Shown) → first_fault least batches ≡ None → AllByRecursion IsLow batches
+unfolding IsLow
+low_numbers least [] sound = tt
+low_numbers least (b ∷ batches) sound =
+    let parts = no_fault (fault_of least b) (first_fault (b.number + 1) batches) sound in
+    ((number_fits least b parts.0).1, low_numbers (b.number + 1) batches parts.1)
+
+fit : (read : List Batch) → AllByRecursion AreSized (map view read) → AllByRecursion IsLow (map view read) → AllByRecursion IsFit read
+unfolding AreSized IsLow
+fit [] sized low = tt
+fit (b ∷ read) sized low = (record { small = low.0; items = All-from_recursion HasSizes b.items.items sized.0 }, fit read sized.1 low.1)
+
+-- so each batch of a folder that was read is one that trees take
+pub read_fit : (image : Image) (found : RecoveredFolder) → IsFinished image found → All IsFit found.journals.batches.items
+read_fit image found read =
+    let journals = read.journals in
+    let gathers = journals.gathers in
+    let batches = found.journals.batches.items in
+    All-from_recursion IsFit batches
+    (fit batches (subst (AllByRecursion AreSized) (sym gathers.all) (shown_sized (batches_in journals.journals) (read_written image journals.journals journals.read)))
+    (low_numbers 0 (map view batches) (ap (first_fault 0) gathers.all ∙ gathers.sound)))
+
+-- ---- numbers
+
+pub least_small : (least : ℕ) (batches : List Shown) → first_fault least batches ≡ None → least ≤ 2 ^ 63 → least_after least batches ≤ 2 ^ 63
+least_small least [] sound small = small
+least_small least (b ∷ batches) sound small =
+    let parts = no_fault (fault_of least b) (first_fault (b.number + 1) batches) sound in
+    let low : b.number < 2 ^ 63 = (number_fits least b parts.0).1 in
+    least_small (b.number + 1) batches parts.1 (omega (arith, low))
+
+past_small : (number : Option ℕ) → IfSome number (λ n. n < 2 ^ 63) → past number ≤ 2 ^ 63
+past_small None small = omega arith
+past_small (Some n) small = omega (arith, small)
+
+pub records_small : (records : List Fields) → All HasNumbers records → past_records records ≤ 2 ^ 63
+records_small [] have = omega arith
+records_small (r ∷ records) have =
+    let first = All-head HasNumbers r records have in
+    let persisted = past_small r.persisted first.0 in
+    let highest = past_small r.highest first.1 in
+    let rest = records_small records (All-tail HasNumbers r records have) in
+    omega (arith, persisted, highest, rest)

@@ -1,0 +1,86 @@
+-- Sizes of memtables, and the settings that they are held against.
+use Rattle.std.proofs.Common.{◌≡◌, ℕ, ◌+◌, ◌&&◌, nat_lt, Bool, true, false, cond, codes, List, [], ◌∷◌, map, Option, None, Some, unwrap_or, refl, sym, ap, ◌∙◌}
+use Rattle.std.specs.FinMap.{contains_key, entries, get, get-retain_keys, nat_cmp-IsAntisymmetric}
+use Rattle.std.specs.List.{fold, sum_by}
+use Rattle.std.specs.Option.{is_some, option_map}
+use Rattle.byteorder.specs.Endian.{little_number}
+use Rattle.fjall_base.specs.Pairs.{Bytes}
+use Rattle.fjall_base.specs.Store.{Options, Store, kept}
+use Rattle.fjall_journal.specs.Writer.{counted}
+use Rattle.fjall_meta.specs.declared.living.LivingKeyspace.{LivingKeyspace}
+use Rattle.fjall_meta.specs.Keyspaces.{AreKeyspaces, Keyspaces, keyspace_at}
+use Rattle.fjall_options.specs.declared.options.stored_option.StoredOption.TheVariants.{MaxMemtableSize}
+use Rattle.fjall_options.specs.Options.{effective_settings, value_at, value_of}
+use Rattle.fjall_versions.specs.Replays.{option_pairs}
+use Rattle.fjall_versions.proofs.Naming.{named_in_order, settings}
+use Rattle.fjall_trees.specs.Forests.{Forest}
+use Rattle.fjall_trees.specs.Tables.{shape_in}
+use Rattle.fjall_maps.specs.Maps.{store_of}
+use Rattle.fjall_state.specs.Machine.{State, active_size, buffer_size, max_memtable_size, memtable_size, present, wants_rotation}
+use Rattle.fjall_state.specs.Remembered.{Remembered, StandsFor}
+use Rattle.fjall_state.proofs.Facts.{living_names}
+
+-- ---- all memtables
+
+fold_map : {X Y : Type 0} (f : Y → ℕ) (g : X → Y) (sum : ℕ) (xs : List X) → fold (λ a y. a + f y) sum (map g xs) ≡ fold (λ a x. a + f (g x)) sum xs
+fold_map f g sum [] = refl
+fold_map f g sum (x ∷ xs) = fold_map f g (sum + f (g x)) xs
+
+sum_map : {X Y : Type 0} (f : Y → ℕ) (g : X → Y) (xs : List X) → sum_by f (map g xs) ≡ sum_by (λ x. f (g x)) xs
+sum_map f g xs = fold_map f g 0 xs
+
+-- what a keyspace's memtables count for, where the sum stops at the greatest number
+abbrev pub size_in : Forest → LivingKeyspace → ℕ
+size_in trees k = counted (memtable_size (shape_in k.id trees))
+
+-- the keyspaces that live are those of the store
+pub buffer_of_living : (s : Keyspaces) → AreKeyspaces s → (trees others : Forest) → buffer_size (store_of s trees) others ≡ sum_by (size_in others) s.living
+buffer_of_living s all trees others =
+    ap (sum_by (λ (e : ℕ × Bytes). counted (memtable_size (shape_in e.0 others)))) (named_in_order s all)
+    ∙ sum_map (λ (e : ℕ × Bytes). counted (memtable_size (shape_in e.0 others))) (λ (k : LivingKeyspace). (k.id, k.name)) s.living
+
+pub buffers_agree : (m : Remembered) (table : ℕ) (s : State) → StandsFor m table s → buffer_size (present s) s.parts.trees ≡ buffer_size (store_of m.keyspaces m.trees) m.trees
+buffers_agree m table s stands = λ i. sum_by (λ e. counted (memtable_size (shape_in e.0 (stands.trees i)))) (entries ((stands.present i).names))
+
+-- ---- the size of an active memtable
+
+pair_found : (values : List Bytes) → value_of (codes "max_memtable_size") (option_pairs values) ≡ Some (value_at MaxMemtableSize values)
+unfolding option_pairs
+pair_found values = refl
+
+-- the settings of a store say what the options do
+settings_allow : (values : List Bytes) → max_memtable_size (option_pairs values) ≡ (effective_settings values).max_memtable_size
+unfolding effective_settings
+settings_allow values = ap (λ (o : Option Bytes). little_number 8 (unwrap_or o [])) (pair_found values)
+
+-- the options of a keyspace, where it is there, say that a memtable of this size is too large
+abbrev pub says_too_large : ℕ → Option (List Bytes) → Bool
+says_too_large size None = false
+says_too_large size (Some values) = nat_lt (effective_settings values).max_memtable_size size
+
+found_says : (size : ℕ) (found : Option LivingKeyspace)
+    → (is_some found && nat_lt (max_memtable_size (unwrap_or (option_map (λ (k : LivingKeyspace). option_pairs k.options) found) [])) size) ≡ says_too_large size (option_map (λ (k : LivingKeyspace). k.options) found)
+found_says size None = refl
+found_says size (Some k) = ap (λ n. nat_lt n size) (settings_allow k.options)
+
+pub held_wants : (s : Keyspaces) (trees others : Forest) (id : ℕ) → wants_rotation (store_of s trees) others id ≡ says_too_large (counted (active_size (shape_in id others))) (option_map (λ k. k.options) (keyspace_at id s.living))
+held_wants s trees others id =
+    let size = counted (active_size (shape_in id others)) in
+    ap (λ b. b && nat_lt (max_memtable_size (unwrap_or (get (store_of s trees).options id) [])) size) (living_names s trees id)
+    ∙ ap (λ (o : Option Options). is_some (keyspace_at id s.living) && nat_lt (max_memtable_size (unwrap_or o [])) size) (settings s [] id)
+    ∙ found_says size (keyspace_at id s.living)
+
+both_times : (size : ℕ) (b : Bool) (o : Option Options) → (b && nat_lt (max_memtable_size (unwrap_or (cond b o None) [])) size) ≡ (b && nat_lt (max_memtable_size (unwrap_or o [])) size)
+both_times size true o = refl
+both_times size false o = refl
+
+kept_wants : (s : Store) (trees : Forest) (id : ℕ) → wants_rotation (kept s) trees id ≡ wants_rotation s trees id
+kept_wants s trees id =
+    let p = contains_key s.names in
+    let size = counted (active_size (shape_in id trees)) in
+    ap (λ (o : Option Options). p id && nat_lt (max_memtable_size (unwrap_or o [])) size) (get-retain_keys s.options p id (λ x e. ap p (sym (nat_cmp-IsAntisymmetric id x e))))
+    ∙ both_times size (p id) (get s.options id)
+
+pub wants_agree : (m : Remembered) (table : ℕ) (s : State) → StandsFor m table s → (id : ℕ) → wants_rotation (present s) s.parts.trees id ≡ wants_rotation (store_of m.keyspaces m.trees) m.trees id
+wants_agree m table s stands id =
+    sym (kept_wants (present s) s.parts.trees id) ∙ (λ i. wants_rotation (stands.present i) (stands.trees i) id) ∙ kept_wants (store_of m.keyspaces m.trees) m.trees id

@@ -1,0 +1,67 @@
+//! Memtables of keyspaces.
+
+ghost use Rattle.std.specs.Prelude.{◌≡◌, IfOk, IsOkUnless, Ok, OnErr, false, length, true};
+ghost use Rattle.fjall_journal.specs.Writer.{counted};
+ghost use Rattle.fjall_trees.specs.Tables.{shape_in};
+ghost use Rattle.fjall_maps.specs.Maps.{store_of};
+ghost use Rattle.fjall_state.specs.Machine.{buffer_size, rotates, version_count, wants_rotation};
+ghost use Rattle.fjall_state.specs.Remembered.{IsLawful, rotated};
+
+use crate::engine_state::EngineState;
+use fjall_base::{Error, Result};
+
+impl EngineState {
+    /// Seals the active memtable of a keyspace, begins an empty one and raises the watermark; false where the memtable holds
+    /// nothing, or where the keyspace has no tree, and then nothing changes. After a refusal, for want of memory alone,
+    /// nothing has changed.
+    pub fn rotate_memtable(&mut self, id: u64) -> Result<bool>
+        ensures value { IfOk result (λ is_sealed. is_sealed ≡ rotates self.old.trees id) }
+        ensures sealed { result ≡ Ok true → self.new ≡ rotated id self.old }
+        ensures empty { result ≡ Ok false → self.new ≡ self.old }
+        ensures lawful { IsLawful self.old }
+        ensures unchanged { OnErr result (self.new ≡ self.old) }
+        ensures only { IsOkUnless result Error.OutOfMemory }
+    {
+        let is_sealed = self.trees.rotate_memtable(id)?;
+        if is_sealed {
+            self.tickets.gc();
+        }
+        Ok(is_sealed)
+    }
+
+    /// How many versions a keyspace has, removals and those that no view shows among them; the greatest `u64` where that is too
+    /// small.
+    pub fn approximate_len(&self, id: u64) -> u64
+        ensures { result ≡ counted (version_count (shape_in id self.now.trees)) }
+    {
+        self.trees.approximate_len(id)
+    }
+
+    /// How many sealed memtables a keyspace has.
+    pub fn sealed_memtable_count(&self, id: u64) -> usize
+        ensures { result ≡ length (shape_in id self.now.trees).memory.sealed }
+    {
+        self.trees.sealed_memtable_count(id)
+    }
+
+    /// The sizes of the memtables of all keyspaces that live, added up; the greatest `u64` where that is too small.
+    pub fn write_buffer_size(&self) -> u64
+        ensures { result ≡ counted (buffer_size (store_of self.now.keyspaces self.now.trees) self.now.trees) }
+    {
+        let mut total: u64 = 0;
+        for keyspace in self.living() {
+            total = total.saturating_add(self.trees.memtable_size(keyspace.id));
+        }
+        total
+    }
+
+    /// Whether a keyspace lives whose active memtable is larger than its option `max_memtable_size`.
+    pub fn wants_rotation(&self, id: u64) -> bool
+        ensures { result ≡ wants_rotation (store_of self.now.keyspaces self.now.trees) self.now.trees id }
+    {
+        match self.keyspaces.options_of(id) {
+            Some(options) => self.trees.active_size(id) > options.effective().max_memtable_size,
+            None => false,
+        }
+    }
+}

@@ -1,0 +1,85 @@
+//! What a keyspace's tree counts: nothing where it has none.
+
+ghost use Rattle.std.specs.Prelude.{◌≡◌, ◌+◌, ◌-◌, ◌^◌, count_by, length, min};
+ghost use Rattle.std.specs.List.{sum_by};
+ghost use Rattle.fjall_memtable.specs.Entries.{size_of};
+ghost use Rattle.fjall_parts.specs.Parts.{parts_of, versions_in};
+ghost use Rattle.fjall_lsm.specs.Trees.{is_l0};
+ghost use Rattle.fjall_trees.specs.Tables.{shape_in};
+
+use crate::trees::Trees;
+
+impl Trees {
+    ghost use Rattle.fjall_trees.specs.Views.{forest_of};
+
+    /// How many versions a keyspace has, in all tables and in memory, hidden ones and removals among them; the greatest u64
+    /// where that is too small.
+    pub fn approximate_len(&self, id: u64) -> u64
+        ensures { result ≡ min (sum_by (λ t. t.info.entry_count) (shape_in id (forest_of self.now)).tables + length (versions_in (parts_of (shape_in id (forest_of self.now)).memory))) (2 ^ 64 - 1) }
+    {
+        match self.tree(id) {
+            Some(tree) => tree.approximate_len(),
+            None => 0,
+        }
+    }
+
+    /// How many tables a keyspace has.
+    pub fn table_count(&self, id: u64) -> usize
+        ensures { result ≡ length (shape_in id (forest_of self.now)).tables }
+    {
+        match self.tree(id) {
+            Some(tree) => tree.table_count(),
+            None => 0,
+        }
+    }
+
+    /// How many tables of a keyspace stand as flushes made them.
+    pub fn l0_table_count(&self, id: u64) -> usize
+        ensures { result ≡ count_by (λ t. is_l0 t.info.level) (shape_in id (forest_of self.now)).tables }
+    {
+        match self.tree(id) {
+            Some(tree) => tree.l0_table_count(),
+            None => 0,
+        }
+    }
+
+    /// How many sealed memtables a keyspace has.
+    pub fn sealed_memtable_count(&self, id: u64) -> usize
+        ensures { result ≡ length (shape_in id (forest_of self.now)).memory.sealed }
+    {
+        match self.tree(id) {
+            Some(tree) => tree.sealed_memtable_count(),
+            None => 0,
+        }
+    }
+
+    /// How many bytes the files of a keyspace's tables have, all added up; the greatest u64 where that is too small.
+    pub fn disk_space(&self, id: u64) -> u64
+        ensures { result ≡ min (sum_by (λ t. t.info.file_len) (shape_in id (forest_of self.now)).tables) (2 ^ 64 - 1) }
+    {
+        match self.tree(id) {
+            Some(tree) => tree.disk_space(),
+            None => 0,
+        }
+    }
+
+    /// How many bytes the active memtable of a keyspace counts for; the greatest u64 where that is too small.
+    pub fn active_size(&self, id: u64) -> u64
+        ensures { result ≡ min (sum_by size_of (shape_in id (forest_of self.now)).memory.active.versions) (2 ^ 64 - 1) }
+    {
+        match self.tree(id) {
+            Some(tree) => tree.active_size(),
+            None => 0,
+        }
+    }
+
+    /// How many bytes all memtables of a keyspace count for; the greatest u64 where that is too small.
+    pub fn memtable_size(&self, id: u64) -> u64
+        ensures { result ≡ min (sum_by size_of (versions_in (parts_of (shape_in id (forest_of self.now)).memory))) (2 ^ 64 - 1) }
+    {
+        match self.tree(id) {
+            Some(tree) => tree.memtable_size(),
+            None => 0,
+        }
+    }
+}

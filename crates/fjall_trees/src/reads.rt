@@ -1,0 +1,90 @@
+//! Views of the trees over a disk.
+
+ghost use Rattle.std.specs.Prelude.{◌≡◌, [], ℕ, List, ⊤, IfOk, IfErr, IsOkAnd, IsTrue, Some, None, Ok};
+ghost use Rattle.fjall_base.specs.Disk.{Meaning};
+ghost use Rattle.fjall_base.specs.Pairs.{Pairs, key_range, page, pairs_between};
+ghost use Rattle.fjall_table.specs.Blocks.{Entry};
+ghost use Rattle.fjall_table.specs.Files.{IsRefused};
+ghost use Rattle.fjall_views.specs.Views.{IsView, value_at};
+ghost use Rattle.fjall_blocks.specs.Readers.{LooksOn, SomeTableIsWrong};
+ghost use Rattle.fjall_lsm.specs.Trees.{Shape, clears_of, versions_of};
+ghost use Rattle.fjall_trees.specs.Forests.{tree_at};
+ghost use Rattle.fjall_trees.specs.Tables.{AreReadOn, AreSameTrees, shape_in};
+
+use crate::trees::{Trees, place_of};
+use fjall_base::{Disk, KeyBounds, KvPair, Result, UserValue};
+use std::alloc::Global;
+
+impl Trees {
+    ghost use Rattle.fjall_trees.specs.Views.{forest_of};
+
+    /// The value of a key of a keyspace in the view at an instant: what the changes numbered below it made. None where it
+    /// has none, or where the keyspace has no tree. A table of this keyspace whose file is damaged where the key would stand
+    /// is `Storage(TableDamaged)`. Blocks that were read are kept, also after an `Err`.
+    pub fn get<D: Disk>(
+        &mut self,
+        disk: &mut D,
+        id: u64,
+        key: &[u8],
+        instant: u64,
+    ) -> Result<Option<UserValue>>
+        ensures none { tree_at id (forest_of self.old) ≡ None → result ≡ Ok None }
+        ensures found { IsTrue D.honest → (entries : ℕ → List (List Entry)) → AreReadOn (D.meaning disk.old) (forest_of self.old) entries
+            → (shape : Shape) → tree_at id (forest_of self.old) ≡ Some shape
+            → IfOk result (λ value. value ≡ value_at key.now instant (clears_of shape) (versions_of shape (entries id))) }
+        ensures reads { IsTrue D.honest → (entries : ℕ → List (List Entry)) → AreReadOn (D.meaning disk.old) (forest_of self.old) entries
+            → AreReadOn (D.meaning disk.new) (forest_of self.new) entries }
+        ensures trees { AreSameTrees (forest_of self.old) (forest_of self.new) }
+        ensures refused { IsTrue D.honest → (entries : ℕ → List (List Entry)) → AreReadOn (D.meaning disk.old) (forest_of self.old) entries
+            → IfErr result (IsRefused (SomeTableIsWrong (D.meaning disk.old) (shape_in id (forest_of self.old)).tables) (D.meaning disk.old).faults (D.meaning disk.new).faults) }
+        ensures disk { LooksOn D.honest (D.meaning disk.old) (D.meaning disk.new) }
+        ensures listed { IfErr result (IsRefused ⊤ (D.meaning disk.old).faults (D.meaning disk.new).faults) }
+    {
+        match place_of(self.trees.as_slice(), id) {
+            Some(place) => self.trees[place].tree.get(disk, key, instant),
+            None => Ok(None),
+        }
+    }
+
+    /// A page of that view: of the pairs between the bounds the first ones, or the last ones where `back` holds, and at most
+    /// `max` of them; in the order of their keys in both cases. None are there where the keyspace has no tree. A block is
+    /// read when it is wanted; one that is damaged is `Storage(TableDamaged)`. Blocks that were read are kept, also after an
+    /// `Err`.
+    pub fn page<D: Disk>(
+        &mut self,
+        alloc: Global,
+        disk: &mut D,
+        id: u64,
+        range: KeyBounds<'_>,
+        instant: u64,
+        back: bool,
+        max: usize,
+    ) -> Result<Vec<KvPair>>
+        ensures none { tree_at id (forest_of self.old) ≡ None → IsOkAnd result (λ found. found.items ≡ []) }
+        ensures found { IsTrue D.honest → (entries : ℕ → List (List Entry)) → AreReadOn (D.meaning disk.old) (forest_of self.old) entries
+            → (shape : Shape) (pairs : Pairs) → tree_at id (forest_of self.old) ≡ Some shape → IsView instant (clears_of shape) (versions_of shape (entries id)) pairs
+            → IfOk result (λ found. found.items ≡ page back max (pairs_between (key_range range.entry) pairs)) }
+        ensures reads { IsTrue D.honest → (entries : ℕ → List (List Entry)) → AreReadOn (D.meaning disk.old) (forest_of self.old) entries
+            → AreReadOn (D.meaning disk.new) (forest_of self.new) entries }
+        ensures trees { AreSameTrees (forest_of self.old) (forest_of self.new) }
+        ensures refused { IsTrue D.honest → (entries : ℕ → List (List Entry)) → AreReadOn (D.meaning disk.old) (forest_of self.old) entries
+            → IfErr result (IsRefused (SomeTableIsWrong (D.meaning disk.old) (shape_in id (forest_of self.old)).tables) (D.meaning disk.old).faults (D.meaning disk.new).faults) }
+        ensures disk { LooksOn D.honest (D.meaning disk.old) (D.meaning disk.new) }
+        ensures listed { IfErr result (IsRefused ⊤ (D.meaning disk.old).faults (D.meaning disk.new).faults) }
+    {
+        match place_of(self.trees.as_slice(), id) {
+            Some(place) => self.trees[place].tree.page(disk, range, instant, back, max),
+            None => Ok(Vec::new(alloc)),
+        }
+    }
+
+    /// Keeps no block of a keyspace's tables any longer where its kept blocks count for more than so many bytes.
+    pub fn keep_at_most(&mut self, id: u64, bytes: u64)
+        ensures trees { AreSameTrees (forest_of self.old) (forest_of self.new) }
+        ensures reads { (disk : Meaning) (entries : ℕ → List (List Entry)) → AreReadOn disk (forest_of self.old) entries → AreReadOn disk (forest_of self.new) entries }
+    {
+        if let Some(place) = place_of(self.trees.as_slice(), id) {
+            self.trees[place].tree.keep_at_most(bytes);
+        }
+    }
+}
