@@ -12,7 +12,7 @@ use Rattle.fjall_history.specs.declared.reply.Reply.{Reply}
 use Rattle.fjall_history.specs.declared.reply.Reply.TheVariants.{Refused}
 use Rattle.fjall_history.specs.Histories.{Accepted, grown, extended, plain}
 use Rattle.fjall_state.specs.declared.call.Call.{Call}
-use Rattle.fjall_state.specs.Shapes.{OfChange, OfCount, OfCreation, OfDeletion, OfHandle, OfPersist, OfRead, OfRotation, OfTickets, OneLess, OneMore, Shape, shape_of}
+use Rattle.fjall_state.specs.Shapes.{OfChange, OfCount, OfCreation, OfDeletion, OfHandle, OfJournalRotation, OfPersist, OfRead, OfRotation, OfTickets, OneLess, OneMore, Shape, shape_of}
 use Rattle.fjall_state.specs.Machine.{Answers, CreatesOrFinds, State, StepOf, Refuses, MayFail, IsPoisoned, deleted, due, facts, is_living, present, rotated, rotates}
 use Rattle.fjall_core.specs.Durables.{Durable}
 use Rattle.fjall_core.specs.Crashes.{asked, attempt, RunOn, Tried, is_io}
@@ -79,6 +79,7 @@ answer_moves s t (OfDeletion id) reply none (told, is) = deleted_moves s t id (i
 answer_moves s t (OfHandle OneMore id) reply none (told, is) = quiet s t [] refl (ap (λ (x : State). x.history) is) (ap (λ (x : State). x.poisoned) is)
 answer_moves s t (OfHandle OneLess id) reply none (told, is) = quiet s t [] refl (ap (λ (x : State). x.history) is) (ap (λ (x : State). x.poisoned) is)
 answer_moves s t (OfRotation id) reply none (told, is) = rotated_moves s t id (rotates s.parts.trees id) is
+answer_moves s t OfJournalRotation reply none (told, is) = quiet s t [] refl (ap (λ (x : State). x.history) is) (ap (λ (x : State). x.poisoned) is)
 answer_moves s t (OfRead view id query) reply none (told, same) = as_it_was s t [] refl same
 answer_moves s t (OfTickets call) reply none (turns, is) = quiet s t [] refl (ap (λ (x : State). x.history) is) (ap (λ (x : State). x.poisoned) is)
 answer_moves s t (OfPersist mode) reply none (told, is) = quiet s t [] refl (ap (λ (x : State). x.history) is) (ap (λ (x : State). x.poisoned) is)

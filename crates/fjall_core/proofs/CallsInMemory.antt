@@ -72,7 +72,7 @@ retained_counts old new id is = record {
   store = ap (λ (core : Held). kept (store_in core)) (sym is);
   catalog = ap (λ (core : Held). core.catalog) is;
   journal = ap (λ (core : Held). core.journal) is;
-  sealed = ap (λ (core : Held). core.memory.sealed) is;
+  journals = ap (λ (core : Held). core.memory.journals) is;
 }
 
 retained_there : (core : Held) (m : Remembered) (id : ℕ) (result : Result Unit Error) → OnOk result (due_in (facts_of core.memory 0) (OfHandle OneMore id) ≡ None) → OnOk result (m ≡ retained id core.memory) → OnErr result (m ≡ core.memory)

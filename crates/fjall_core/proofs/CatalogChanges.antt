@@ -3,8 +3,6 @@ use Rattle.std.proofs.Common.{◌≡◌, ◌⊎◌, inl, inr, ℕ, ◌<◌, ◌�
 use Rattle.std.proofs.lemmas.List.{append-nil}
 use Rattle.std.proofs.lemmas.List.Elements.{All-weaker}
 use Rattle.std.specs.List.{AllZip}
-use Rattle.fjall_manager.specs.Journals.{Sealed}
-use Rattle.fjall_recovery.specs.Told.{TellsOf}
 use Rattle.fjall_base.specs.Store.{Store, Command, apply, kept}
 use Rattle.fjall_base.specs.Disk.{Image, LeavesOnly, Meaning, state_in}
 use Rattle.fjall_base.proofs.Moments.{at_end, weaken}
@@ -25,7 +23,7 @@ use Rattle.fjall_commit.specs.Journaling.{IsWriting}
 use Rattle.fjall_commit.specs.Changes.{HasEither}
 use Rattle.fjall_state.specs.Remembered.{Remembered}
 use Rattle.fjall_core.specs.Holding.{Held}
-use Rattle.fjall_core.specs.Durables.{Durable, Lies, Rests, StandsAmid, StaysFinished}
+use Rattle.fjall_core.specs.Durables.{Durable, Lies, Rests, StandsAmid, StaysFinished, AreKnown}
 use Rattle.fjall_core.specs.Standing.{Poisons, StandsOn}
 use Rattle.fjall_core.proofs.CrashesInRuns.{amid_more}
 use Rattle.fjall_commit.proofs.CrashedJournals.{commanded, store_is_kept}
@@ -96,7 +94,7 @@ pub record Changed (mid new : Held) (j : Journaling) (t : Tree) (command : Comma
   pub last : done ≡ true → next.last ≡ new.catalog
   pub keyspaces : done ≡ true → next.keyspaces ≡ new.memory.keyspaces
   pub journal : done ≡ true → new.journal ≡ mid.journal
-  pub sealed : done ≡ true → new.memory.sealed ≡ mid.memory.sealed
+  pub journals : done ≡ true → new.memory.journals ≡ mid.memory.journals
 
 -- where base and pending lie after it
 changed_lies : (mid new : Held) (base : Store) (command : Command) (lies : Lies mid (held_on mid base [])) → lies.journals.later ≡ [] → Changed mid new lies.journals lies.tree command true → Lies new (held_on new (apply base command) [])
@@ -108,7 +106,7 @@ changed_lies mid new base command lies none c =
       tree = c.next;
       writing = subst (λ w. IsWriting (state_in new.disk) w j) (sym (c.journal refl)) (writing_along (state_in mid.disk) (state_in new.disk) mid.journal j (within_root mid.disk new.disk c.run) lies.writing);
       in_tree = c.in_tree refl;
-      told = subst (λ (l : List Sealed). AllZip TellsOf j.sealed l) (sym (c.sealed refl)) lies.told;
+      told = subst (AreKnown j) (sym (c.journals refl)) lies.told;
       last = c.last refl;
       keyspaces = c.keyspaces refl;
       made = kept_along base (store_of_tree j lies.tree) (command ∷ []) (lies.made ∙ sym (store_is_kept (contents_with j lies.tree []))) ∙ sym c.after;

@@ -118,7 +118,7 @@ creation_changed mid new base name options creation done lies none is were are d
       last = λ ok. sym (core.catalog_is ok);
       keyspaces = λ ok. ap (λ (m : Remembered). m.keyspaces) (sym (core.memory_is ok));
       journal = core.journal_is;
-      sealed = λ ok. ap (λ (m : Remembered). m.sealed) (core.memory_is ok);
+      journals = λ ok. ap (λ (m : Remembered). m.journals) (core.memory_is ok);
     })
 
 -- no call of it was one that no disk can serve
@@ -170,7 +170,7 @@ deletion_changed mid new base id update done lies none is disk core =
       last = λ ok. sym (core.catalog_is ok);
       keyspaces = λ ok. ap (λ (m : Remembered). m.keyspaces) (sym (core.memory_is ok));
       journal = core.journal_is;
-      sealed = λ ok. ap (λ (m : Remembered). m.sealed) (core.memory_is ok);
+      journals = λ ok. ap (λ (m : Remembered). m.journals) (core.memory_is ok);
     })
 
 -- no call of it was one that no disk can serve

@@ -54,7 +54,7 @@ abbrev pub between : Held → Held → Meaning → Held
 between old made mid = record old { disk = mid; journal = made.journal }
 
 pub stays : (old made : Held) (mid : Meaning) → StaysSame old (between old made mid)
-stays old made mid = record { keyspaces = refl; next = refl; catalog = refl; sealed = refl }
+stays old made mid = record { keyspaces = refl; next = refl; catalog = refl; journals = refl }
 
 -- the store with the keyspace
 created_held : (old : Held) (name : Bytes) (options : List Bytes) → IsLawful old.memory

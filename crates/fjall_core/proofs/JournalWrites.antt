@@ -1,12 +1,14 @@
 -- Where a write leads a core and its disk.
 use Rattle.std.proofs.Common.{◌≡◌, ◌≢◌, All, inr, ℕ, ◌+◌, ◌<◌, ◌≤◌, ◌^◌, ◌==◌, max, nat_lt, Bool, true, false, List, [], ◌∷◌, ◌++◌, map, Option, Some, None, unwrap_or, refl, sym, ◌∙◌, ap, subst, arith, lt-ltb}
 use Rattle.std.proofs.lemmas.Bool.{true≢false}
-use Rattle.std.proofs.lemmas.List.{append-nil}
+use Rattle.std.proofs.lemmas.List.{append-nil, append_assoc}
 use Rattle.std.proofs.lemmas.List.Elements.{All-weaker}
 use Rattle.std.specs.Option.{is_some, option_map}
 use Rattle.std.specs.List.{AllZip}
-use Rattle.fjall_manager.specs.Journals.{Sealed}
-use Rattle.fjall_recovery.specs.Told.{TellsOf}
+use Rattle.fjall_manager.specs.Journals.{Journals}
+use Rattle.fjall_manager.specs.Places.{marked}
+use Rattle.fjall_manager.specs.Telling.{AreMarksOf}
+use Rattle.fjall_manager.proofs.Raised.{change_marks}
 use Rattle.fjall_base.specs.Store.{Store, Command, apply, fold, kept}
 use Rattle.fjall_base.specs.Disk.{LeavesOnly, state_in}
 use Rattle.fjall_base.proofs.Moments.{at_end}
@@ -36,13 +38,13 @@ use Rattle.fjall_recovery.specs.Folders as folders
 use Rattle.fjall_recovery.specs.Places.{Journaling, LiesInTree, contents_with, journals_with}
 use Rattle.fjall_recovery.proofs.Storing.{beyond_lasts}
 use Rattle.fjall_contents.specs.Contents.{store_held}
-use Rattle.fjall_commit.specs.Journaling.{CanFollow, IsWriting, after_mode, is_out, next_number, synced, with_batch}
+use Rattle.fjall_commit.specs.Journaling.{CanFollow, IsWriting, after_mode, is_out, next_number, synced, with_batch, handed}
 use Rattle.fjall_commit.proofs.Batches.{kept-mode, next-mode}
 use Rattle.fjall_state.specs.Allowed.{FitsBatch, IsOfLiving}
-use Rattle.fjall_state.specs.Machine.{is_living}
+use Rattle.fjall_state.specs.Machine.{is_living, with_marks}
 use Rattle.fjall_state.specs.Remembered.{IsLawful, Remembered, with_change}
 use Rattle.fjall_core.specs.Holding.{Held}
-use Rattle.fjall_core.specs.Durables.{Durable, Lies, MakesPresent, Passes, Rests, StandsAmid, StaysFinished}
+use Rattle.fjall_core.specs.Durables.{Durable, Lies, MakesPresent, Passes, Rests, StandsAmid, StaysFinished, AreKnown}
 use Rattle.fjall_core.specs.CallParts.{WentOut}
 use Rattle.fjall_core.specs.Crashes.{IsSyncOf}
 use Rattle.fjall_core.specs.Standing.{Poisons, StandsOn, store_in}
@@ -182,12 +184,33 @@ change_leaves old new base pending change mode done admitted lies out =
     subst (λ (l : List Command). LeavesOnly old.disk new.disk (StandsAmid base [] (pending ++ l))) (batch_beyond old base pending change admitted lies)
     (root_amid base pending old.disk new.disk lies.journals lies.records lies.tree (batch_of old change ∷ []) lies.made lies.waits lies.in_tree (out.leaves lies.journals lies.writing (it_follows old base pending admitted.room lies)))
 
--- the sealed journals stay, in whatever mode
-sealed-mode : (mode : Option PersistMode) (j : Journaling) → (after_mode mode j).sealed ≡ j.sealed
-sealed-mode None j = refl
-sealed-mode (Some Buffer) j = refl
-sealed-mode (Some SyncData) j = refl
-sealed-mode (Some SyncAll) j = refl
+-- what is known of journals tells of them once all is synced
+pub known_synced : (j : Journaling) (known : Journals) → AreKnown j known → AreKnown (synced j) known
+known_synced j known is = record {
+  sealed = is.sealed;
+  active = is.active;
+  marks = subst (λ (l : List Written). AreMarksOf (map shown l) known.watermarks) (sym (append-nil (j.whole ++ j.later))) is.marks;
+}
+
+-- and once all was handed over
+pub known_handed : (j : Journaling) (known : Journals) → AreKnown j known → AreKnown (handed j) known
+known_handed j known is = record { sealed = is.sealed; active = is.active; marks = is.marks }
+
+-- what is known of journals tells of them in whatever mode
+known-mode : (mode : Option PersistMode) (j : Journaling) (known : Journals) → AreKnown j known → AreKnown (after_mode mode j) known
+known-mode None j known is = is
+known-mode (Some Buffer) j known is = known_handed j known is
+known-mode (Some SyncData) j known is = known_synced j known is
+known-mode (Some SyncAll) j known is = known_synced j known is
+
+-- with a change more the watermarks are raised
+known_more : (out : Bool) (j : Journaling) (change : Change) (number : ℕ) (known : Journals) → AreKnown j known → AreKnown (with_batch out j (of_change change number)) (with_marks number change known)
+known_more out j change number known is = record {
+  sealed = is.sealed;
+  active = is.active;
+  marks = subst (λ (l : List Written). AreMarksOf (map shown l) (marked number change known.watermarks)) (append_assoc j.whole j.later (of_change change number ∷ []))
+      (change_marks (j.whole ++ j.later) change number known.watermarks is.marks);
+}
 
 -- what is held goes on from there
 pub record GoesOn (old new : Held) (change : Change) : Type 0 where
@@ -216,10 +239,11 @@ module _ (old new : Held) (base : Store) (pending : List Command) (change : Chan
   in_tree_too : LiesInTree (state_in new.disk) lies.records lies.tree
   in_tree_too = tree_along (state_in old.disk) (state_in new.disk) lies.records lies.tree (out.elsewhere lies.journals lies.writing) lies.in_tree
 
-  told_too : AllZip TellsOf after.sealed new.memory.sealed
+  told_too : AreKnown after new.memory.journals
   told_too =
-      subst (λ (l : List Journal). AllZip TellsOf l new.memory.sealed) (sym (sealed-mode mode (with_batch goes_out lies.journals (batch_of old change))))
-      (subst (λ (l : List Sealed). AllZip TellsOf lies.journals.sealed l) (sym (ap (λ (m : Remembered). m.sealed) goes.memory_is)) lies.told)
+      subst (AreKnown after) (sym (ap (λ (m : Remembered). m.journals) goes.memory_is))
+      (known-mode mode (with_batch goes_out lies.journals (batch_of old change)) (with_marks old.memory.next change old.memory.journals)
+      (known_more goes_out lies.journals change old.memory.next old.memory.journals lies.told))
 
   -- where base and pending lie after it, while it may wait and isn't synced
   pub pending_lies : kept base ≡ folders.store_of (contents_with after lies.tree []) → all ≡ commanded lies.tree after.later → Lies new (held_on new base all)

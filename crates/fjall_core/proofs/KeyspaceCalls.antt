@@ -2,8 +2,6 @@
 use Rattle.std.proofs.Common.{◌≡◌, inl, inr, Bool, true, false, List, [], ◌∷◌, ◌++◌, refl, sym, ◌∙◌, ap, subst, codes}
 use Rattle.std.proofs.lemmas.List.{append-nil}
 use Rattle.std.specs.List.{AllZip}
-use Rattle.fjall_manager.specs.Journals.{Sealed}
-use Rattle.fjall_recovery.specs.Told.{TellsOf}
 use Rattle.fjall_base.specs.Store.{Store, Command, apply, fold, kept}
 use Rattle.fjall_base.specs.Disk.{LeavesOnly, state_in}
 use Rattle.fjall_base.proofs.Moments.{at_end, runs_on, weaken}
@@ -16,7 +14,7 @@ use Rattle.fjall_recovery.specs.Places.{LiesInTree}
 use Rattle.fjall_commit.specs.Journaling.{IsWriting}
 use Rattle.fjall_state.specs.Remembered.{Remembered}
 use Rattle.fjall_core.specs.Holding.{Held}
-use Rattle.fjall_core.specs.Durables.{Durable, Lies, MakesPresent, Rests, StandsAmid}
+use Rattle.fjall_core.specs.Durables.{Durable, Lies, MakesPresent, Rests, StandsAmid, AreKnown}
 use Rattle.fjall_core.specs.Standing.{Poisons, StandsOn, store_in}
 use Rattle.fjall_core.proofs.CatalogChanges.{Changed, change_leaves, changed_settles, ill_leads}
 use Rattle.fjall_core.proofs.CrashesInRuns.{amid_least, amid_more, amid_shift, passes_on, passes_still}
@@ -78,7 +76,7 @@ pub record Recounts (old new : Held) : Type 0 where
   pub store : kept (store_in old) ≡ kept (store_in new)
   pub catalog : new.catalog ≡ old.catalog
   pub journal : new.journal ≡ old.journal
-  pub sealed : new.memory.sealed ≡ old.memory.sealed
+  pub journals : new.memory.journals ≡ old.memory.journals
 
 present_along : (flag : Bool) (d : Durable) (a b : Store) → kept a ≡ kept b → MakesPresent flag d a → MakesPresent flag d b
 present_along false d a b same is = is ∙ same
@@ -93,7 +91,7 @@ recounted_lies old new base pending c lies run in_tree = record {
   tree = lies.tree;
   writing = subst (λ w. IsWriting (state_in new.disk) w lies.journals) (sym c.journal) (writing_along (state_in old.disk) (state_in new.disk) old.journal lies.journals (within_root old.disk new.disk run) lies.writing);
   in_tree = in_tree;
-  told = subst (λ (l : List Sealed). AllZip TellsOf lies.journals.sealed l) (sym c.sealed) lies.told;
+  told = subst (AreKnown lies.journals) (sym c.journals) lies.told;
   last = lies.last ∙ sym c.catalog;
   keyspaces = lies.keyspaces ∙ sym c.keyspaces;
   made = lies.made;
@@ -117,7 +115,7 @@ recount_leads old new d same c stands = (
           tree = lies.tree;
           writing = subst (λ w. IsWriting (state_in d.meaning) w lies.journals) (sym c.journal) lies.writing;
           in_tree = lies.in_tree;
-          told = subst (λ (l : List Sealed). AllZip TellsOf lies.journals.sealed l) (sym c.sealed) lies.told;
+          told = subst (AreKnown lies.journals) (sym c.journals) lies.told;
           last = lies.last ∙ sym c.catalog;
           keyspaces = lies.keyspaces ∙ sym c.keyspaces;
           made = lies.made;

@@ -32,3 +32,4 @@ pub mod CrashedDisks
 pub mod LastSyncs
 pub mod Lives
 pub mod Reopening
+pub mod JournalRotations

@@ -1,30 +1,40 @@
 -- A core over a folder that was opened.
-use Rattle.std.proofs.Common.{arith, ◌≤◌, ◌≡◌, ℕ, List, [], take, Option, refl, sym, ◌∙◌, ap, subst}
+use Rattle.std.proofs.Common.{arith, ◌≤◌, ◌≡◌, ℕ, List, [], ◌∷◌, ◌++◌, map, take, Option, refl, sym, ◌∙◌, ap, subst}
+use Rattle.std.proofs.lemmas.List.{append-nil}
+use Rattle.std.specs.List.{AllByRecursion, AllZip}
 use Rattle.std.proofs.Math.Seq.{take-nil}
 use Rattle.fjall_base.specs.Store.{Store, kept}
+use Rattle.fjall_base.specs.Disk as disks
 use Rattle.fjall_base.specs.Disk.{File, Image, LeavesOnly, Meaning, state_in}
 use Rattle.fjall_base.specs.declared.error.Error.{Error}
 use Rattle.fjall_base.specs.declared.error.Error.TheVariants.{Io}
-use Rattle.fjall_journal.specs.Batches.{Written}
+use Rattle.fjall_journal.specs.Batches.{Written, shown}
 use Rattle.fjall_journal.specs.Writer.{Journal}
+use Rattle.fjall_manager.specs.Journals.{Sealed}
+use Rattle.fjall_manager.specs.Places.{told}
+use Rattle.fjall_manager.specs.Telling.{AreMarksOf}
 use Rattle.fjall_trees.specs.Views.{forest_of}
 use Rattle.fjall_maps.specs.Maps.{store_of as store_behind}
 use Rattle.fjall_recovery.specs.Folders.{Contents, StandsFor, number_of, store_of}
 use Rattle.fjall_recovery.specs.Held.{Holds, number_held, store_held}
 use Rattle.fjall_files.specs.Names.{journal_name}
+use Rattle.fjall_files.specs.Regions.{IsSafe}
+use Rattle.fjall_recovery.specs.Journals as read
+use Rattle.fjall_recovery.specs.Told.{TellsOf}
 use Rattle.fjall_recovery.specs.Places.{contents_with, texts_of}
+use Rattle.fjall_commit.specs.Watermarks.{AreMarked}
 use Rattle.fjall_commit.proofs.RootAfterWrites.{begins}
 use Rattle.fjall_repair.specs.declared.opened.Opened.{Opened}
 use Rattle.fjall_repair.specs.Opened.{ComesBack, IsOpenedFrom, IsUnopened}
 use Rattle.fjall_repair.specs.Opened as repair
-use Rattle.fjall_state.specs.Remembered.{Remembered, remembered}
+use Rattle.fjall_state.specs.Remembered.{Remembered, journals_of, remembered}
 use Rattle.fjall_history.proofs.Values.{all_none}
 use Rattle.fjall_state.specs.Remembered as memory
 use Rattle.fjall_state.specs.Machine.{opened_state}
 use Rattle.fjall_state.proofs.Standing.{an_opening_stands}
 use Rattle.fjall_core.specs.Holding.{Held}
 use Rattle.fjall_core.specs.Durables.{Durable, Lies}
-use Rattle.fjall_core.specs.Openings.{IsAtEnd, IsDueTo, KeepsStore, Opens, OpensAs, OpensOn, parts_of}
+use Rattle.fjall_core.specs.Openings.{AreWhole, IsAtEnd, IsDueTo, KeepsStore, Opens, OpensAs, OpensOn, parts_of}
 use Rattle.fjall_commit.proofs.CrashedJournals.{commanded, store_is_kept}
 use Rattle.fjall_core.proofs.CrashImages.{lies_rest, root_finished}
 
@@ -33,10 +43,10 @@ abbrev pub held_of : Meaning → Opened → Remembered → Held
 held_of disk o memory = record { disk = disk; journal = o.journal; catalog = o.catalog; memory = memory }
 
 abbrev pub core_of : Meaning → Opened → Held
-core_of disk o = held_of disk o (remembered o.keyspaces (forest_of o.trees) o.damaged.items o.number o.sealed)
+core_of disk o = held_of disk o (remembered o.keyspaces (forest_of o.trees) o.damaged.items o.number (journals_of o.sealed o.active o.watermarks))
 
 -- what was opened is lawful
-lawful_of : (o : Opened) → repair.IsLawful o → memory.IsLawful (remembered o.keyspaces (forest_of o.trees) o.damaged.items o.number o.sealed)
+lawful_of : (o : Opened) → repair.IsLawful o → memory.IsLawful (remembered o.keyspaces (forest_of o.trees) o.damaged.items o.number (journals_of o.sealed o.active o.watermarks))
 lawful_of o lawful = record {
   keyspaces = lawful.keyspaces;
   made = lawful.made;
@@ -53,7 +63,7 @@ lawful_of o lawful = record {
 -- it stands for the store of the folder
 pub opens : (disk : Meaning) (o : Opened) (store : Store) (next : ℕ) → repair.IsLawful o → store_behind o.keyspaces (forest_of o.trees) ≡ store → o.number ≡ next → Opens (core_of disk o) store o.damaged.items next
 opens disk o store next lawful made number =
-    let m = remembered o.keyspaces (forest_of o.trees) o.damaged.items o.number o.sealed in
+    let m = remembered o.keyspaces (forest_of o.trees) o.damaged.items o.number (journals_of o.sealed o.active o.watermarks) in
     let table = o.catalog.next_table_id in
     let parts = parts_of (core_of disk o) in
     record {
@@ -69,6 +79,21 @@ opens_on image disk o lawful (folder, is, store, number) = (folder, o.damaged.it
 
 pub opens_new : (disk : Meaning) (o : Opened) → repair.IsLawful o → (store : Store) × (damaged : List ℕ) × (next : ℕ) × Opens (core_of disk o) store damaged next
 opens_new disk o lawful = (store_behind o.keyspaces (forest_of o.trees), o.damaged.items, o.number, opens disk o (store_behind o.keyspaces (forest_of o.trees)) o.number lawful refl refl)
+
+-- the sealed journals are known, and their files are whole
+marked_as : (journals : List read.Journal) (sealed : List Sealed) → AllZip TellsOf journals sealed → AreMarked sealed journals
+marked_as [] [] tell = tt
+marked_as [] (s ∷ sealed) tell = tell
+marked_as (j ∷ journals) [] tell = tell
+marked_as (j ∷ journals) (s ∷ sealed) tell = (tell.0.id_is, tell.0.marks, marked_as journals sealed tell.1)
+
+whole_as : (state : disks.State) (journals : List read.Journal) (sealed : List Sealed) → AllZip TellsOf journals sealed
+    → AllByRecursion (λ journal. IsSafe state (journal_name journal.id) (texts_of journal.batches)) journals → AreWhole state sealed
+whole_as state [] [] tell safe = tt
+whole_as state [] (s ∷ sealed) tell safe = absurd tell
+whole_as state (j ∷ journals) [] tell safe = tt
+whole_as state (j ∷ journals) (s ∷ sealed) tell safe =
+    ((texts_of j.batches, subst (λ (n : ℕ). IsSafe state (journal_name n) (texts_of j.batches)) (sym tell.0.id_is) safe.0, tell.0.len_is), whole_as state journals sealed tell.1 safe.1)
 
 -- with that store as its base, and nothing pending
 module _ (disk : Meaning) (folder : Option Contents) (o : Opened) (is : repair.Opens (state_in disk) folder o) where
@@ -88,7 +113,11 @@ module _ (disk : Meaning) (folder : Option Contents) (o : Opened) (is : repair.O
     tree = is.t;
     writing = begins (state_in disk) o.journal is.j is.root is.later (ap (λ (w : Journal). w.name) is.journal) (ap (λ (w : Journal). w.buffer) is.journal);
     in_tree = is.tree;
-    told = is.sealed;
+    told = record {
+      sealed = marked_as is.j.sealed o.sealed is.sealed;
+      active = sym is.active;
+      marks = subst (λ (l : List Written). AreMarksOf (map shown l) (told o.watermarks)) (sym (append-nil is.j.whole) ∙ ap (λ (l : List Written). is.j.whole ++ l) (sym is.later)) is.marks;
+    };
     last = is.last;
     keyspaces = is.keyspaces;
     made = kept_held;
@@ -115,6 +144,7 @@ module _ (disk : Meaning) (folder : Option Contents) (o : Opened) (is : repair.O
     next = number_held folder;
     state = subst (λ (damaged : List ℕ). Opens (core_of disk o) (store_held folder) damaged (number_held folder)) is.whole (opens disk o (store_held folder) (number_held folder) lawful (is.made ∙ is.store) is.same);
     journal = at_end;
+    sealed = whole_as (state_in disk) is.j.sealed o.sealed is.sealed is.root.sealed;
     base = record { same = refl; rests = lies_rest (core_of disk o) here lies; finished = root_finished (state_in disk) is.j is.root; lies = λ well. lies; present = ap kept (sym held ∙ sym is.made) };
   })
 

@@ -26,14 +26,14 @@ use Rattle.fjall_history.specs.Histories.{number}
 use Rattle.fjall_history.specs.Queries.{Query, Tells}
 use Rattle.fjall_history.specs.Tickets.{Tickets, closed, collected, opened}
 use Rattle.fjall_state.specs.declared.call.Call.{Call}
-use Rattle.fjall_state.specs.Shapes.{AsKeyspace, ByMode, Clone, Close, Collect, Count, Exists, JournalSpace, Journals, Keyspaces, Next, OfChange, OfCount, OfCreation, OfDeletion, OfHandle, OfPersist, OfRead, OfRotation, OfTickets, OneLess, OneMore, Open, OpenTickets, Persistence, Entries, SealedMemtables, Shape, TicketCall, Visible, WriteBuffer, shape_of}
+use Rattle.fjall_state.specs.Shapes.{AsKeyspace, ByMode, Clone, Close, Collect, Count, Exists, JournalSpace, Keyspaces, Next, OfChange, OfCount, OfCreation, OfDeletion, OfHandle, OfJournalRotation, OfPersist, OfRead, OfRotation, OfTickets, OneLess, OneMore, Open, OpenTickets, Persistence, Entries, SealedMemtables, Shape, TicketCall, Visible, WriteBuffer, shape_of}
 use Rattle.fjall_state.specs.Shapes as shapes
 use Rattle.fjall_state.specs.Allowed.{MayChange}
 use Rattle.fjall_state.specs.Machine.{Answers, CountIs, creation_refusals, first_due, has_name, State, Parts, StepOf, Run, Refuses, ChangesDisk, MayFail, TooLong, TurnsTickets, accepted, created, deleted, due, facts, is_living, leaves_buffer, mode_in, present, rotates, written, written_out}
 use Rattle.fjall_state.specs.Machine as machine
 use Rattle.fjall_state.specs.Remembered.{IsLawful, Remembered, facts_of, instant_in, poisoned}
 use Rattle.fjall_state.specs.Remembered as memory
-use Rattle.fjall_manager.specs.Journals.{Sealed, bytes_of}
+use Rattle.fjall_manager.specs.Journals.{Journals, bytes_of}
 use Rattle.fjall_trees.specs.Forests.{Forest}
 use Rattle.fjall_trees.specs.Tables.{shape_in}
 use Rattle.fjall_state.proofs.ByHand.{options_agree}
@@ -41,7 +41,7 @@ use Rattle.fjall_state.proofs.Sizes.{buffers_agree, wants_agree}
 use Rattle.fjall_state.proofs.Dues.{may_change, may_create, may_delete}
 use Rattle.fjall_state.proofs.Standing as law
 use Rattle.fjall_core.specs.Holding.{Held}
-use Rattle.fjall_core.specs.Standing.{StandsFor, Gives, Owes, OwesAll, OwesChange, OwesCreation, OwesDeletion, OwesRefusal, OwesFailure, Poisons, RanOut, Grows, HandsOver, HeldCount, Alters, Counts, Creates, Deletes, held_due, mode_of, store_in, text_of}
+use Rattle.fjall_core.specs.Standing.{StandsFor, Gives, Owes, OwesAll, RotatesJournal, OwesChange, OwesCreation, OwesDeletion, OwesRefusal, OwesFailure, Poisons, RanOut, Grows, HandsOver, HeldCount, Alters, Counts, Creates, Deletes, held_due, mode_of, store_in, text_of}
 
 -- the machine may step so, to a state that the core stands for now
 abbrev pub Steps : Held → State → Shape → Reply → Type 0
@@ -57,7 +57,7 @@ same_due core s shape stands = law.facts_agree core.memory core.catalog.next_tab
 
 -- the parts that a core's counts speak of
 abbrev pub parts_held : Held → Parts
-parts_held core = record { sealed = core.memory.sealed; journal = core.journal.len; buffer = length core.journal.buffer; table = core.catalog.next_table_id; trees = core.memory.trees }
+parts_held core = record { journals = core.memory.journals; journal = core.journal.len; buffer = length core.journal.buffer; table = core.catalog.next_table_id; trees = core.memory.trees }
 
 -- ---- refusals
 
@@ -68,7 +68,7 @@ poisoned_state new s = record s { poisoned = true; parts = parts_held new }
 poisoned_stands : (old new : Held) (s : State) → Poisons old new → StandsFor old s → StandsFor new (poisoned_state new s)
 poisoned_stands old new s fault stands = record {
   remembered = subst (λ (m : Remembered). memory.StandsFor m new.catalog.next_table_id (poisoned_state new s)) (sym fault.memory_is)
-      (law.a_fault_stands old.memory old.catalog.next_table_id s stands.remembered (parts_held new) (ap (λ (m : Remembered). m.trees) fault.memory_is) (ap (λ (m : Remembered). m.sealed) fault.memory_is));
+      (law.a_fault_stands old.memory old.catalog.next_table_id s stands.remembered (parts_held new) (ap (λ (m : Remembered). m.trees) fault.memory_is) (ap (λ (m : Remembered). m.journals) fault.memory_is));
   journal = refl;
   buffer = refl;
 }
@@ -83,6 +83,7 @@ same_long old s (OfDeletion id) stands long = subst machine.HasLongOption (kept_
 same_long old s (OfChange change how) stands long = absurd long
 same_long old s (OfHandle call id) stands long = absurd long
 same_long old s (OfRotation id) stands long = absurd long
+same_long old s OfJournalRotation stands long = absurd long
 same_long old s (OfRead view id query) stands long = absurd long
 same_long old s (OfTickets call) stands long = absurd long
 same_long old s (OfPersist mode) stands long = absurd long
@@ -109,6 +110,7 @@ same_changes old s (OfDeletion id) stands changes = tt
 same_changes old s (OfHandle OneMore id) stands changes = absurd changes
 same_changes old s (OfHandle OneLess id) stands changes = tt
 same_changes old s (OfRotation id) stands changes = absurd changes
+same_changes old s OfJournalRotation stands changes = tt
 same_changes old s (OfRead view id query) stands changes = absurd changes
 same_changes old s (OfTickets call) stands changes = absurd changes
 same_changes old s (OfPersist mode) stands changes = tt
@@ -122,13 +124,14 @@ ran_out_still old new s (OfChange change how) same stands = still old new s same
 ran_out_still old new s (OfCreation name options) same stands = still old new s same stands
 ran_out_still old new s (OfDeletion id) same stands = still old new s same stands
 ran_out_still old new s (OfRotation id) same stands = still old new s same stands
+ran_out_still old new s OfJournalRotation same stands = still old new s same stands
 ran_out_still old new s (OfRead view id query) same stands = still old new s same stands
 ran_out_still old new s (OfTickets call) same stands = still old new s same stands
 ran_out_still old new s (OfPersist mode) same stands = still old new s same stands
 ran_out_still old new s (OfCount count) same stands = still old new s same stands
 
 failure_steps : (old new : Held) (s : State) (shape : Shape) (error : Error) → StandsFor old s → OwesFailure old shape error new → (t : State) × StandsFor new t × MayFail shape error s t
-failure_steps old new s shape (Io kind) stands (changes, fault) = (poisoned_state new s, poisoned_stands old new s fault stands, (same_changes old s shape stands changes, (refl, ap (λ (m : Remembered). m.trees) fault.memory_is ∙ sym stands.remembered.trees, ap (λ (m : Remembered). m.sealed) fault.memory_is ∙ sym stands.remembered.sealed)))
+failure_steps old new s shape (Io kind) stands (changes, fault) = (poisoned_state new s, poisoned_stands old new s fault stands, (same_changes old s shape stands changes, (refl, ap (λ (m : Remembered). m.trees) fault.memory_is ∙ sym stands.remembered.trees, ap (λ (m : Remembered). m.journals) fault.memory_is ∙ sym stands.remembered.journals)))
 failure_steps old new s shape OutOfMemory stands (takes, out) = (s, ran_out_still old new s shape out stands, (takes, refl))
 failure_steps old new s shape ValueTooLong stands (long, same) = (s, still old new s same stands, (same_long old s shape stands long, refl))
 failure_steps old new s shape error stands none = absurd none
@@ -187,7 +190,7 @@ handed_stands : (old new : Held) (s : State) → HandsOver old new → StandsFor
 handed_stands old new s hands stands = record {
   remembered = subst (λ (m : Remembered). memory.StandsFor m new.catalog.next_table_id (record s { parts = written_out s.parts 0 })) (sym hands.memory_is)
       (law.other_parts_stand old.memory new.catalog.next_table_id s (subst (λ c. memory.StandsFor old.memory c s) (ap (λ c. c.next_table_id) (sym hands.catalog)) stands.remembered) (written_out s.parts 0)
-      (stands.remembered.next_table ∙ ap (λ c. c.next_table_id) (sym hands.catalog)) stands.remembered.trees stands.remembered.sealed);
+      (stands.remembered.next_table ∙ ap (λ c. c.next_table_id) (sym hands.catalog)) stands.remembered.trees stands.remembered.journals);
   journal = none_more old.journal s.parts stands.journal stands.buffer ∙ ap (λ (j : Journal). j.len) (sym hands.journal);
   buffer = ap (λ (j : Journal). length j.buffer) (sym hands.journal);
 }
@@ -302,6 +305,23 @@ rotation_steps old new s id reply none false rotates_so told is stands =
     let seals = law.rotations_agree old.memory old.catalog.next_table_id s stands.remembered id ∙ rotates_so in
     (s, still old new s is stands, (same_due old s (OfRotation id) stands ∙ none, (told ∙ ap Flag (sym seals), ap (λ b. if b then machine.rotated s id else s) (sym seals))))
 
+-- the active journal was sealed
+turned_steps : (old new : Held) (s : State) → held_due old OfJournalRotation ≡ None → RotatesJournal old new → StandsFor old s → Steps new s OfJournalRotation Done
+turned_steps old new s none turns stands =
+    let t = machine.journal_rotated s in
+    let len = (writer.written_out old.journal).len in
+    let same : len ≡ counted (s.parts.journal + s.parts.buffer) = λ i. counted (sym stands.journal i + sym stands.buffer i) in (
+      t,
+      record {
+        remembered = subst (λ (m : Remembered). memory.StandsFor m new.catalog.next_table_id t) (sym turns.memory_is)
+            (subst (λ c. memory.StandsFor (memory.journal_rotated len old.memory) c t) (ap (λ c. c.next_table_id) (sym turns.catalog))
+            (law.a_journal_rotation_stands old.memory old.catalog.next_table_id s stands.remembered len same));
+        journal = ap (λ (j : Journal). j.len) (sym turns.journal);
+        buffer = ap (λ (j : Journal). length j.buffer) (sym turns.journal);
+      },
+      (same_due old s OfJournalRotation stands ∙ none, (refl, refl)),
+    )
+
 -- ---- tickets
 
 -- the core with other tickets
@@ -369,8 +389,8 @@ same_counts old s shapes.Names reply (names, told, all, sorted) stands = (names,
 same_counts old s (Exists name) reply told stands = told ∙ ap Flag (sym (λ i. has_name (stands.remembered.present i) name))
 same_counts old s Next reply told stands = told ∙ ap Number (sym stands.remembered.number)
 same_counts old s Visible reply told stands = told ∙ ap Number (sym stands.remembered.number)
-same_counts old s Journals reply told stands = told ∙ ap (λ (sealed : List Sealed). Number (length sealed + 1)) (sym stands.remembered.sealed)
-same_counts old s JournalSpace reply told stands = told ∙ (λ i. Number (counted (bytes_of (sym stands.remembered.sealed i) + sym stands.journal i)))
+same_counts old s shapes.Journals reply told stands = told ∙ ap (λ (j : Journals). Number (length j.sealed + 1)) (sym stands.remembered.journals)
+same_counts old s JournalSpace reply told stands = told ∙ (λ i. Number (counted (bytes_of (sym stands.remembered.journals i).sealed + sym stands.journal i)))
 same_counts old s OpenTickets reply told stands = told ∙ ap (λ (t : Tickets). Number (len t.instants)) (sym stands.remembered.tickets)
 same_counts old s (Entries id) reply told stands = told ∙ ap (λ (trees : Forest). Number (counted (machine.version_count (shape_in id trees)))) (sym stands.remembered.trees)
 same_counts old s (SealedMemtables id) reply told stands = told ∙ ap (λ (trees : Forest). Number (length (shape_in id trees).memory.sealed)) (sym stands.remembered.trees)
@@ -392,6 +412,7 @@ gives_step old new (OfDeletion id) reply s none (told, owes) stands = subst (λ 
 gives_step old new (OfHandle OneMore id) reply s none (told, is) stands = subst (λ r. Answered new s (OfHandle OneMore id) r) (sym told) (retained_steps old new s id none is stands)
 gives_step old new (OfHandle OneLess id) reply s none (told, counts) stands = subst (λ r. Answered new s (OfHandle OneLess id) r) (sym told) (released_steps old new s id none counts stands)
 gives_step old new (OfRotation id) reply s none (told, is) stands = rotation_steps old new s id reply none (rotates old.memory.trees id) refl told is stands
+gives_step old new OfJournalRotation reply s none (told, turns) stands = subst (λ r. Answered new s OfJournalRotation r) (sym told) (turned_steps old new s none turns stands)
 gives_step old new (OfRead view id query) reply s none (told, same) stands = read_steps old new s view id query reply none told same stands
 gives_step old new (OfTickets call) reply s none (turns, is) stands = tickets_step old new s stands is call reply none turns
 gives_step old new (OfPersist mode) reply s none (told, hands) stands =

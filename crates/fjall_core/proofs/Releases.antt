@@ -89,7 +89,7 @@ recounts_of old new s id stands counts =
       store = sym held.present ∙ (law.a_release_stands old.memory old.catalog.next_table_id s held id).present ∙ ap (λ (m : Remembered). kept (store_of m.keyspaces m.trees)) (sym counts.memory_is);
       catalog = counts.catalog;
       journal = counts.journal;
-      sealed = ap (λ (m : Remembered). m.sealed) counts.memory_is;
+      journals = ap (λ (m : Remembered). m.journals) counts.memory_is;
     }
 
 pub released_owes : (old new : Held) (id : ℕ) → held_due old (OfHandle OneLess id) ≡ None → Counts old (released id old.memory) new → Owes old (OfHandle OneLess id) Done new
@@ -152,7 +152,7 @@ same_counts old new same = record {
   store = sym (ap (λ (h : Held). kept (store_in h)) same);
   catalog = ap (λ (h : Held). h.catalog) same;
   journal = ap (λ (h : Held). h.journal) same;
-  sealed = ap (λ (h : Held). h.memory.sealed) same;
+  journals = ap (λ (h : Held). h.memory.journals) same;
 }
 
 out_serves : (old new : Held) (id : ℕ) → held_due old (OfHandle OneLess id) ≡ None → is_last old.memory id ≡ true → old.memory.poisoned ≡ false → new ≡ record old { disk = new.disk } → old.disk.faults ≤ new.disk.faults

@@ -27,8 +27,8 @@ module _ (core : Held) (id : ℕ) (none : held_due core (OfRotation id) ≡ None
   with_memory m = record core { memory = m }
 
   recounts : (seals : Bool) → Recounts core (with_memory (after seals))
-  recounts true = record { keyspaces = refl; next = refl; poisoned = refl; store = ap kept (sym (rotated_store id core.memory.keyspaces core.memory.trees)); catalog = refl; journal = refl; sealed = refl }
-  recounts false = record { keyspaces = refl; next = refl; poisoned = refl; store = refl; catalog = refl; journal = refl; sealed = refl }
+  recounts true = record { keyspaces = refl; next = refl; poisoned = refl; store = ap kept (sym (rotated_store id core.memory.keyspaces core.memory.trees)); catalog = refl; journal = refl; journals = refl }
+  recounts false = record { keyspaces = refl; next = refl; poisoned = refl; store = refl; catalog = refl; journal = refl; journals = refl }
 
   same_core : (seals : Bool) → with_memory (after seals) ≡ (if seals then with_memory (rotated id core.memory) else core)
   same_core true = refl

@@ -1,9 +1,8 @@
 -- Where a sync of the journal leads a core and its disk.
 use Rattle.std.proofs.Common.{◌≡◌, inl, Bool, true, false, List, [], ◌∷◌, ◌++◌, max, map, refl, sym, ◌∙◌, ap, subst}
 use Rattle.std.proofs.lemmas.List.{append-nil}
-use Rattle.std.specs.List.{AllZip}
-use Rattle.fjall_manager.specs.Journals.{Sealed}
-use Rattle.fjall_recovery.specs.Told.{TellsOf}
+use Rattle.fjall_manager.specs.Journals.{Journals}
+use Rattle.fjall_manager.specs.Telling.{AreMarksOf}
 use Rattle.fjall_base.specs.Store.{Store, Command, fold, kept}
 use Rattle.fjall_base.specs.Disk.{LeavesOnly, state_in}
 use Rattle.fjall_base.proofs.Moments.{at_end}
@@ -24,7 +23,7 @@ use Rattle.fjall_history.specs.declared.reply.Reply.TheVariants.{Done}
 use Rattle.fjall_state.specs.Machine as Machine
 use Rattle.fjall_state.specs.Remembered.{Remembered}
 use Rattle.fjall_core.specs.Holding.{Held}
-use Rattle.fjall_core.specs.Durables.{Durable, Lies, Passes, Rests, StandsAmid}
+use Rattle.fjall_core.specs.Durables.{AreKnown, Durable, Lies, Passes, Rests, StandsAmid}
 use Rattle.fjall_commit.specs.SyncedChanges as on_disk
 use Rattle.fjall_core.specs.Crashes.{IsSync}
 use Rattle.fjall_core.specs.Standing.{HandsOver, Poisons, StandsOn}
@@ -32,7 +31,7 @@ use Rattle.fjall_core.specs.Standing as standing
 use Rattle.fjall_core.proofs.KeyspacesUnchanged.{tree_along}
 use Rattle.fjall_commit.proofs.CrashedJournals.{kept_with}
 use Rattle.fjall_core.proofs.CrashImages.{leaves_finished, root_amid}
-use Rattle.fjall_core.proofs.JournalWrites.{Leads, Settles, held_on, leads_on, settles_on, present_of, stands_ill, stands_well}
+use Rattle.fjall_core.proofs.JournalWrites.{Leads, Settles, held_on, known_handed, known_synced, leads_on, settles_on, present_of, stands_ill, stands_well}
 
 -- what a persist did to the disk and to the journal's writer of a core
 abbrev pub Persisted : Held → Held → PersistMode → Bool → Type 0
@@ -49,7 +48,7 @@ pub record StaysSame (old new : Held) : Type 0 where
   pub keyspaces : new.memory.keyspaces ≡ old.memory.keyspaces
   pub next : new.memory.next ≡ old.memory.next
   pub catalog : new.catalog ≡ old.catalog
-  pub sealed : new.memory.sealed ≡ old.memory.sealed
+  pub journals : new.memory.journals ≡ old.memory.journals
 
 -- where base and pending lie once the bytes are in the file
 buffer_lies : (old new : Held) (base : Store) (pending : List Command) → StaysSame old new → (lies : Lies old (held_on old base pending)) → Persisted old new Buffer true → Lies new (held_on new base pending)
@@ -59,7 +58,7 @@ buffer_lies old new base pending same lies out = record {
   tree = lies.tree;
   writing = out.lies refl lies.journals lies.writing;
   in_tree = tree_along (state_in old.disk) (state_in new.disk) lies.records lies.tree (out.elsewhere lies.journals lies.writing) lies.in_tree;
-  told = subst (λ (l : List Sealed). AllZip TellsOf lies.journals.sealed l) (sym same.sealed) lies.told;
+  told = known_handed lies.journals new.memory.journals (subst (AreKnown lies.journals) (sym same.journals) lies.told);
   last = lies.last ∙ sym same.catalog;
   keyspaces = lies.keyspaces ∙ sym same.keyspaces;
   made = lies.made;
@@ -82,7 +81,7 @@ sync_lies old new base pending same lies out =
       tree = t;
       writing = out.lies refl j lies.writing;
       in_tree = tree_along (state_in old.disk) (state_in new.disk) lies.records t (out.elsewhere j lies.writing) lies.in_tree;
-      told = subst (λ (l : List Sealed). AllZip TellsOf j.sealed l) (sym same.sealed) lies.told;
+      told = known_synced j new.memory.journals (subst (AreKnown j) (sym same.journals) lies.told);
       last = lies.last ∙ sym same.catalog;
       keyspaces = lies.keyspaces ∙ sym same.keyspaces;
       made = ap (λ (l : List Command). kept (fold base l)) lies.waits ∙ kept_with t lies.in_tree.rests.versions base j j.later lies.made lies.writing.root.sound
@@ -101,7 +100,7 @@ pub synced_passes : (old new : Held) (base : Store) (pending : List Command) →
 synced_passes old new base pending leaves rests = record { leaves = leaves; safe = pending; base = refl; rest = refl; rests = rests }
 
 pub same_of : (old new : Held) → HandsOver old new → StaysSame old new
-same_of old new hands = record { keyspaces = ap (λ (m : Remembered). m.keyspaces) hands.memory_is; next = ap (λ (m : Remembered). m.next) hands.memory_is; catalog = hands.catalog; sealed = ap (λ (m : Remembered). m.sealed) hands.memory_is }
+same_of old new hands = record { keyspaces = ap (λ (m : Remembered). m.keyspaces) hands.memory_is; next = ap (λ (m : Remembered). m.next) hands.memory_is; catalog = hands.catalog; journals = ap (λ (m : Remembered). m.journals) hands.memory_is }
 
 same_store : (old new : Held) → new.memory ≡ old.memory → kept (standing.store_in old) ≡ kept (standing.store_in new)
 same_store old new is = ap (λ (m : Remembered). kept (store_of m.keyspaces m.trees)) (sym is)

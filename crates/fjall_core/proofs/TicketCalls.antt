@@ -38,7 +38,7 @@ module _ (core : Held) (m : Remembered) (tickets : Tickets) (is : m ≡ with_tic
     store = ap (λ (x : Remembered). kept (store_of x.keyspaces x.trees)) (sym is);
     catalog = refl;
     journal = refl;
-    sealed = ap (λ (x : Remembered). x.sealed) is;
+    journals = ap (λ (x : Remembered). x.journals) is;
   }
 
   pub turned_leads : (s : State) (d : Durable) (call : TicketCall) (reply : Reply) → attempt s (OfTickets call) reply ≡ [] → (IsSync s (OfTickets call) reply → ⊥) → StandsOn core d → Led turned s d (OfTickets call) reply

@@ -1,6 +1,6 @@
 -- What the parts of calls make of a core and of its disk.
-use Rattle.std.specs.Prelude.{◌≡◌, ℕ, ◌≤◌, Bool, true, false, List, [], ◌∷◌, ◌++◌, codes, Option, is_none, Result, Ok, Err}
-use Rattle.fjall_base.specs.Disk.{IsNoFile, LeavesOnly, Meaning, Name, Took, state_in}
+use Rattle.std.specs.Prelude.{◌≡◌, ℕ, ◌+◌, ◌≤◌, Bool, true, false, List, [], ◌∷◌, ◌++◌, codes, Option, is_none, Result, Ok, Err}
+use Rattle.fjall_base.specs.Disk.{IsNoFile, IsNoFolder, LeavesOnly, Meaning, Name, Took, state_in}
 use Rattle.fjall_base.specs.Errors.{Rose}
 use Rattle.fjall_base.specs.declared.error.Error.{Error}
 use Rattle.fjall_base.specs.declared.error.Error.TheVariants.{Io, OutOfMemory}
@@ -8,7 +8,9 @@ use Rattle.fjall_journal.specs.declared.persist_mode.PersistMode.{PersistMode}
 use Rattle.fjall_journal.specs.Batches.{Written}
 use Rattle.fjall_journal.specs.Changes.{Change, change_text, of_change}
 use Rattle.fjall_files.specs.Regions.{Within}
-use Rattle.fjall_files.specs.Names.{keyspace_folder}
+use Rattle.fjall_files.specs.Names.{journal_name, keyspace_folder}
+use Rattle.fjall_manager.specs.Rotations.{RotationTook, rotating}
+use Rattle.fjall_commit.specs.Rotations.{KeepsSyncedKeyspaces, LeavesRotation, rotated}
 use Rattle.fjall_files.specs.Tidy.{StaysTidy}
 use Rattle.fjall_journal.specs.Writer.{BatchTook, Journal, after_command, batch_steps, written_out}
 use Rattle.fjall_tree.specs.Records.{Fields}
@@ -23,6 +25,7 @@ use Rattle.fjall_commit.specs.Changes.{IsCreation}
 use Rattle.fjall_commit.specs.Removals.{IsUnused, RemovesOwn}
 use Rattle.fjall_state.specs.Remembered.{poisoned, with_change}
 use Rattle.fjall_core.specs.Holding.{Held}
+use Rattle.fjall_core.specs.Standing.{RotatesJournal, next_name}
 use Rattle.fjall_commit.specs.SyncedChanges.{CreatedKeyspace, DeletedKeyspace, SyncedThenChanged, SyncsThenChanges}
 
 -- What came of making a keyspace that stands in memory already: it is on the disk, and the catalog knows it; or the disk
@@ -91,3 +94,25 @@ Writes honest old change mode (Err (Io fault)) new =
     × (honest → WentOut old.disk new.disk old.journal new.journal (of_change change old.memory.next) mode false)
     × (is_out mode old.journal (of_change change old.memory.next) ≡ true)
 Writes honest old change mode (Err error) new = (new ≡ old) × (error ≡ OutOfMemory)
+
+-- What a rotation of the journal of this number did to the disk and to the journal's writer: a crash leaves the journals before it
+-- or those after it, and where it was done the writer goes on in the next one; what stands in `keyspaces` stayed. No call was one
+-- that no disk can serve, where no folder stands in the next one's place.
+pub record WentOver (old new : Meaning) (before after : Journal) (active : ℕ) (done : Bool) : Type 0 where
+  pub leaves : (j : Journaling) → IsWriting (state_in old) before j → j.active ≡ active → LeavesOnly old new (LeavesRotation (state_in old) j)
+  pub lies : done ≡ true → (j : Journaling) → IsWriting (state_in old) before j → j.active ≡ active → IsWriting (state_in new) after (rotated j)
+  pub elsewhere : (j : Journaling) → IsWriting (state_in old) before j → j.active ≡ active → KeepsSyncedKeyspaces old new
+  pub served : (j : Journaling) → IsWriting (state_in old) before j → j.active ≡ active → IsNoFolder (state_in old (journal_name (active + 1))).now → new.misuses ≡ old.misuses
+  pub kinds : StaysTidy old new
+
+-- the active journal is sealed, and the next one begun; or a fault of the disk has poisoned the core; or nothing changed
+abbrev pub Turns : Type 0 → Held → Result Unit Error → Held → Type 0
+Turns honest old (Ok _) new =
+    RotatesJournal old new
+    × (honest → Took old.disk new.disk (rotating old.disk old.journal (next_name old)))
+    × (honest → WentOver old.disk new.disk old.journal new.journal old.memory.journals.active true)
+Turns honest old (Err (Io fault)) new =
+    (new.memory ≡ poisoned old.memory) × Rose old.disk.faults new.disk.faults
+    × (honest → RotationTook old.disk new.disk old.journal new.journal (next_name old))
+    × (honest → WentOver old.disk new.disk old.journal new.journal old.memory.journals.active false)
+Turns honest old (Err error) new = (new ≡ old) × (error ≡ OutOfMemory)

@@ -15,7 +15,7 @@ use Rattle.fjall_versions.specs.Replays.{option_pairs}
 use Rattle.fjall_recovery.specs.Folders.{StandsFor}
 use Rattle.fjall_journal.specs.Changes.{Emptied, Items, command_of}
 use Rattle.fjall_history.specs.Histories.{Accepted, commands_of, extended}
-use Rattle.fjall_state.specs.Shapes.{OfChange, OfCount, OfCreation, OfDeletion, OfHandle, OfPersist, OfRead, OfRotation, OfTickets, Shape, shape_of}
+use Rattle.fjall_state.specs.Shapes.{OfChange, OfCount, OfCreation, OfDeletion, OfHandle, OfJournalRotation, OfPersist, OfRead, OfRotation, OfTickets, Shape, shape_of}
 use Rattle.fjall_state.specs.Machine.{State, Step, has_name, is_living, mode_in, present}
 use Rattle.fjall_core.specs.Durables.{Durable, IsBeginning, StandsAmid, Passes}
 
@@ -28,6 +28,7 @@ asked s (OfCreation name options) = if has_name (present s) name then [] else (C
 asked s (OfDeletion id) = if is_living (present s) id then (Delete id ∷ []) else []
 asked s (OfHandle call id) = []
 asked s (OfRotation id) = []
+asked s OfJournalRotation = []
 asked s (OfRead view id query) = []
 asked s (OfTickets call) = []
 asked s (OfPersist mode) = []
@@ -54,7 +55,7 @@ abbrev pub IsSyncOf : Option PersistMode → Type 0
 IsSyncOf None = ⊥
 IsSyncOf (Some mode) = IsSyncMode mode
 
--- a call that syncs all that was accepted, where it succeeds: a creation and a deletion do so too
+-- a call that syncs all that was accepted, where it succeeds: a creation, a deletion and a rotation of the journal do so too
 abbrev pub Syncs : State → Shape → Type 0
 Syncs s (OfChange (Items []) how) = ⊥
 Syncs s (OfChange (Items (item ∷ items)) how) = IsSyncOf (mode_in (present s) how)
@@ -63,6 +64,7 @@ Syncs s (OfCreation name options) = has_name (present s) name ≡ false
 Syncs s (OfDeletion id) = is_living (present s) id ≡ true
 Syncs s (OfHandle call id) = ⊥
 Syncs s (OfRotation id) = ⊥
+Syncs s OfJournalRotation = Unit {0}
 Syncs s (OfRead view id query) = ⊥
 Syncs s (OfTickets call) = ⊥
 Syncs s (OfPersist mode) = IsSyncMode mode

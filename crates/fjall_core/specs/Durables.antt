@@ -8,14 +8,15 @@ use Rattle.fjall_files.specs.declared.marker.Marker.TheVariants.{Whole}
 use Rattle.fjall_files.specs.Marker.{marker_tells}
 use Rattle.fjall_files.specs.Names.{journal_name}
 use Rattle.fjall_contents.specs.Contents.{journal_beyond}
-use Rattle.std.specs.List.{AllZip}
-use Rattle.fjall_recovery.specs.Told.{TellsOf}
+use Rattle.fjall_manager.specs.Journals.{Journals}
+use Rattle.fjall_manager.specs.Telling.{AreMarksOf}
 use Rattle.fjall_recovery.specs.Homes.{stored_in}
 use Rattle.fjall_recovery.specs.Folders.{marker_bytes, number_of, store_of}
 pub use Rattle.fjall_recovery.specs.Amid.{IsBeginning, StandsAmid}
 use Rattle.fjall_recovery.specs.Halves.{Tree}
 use Rattle.fjall_recovery.specs.Places.{Journaling, LiesInTree, contents_with}
 use Rattle.fjall_commit.specs.Journaling.{IsWriting}
+use Rattle.fjall_commit.specs.Watermarks.{AreMarked}
 use Rattle.fjall_core.specs.Holding.{Held}
 
 -- What a reopening would know: the store that the synced bytes make, and the commands behind it.
@@ -48,15 +49,22 @@ pub record Passes (old : Durable) (tried : List Command) (new : Durable) : Type 
   pub rest : safe ++ new.pending ≡ old.pending ++ tried
   pub rests : Rests new
 
+-- What is known of journals tells of these: the sealed ones by their numbers and with their watermarks, the number of the active
+-- one, and the watermarks of all batches that were handed to that.
+pub record AreKnown (j : Journaling) (known : Journals) : Type 0 where
+  pub sealed : AreMarked known.sealed j.sealed
+  pub active : j.active ≡ known.active
+  pub marks : AreMarksOf (map shown (j.whole ++ j.later)) known.watermarks
+
 -- How base and pending lie on the disk of a core: the synced batches and tree 0 make the base, the batches behind them
--- are pending, and the core's writer, sealed journals, catalog and keyspaces go on from there.
+-- are pending, and the core's writer, what it knows of journals, its catalog and keyspaces go on from there.
 pub record Lies (core : Held) (d : Durable) : Type 0 where
   pub journals : Journaling
   pub records : List Fields
   pub tree : Tree
   pub writing : IsWriting (state_in d.meaning) core.journal journals
   pub in_tree : LiesInTree (state_in d.meaning) records tree
-  pub told : AllZip TellsOf journals.sealed core.memory.sealed
+  pub told : AreKnown journals core.memory.journals
   pub last : tree.last ≡ core.catalog
   pub keyspaces : tree.keyspaces ≡ core.memory.keyspaces
   pub made : kept d.base ≡ store_of (contents_with journals tree [])

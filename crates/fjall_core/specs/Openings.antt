@@ -6,6 +6,9 @@ use Rattle.fjall_base.specs.declared.error.Error.{Error}
 use Rattle.fjall_base.specs.declared.error.Error.TheVariants.{Io}
 use Rattle.fjall_files.specs.Tidy.{StaysTidy}
 use Rattle.fjall_files.specs.Regions.{IsSafe}
+use Rattle.std.specs.List.{AllByRecursion}
+use Rattle.fjall_files.specs.Names.{journal_name}
+use Rattle.fjall_manager.specs.Journals.{Sealed}
 use Rattle.fjall_journal.specs.Writer.{Journal}
 use Rattle.fjall_recovery.specs.Folders as folders
 use Rattle.fjall_recovery.specs.Folders.{Contents}
@@ -21,7 +24,7 @@ use Rattle.fjall_core.specs.Crashes.{BlamesDevice}
 
 -- the parts that a core's counts speak of
 abbrev pub parts_of : Held → Parts
-parts_of core = record { sealed = core.memory.sealed; journal = core.journal.len; buffer = length core.journal.buffer; table = core.catalog.next_table_id; trees = core.memory.trees }
+parts_of core = record { journals = core.memory.journals; journal = core.journal.len; buffer = length core.journal.buffer; table = core.catalog.next_table_id; trees = core.memory.trees }
 
 -- a core that was just opened stands for this store, of which these keyspaces are damaged, and its next command takes this
 -- number
@@ -49,11 +52,16 @@ pub record IsAtEnd (state : State) (writer : Journal) : Type 0 where
   pub len : writer.len ≡ length text
   pub buffer : writer.buffer ≡ []
 
+-- The file of each sealed journal is synced, and its length is the one that is known.
+abbrev pub AreWhole : State → List Sealed → Type 0
+AreWhole state sealed = AllByRecursion (λ s. (text : List ℕ) × IsSafe state (journal_name s.id) text × (s.len ≡ length text)) sealed
+
 -- A core that was just opened stands for this store, with it as its base, nothing is pending, and no keyspace is damaged.
 pub record OpensAs (core : Held) (store : Store) : Type 0 where
   pub next : ℕ
   pub state : Opens core store [] next
   pub journal : IsAtEnd (state_in core.disk) core.journal
+  pub sealed : AreWhole (state_in core.disk) core.memory.journals.sealed
   pub base : StandsOn core (record { meaning = core.disk; base = store; pending = [] })
 
 -- A core that was opened on a disk of which a crash might leave different stores: it stands for what stood there, the base

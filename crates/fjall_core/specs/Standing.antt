@@ -4,7 +4,7 @@ use Rattle.std.specs.FinMap.{len, values}
 use Rattle.std.specs.declared.alloc.Global.{Global}
 use Rattle.fjall_base.specs.Pairs.{Bytes, byte_order}
 use Rattle.fjall_base.specs.Store.{Store, Command, kept}
-use Rattle.fjall_base.specs.Disk.{Meaning, Took, TookPart, LeavesOnly, state_in}
+use Rattle.fjall_base.specs.Disk.{Meaning, Name, Took, TookPart, LeavesOnly, state_in}
 use Rattle.fjall_base.specs.Disk as disk
 use Rattle.fjall_base.specs.Errors.{Rose}
 use Rattle.fjall_base.specs.declared.error.Error.{Error}
@@ -15,7 +15,7 @@ use Rattle.fjall_recovery.specs.Amid.{HoldsAmid}
 use Rattle.fjall_journal.specs.declared.persist_mode.PersistMode.{PersistMode}
 use Rattle.fjall_journal.specs.declared.persist_mode.PersistMode.TheVariants.{SyncAll}
 use Rattle.fjall_journal.specs.Writer.{BatchTook, after_command, batch_steps, counted, goes_out, persist_steps, written_out}
-use Rattle.fjall_files.specs.Names.{table_name}
+use Rattle.fjall_files.specs.Names.{journal_name, table_name}
 use Rattle.fjall_meta.specs.Keyspaces.{id_of}
 use Rattle.fjall_catalog.specs.declared.catalog.Catalog.{Catalog}
 use Rattle.fjall_catalog.specs.Updates.{IsTableGone}
@@ -25,6 +25,7 @@ use Rattle.fjall_recovery.specs.Held.{Holds, store_held}
 use Rattle.fjall_repair.specs.Opened.{ComesBack}
 use Rattle.fjall_commit.specs.Removals.{RemovesOwn}
 use Rattle.fjall_manager.specs.Journals.{bytes_of}
+use Rattle.fjall_manager.specs.Rotations.{RotationTook, empty_journal, rotating}
 use Rattle.fjall_trees.specs.Tables.{shape_in}
 use Rattle.fjall_journal.specs.Changes.{Change, Items, Emptied, change_text}
 use Rattle.fjall_history.specs.declared.ticket.Ticket.{Ticket}
@@ -32,7 +33,7 @@ use Rattle.fjall_history.specs.declared.reply.Reply.{Reply}
 use Rattle.fjall_history.specs.declared.reply.Reply.TheVariants.{Done, Value, Pairs, Number, Names, Flag, Opened, Refused}
 use Rattle.fjall_history.specs.Queries.{Tells}
 use Rattle.fjall_state.specs.declared.call.Call.{Call}
-use Rattle.fjall_state.specs.Shapes.{Count, Exists, JournalSpace, Journals, Keyspaces, Next, OfChange, OfCount, OfCreation, OfDeletion, OfHandle, OfPersist, OfRead, OfRotation, OfTickets, OneLess, OneMore, OpenTickets, Persistence, Entries, SealedMemtables, Shape, Visible, WriteBuffer, shape_of}
+use Rattle.fjall_state.specs.Shapes.{Count, Exists, JournalSpace, Keyspaces, Next, OfChange, OfCount, OfCreation, OfDeletion, OfHandle, OfJournalRotation, OfPersist, OfRead, OfRotation, OfTickets, OneLess, OneMore, OpenTickets, Persistence, Entries, SealedMemtables, Shape, Visible, WriteBuffer, shape_of}
 use Rattle.fjall_state.specs.Shapes as shapes
 use Rattle.fjall_state.specs.Machine.{State, StepOf, Run, TakesMemory, ChangesDisk, TooLong, TurnsTickets, present, due_in, buffer_size, has_name, is_living, mode_in, rotates, version_count, wants_rotation}
 use Rattle.fjall_state.specs.Remembered.{IsLawful, Remembered, facts_of, instant_in, is_last, with_change, with_creation, with_deletion, with_tickets, retained, released, rotated, poisoned}
@@ -73,6 +74,10 @@ mode_of core how = mode_in (store_in core) how
 -- the text of a change's batch
 abbrev pub text_of : Held → Change → List ℕ
 text_of core change = change_text change core.memory.next
+
+-- the name of the journal that comes next
+abbrev pub next_name : Held → Name
+next_name core = journal_name (core.memory.journals.active + 1)
 
 -- A fault of the disk has poisoned the core, and what is in memory is as before.
 pub record Poisons (old new : Held) : Type 0 where
@@ -120,6 +125,13 @@ pub record Counts (old : Held) (after : Remembered) (new : Held) : Type 0 where
   pub journal : new.journal ≡ old.journal
   pub faults : old.disk.faults ≤ new.disk.faults
 
+-- The active journal is sealed with all that waited, and an empty one of the next number begins.
+pub record RotatesJournal (old new : Held) : Type 0 where
+  pub memory_is : new.memory ≡ memory.journal_rotated (written_out old.journal).len old.memory
+  pub catalog : new.catalog ≡ old.catalog
+  pub journal : new.journal ≡ empty_journal (next_name old)
+  pub faults : old.disk.faults ≤ new.disk.faults
+
 -- Where memory ran out nothing has changed; a release has looked at the disk by then.
 abbrev pub RanOut : Held → Shape → Held → Type 0
 RanOut old (OfChange change how) new = new ≡ old
@@ -128,6 +140,7 @@ RanOut old (OfDeletion id) new = new ≡ old
 RanOut old (OfHandle OneMore id) new = new ≡ old
 RanOut old (OfHandle OneLess id) new = (new ≡ record old { disk = new.disk }) × (old.disk.faults ≤ new.disk.faults)
 RanOut old (OfRotation id) new = new ≡ old
+RanOut old OfJournalRotation new = new ≡ old
 RanOut old (OfRead view id query) new = new ≡ old
 RanOut old (OfTickets call) new = new ≡ old
 RanOut old (OfPersist mode) new = new ≡ old
@@ -167,8 +180,8 @@ HeldCount core shapes.Names reply = (names : Vec Bytes Global) × (reply ≡ Nam
 HeldCount core (Exists name) reply = reply ≡ Flag (has_name (store_in core) name)
 HeldCount core Next reply = reply ≡ Number core.memory.next
 HeldCount core Visible reply = reply ≡ Number core.memory.next
-HeldCount core Journals reply = reply ≡ Number (length core.memory.sealed + 1)
-HeldCount core JournalSpace reply = reply ≡ Number (counted (bytes_of core.memory.sealed + core.journal.len))
+HeldCount core shapes.Journals reply = reply ≡ Number (length core.memory.journals.sealed + 1)
+HeldCount core JournalSpace reply = reply ≡ Number (counted (bytes_of core.memory.journals.sealed + core.journal.len))
 HeldCount core OpenTickets reply = reply ≡ Number (len core.memory.tickets.instants)
 HeldCount core (Entries id) reply = reply ≡ Number (counted (version_count (shape_in id core.memory.trees)))
 HeldCount core (SealedMemtables id) reply = reply ≡ Number (length (shape_in id core.memory.trees).memory.sealed)
@@ -183,6 +196,7 @@ Gives old (OfDeletion id) reply new = (reply ≡ Done) × OwesDeletion old id ne
 Gives old (OfHandle OneMore id) reply new = (reply ≡ Done) × (new ≡ record old { memory = retained id old.memory })
 Gives old (OfHandle OneLess id) reply new = (reply ≡ Done) × Counts old (released id old.memory) new
 Gives old (OfRotation id) reply new = (reply ≡ Flag (rotates old.memory.trees id)) × (new ≡ (if rotates old.memory.trees id then record old { memory = rotated id old.memory } else old))
+Gives old OfJournalRotation reply new = (reply ≡ Done) × RotatesJournal old new
 Gives old (OfRead view id query) reply new = Tells query (pairs_in id (instant_in old.memory view) old.memory.trees) reply × (new ≡ old)
 Gives old (OfTickets call) reply new =
     TurnsTickets old.memory.next old.memory.tickets call reply new.memory.tickets × (new ≡ record old { memory = with_tickets new.memory.tickets old.memory })
@@ -210,6 +224,7 @@ DiskFailed old (OfDeletion id) new = Unit {0}
 DiskFailed old (OfHandle OneMore id) new = ⊥
 DiskFailed old (OfHandle OneLess id) new = Within (codes "keyspaces") old.disk new.disk
 DiskFailed old (OfRotation id) new = ⊥
+DiskFailed old OfJournalRotation new = RotationTook old.disk new.disk old.journal new.journal (next_name old)
 DiskFailed old (OfRead view id query) new = ⊥
 DiskFailed old (OfTickets call) new = ⊥
 DiskFailed old (OfPersist mode) new = TookPart old.disk new.disk old.journal.name old.journal.buffer ⊎ Took old.disk new.disk (persist_steps old.journal mode)
@@ -238,6 +253,7 @@ DiskLooked old (OfDeletion id) new = new.disk ≡ old.disk
 DiskLooked old (OfHandle OneMore id) new = new.disk ≡ old.disk
 DiskLooked old (OfHandle OneLess id) new = Took old.disk new.disk []
 DiskLooked old (OfRotation id) new = new.disk ≡ old.disk
+DiskLooked old OfJournalRotation new = new.disk ≡ old.disk
 DiskLooked old (OfRead view id query) new = new.disk ≡ old.disk
 DiskLooked old (OfTickets call) new = new.disk ≡ old.disk
 DiskLooked old (OfPersist mode) new = new.disk ≡ old.disk
@@ -245,8 +261,9 @@ DiskLooked old (OfCount count) new = new.disk ≡ old.disk
 
 -- What the disk took of a call that was done: of a change the batch's text behind what waited in the buffer, where it doesn't
 -- wait too, and a sync where its mode asks for one; of a creation of a name that none had, and of a deletion of a keyspace that
--- lived, another table of tree 0, where the clause on crashes tells the rest; of a release the removal of files; of a persist
--- the buffer, and a sync where its mode asks for one; and else nothing.
+-- lived, another table of tree 0, where the clause on crashes tells the rest; of a release the removal of files; of a rotation of
+-- the journal the buffer, its sync, and the next journal with its name; of a persist the buffer, and a sync where its mode asks for
+-- one; and else nothing.
 abbrev pub DiskTook : Held → Shape → Held → Type 0
 DiskTook old (OfChange (Items []) how) new = new.disk ≡ old.disk
 DiskTook old (OfChange (Items (item ∷ items)) how) new = Took old.disk new.disk (batch_steps (mode_of old how) old.journal (text_of old (Items (item ∷ items))))
@@ -256,6 +273,7 @@ DiskTook old (OfDeletion id) new = MatchBool (is_living (store_in old) id) (Repl
 DiskTook old (OfHandle OneMore id) new = new.disk ≡ old.disk
 DiskTook old (OfHandle OneLess id) new = RemovesLast old id new
 DiskTook old (OfRotation id) new = new.disk ≡ old.disk
+DiskTook old OfJournalRotation new = Took old.disk new.disk (rotating old.disk old.journal (next_name old))
 DiskTook old (OfRead view id query) new = new.disk ≡ old.disk
 DiskTook old (OfTickets call) new = new.disk ≡ old.disk
 DiskTook old (OfPersist mode) new = Took old.disk new.disk (persist_steps old.journal mode)

@@ -5,6 +5,7 @@ mod clears;
 mod close;
 mod config;
 mod engine;
+mod journals;
 mod keyspaces;
 mod laws;
 mod memtables;

@@ -70,6 +70,8 @@ impl<D: Disk> Core<D> {
                     opened.damaged,
                     opened.number,
                     opened.sealed,
+                    opened.active,
+                    opened.watermarks,
                 ),
             }),
             Err(error) => Err(Refused { error, value: disk }),

@@ -91,16 +91,16 @@ impl<D: Disk> Core<D> {
 
     /// How many journals there are: the sealed ones and the active one.
     pub fn journal_count(&self) -> usize
-        ensures held { result ≡ length self.now.memory.sealed + 1 }
-        ensures parts { (s : State) → StandsFor self.now s → result ≡ length s.parts.sealed + 1 }
+        ensures held { result ≡ length self.now.memory.journals.sealed + 1 }
+        ensures parts { (s : State) → StandsFor self.now s → result ≡ length s.parts.journals.sealed + 1 }
     {
         self.memory.journal_count()
     }
 
     /// How many bytes the files of all journals have, added up. It stops at the greatest `u64`.
     pub fn journal_disk_space(&self) -> u64
-        ensures held { result ≡ counted (bytes_of self.now.memory.sealed + self.now.journal.len) }
-        ensures parts { (s : State) → StandsFor self.now s → result ≡ counted (bytes_of s.parts.sealed + s.parts.journal) }
+        ensures held { result ≡ counted (bytes_of self.now.memory.journals.sealed + self.now.journal.len) }
+        ensures parts { (s : State) → StandsFor self.now s → result ≡ counted (bytes_of s.parts.journals.sealed + s.parts.journal) }
     {
         self.memory
             .sealed_journal_space()

@@ -32,6 +32,7 @@ impl<D: Disk> Core<D> {
             Call::Clear(id) => reply_of(self.clear(id)),
             Call::CommitBatch(items, mode) => reply_of(self.commit_batch(items, mode)),
             Call::RotateMemtable(id) => flag_reply(self.rotate_memtable(id)),
+            Call::RotateJournal => reply_of(self.rotate_journal()),
             Call::GetAt(view, id, key) => self.serve_get(view, id, key),
             Call::PageAt(view, id, range, back, max) => self.serve_page(view, id, range, back, max),
             Call::Snapshot => ticket_reply(self.snapshot()),

@@ -39,6 +39,7 @@ pub enum Act {
     Seqno,
     Visible,
     Space,
+    Journals,
     /// The database is closed, and its disk left.
     Close,
     /// Its disk is left as it is.
@@ -218,6 +219,7 @@ fn told_number(core: &Database<MemoryDisk>, act: Act) -> Option<u64> {
         Act::Seqno => Some(core.seqno()),
         Act::Visible => Some(core.visible_seqno()),
         Act::Space => Some(core.journal_disk_space()),
+        Act::Journals => Some(core.journal_count() as u64),
         Act::Snapshots => Some(core.open_snapshots()),
         _ => None,
     }

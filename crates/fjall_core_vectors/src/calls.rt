@@ -150,6 +150,8 @@ enum Request {
     CommitBatch,
     Clear,
     RotateMemtable,
+    RotateJournal,
+    JournalCount,
     Snapshot,
     /// Of the ticket that the call at this place opened.
     CloneSnapshot(u64),
@@ -177,6 +179,8 @@ const REQUESTS: &[Request] = &[
     Request::Clear,
     Request::RotateMemtable,
     Request::RotateMemtable,
+    Request::RotateJournal,
+    Request::JournalCount,
     Request::KeyspaceCount,
     Request::KeyspaceExists,
     Request::ListKeyspaceNames,
@@ -268,6 +272,8 @@ impl Request {
             Request::Release => Some(Call::Release(1)),
             Request::Clear => Some(Call::Clear(1)),
             Request::RotateMemtable => Some(Call::RotateMemtable(1)),
+            Request::RotateJournal => Some(Call::RotateJournal),
+            Request::JournalCount => Some(Call::JournalCount),
             Request::DeleteKeyspace => Some(Call::DeleteKeyspace(1)),
             _ => self.of_ticket(),
         }
@@ -366,7 +372,7 @@ const LISTS: &[(&[Request], &str)] = &[
     (
         REQUESTS,
         "number 0; number 1; done; refused UnknownKeyspace; value [98]; done; number 2; \
-        number 49; done; done; 0 pairs; flag true; done; flag true; flag false; number 1; flag true; names items; \
+        number 49; done; done; 0 pairs; flag true; done; flag true; flag false; done; number 2; number 1; flag true; names items; \
         done; done; done; ",
     ),
     (

@@ -109,6 +109,14 @@ impl<D: Disk> Database<D> {
         self.core.rotate_memtable(id)
     }
 
+    pub fn rotate_journal(&mut self) -> Result<()> {
+        self.core.rotate_journal()
+    }
+
+    pub fn journal_count(&self) -> usize {
+        self.core.journal_count()
+    }
+
     pub fn commit_batch(&mut self, items: &[Item], mode: Option<PersistMode>) -> Result<()> {
         let items = batch(self.alloc, items)?;
         self.core.commit_batch(items, mode)

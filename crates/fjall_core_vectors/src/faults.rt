@@ -19,6 +19,7 @@ const POISONED: &[Row] = &[
     (Ask(Insert(1, "e", "f")), "Poisoned"),
     (Ask(Clear(1)), "Poisoned"),
     (Ask(Rotate(1)), "Poisoned"),
+    (Ask(RotateJournal), "Poisoned"),
     (Ask(Delete(1)), "Poisoned"),
     (Ask(Create("other")), "Poisoned"),
     (Ask(Create("items")), "1"),
@@ -110,6 +111,13 @@ const SYNC_ALL: &[Row] = &[
     (Fail(&[], 0), ""),
     (Open, ""),
     (Ask(Persist(PersistMode::SyncAll)), "Io(Other)"),
+];
+
+const ROTATION: &[Row] = &[
+    (Fail(&[], 0), ""),
+    (Open, ""),
+    (Ask(RotateJournal), "Io(Other)"),
+    (Journals, "1"),
 ];
 
 const CREATION: &[Row] = &[
@@ -228,6 +236,7 @@ const OF_FAULTS: &[Scenario] = &[
     ("a part of what waited poisons", &[BATCH_50, CLOSED, LOST]),
     ("a sync of the data poisons", &[SYNC_DATA, POISONED]),
     ("a sync of all poisons", &[SYNC_ALL, POISONED]),
+    ("a rotation poisons", &[ROTATION, POISONED]),
     ("a creation poisons", &[CREATION, POISONED, NOT_CREATED]),
     ("a deletion poisons", &[DELETION, POISONED, NOT_DELETED]),
     ("a failing release keeps the handle", &[RELEASE]),

@@ -28,6 +28,8 @@ mod reference;
 #[cfg(test)]
 mod restarts;
 #[cfg(test)]
+mod rotations;
+#[cfg(test)]
 mod script;
 #[cfg(test)]
 mod snapshots;

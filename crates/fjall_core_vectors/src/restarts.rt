@@ -142,21 +142,21 @@ fn the_first_opening_is_crashed_three_times(rt: HostRuntime) -> Result<(), Fail>
 
 #[test]
 fn openings_up_to_the_first_closing_are_crashed_three_times(rt: HostRuntime) -> Result<(), Fail> {
-    let count = check_restarts(rt.alloc(), 0, 25)?;
+    let count = check_restarts(rt.alloc(), 0, 26)?;
     assert!(rt; count > 550, "{count} openings");
     Ok(())
 }
 
 #[test]
 fn openings_up_to_the_second_closing_are_crashed_three_times(rt: HostRuntime) -> Result<(), Fail> {
-    let count = check_restarts(rt.alloc(), 25, 37)?;
+    let count = check_restarts(rt.alloc(), 26, 39)?;
     assert!(rt; count > 110, "{count} openings");
     Ok(())
 }
 
 #[test]
 fn openings_behind_it_are_crashed_three_times(rt: HostRuntime) -> Result<(), Fail> {
-    let count = check_restarts(rt.alloc(), 37, usize::MAX)?;
+    let count = check_restarts(rt.alloc(), 39, usize::MAX)?;
     assert!(rt; count > 650, "{count} openings");
     Ok(())
 }

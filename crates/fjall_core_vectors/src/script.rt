@@ -23,6 +23,8 @@ pub enum Line {
     Clear(u64),
     /// The memtable of a keyspace is sealed.
     Rotate(u64),
+    /// The journal is sealed, and the next one begun.
+    RotateJournal,
     Snapshot,
     /// Of the ticket of this id.
     CloneSnapshot(u64),
@@ -45,6 +47,7 @@ const SCRIPT: &[Line] = &[
     Line::Clear(2),
     Line::Commit(&[(2, "m", Some("5")), (1, "m", Some("6"))], None),
     Line::Rotate(2),
+    Line::RotateJournal,
     Line::Retain(1),
     Line::CloneSnapshot(0),
     Line::Delete(1),
@@ -72,6 +75,7 @@ const SCRIPT: &[Line] = &[
     Line::Insert(2, "n", "888"),
     Line::Delete(2),
     Line::Insert(3, "k", "9"),
+    Line::RotateJournal,
     Line::Rotate(3),
     Line::Clear(3),
     Line::Rotate(3),
@@ -89,7 +93,7 @@ const SCRIPT: &[Line] = &[
 ];
 
 /// The script: keyspaces that are made, written, emptied and deleted, some of them made anew, rotations of their
-/// memtables, and snapshots of them.
+/// memtables and of the journal, and snapshots of them.
 pub fn script() -> &'static [Line] {
     SCRIPT
 }
@@ -194,6 +198,7 @@ impl Line {
             Line::Create(_) | Line::Delete(_) => is_command,
             Line::Commit(_, Some(mode)) => is_command && !matches!(mode, PersistMode::Buffer),
             Line::Persist(mode) => !matches!(mode, PersistMode::Buffer),
+            Line::RotateJournal => true,
             _ => false,
         }
     }
@@ -218,6 +223,7 @@ impl Line {
             Line::Release(id) => core.release(*id),
             Line::CloseSnapshot(id) => core.close_snapshot(*id),
             Line::Persist(mode) => core.persist(*mode),
+            Line::RotateJournal => core.rotate_journal(),
             _ => self.ask_of_keys(core),
         }
     }
@@ -378,7 +384,7 @@ impl History {
     fn accept(&mut self, line: Line, answer: Option<u64>, command: Option<Command>) -> Checked<()> {
         let is_command = command.is_some();
         let is_due = self.note(line, answer)?;
-        let is_change = is_command || matches!(line, Line::Rotate(_));
+        let is_change = is_command || matches!(line, Line::Rotate(_) | Line::RotateJournal);
         if !is_due || is_change && self.is_poisoned {
             return Err(Wrong::Line(line));
         }

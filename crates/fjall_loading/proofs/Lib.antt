@@ -1,3 +1,5 @@
 pub mod Taking
 pub mod Loadings
 pub mod LoadedHomes
+pub mod Opening
+pub mod Opened

@@ -17,7 +17,7 @@ use Rattle.fjall_loading.specs.Loading.{AddsTable, AddsTables}
 
 -- ---- the tables of a home
 
-same_bytes : (entry : disk.Entry) → bytes_in entry ≡ text_in entry
+pub same_bytes : (entry : disk.Entry) → bytes_in entry ≡ text_in entry
 same_bytes Missing = refl
 same_bytes (File synced unsynced) = refl
 same_bytes Folder = refl

@@ -2,6 +2,10 @@
 #![tactic(auto)]
 
 mod filling;
+mod laws;
 mod loading;
+mod tables;
 
+pub use laws::opened_trees_show_the_store;
 pub use loading::{Loaded, load_homes};
+pub use tables::open_homes;

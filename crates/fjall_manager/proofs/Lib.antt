@@ -3,3 +3,5 @@ pub mod Going
 pub mod Evicting
 pub mod Rotating
 pub mod Telling
+pub mod Placing
+pub mod Raised

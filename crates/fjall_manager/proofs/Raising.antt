@@ -13,13 +13,13 @@ use Rattle.std.specs.List.Sorted.{IsStrictlySortedBy, IsStrictlyIncreasing}
 use Rattle.std.proofs.lemmas.Bool.Decides.{nat_tests}
 use Rattle.fjall_manager.specs.Marks.{IsRaised, lsn_of, raised}
 
-test_true : (k x : ℕ) → k ≡ x → nat_eq k x ≡ true
+pub test_true : (k x : ℕ) → k ≡ x → nat_eq k x ≡ true
 test_true k x e = grind (arith, nat_tests)
 
-test_false : (k x : ℕ) → (k ≡ x → ⊥) → nat_eq k x ≡ false
+pub test_false : (k x : ℕ) → (k ≡ x → ⊥) → nat_eq k x ≡ false
 test_false k x e = grind (arith, nat_tests)
 
-by_order : (k x : ℕ) (P : Ordering → Type 0) → (k < x → P Less) → (k ≡ x → P Equal) → (x < k → P Greater) → P (nat_cmp k x)
+pub by_order : (k x : ℕ) (P : Ordering → Type 0) → (k < x → P Less) → (k ≡ x → P Equal) → (x < k → P Greater) → P (nat_cmp k x)
 by_order k x P less equal greater =
     (elim (nat_cmp k x) as (λ r. r ≡ nat_cmp k x → P r) [
       | Less ↦ λ q. less (ranked k x Less q)
@@ -35,7 +35,7 @@ lsn_of-lookup id [] = refl
 lsn_of-lookup id (mark ∷ marks) =
     ap (λ b. cond b (Some mark.1) (lookup (is_at (nat_cmp id)) marks)) (same_test id mark.0) ∙ ap (λ o. cond (nat_eq id mark.0) (Some mark.1) o) (lsn_of-lookup id marks)
 
-raised_is : (o : Option ℕ) (lsn : ℕ) → Some (max (unwrap_or o 0) lsn) ≡ raised o lsn
+pub raised_is : (o : Option ℕ) (lsn : ℕ) → Some (max (unwrap_or o 0) lsn) ≡ raised o lsn
 raised_is None lsn = ap (λ (n : ℕ). Some n) (omega arith)
 raised_is (Some old) lsn = refl
 

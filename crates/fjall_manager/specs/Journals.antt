@@ -1,5 +1,5 @@
 -- Sealed journals, and which of them may be removed.
-use Rattle.std.specs.Prelude.{ℕ, Bool, List, [], ◌∷◌, map, sum_by, if◌then◌else◌}
+use Rattle.std.specs.Prelude.{ℕ, ◌+◌, Bool, List, [], ◌∷◌, ◌++◌, map, sum_by, if◌then◌else◌}
 use Rattle.fjall_base.specs.Disk.{Name}
 use Rattle.fjall_files.specs.Names.{journal_name}
 use Rattle.fjall_journal.specs.Writer.{counted}
@@ -10,6 +10,17 @@ pub record Sealed : Type 0 where
   pub id : ℕ
   pub len : ℕ
   pub watermarks : Marks
+
+-- The journals of an engine: the sealed ones, the oldest first, the active one's number, and up to which number each keyspace
+-- has changes in that.
+pub record Journals : Type 0 where
+  pub sealed : List Sealed
+  pub active : ℕ
+  pub watermarks : Marks
+
+-- the active one, whose file has so many bytes, is sealed, and an empty one of the next number is active
+abbrev pub next_journal : ℕ → Journals → Journals
+next_journal len j = record { sealed = j.sealed ++ record { id = j.active; len = len; watermarks = j.watermarks } ∷ []; active = j.active + 1; watermarks = [] }
 
 -- the names of their files
 abbrev pub names_of : List Sealed → List Name

@@ -3,3 +3,4 @@ pub mod Journals
 pub mod Evictions
 pub mod Rotations
 pub mod Telling
+pub mod Places

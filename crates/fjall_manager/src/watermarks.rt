@@ -25,7 +25,7 @@ pub struct EvictionWatermark {
 /// To raise one and to look one up cost O(log n) in their number.
 #[derive(Drop)]
 pub struct Watermarks {
-    lsns: BTreeMap<u64, u64>,
+    pub(crate) lsns: BTreeMap<u64, u64>,
 }
 
 impl Model for Watermarks {

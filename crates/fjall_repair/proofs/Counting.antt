@@ -22,6 +22,7 @@ use Rattle.fjall_repair.specs.declared.opened.Opened.{Opened}
 use Rattle.fjall_repair.specs.Opened.{HasJournals, HasNoJournal}
 use Rattle.fjall_repair.specs.Steps.{active_of, opened}
 use Rattle.fjall_repair.proofs.MendOpened.{ids_of}
+use Rattle.fjall_manager.specs.Places.{told}
 use Rattle.fjall_repair.proofs.Rested.{active_parted}
 
 -- ---- journals that hold nothing
@@ -62,9 +63,9 @@ told_contents image found contents read shows is =
 
 -- and what was opened tells the same
 pub tell_as : (journals : List Journal) (found : RecoveredFolder) (o : Opened) {active : ℕ} → HasJournals o found.journals.sealed active found.journals.watermarks
-    → TellOf journals found.journals.sealed found.journals.watermarks → TellOf journals o.sealed o.watermarks
+    → TellOf journals found.journals.sealed found.journals.watermarks → TellOf journals o.sealed (told o.watermarks)
 tell_as journals found o has tell =
-    subst (λ (l : List Sealed). TellOf journals l o.watermarks) (sym has.sealed_are) (subst (TellOf journals found.journals.sealed) (sym has.marks_are) tell)
+    subst (λ (l : List Sealed). TellOf journals l (told o.watermarks)) (sym has.sealed_are) (subst (TellOf journals found.journals.sealed) (sym has.marks_are) tell)
 
 pub active_contents : (found : RecoveredFolder) (contents : Contents) → Shows found contents → active_of found.journal_ids.items ≡ active_of (ids_of (opened contents.journals))
 active_contents found contents shows = ap active_of shows.ids ∙ sym (active_opened contents.journals)

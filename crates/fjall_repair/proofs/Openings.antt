@@ -52,6 +52,7 @@ use Rattle.fjall_contents.proofs.Following.{before_least}
 use Rattle.fjall_repair.specs.Readings.{TakesRead, names_read, persisted_of}
 use Rattle.fjall_repair.specs.declared.opened.Opened.{Opened}
 use Rattle.fjall_repair.specs.Sweeps.{AreHomesOf, IsSwept, names_of, no_names}
+use Rattle.fjall_manager.specs.Places.{told as told_in}
 use Rattle.fjall_repair.specs.Opened.{ComesBack, HasNumbers, IsHeldUp, IsOpenedFrom, IsRepaired, IsUnopened, IsSomeFolder, Opens, Takes, TellsBelow, records_of}
 
 -- ---- before the first change
@@ -137,7 +138,7 @@ module _ (state : State) (contents : Contents) (journals : List FoundJournal) (a
       ∙ ap (λ (n : ℕ). let w : Journal = record { name = journal_name is.j.active; buffer = []; len = n } in w) (sym is.end_is)
 
   pub opens_of : (folder : Option Contents) (persisted : List Persisted) (loaded : Forest) (o : Opened)
-      → Takes o active end contents.last contents.keyspaces persisted loaded (map shown (batches_in contents.journals)) → TellOf journals o.sealed o.watermarks → o.active ≡ active_of (ids_of journals)
+      → Takes o active end contents.last contents.keyspaces persisted loaded (map shown (batches_in contents.journals)) → TellOf journals o.sealed (told_in o.watermarks) → o.active ≡ active_of (ids_of journals)
       → o.damaged.items ≡ [] → store_behind o.keyspaces (forest_of o.trees) ≡ store_of contents
       → store_of contents ≡ store_held folder → o.number ≡ number_of contents → number_of contents ≡ number_held folder → Opens state folder o
   opens_of folder persisted loaded o takes tell active_told whole made store number held = record {
@@ -148,9 +149,9 @@ module _ (state : State) (contents : Contents) (journals : List FoundJournal) (a
     tree = is.tree;
     later = is.later;
     journal = at_end o.journal takes.journal;
-    sealed = (tell_lying is.j journals is.journals_are o.sealed o.watermarks tell).0;
+    sealed = (tell_lying is.j journals is.journals_are o.sealed (told_in o.watermarks) tell).0;
     active = active_told ∙ active_lying is.j journals is.journals_are;
-    marks = (tell_lying is.j journals is.journals_are o.sealed o.watermarks tell).1;
+    marks = (tell_lying is.j journals is.journals_are o.sealed (told_in o.watermarks) tell).1;
     last = sym takes.last_is;
     keyspaces = sym takes.keyspaces;
     whole = whole;

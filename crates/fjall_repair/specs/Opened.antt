@@ -35,6 +35,7 @@ use Rattle.fjall_recovery.specs.Halves.{Tree}
 use Rattle.fjall_recovery.specs.Held.{IsFolderBut, IsOpenFolder, number_held, store_held}
 use Rattle.fjall_recovery.specs.Places.{Journaling, LiesInRoot, LiesInTree, contents_with, journals_with, texts_of}
 use Rattle.fjall_repair.specs.Making.{ComesBackUnfinished}
+use Rattle.fjall_manager.specs.Places.{told}
 use Rattle.fjall_repair.specs.declared.opened.Opened.{Opened}
 
 -- ---- what was opened
@@ -50,7 +51,7 @@ pub record Opens (state : State) (folder : Option Contents) (o : Opened) : Type 
   pub journal : o.journal ≡ record { name = journal_name j.active; buffer = []; len = length (texts_of j.whole) }
   pub sealed : AllZip TellsOf j.sealed o.sealed
   pub active : o.active ≡ j.active
-  pub marks : AreMarksOf (map shown j.whole) o.watermarks
+  pub marks : AreMarksOf (map shown j.whole) (told o.watermarks)
   pub last : t.last ≡ o.catalog
   pub keyspaces : t.keyspaces ≡ o.keyspaces
   pub whole : o.damaged.items ≡ []
@@ -86,7 +87,7 @@ pub record Takes (o : Opened) (active : Name) (end : ℕ) (last : Catalog) (s : 
 pub record HasJournals (o : Opened) (sealed : List Sealed) (active : ℕ) (marks : Marks) : Type 0 where
   pub sealed_are : o.sealed ≡ sealed
   pub active_is : o.active ≡ active
-  pub marks_are : o.watermarks ≡ marks
+  pub marks_are : told o.watermarks ≡ marks
 
 -- What was opened is what the image holds, but for the tables of the damaged keyspaces: its store, and one past the greatest
 -- number in it.

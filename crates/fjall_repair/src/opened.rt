@@ -2,7 +2,7 @@
 
 use fjall_catalog::Catalog;
 use fjall_journal::Writer;
-use fjall_manager::{JournalManager, Watermarks};
+use fjall_manager::{ActiveWatermarks, JournalManager};
 use fjall_meta::MetaKeyspace;
 use fjall_trees::Trees;
 
@@ -21,7 +21,7 @@ pub struct Opened {
     /// The number of the active journal.
     pub active: u64,
     /// Up to which number each keyspace has changes in the active journal.
-    pub watermarks: Watermarks,
+    pub watermarks: ActiveWatermarks,
     /// What the last record of tree 0 says.
     pub catalog: Catalog,
     /// The keyspaces that live.

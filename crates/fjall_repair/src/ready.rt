@@ -17,6 +17,7 @@ ghost use Rattle.fjall_trees.specs.Writes.{AreBare};
 ghost use Rattle.fjall_versions.specs.Replays.{first_fault};
 ghost use Rattle.fjall_recovery.specs.Folders.{IsFinished, IsNumbered, IsUnfinished, past_records};
 ghost use Rattle.fjall_recovery.specs.Places.{journals_with};
+ghost use Rattle.fjall_manager.specs.Places.{told};
 ghost use Rattle.fjall_recovery.specs.Told.{TellOf, TellsOf};
 ghost use Rattle.fjall_recovery.specs.Naming.{AreFolderIds};
 ghost use Rattle.fjall_recovery.specs.Refusals.{HasRisen, IsDue, IsOpeningRefusal};
@@ -39,7 +40,7 @@ use fjall_files::journal_name;
 use fjall_home::LoadedHome;
 use fjall_journal::{Batch, Writer};
 use fjall_loading::{Loaded, load_homes};
-use fjall_manager::{JournalManager, SealedJournal, Watermarks};
+use fjall_manager::{ActiveWatermarks, JournalManager, SealedJournal, Watermarks};
 use fjall_meta::MetaKeyspace;
 use fjall_recovery::{RecoveredFolder, list_keyspaces};
 use fjall_replay::{Persisted, replay_beyond};
@@ -87,7 +88,7 @@ fn empty_journals(alloc: Global, ids: &[u64]) -> Result<JournalManager>
 fn new_database(alloc: Global, sealed: &[u64], active: u64) -> Result<Opened>
     requires { IsStrictlyIncreasing (sealed.now ++ active ∷ []) }
     ensures opened { IfOk result (λ o. Takes o (journal_name active) 0 first_catalog no_keyspaces [] [] []) }
-    ensures journals { IfOk result (λ o. TellOf (journals_with (empty_journals sealed.now active) []) o.sealed o.watermarks) }
+    ensures journals { IfOk result (λ o. TellOf (journals_with (empty_journals sealed.now active) []) o.sealed (told o.watermarks)) }
     ensures active { IfOk result (λ o. o.active ≡ active) }
     ensures whole { IfOk result (λ o. o.damaged.items ≡ []) }
     ensures number { IfOk result (λ o. o.number ≡ 0) }
@@ -101,7 +102,7 @@ fn new_database(alloc: Global, sealed: &[u64], active: u64) -> Result<Opened>
         journal: Writer::from_file(alloc, name.as_str(), 0)?,
         sealed: empty_journals(alloc, sealed)?,
         active,
-        watermarks: Watermarks::new(alloc),
+        watermarks: ActiveWatermarks::new(alloc),
         catalog: Catalog::new(),
         keyspaces: MetaKeyspace::new(alloc),
         number: 0,
@@ -115,7 +116,7 @@ pub(crate) fn ready_to_begin<D: Disk>(alloc: Global, disk: &mut D) -> Result<ToB
     ensures finds { IsTrue D.honest
         → IfOk result (λ r. (ids : List ℕ) × AreFolderIds (seen (D.meaning disk.old)) ids × FindsAll (state_in (D.meaning disk.old)) no_names [] ids r.sweep) }
     ensures opened { IfOk result (λ r. Takes r.opened (journal_name r.making.active) 0 first_catalog no_keyspaces [] [] []) }
-    ensures journals { IfOk result (λ r. TellOf (journals_begun r.making) r.opened.sealed r.opened.watermarks) }
+    ensures journals { IfOk result (λ r. TellOf (journals_begun r.making) r.opened.sealed (told r.opened.watermarks)) }
     ensures active { IfOk result (λ r. r.opened.active ≡ r.making.active) }
     ensures whole { IfOk result (λ r. r.opened.damaged.items ≡ []) }
     ensures number { IfOk result (λ r. r.opened.number ≡ 0) }
@@ -220,6 +221,7 @@ fn database_of(
     check_sizes(&found.journals.batches)?;
     let journal = Writer::from_file(alloc, active, found.journals.end as u64)?;
     let id = active_id(&found.journal_ids);
+    let watermarks = ActiveWatermarks::from_watermarks(alloc, &found.journals.watermarks)?;
     let RecoveredFolder {
         journals,
         catalog,
@@ -239,7 +241,7 @@ fn database_of(
         journal,
         sealed: journals.sealed,
         active: id,
-        watermarks: journals.watermarks,
+        watermarks,
         catalog: catalog.catalog,
         keyspaces: catalog.keyspaces,
         number,

@@ -4,3 +4,6 @@ pub mod Stepping
 pub mod Batches
 pub mod Keeping
 pub mod Storing
+pub mod Resting
+pub mod Behind
+pub mod Sealing

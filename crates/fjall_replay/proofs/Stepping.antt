@@ -29,7 +29,7 @@ use Rattle.fjall_replay.proofs.Putting.{MayPut, put_all_shows}
 -- ---- numbers in a tree
 
 -- no part before another begins above it
-floor_low : (sealed : List Held) (active : Held) → All IsHeld (sealed ++ active ∷ []) → AreApart (sealed ++ active ∷ []) → first_from sealed active ≤ active.from
+pub floor_low : (sealed : List Held) (active : Held) → All IsHeld (sealed ++ active ∷ []) → AreApart (sealed ++ active ∷ []) → first_from sealed active ≤ active.from
 floor_low [] active held apart = omega arith
 floor_low (h ∷ []) active held apart = let bounds = (All-head IsHeld h (active ∷ []) held).bounds in let next = apart.0 in omega arith
 floor_low (h ∷ g ∷ sealed) active held apart =
@@ -220,10 +220,10 @@ entries_have P true id b all =
     All-map P (entry_of b.number) (filter (λ item. item.keyspace_id == id) b.items) (All-filter (λ (item : ReadBatchItem). item.keyspace_id == id) (λ item. P (entry_of b.number item)) b.items all)
 entries_have P false id b all = All-nil P
 
-numbered : (counted : Bool) (id : ℕ) (b : Shown) → All (λ v. v.number ≡ b.number) (entries_where counted id b)
+pub numbered : (counted : Bool) (id : ℕ) (b : Shown) → All (λ v. v.number ≡ b.number) (entries_where counted id b)
 numbered counted id b = entries_have (λ v. v.number ≡ b.number) counted id b (λ i d lt. refl)
 
-same_clear : (counted : Bool) (id : ℕ) (b : Shown) → All (λ n. n ≡ b.number) (clear_where counted id b)
+pub same_clear : (counted : Bool) (id : ℕ) (b : Shown) → All (λ n. n ≡ b.number) (clear_where counted id b)
 same_clear counted id b = by (counted && list_any (λ k. k == id) b.clears)
   where
     by : (t : Bool) → All (λ n. n ≡ b.number) (cond t (b.number ∷ []) [])
@@ -239,7 +239,7 @@ cleared_is true n shape low = (
 )
 cleared_is false n shape low = (sym (append-nil (clears_of shape)), refl)
 
-cleared_held : (t : Bool) (n : ℕ) (shape : Shape) → shape.memory.active.from ≤ n → n < 2 ^ 63 → IsTree shape → IsTree (cond t (emptied_once n shape) shape)
+pub cleared_held : (t : Bool) (n : ℕ) (shape : Shape) → shape.memory.active.from ≤ n → n < 2 ^ 63 → IsTree shape → IsTree (cond t (emptied_once n shape) shape)
 cleared_held true n shape from small is = emptied_tree n shape from small is
 cleared_held false n shape from small is = is
 
@@ -252,7 +252,7 @@ cleared_stamp v true n shape = by (list_any (λ m. nat_le n m) shape.memory.acti
     by true = refl
     by false = refl
 
-cleared_from : (t : Bool) (n : ℕ) (shape : Shape) → (cond t (emptied_once n shape) shape).memory.active.from ≡ shape.memory.active.from
+pub cleared_from : (t : Bool) (n : ℕ) (shape : Shape) → (cond t (emptied_once n shape) shape).memory.active.from ≡ shape.memory.active.from
 cleared_from true n shape = emptied_from n shape
 cleared_from false n shape = refl
 

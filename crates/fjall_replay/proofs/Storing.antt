@@ -85,7 +85,7 @@ one_more s h id front b trees counted is within before may begun stage = record 
 -- ---- all of them
 
 -- a batch is numbered above those before it
-all_before : (least : ℕ) (front behind : List Shown) (b : Shown) → first_fault least (front ++ b ∷ behind) ≡ None → All (λ c. c.number < b.number) front
+pub all_before : (least : ℕ) (front behind : List Shown) (b : Shown) → first_fault least (front ++ b ∷ behind) ≡ None → All (λ c. c.number < b.number) front
 all_before least front behind b sound =
     let parts = no_fault (first_fault least front) (first_fault (least_after least front) (b ∷ behind)) (sym (first_fault-append least front (b ∷ behind)) ∙ sound) in
     let fits = number_fits (least_after least front) b (no_fault (fault_of (least_after least front) b) (first_fault (b.number + 1) behind) parts.1).0 in

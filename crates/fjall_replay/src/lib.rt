@@ -2,9 +2,11 @@
 #![tactic(auto)]
 
 mod counting;
+mod journals;
 mod laws;
 mod replaying;
 
 pub use fjall_versions::Persisted;
-pub use laws::replayed_trees_show_the_store;
+pub use journals::{replay_journal, seal_all};
+pub use laws::{replayed_trees_beside_tables_show_the_store, replayed_trees_show_the_store};
 pub use replaying::replay_beyond;

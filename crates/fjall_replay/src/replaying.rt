@@ -4,6 +4,7 @@ ghost use Rattle.std.specs.Prelude.{◌≡◌, ◌<◌, ◌^◌, ℕ, All, None,
 ghost use Rattle.std.specs.Option.{option_map};
 ghost use Rattle.fjall_contents.specs.Contents.{AreWithin, Stored};
 ghost use Rattle.fjall_journal.specs.Batches.{view};
+ghost use Rattle.fjall_replay.specs.Beside.{BeginBy};
 ghost use Rattle.fjall_replay.specs.Replayed.{AreBegun, AreLoaded, AreReplayed, AreTold, MayReplay, ids_of};
 ghost use Rattle.fjall_replay.specs.Steps.{with_batch, with_batches, with_clears, with_item, with_items};
 ghost use Rattle.fjall_table.specs.Blocks.{IsEntry};
@@ -41,7 +42,7 @@ fn put_item(
 ) -> std::result::Result<(), AllocError>
     requires fits { IsEntry (entry_of number item.now) }
     requires small { number < 2 ^ 63 }
-    requires begun { AreBegun (forest_of trees.old) }
+    requires begun { BeginBy (counts_unpersisted keyspaces.now persisted.now number) number (forest_of trees.old) }
     ensures { OnOk result (forest_of trees.new ≡ with_item (counts_unpersisted keyspaces.now persisted.now number) number item.now (forest_of trees.old)) }
 {
     if !counts_unpersisted(keyspaces, persisted, number, item.keyspace_id) {
@@ -65,7 +66,7 @@ fn put_items(
 ) -> std::result::Result<(), AllocError>
     requires fits { All (λ item. IsEntry (entry_of number item)) items.now }
     requires small { number < 2 ^ 63 }
-    requires begun { AreBegun (forest_of trees.old) }
+    requires begun { BeginBy (counts_unpersisted keyspaces.now persisted.now number) number (forest_of trees.old) }
     ensures { OnOk result (forest_of trees.new ≡ with_items (counts_unpersisted keyspaces.now persisted.now number) number items.now (forest_of trees.old)) }
 {
     let mut rest = items;
@@ -85,7 +86,7 @@ fn clear_trees(
     trees: &mut Trees,
 ) -> std::result::Result<(), AllocError>
     requires small { number < 2 ^ 63 }
-    requires begun { AreBegun (forest_of trees.old) }
+    requires begun { BeginBy (counts_unpersisted keyspaces.now persisted.now number) number (forest_of trees.old) }
     ensures { OnOk result (forest_of trees.new ≡ with_clears (counts_unpersisted keyspaces.now persisted.now number) number ids.now (forest_of trees.old)) }
 {
     for id in ids {
@@ -97,14 +98,14 @@ fn clear_trees(
 }
 
 /// Applies one batch more: its clears, and then its items.
-fn take(
+pub(crate) fn take(
     keyspaces: &MetaKeyspace,
     persisted: &[Persisted],
     batch: &Batch,
     trees: &mut Trees,
 ) -> std::result::Result<(), AllocError>
     requires fits { MayReplay (view batch.now) }
-    requires begun { AreBegun (forest_of trees.old) }
+    requires begun { BeginBy (counts_unpersisted keyspaces.now persisted.now batch.now.seqno) batch.now.seqno (forest_of trees.old) }
     ensures { OnOk result (forest_of trees.new ≡ with_batch (counts_unpersisted keyspaces.now persisted.now batch.now.seqno) (view batch.now) (forest_of trees.old)) }
 {
     let number = batch.seqno;

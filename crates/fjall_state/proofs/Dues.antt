@@ -12,7 +12,7 @@ use Rattle.fjall_journal.specs.Changes.{Change, Items, Emptied}
 use Rattle.fjall_journal.specs.Ops.{BatchItem}
 use Rattle.fjall_meta.specs.Keyspaces.{is_name}
 use Rattle.fjall_state.specs.Shapes.{OneLess}
-use Rattle.fjall_state.specs.Machine.{Facts, change_refusals, clear_refusals, creation_refusals, deletion_refusals, first_due, handle_refusals, handles_of, has_name, is_living, items_refusals}
+use Rattle.fjall_state.specs.Machine.{Facts, change_refusals, clear_refusals, creation_refusals, deletion_refusals, first_due, handle_refusals, handles_of, has_name, is_living, items_refusals, journal_refusals}
 use Rattle.fjall_state.specs.Allowed.{MayChange, MayCreate, MayDelete}
 
 pub none_due : (refusals : List (Bool × Error)) → first_due refusals ≡ None → AllByRecursion (λ refusal. refusal.0 ≡ false) refusals
@@ -98,6 +98,11 @@ may_delete f id none =
             table = λ left. differs f.table (2 ^ 64 - 1) (behind_true _ _ left numbers.1);
           };
     }
+
+pub may_rotate : (f : Facts) → first_due (journal_refusals f) ≡ None → (f.poisoned ≡ false) × (f.active < 2 ^ 64 - 2)
+may_rotate f none =
+    let causes = none_due (journal_refusals f) none in
+    (causes.0, below f.active (2 ^ 64 - 2) causes.1.0)
 
 pub is_counted : (f : Facts) (id : ℕ) → first_due (handle_refusals f OneLess id) ≡ None → 0 < handles_of f.handles id
 is_counted f id none = let causes = none_due (handle_refusals f OneLess id) none in positive (handles_of f.handles id) causes.1.0

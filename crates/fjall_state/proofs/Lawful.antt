@@ -62,7 +62,7 @@ pub alike : (a b : Remembered) → IsLawful a → b.keyspaces ≡ a.keyspaces �
 alike a b is keyspaces trees next tickets = subst IsLawful (sym same) (as_lawful a b is)
   where
     same : b ≡ standing_as a b
-    same = λ i. record { keyspaces = keyspaces i; trees = trees i; next = next i; poisoned = b.poisoned; handles = b.handles; lasting = b.lasting; damaged = b.damaged; tickets = tickets i; sealed = b.sealed }
+    same = λ i. record { keyspaces = keyspaces i; trees = trees i; next = next i; poisoned = b.poisoned; handles = b.handles; lasting = b.lasting; damaged = b.damaged; tickets = tickets i; journals = b.journals }
 
 module _ (m : Remembered) (is : IsLawful m) where
   later : All (λ k. k.number < m.next + 1) m.keyspaces.living

@@ -13,7 +13,7 @@ use Rattle.fjall_history.specs.Histories.{number, plain}
 use Rattle.fjall_history.specs.Moves.{Accepts, Closes, Collects, Moves, MovesOn, NoMove, OneMove, Opens, Rests}
 use Rattle.fjall_history.specs.Tickets.{Tickets, closing_refusal, is_open}
 use Rattle.fjall_state.specs.declared.call.Call.{Call}
-use Rattle.fjall_state.specs.Shapes.{Clone, Close, Collect, OfChange, OfCount, OfCreation, OfDeletion, OfHandle, OfPersist, OfRead, OfRotation, OfTickets, OneLess, OneMore, Open, Shape, TicketCall, shape_of}
+use Rattle.fjall_state.specs.Shapes.{Clone, Close, Collect, OfChange, OfCount, OfCreation, OfDeletion, OfHandle, OfJournalRotation, OfPersist, OfRead, OfRotation, OfTickets, OneLess, OneMore, Open, Shape, TicketCall, shape_of}
 use Rattle.fjall_state.specs.Machine.{Answers, CreatesOrFinds, MayFail, Refuses, Run, State, Step, StepOf, TurnsTickets, deleted, due, is_living, present, rotated, rotates, ticket_refusal, times}
 
 still : (s t : State) → times t ≡ times s → Moves (times s) (times t)
@@ -67,6 +67,7 @@ answer_moves s t (OfDeletion id) reply none (told, is) = deleted_moves s t id (i
 answer_moves s t (OfHandle OneMore id) reply none (told, is) = still s t (ap times is)
 answer_moves s t (OfHandle OneLess id) reply none (told, is) = still s t (ap times is)
 answer_moves s t (OfRotation id) reply none (told, is) = rotated_moves s t id (rotates s.parts.trees id) is
+answer_moves s t OfJournalRotation reply none (told, is) = still s t (ap times is)
 answer_moves s t (OfRead view id query) reply none (told, same) = as_it_was s t same
 answer_moves s t (OfTickets call) reply none (turns, same) = tickets_move s t call reply none turns same
 answer_moves s t (OfPersist mode) reply none (told, is) = still s t (ap times is)

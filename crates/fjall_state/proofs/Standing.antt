@@ -30,13 +30,15 @@ use Rattle.fjall_history.specs.declared.ticket.View.{View}
 use Rattle.fjall_history.specs.declared.ticket.View.TheVariants.{Present, At}
 use Rattle.fjall_history.specs.Histories.{grown, latest, number, plain, view}
 use Rattle.fjall_history.specs.Tickets.{Tickets, closed, collected, is_open, no_tickets, opened}
-use Rattle.fjall_state.specs.Shapes.{OfChange, OfCount, OfCreation, OfDeletion, OfHandle, OfPersist, OfRead, OfRotation, OfTickets, OneLess, OneMore, Persistence, Shape}
+use Rattle.fjall_state.specs.Shapes.{OfChange, OfCount, OfCreation, OfDeletion, OfHandle, OfJournalRotation, OfPersist, OfRead, OfRotation, OfTickets, OneLess, OneMore, Persistence, Shape}
 use Rattle.fjall_state.specs.Allowed.{FitsBatch, IsOfLiving}
+use Rattle.fjall_journal.specs.Writer.{counted}
+use Rattle.fjall_manager.specs.Journals.{next_journal}
 use Rattle.fjall_state.specs.Machine as machine
-use Rattle.fjall_state.specs.Machine.{Facts, IsPoisoned, Parts, State, accepted, changed, created, deleted, due, due_in, facts, first_due, handles_of, has_name, instant_of, is_among, is_deleted, is_living, is_read, is_unknown, maps_in, one_less, one_more, opened_state, present, read_refusals, rotates, view_refusals, without}
-use Rattle.fjall_state.specs.Remembered.{IsLawful, IsReadAt, Remembered, StandsFor, facts_of, instant_in, is_held, is_last, poisoned, released, retained, rotated, with_change, with_creation, with_deletion, with_tickets}
+use Rattle.fjall_state.specs.Machine.{Facts, IsPoisoned, Parts, State, accepted, changed, created, deleted, due, due_in, facts, first_due, handles_of, has_name, instant_of, is_among, is_deleted, is_living, is_read, is_unknown, maps_in, one_less, one_more, opened_state, present, read_refusals, rotates, view_refusals, with_marks, without}
+use Rattle.fjall_state.specs.Remembered.{IsLawful, IsReadAt, Remembered, StandsFor, facts_of, instant_in, is_held, is_last, journal_rotated, poisoned, released, retained, rotated, with_change, with_creation, with_deletion, with_tickets}
 use Rattle.fjall_state.proofs.Facts.{counted_is, living_names, named_is, names_are, none_named, some_there}
-use Rattle.fjall_state.proofs.Lawful.{after_release, change_is_lawful, creation_is_lawful, deletion_is_lawful, gone_is_none, itself, last_gone, may_push, poisoned_is_lawful, released_is_lawful, retained_is_lawful, rotated_is_lawful, tickets_are_lawful, IsTime, time_closed, time_collected, time_opened, tree_there}
+use Rattle.fjall_state.proofs.Lawful.{after_release, alike, change_is_lawful, creation_is_lawful, deletion_is_lawful, gone_is_none, itself, last_gone, may_push, poisoned_is_lawful, released_is_lawful, retained_is_lawful, rotated_is_lawful, tickets_are_lawful, IsTime, time_closed, time_collected, time_opened, tree_there}
 use Rattle.fjall_maps.proofs.Reading.{a_keyspace_reads, pairs_above, read_nothing, store_is_kept}
 use Rattle.fjall_maps.proofs.Emptied.{emptied_early, emptied_late, emptied_store}
 use Rattle.fjall_maps.proofs.Pushed.{pushed_early, pushed_late, pushed_store}
@@ -58,6 +60,7 @@ kept_due f (OfDeletion id) = refl
 kept_due f (OfHandle OneMore id) = refl
 kept_due f (OfHandle OneLess id) = refl
 kept_due f (OfRotation id) = refl
+kept_due f OfJournalRotation = refl
 kept_due f (OfRead Present id query) = refl
 kept_due f (OfRead (At ticket) id query) = refl
 kept_due f (OfTickets call) = refl
@@ -67,7 +70,7 @@ kept_due f (OfCount count) = refl
 pub facts_agree : (m : Remembered) (table : ℕ) (s : State) → StandsFor m table s → (shape : Shape) → due s shape ≡ due_in (facts_of m table) shape
 facts_agree m table s stands shape =
     kept_due (facts s) shape
-    ∙ (λ i. due_in (record { store = stands.present i; next = stands.number i; poisoned = stands.poisoned i; lasting = stands.lasting i; damaged = stands.damaged i; handles = stands.handles i; tickets = stands.tickets i; table = stands.next_table i }) shape)
+    ∙ (λ i. due_in (record { store = stands.present i; next = stands.number i; poisoned = stands.poisoned i; lasting = stands.lasting i; damaged = stands.damaged i; handles = stands.handles i; tickets = stands.tickets i; table = stands.next_table i; active = (stands.journals i).active }) shape)
     ∙ sym (kept_due (facts_of m table) shape)
 
 same_names : (m : Remembered) (table : ℕ) (s : State) → StandsFor m table s → (present s).names ≡ (store_of m.keyspaces m.trees).names
@@ -94,9 +97,9 @@ waits_empty m trees given id instant le = read_nothing id instant trees (no_tree
 -- a change that what is held goes on by is one of the state
 after_change : (m : Remembered) (table : ℕ) (s : State) (stands : StandsFor m table s) (change : Change) → GoesOn m (with_change change m) table s stands (command_of change)
     → kept (apply (store_of m.keyspaces m.trees) (command_of change)) ≡ store_of m.keyspaces (changed m.next change m.trees) → IsLawful (with_change change m)
-    → (parts : Parts) → parts.table ≡ s.parts.table → parts.trees ≡ changed (number s.history) change s.parts.trees → parts.sealed ≡ s.parts.sealed
+    → (parts : Parts) → parts.table ≡ s.parts.table → parts.trees ≡ changed (number s.history) change s.parts.trees → parts.journals ≡ with_marks (number s.history) change s.parts.journals
     → StandsFor (with_change change m) table (record s { history = grown s.history (plain (command_of change)); parts = parts })
-after_change m table s stands change on store is parts same trees sealed = record {
+after_change m table s stands change on store is parts same trees journals = record {
   present = kept_after m table s stands (command_of change) ∙ store ∙ sym (store_is_kept m.keyspaces (changed m.next change m.trees));
   views = views_go_on m (with_change change m) table s stands (command_of change) on;
   number = one_number_more m table s stands (command_of change);
@@ -109,7 +112,7 @@ after_change m table s stands change on store is parts same trees sealed = recor
   next_job = stands.next_job;
   next_table = same ∙ stands.next_table;
   trees = trees ∙ (λ i. changed (stands.number i) change (stands.trees i));
-  sealed = sealed ∙ stands.sealed;
+  journals = journals ∙ (λ i. with_marks (stands.number i) change (stands.journals i));
   lawful = is;
 }
 
@@ -179,7 +182,7 @@ a_rotation_stands m table s stands id = record {
   next_job = stands.next_job;
   next_table = stands.next_table;
   trees = ap (forests.altered_at id sealed_off) stands.trees;
-  sealed = stands.sealed;
+  journals = stands.journals;
   lawful = rotated_is_lawful id m stands.lawful;
 }
 
@@ -245,7 +248,7 @@ module _ (m : Remembered) (table : ℕ) (s : State) (stands : StandsFor m table 
         jobs = stands.jobs;
         next_job = stands.next_job;
         next_table = ap (λ n. n + 1) stands.next_table;
-        sealed = stands.sealed;
+        journals = stands.journals;
         trees = λ i. with_tree ((stands.present i).next) (stands.number i) (stands.trees i);
         lawful = creation_is_lawful name options m is named (none_named m.keyspaces is.keyspaces m.trees name fresh) are free small;
       }
@@ -290,7 +293,7 @@ module _ (m : Remembered) (table : ℕ) (s : State) (stands : StandsFor m table 
         next_job = stands.next_job;
         next_table = λ i. if nat_le 2 (len (names i)) then stands.next_table i + 1 else stands.next_table i;
         trees = stands.trees;
-        sealed = stands.sealed;
+        journals = stands.journals;
         lawful = deletion_is_lawful id m stands.lawful small;
       }
 
@@ -310,7 +313,7 @@ a_retained_stands m table s stands id = record {
   next_job = stands.next_job;
   next_table = stands.next_table;
   trees = stands.trees;
-  sealed = stands.sealed;
+  journals = stands.journals;
   lawful = retained_is_lawful id m stands.lawful;
 }
 
@@ -361,7 +364,7 @@ module _ (m : Remembered) (table : ℕ) (s : State) (stands : StandsFor m table 
     next_job = stands.next_job;
     next_table = stands.next_table;
     trees = ap (λ (trees : Forest). if last then forests.without id trees else trees) stands.trees;
-    sealed = stands.sealed;
+    journals = stands.journals;
     lawful = is;
   }
 
@@ -390,7 +393,7 @@ with_tickets_stands m table s stands tickets times = record {
   next_job = stands.next_job;
   next_table = stands.next_table;
   trees = stands.trees;
-  sealed = stands.sealed;
+  journals = stands.journals;
   lawful = tickets_are_lawful m tickets stands.lawful times;
 }
   where
@@ -415,8 +418,8 @@ collected_stands m table s stands = on_state m table s (collected m.next) stands
 
 -- ---- faults, and the journal
 
-pub a_fault_stands : (m : Remembered) (table : ℕ) (s : State) → StandsFor m table s → (parts : Parts) → parts.trees ≡ m.trees → parts.sealed ≡ m.sealed → StandsFor (poisoned m) parts.table (record s { poisoned = true; parts = parts })
-a_fault_stands m table s stands parts trees sealed = record {
+pub a_fault_stands : (m : Remembered) (table : ℕ) (s : State) → StandsFor m table s → (parts : Parts) → parts.trees ≡ m.trees → parts.journals ≡ m.journals → StandsFor (poisoned m) parts.table (record s { poisoned = true; parts = parts })
+a_fault_stands m table s stands parts trees journals = record {
   present = stands.present;
   views = stands.views;
   number = stands.number;
@@ -429,15 +432,15 @@ a_fault_stands m table s stands parts trees sealed = record {
   next_job = stands.next_job;
   next_table = refl;
   trees = trees;
-  sealed = sealed;
+  journals = journals;
   lawful = poisoned_is_lawful m stands.lawful;
 }
 
-pub a_fault_poisons : (s : State) (parts : Parts) → parts.trees ≡ s.parts.trees → parts.sealed ≡ s.parts.sealed → IsPoisoned s (record s { poisoned = true; parts = parts })
-a_fault_poisons s parts trees sealed = (refl, trees, sealed)
+pub a_fault_poisons : (s : State) (parts : Parts) → parts.trees ≡ s.parts.trees → parts.journals ≡ s.parts.journals → IsPoisoned s (record s { poisoned = true; parts = parts })
+a_fault_poisons s parts trees journals = (refl, trees, journals)
 
-pub other_parts_stand : (m : Remembered) (table : ℕ) (s : State) → StandsFor m table s → (parts : Parts) → parts.table ≡ table → parts.trees ≡ m.trees → parts.sealed ≡ m.sealed → StandsFor m table (record s { parts = parts })
-other_parts_stand m table s stands parts is trees sealed = record {
+pub other_parts_stand : (m : Remembered) (table : ℕ) (s : State) → StandsFor m table s → (parts : Parts) → parts.table ≡ table → parts.trees ≡ m.trees → parts.journals ≡ m.journals → StandsFor m table (record s { parts = parts })
+other_parts_stand m table s stands parts is trees journals = record {
   present = stands.present;
   views = stands.views;
   number = stands.number;
@@ -450,8 +453,27 @@ other_parts_stand m table s stands parts is trees sealed = record {
   next_job = stands.next_job;
   next_table = is;
   trees = trees;
-  sealed = sealed;
+  journals = journals;
   lawful = stands.lawful;
+}
+
+pub a_journal_rotation_stands : (m : Remembered) (table : ℕ) (s : State) → StandsFor m table s → (len : ℕ) → len ≡ counted (s.parts.journal + s.parts.buffer)
+    → StandsFor (journal_rotated len m) table (machine.journal_rotated s)
+a_journal_rotation_stands m table s stands len is = record {
+  present = stands.present;
+  views = stands.views;
+  number = stands.number;
+  poisoned = stands.poisoned;
+  handles = stands.handles;
+  lasting = stands.lasting;
+  damaged = stands.damaged;
+  tickets = stands.tickets;
+  jobs = stands.jobs;
+  next_job = stands.next_job;
+  next_table = stands.next_table;
+  trees = stands.trees;
+  journals = λ i. next_journal (sym is i) (stands.journals i);
+  lawful = alike m (journal_rotated len m) stands.lawful refl refl refl refl;
 }
 
 -- ---- reads
@@ -532,8 +554,8 @@ opened_map m is lasting id (it_waits le) =
     ∙ sym (waits_empty m m.trees is.given id m.next le)
 
 pub an_opening_stands : (m : Remembered) → IsLawful m → m.handles ≡ empty → m.lasting ≡ [] → m.poisoned ≡ false → m.tickets ≡ no_tickets
-    → (table : ℕ) (parts : Parts) → parts.table ≡ table → parts.trees ≡ m.trees → parts.sealed ≡ m.sealed → StandsFor m table (opened_state (store_of m.keyspaces m.trees) m.damaged m.next parts)
-an_opening_stands m is handles lasting well tickets table parts at trees sealed = record {
+    → (table : ℕ) (parts : Parts) → parts.table ≡ table → parts.trees ≡ m.trees → parts.journals ≡ m.journals → StandsFor m table (opened_state (store_of m.keyspaces m.trees) m.damaged m.next parts)
+an_opening_stands m is handles lasting well tickets table parts at trees journals = record {
   present = refl;
   views = shown;
   number = omega arith;
@@ -546,7 +568,7 @@ an_opening_stands m is handles lasting well tickets table parts at trees sealed 
   next_job = refl;
   next_table = at;
   trees = trees;
-  sealed = sealed;
+  journals = journals;
   lawful = is;
 }
   where

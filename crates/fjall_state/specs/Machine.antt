@@ -16,7 +16,8 @@ use Rattle.fjall_journal.specs.declared.persist_mode.PersistMode.TheVariants.{Bu
 use Rattle.fjall_journal.specs.Writer.{counted, goes_out}
 use Rattle.fjall_journal.specs.Changes.{Change, Items, Emptied, change_text, command_of}
 use Rattle.fjall_journal.specs.Ops.{BatchItem, are_too_many, some_key_empty, some_key_too_long, some_value_too_long}
-use Rattle.fjall_manager.specs.Journals.{Sealed, bytes_of}
+use Rattle.fjall_manager.specs.Journals.{Journals, bytes_of, next_journal}
+use Rattle.fjall_manager.specs.Places.{marked}
 use Rattle.fjall_memtable.specs.Entries.{size_of}
 use Rattle.fjall_parts.specs.Parts.{holds_nothing, parts_of, versions_in}
 use Rattle.fjall_lsm.specs.Trees as lsm
@@ -37,15 +38,15 @@ use Rattle.fjall_history.specs.Tickets.{Tickets, cloning_refusal, closed, closin
 use Rattle.fjall_history.specs.Moves.{Times}
 use Rattle.fjall_history.specs.Queries.{Tells}
 use Rattle.fjall_state.specs.declared.call.Call.{Call}
-use Rattle.fjall_state.specs.Shapes.{AsKeyspace, ByMode, Clone, Close, Collect, Count, Exists, HandleCall, JournalSpace, Journals, Keyspaces, Next, OfChange, OfCount, OfCreation, OfDeletion, OfHandle, OfPersist, OfRead, OfRotation, OfTickets, OneLess, OneMore, Open, OpenTickets, Persistence, Entries, SealedMemtables, Shape, TicketCall, Visible, WriteBuffer, shape_of}
+use Rattle.fjall_state.specs.Shapes.{AsKeyspace, ByMode, Clone, Close, Collect, Count, Exists, HandleCall, JournalSpace, Keyspaces, Next, OfChange, OfCount, OfCreation, OfDeletion, OfHandle, OfJournalRotation, OfPersist, OfRead, OfRotation, OfTickets, OneLess, OneMore, Open, OpenTickets, Persistence, Entries, SealedMemtables, Shape, TicketCall, Visible, WriteBuffer, shape_of}
 use Rattle.fjall_state.specs.Shapes as shapes
 use Rattle.fjall_state.specs.Jobs.{Job}
 
--- The sealed journals, the oldest first: of each its number, how many bytes its file has, and up to which number each keyspace
--- has changes in it. How many bytes the active journal's file has, how many wait in the buffer, the id that tree 0's next table
--- gets, and the trees of the keyspaces that are read: of each its memtables, sealed ones and an active one.
+-- The journals, the sealed ones and the active one: of each its number, up to which number each keyspace has changes in it, and
+-- of a sealed one how many bytes its file has. How many bytes the active journal's file has, how many wait in the buffer, the id
+-- that tree 0's next table gets, and the trees of the keyspaces that are read: of each its memtables, sealed ones and an active one.
 pub record Parts : Type 0 where
-  pub sealed : List Sealed
+  pub journals : Journals
   pub journal : ℕ
   pub buffer : ℕ
   pub table : ℕ
@@ -156,8 +157,8 @@ persists_by_hand s id = is_living s id && is_by_hand (unwrap_or (get s.options i
 -- ---- what refuses a call
 
 -- What refusals look at: the store, the next number, whether the engine is poisoned, the deleted keyspaces that are
--- still read, those that have a table with a wrong block, how many handles are counted, the tickets, and the id of tree 0's
--- next table.
+-- still read, those that have a table with a wrong block, how many handles are counted, the tickets, the id of tree 0's next
+-- table, and the number of the active journal.
 pub record Facts : Type 0 where
   pub store : Store
   pub next : ℕ
@@ -167,9 +168,10 @@ pub record Facts : Type 0 where
   pub handles : FinMap nat_cmp ℕ
   pub tickets : Tickets
   pub table : ℕ
+  pub active : ℕ
 
 abbrev pub facts : State → Facts
-facts s = record { store = present s; next = number s.history; poisoned = s.poisoned; lasting = s.lasting; damaged = s.damaged; handles = s.handles; tickets = s.tickets; table = s.parts.table }
+facts s = record { store = present s; next = number s.history; poisoned = s.poisoned; lasting = s.lasting; damaged = s.damaged; handles = s.handles; tickets = s.tickets; table = s.parts.table; active = s.parts.journals.active }
 
 -- the first refusal whose cause holds
 abbrev pub first_due : List (Bool × Error) → Option Error
@@ -209,6 +211,10 @@ change_refusals f (Emptied id) = clear_refusals f id
 -- the refusals of a rotation of a keyspace's memtable
 abbrev pub rotation_refusals : Facts → ℕ → List (Bool × Error)
 rotation_refusals f id = (is_unknown f.store id, UnknownKeyspace) ∷ (is_deleted f.store id, KeyspaceDeleted) ∷ (f.poisoned, Poisoned) ∷ []
+
+-- The refusals of a rotation of the journal. The numbers of journals end below the greatest u64.
+abbrev pub journal_refusals : Facts → List (Bool × Error)
+journal_refusals f = (f.poisoned, Poisoned) ∷ (nat_le (2 ^ 64 - 2) f.active, NumbersUsedUp) ∷ []
 
 -- the keyspace lives, or is deleted and still read
 abbrev pub is_read : Facts → ℕ → Bool
@@ -266,6 +272,7 @@ due_in f (OfCreation name options) = first_due (creation_refusals f name)
 due_in f (OfDeletion id) = first_due (deletion_refusals f id)
 due_in f (OfHandle call id) = first_due (handle_refusals f call id)
 due_in f (OfRotation id) = first_due (rotation_refusals f id)
+due_in f OfJournalRotation = first_due (journal_refusals f)
 due_in f (OfRead view id query) = first_due (view_refusals f view id)
 due_in f (OfTickets call) = ticket_refusal f.tickets call
 due_in f (OfPersist mode) = first_due ((f.poisoned, Poisoned) ∷ [])
@@ -281,7 +288,7 @@ IsListed shapes.Names = Unit {0}
 IsListed (Exists name) = ⊥
 IsListed Next = ⊥
 IsListed Visible = ⊥
-IsListed Journals = ⊥
+IsListed shapes.Journals = ⊥
 IsListed JournalSpace = ⊥
 IsListed OpenTickets = ⊥
 IsListed (Entries id) = ⊥
@@ -304,6 +311,7 @@ TakesMemory (OfCreation name options) = Unit {0}
 TakesMemory (OfDeletion id) = Unit {0}
 TakesMemory (OfHandle call id) = Unit {0}
 TakesMemory (OfRotation id) = Unit {0}
+TakesMemory OfJournalRotation = Unit {0}
 TakesMemory (OfRead view id query) = Unit {0}
 TakesMemory (OfTickets call) = OpensTicket call
 TakesMemory (OfPersist mode) = ⊥
@@ -329,15 +337,16 @@ ChangesDisk f waiting (OfDeletion id) = Unit {0}
 ChangesDisk f waiting (OfHandle OneMore id) = ⊥
 ChangesDisk f waiting (OfHandle OneLess id) = Unit {0}
 ChangesDisk f waiting (OfRotation id) = ⊥
+ChangesDisk f waiting OfJournalRotation = Unit {0}
 ChangesDisk f waiting (OfRead view id query) = ⊥
 ChangesDisk f waiting (OfTickets call) = ⊥
 ChangesDisk f waiting (OfPersist mode) = Unit {0}
 ChangesDisk f waiting (OfCount count) = ⊥
 
--- After a fault in a call that changes the disk the engine is poisoned, and of its parts the trees and the sealed journals
--- alone are known, which are as before.
+-- After a fault in a call that changes the disk the engine is poisoned, and of its parts the trees and what is known of the
+-- journals are as before. How many bytes are in the active one's file, and how many wait, is not known.
 abbrev pub IsPoisoned : State → State → Type 0
-IsPoisoned old new = (new ≡ record old { poisoned = true; parts = new.parts }) × (new.parts.trees ≡ old.parts.trees) × (new.parts.sealed ≡ old.parts.sealed)
+IsPoisoned old new = (new ≡ record old { poisoned = true; parts = new.parts }) × (new.parts.trees ≡ old.parts.trees) × (new.parts.journals ≡ old.parts.journals)
 
 -- the settings of some keyspace have a value of 2^32 bytes or more, for which no table has room
 abbrev pub HasLongOption : Store → Type 0
@@ -350,6 +359,7 @@ TooLong s (OfCreation name options) = HasLongOption (kept (apply s (Create name 
 TooLong s (OfDeletion id) = HasLongOption (kept (apply s (Delete id)))
 TooLong s (OfHandle call id) = ⊥
 TooLong s (OfRotation id) = ⊥
+TooLong s OfJournalRotation = ⊥
 TooLong s (OfRead view id query) = ⊥
 TooLong s (OfTickets call) = ⊥
 TooLong s (OfPersist mode) = ⊥
@@ -379,13 +389,18 @@ abbrev pub changed : ℕ → Change → Forest → Forest
 changed n (Items items) trees = pushed n items trees
 changed n (Emptied id) trees = altered_at id (emptied n) trees
 
+-- what it makes of the journals: the watermarks of the active one are raised
+abbrev pub with_marks : ℕ → Change → Journals → Journals
+with_marks n change j = record j { watermarks = marked n change j.watermarks }
+
 -- A change was made: it is the next command, its batch is in the journal's file with all that waited, or waits too, and it
--- stands in the trees.
+-- stands in the trees and is marked in the journal.
 abbrev pub made : State → Change → Persistence → State
 made s change how = record s {
   history = grown s.history (plain (command_of change));
   parts = record (written (leaves_buffer (facts s) s.parts.buffer change how) s.parts (length (change_text change (number s.history)))) {
     trees = changed (number s.history) change s.parts.trees;
+    journals = with_marks (number s.history) change s.parts.journals;
   };
 }
 
@@ -444,6 +459,12 @@ rotated s id = record s {
   parts = record s.parts { trees = altered_at id sealed_off s.parts.trees };
 }
 
+-- The active journal is sealed with all that waited, and an empty one of the next number begins.
+abbrev pub journal_rotated : State → State
+journal_rotated s = record s {
+  parts = record s.parts { journals = next_journal (counted (s.parts.journal + s.parts.buffer)) s.parts.journals; journal = 0; buffer = 0 };
+}
+
 -- a name that a keyspace has answers its id; another one's keyspace gets the next id
 abbrev pub CreatesOrFinds : State → Bytes → List Bytes → ℕ → State → Type 0
 CreatesOrFinds old name options id new =
@@ -489,8 +510,8 @@ CountIs s shapes.Names reply = (names : Vec Bytes Global) × (reply ≡ Names na
 CountIs s (Exists name) reply = reply ≡ Flag (has_name (present s) name)
 CountIs s Next reply = reply ≡ Number (number s.history)
 CountIs s Visible reply = reply ≡ Number (number s.history)
-CountIs s Journals reply = reply ≡ Number (length s.parts.sealed + 1)
-CountIs s JournalSpace reply = reply ≡ Number (counted (bytes_of s.parts.sealed + s.parts.journal))
+CountIs s shapes.Journals reply = reply ≡ Number (length s.parts.journals.sealed + 1)
+CountIs s JournalSpace reply = reply ≡ Number (counted (bytes_of s.parts.journals.sealed + s.parts.journal))
 CountIs s OpenTickets reply = reply ≡ Number (len s.tickets.instants)
 CountIs s (Entries id) reply = reply ≡ Number (counted (version_count (shape_in id s.parts.trees)))
 CountIs s (SealedMemtables id) reply = reply ≡ Number (length (shape_in id s.parts.trees).memory.sealed)
@@ -504,6 +525,7 @@ Answers old (OfCreation name options) reply new = (id : ℕ) × (reply ≡ Numbe
 Answers old (OfDeletion id) reply new = (reply ≡ Done) × (new ≡ (if is_living (present old) id then deleted old id else old))
 Answers old (OfHandle call id) reply new = (reply ≡ Done) × (new ≡ handled call old id)
 Answers old (OfRotation id) reply new = (reply ≡ Flag (rotates old.parts.trees id)) × (new ≡ (if rotates old.parts.trees id then rotated old id else old))
+Answers old OfJournalRotation reply new = (reply ≡ Done) × (new ≡ journal_rotated old)
 Answers old (OfRead view id query) reply new = Tells query (map_at (maps_in old view) id) reply × (new ≡ old)
 Answers old (OfTickets call) reply new = TurnsTickets (number old.history) old.tickets call reply new.tickets × (new ≡ record old { tickets = new.tickets })
 Answers old (OfPersist mode) reply new = (reply ≡ Done) × (new ≡ record old { parts = written_out old.parts 0 })

@@ -6,7 +6,8 @@ use Rattle.std.specs.FinMap.{FinMap, code, empty, get, values}
 use Rattle.fjall_base.specs.Pairs.{Bytes}
 use Rattle.fjall_base.specs.Store.{kept, map_at}
 use Rattle.fjall_journal.specs.Changes.{Change}
-use Rattle.fjall_manager.specs.Journals.{Sealed}
+use Rattle.fjall_manager.specs.Journals.{Journals, Sealed, next_journal}
+use Rattle.fjall_manager.specs.Places.{Places, told}
 use Rattle.fjall_meta.specs.Keyspaces.{AreKeyspaces, Keyspaces, keyspace_at, with_keyspace, without_keyspace}
 use Rattle.fjall_lsm.specs.Trees.{sealed_off}
 use Rattle.fjall_trees.specs.Forests.{AreBefore, Forest, IsForest, altered_at, tree_at}
@@ -18,11 +19,11 @@ use Rattle.fjall_history.specs.declared.ticket.View.TheVariants.{Present, At}
 use Rattle.fjall_history.specs.Histories.{number, view}
 use Rattle.fjall_history.specs.Tickets.{Tickets, collected, no_tickets}
 pub use Rattle.fjall_history.specs.Tickets.{IsDueOrMemory}
-use Rattle.fjall_state.specs.Machine.{Facts, State, changed, handles_of, instant_of, is_among, is_deleted, one_less, one_more, present, without}
+use Rattle.fjall_state.specs.Machine.{Facts, State, changed, handles_of, instant_of, is_among, is_deleted, one_less, one_more, present, with_marks, without}
 
 -- The keyspaces that live, the trees of keyspaces, the next number, whether a fault has poisoned the engine, how many
 -- handles of each keyspace are counted, the deleted keyspaces whose last maps are still read, the keyspaces that have a
--- table with a wrong block, which are not read, the tickets, and the sealed journals.
+-- table with a wrong block, which are not read, the tickets, and the journals.
 pub record Remembered : Type 0 where
   pub keyspaces : Keyspaces
   pub trees : Forest
@@ -32,7 +33,7 @@ pub record Remembered : Type 0 where
   pub lasting : List ℕ
   pub damaged : List ℕ
   pub tickets : Tickets
-  pub sealed : List Sealed
+  pub journals : Journals
 
 -- Keyspaces and what trees hold were made under lesser numbers than the next one, which is at most 2^63. Each keyspace that
 -- lives has a tree, and trees are of ids that were given out; no tree has a table. Tickets read at numbers up to the next one,
@@ -53,9 +54,13 @@ pub record IsLawful (m : Remembered) : Type 0 where
 abbrev pub handles_code : Coded (FinMap nat_cmp ℕ)
 handles_code = code coded_ℕ coded_ℕ
 
+-- what is known of the journals, whose active one has these watermarks with places
+abbrev pub journals_of : List Sealed → ℕ → Places → Journals
+journals_of sealed active places = record { sealed = sealed; active = active; watermarks = told places }
+
 -- what refusals look at, the id of tree 0's next table being this one
 abbrev pub facts_of : Remembered → ℕ → Facts
-facts_of m table = record { store = store_of m.keyspaces m.trees; next = m.next; poisoned = m.poisoned; lasting = m.lasting; damaged = m.damaged; handles = m.handles; tickets = m.tickets; table = table }
+facts_of m table = record { store = store_of m.keyspaces m.trees; next = m.next; poisoned = m.poisoned; lasting = m.lasting; damaged = m.damaged; handles = m.handles; tickets = m.tickets; table = table; active = m.journals.active }
 
 -- the instant at which a view reads: the next number, or where its ticket does
 abbrev pub instant_in : Remembered → View → ℕ
@@ -72,7 +77,7 @@ is_held m id = is_some (keyspace_at id m.keyspaces.living) || (is_among m.lastin
 
 -- The state is one that an engine may be in that holds this in memory: its present is what the trees show of the
 -- keyspaces, but for deleted ones; at each instant at which something reads, the view's maps are what the trees show then;
--- and the tickets and the sealed journals are the same ones.
+-- and the tickets and what is known of the journals are the same.
 pub record StandsFor (m : Remembered) (table : ℕ) (s : State) : Type 0 where
   pub present : kept (present s) ≡ kept (store_of m.keyspaces m.trees)
   pub views : (instant : ℕ) → IsReadAt m instant → (id : ℕ) → is_held m id ≡ true → map_at (view s.history instant).maps id ≡ pairs_in id instant m.trees
@@ -86,12 +91,12 @@ pub record StandsFor (m : Remembered) (table : ℕ) (s : State) : Type 0 where
   pub next_job : s.next_job ≡ 0
   pub next_table : s.parts.table ≡ table
   pub trees : s.parts.trees ≡ m.trees
-  pub sealed : s.parts.sealed ≡ m.sealed
+  pub journals : s.parts.journals ≡ m.journals
   pub lawful : IsLawful m
 
 -- just opened, where these keyspaces have a table with a wrong block
-abbrev pub remembered : Keyspaces → Forest → List ℕ → ℕ → List Sealed → Remembered
-remembered keyspaces trees damaged next sealed = record {
+abbrev pub remembered : Keyspaces → Forest → List ℕ → ℕ → Journals → Remembered
+remembered keyspaces trees damaged next journals = record {
   keyspaces = keyspaces;
   trees = trees;
   next = next;
@@ -100,14 +105,14 @@ remembered keyspaces trees damaged next sealed = record {
   lasting = [];
   damaged = damaged;
   tickets = no_tickets;
-  sealed = sealed;
+  journals = journals;
 }
 
 -- ---- what calls make of it
 
 -- with a change more, which took the next number
 abbrev pub with_change : Change → Remembered → Remembered
-with_change change m = record m { trees = changed m.next change m.trees; next = m.next + 1 }
+with_change change m = record m { trees = changed m.next change m.trees; next = m.next + 1; journals = with_marks m.next change m.journals }
 
 -- with a keyspace more, made under the next number, and its tree, which holds nothing
 abbrev pub with_creation : Bytes → List Bytes → Remembered → Remembered
@@ -144,6 +149,10 @@ released id m = record m {
 -- with the active memtable of a keyspace sealed, and the watermark raised
 abbrev pub rotated : ℕ → Remembered → Remembered
 rotated id m = record m { trees = altered_at id sealed_off m.trees; tickets = collected m.next m.tickets }
+
+-- with the active journal, whose file has so many bytes, sealed, and an empty one of the next number
+abbrev pub journal_rotated : ℕ → Remembered → Remembered
+journal_rotated len m = record m { journals = next_journal len m.journals }
 
 -- with these tickets
 abbrev pub with_tickets : Tickets → Remembered → Remembered

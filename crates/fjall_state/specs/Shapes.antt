@@ -9,7 +9,7 @@ use Rattle.fjall_history.specs.declared.ticket.View.{View}
 use Rattle.fjall_history.specs.Queries.{Query, Get, Page}
 use Rattle.fjall_state.specs.declared.call.Call.{Call}
 use Rattle.fjall_state.specs.declared.call.Call.TheVariants as calls
-use Rattle.fjall_state.specs.declared.call.Call.TheVariants.{Keyspace, DeleteKeyspace, Retain, Release, Insert, Remove, RemoveWeak, Clear, CommitBatch, RotateMemtable, GetAt, PageAt, Snapshot, CloneSnapshot, CloseSnapshot, Gc, Persist, KeyspaceCount, ListKeyspaceNames, KeyspaceExists, Seqno, VisibleSeqno, JournalCount, JournalDiskSpace, OpenSnapshots, ApproximateLen, SealedMemtableCount, WriteBufferSize}
+use Rattle.fjall_state.specs.declared.call.Call.TheVariants.{Keyspace, DeleteKeyspace, Retain, Release, Insert, Remove, RemoveWeak, Clear, CommitBatch, RotateMemtable, RotateJournal, GetAt, PageAt, Snapshot, CloneSnapshot, CloseSnapshot, Gc, Persist, KeyspaceCount, ListKeyspaceNames, KeyspaceExists, Seqno, VisibleSeqno, JournalCount, JournalDiskSpace, OpenSnapshots, ApproximateLen, SealedMemtableCount, WriteBufferSize}
 
 -- How a change is persisted: as the option of the keyspace of this id says, or by a mode or none that came with it.
 pub data Persistence : Type 0 where
@@ -43,14 +43,15 @@ pub data Count : Type 0 where
   WriteBuffer : Count
   WantsRotation : (id : ℕ) → Count
 
--- A change is one command with its batch; a rotation seals a keyspace's active memtable; a read is a query on a keyspace's
--- map in a view.
+-- A change is one command with its batch; a rotation seals a keyspace's active memtable, one of the journal the active journal; a
+-- read is a query on a keyspace's map in a view.
 pub data Shape : Type 0 where
   OfChange : (change : Change) (how : Persistence) → Shape
   OfCreation : (name : Bytes) (options : List Bytes) → Shape
   OfDeletion : (id : ℕ) → Shape
   OfHandle : (call : HandleCall) (id : ℕ) → Shape
   OfRotation : (id : ℕ) → Shape
+  OfJournalRotation : Shape
   OfRead : (view : View) (id : ℕ) (query : Query) → Shape
   OfTickets : (call : TicketCall) → Shape
   OfPersist : (mode : PersistMode) → Shape
@@ -75,6 +76,7 @@ shape_of (RemoveWeak id key) = of_write (id, key, ops.RemoveWeak)
 shape_of (Clear id) = of_clear id
 shape_of (CommitBatch items mode) = OfChange (Items items.items) (ByMode mode)
 shape_of (RotateMemtable id) = OfRotation id
+shape_of RotateJournal = OfJournalRotation
 shape_of (GetAt view id key) = OfRead view id (Get key)
 shape_of (PageAt view id range back max) = OfRead view id (Page range back max)
 shape_of Snapshot = OfTickets Open

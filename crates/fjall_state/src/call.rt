@@ -30,6 +30,8 @@ pub enum Call {
     CommitBatch(Vec<BatchItem>, Option<PersistMode>),
     /// `rotate_memtable`: keyspace id.
     RotateMemtable(u64),
+    /// `rotate_journal`.
+    RotateJournal,
     /// `get_at`: view, keyspace id and key.
     GetAt(View, u64, UserKey),
     /// `page_at`: view, keyspace id, range of keys, whether from behind, and how many pairs at most.

@@ -16,7 +16,8 @@ use fjall_commit::append_clear;
 use fjall_journal::{PersistMode, Writer};
 
 impl EngineState {
-    /// Empties a keyspace that lives, under the next number, and hands the clear to the journal, by this mode or none. All
+    /// Empties a keyspace that lives, under the next number, raises its watermark, and hands the clear to the journal, by this mode
+    /// or none. All
     /// memory is got before the first byte goes to the disk. It is refused, and what it leaves then, as
     /// [`write`](EngineState::write).
     pub fn clear<D: Disk>(
@@ -51,11 +52,13 @@ impl EngineState {
         ensures kinds { IsTrue D.honest → StaysTidy (D.meaning disk.old) (D.meaning disk.new) }
     {
         let seqno = self.tickets.seqno();
+        self.watermarks.make_place(id)?;
         let marks = self.trees.clear(id, seqno)?;
         if let Err(error) = append_clear(journal, disk, mode, id, seqno) {
             self.trees.take_back(marks);
             return Err(error);
         }
+        self.watermarks.raise(id, seqno);
         self.tickets.publish();
         Ok(())
     }

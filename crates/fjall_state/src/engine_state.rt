@@ -14,11 +14,11 @@ ghost use Rattle.fjall_maps.specs.Maps.{pairs_in, store_of};
 ghost use Rattle.fjall_history.specs.Tickets.{closed, closing_refusal, cloning_refusal, collected, is_open as is_open_in, opened, opening_refusal};
 ghost use Rattle.fjall_state.specs.Machine.{first_due, handle_refusals, handles_of, has_name, is_among, is_living, is_read, is_unknown, one_less, persists_by_hand, read_refusals, view_refusals};
 ghost use Rattle.fjall_state.specs.Shapes.{OneMore};
-ghost use Rattle.fjall_state.specs.Remembered.{IsDueOrMemory, IsLawful, Remembered, facts_of, instant_in, is_last, let_go, poisoned, released, remembered, retained, with_creation, with_deletion, with_tickets};
+ghost use Rattle.fjall_state.specs.Remembered.{IsDueOrMemory, IsLawful, Remembered, facts_of, instant_in, is_last, journals_of, let_go, poisoned, released, remembered, retained, with_creation, with_deletion, with_tickets};
 
 use fjall_base::{Error, KvPair, Result, Slice, StorageError, UserValue};
 use fjall_history::{Ticket, Tickets, View};
-use fjall_manager::JournalManager;
+use fjall_manager::{ActiveWatermarks, JournalManager};
 use fjall_meta::{LivingKeyspace, MetaKeyspace};
 use fjall_options::KeyspaceCreateOptions;
 use fjall_reading::bounds_of;
@@ -31,7 +31,8 @@ use std::marker::Model;
 /// What an engine holds in memory: the keyspaces that live, the trees of these and of the deleted ones that are still read,
 /// the tickets of snapshots with the next number, at which a new one reads, whether a fault has poisoned it, how many handles
 /// of each keyspace are counted, the deleted keyspaces that are still read, the keyspaces that aren't read since a block of one
-/// of their tables is wrong, and the sealed journals.
+/// of their tables is wrong, and what is known of the journals: the sealed ones, and of the active one its number and up to which
+/// number each keyspace has changes in it.
 #[derive(Drop)]
 pub struct EngineState {
     pub(crate) keyspaces: MetaKeyspace,
@@ -41,14 +42,16 @@ pub struct EngineState {
     handles: BTreeMap<u64, u64>,
     lasting: Vec<u64>,
     damaged: Vec<u64>,
-    sealed: JournalManager,
+    pub(crate) sealed: JournalManager,
+    pub(crate) active: u64,
+    pub(crate) watermarks: ActiveWatermarks,
 }
 
 impl Model for EngineState {
     ghost use Rattle.std.specs.Coded.{codes};
     ghost use Rattle.std.specs.FinMap.{from_entries};
     ghost use Rattle.fjall_trees.specs.Views.{forest_of};
-    ghost use Rattle.fjall_state.specs.Remembered.{IsLawful, Remembered, handles_code};
+    ghost use Rattle.fjall_state.specs.Remembered.{IsLawful, Remembered, handles_code, journals_of};
 
     ghost Value = { Remembered };
 
@@ -63,7 +66,7 @@ impl Model for EngineState {
       lasting = m.lasting.items;
       damaged = m.damaged.items;
       tickets = m.tickets.tickets;
-      sealed = m.sealed;
+      journals = journals_of m.sealed m.active m.watermarks;
     } };
 
     ghost invariant = { λ m. IsLawful (record {
@@ -75,7 +78,7 @@ impl Model for EngineState {
       lasting = m.lasting.items;
       damaged = m.damaged.items;
       tickets = m.tickets.tickets;
-      sealed = m.sealed;
+      journals = journals_of m.sealed m.active m.watermarks;
     }) };
 }
 
@@ -101,7 +104,7 @@ fn count_less(handles: &mut BTreeMap<u64, u64>, id: u64)
 
 impl EngineState {
     /// These keyspaces, with these trees, whose next change takes this number. The damaged ones have a table with a wrong
-    /// block. Before the active journal there are these sealed ones.
+    /// block. Before the active journal, of this number and with these watermarks, there are these sealed ones.
     pub fn new(
         alloc: Global,
         keyspaces: MetaKeyspace,
@@ -109,6 +112,8 @@ impl EngineState {
         damaged: Vec<u64>,
         next: u64,
         sealed: JournalManager,
+        active: u64,
+        watermarks: ActiveWatermarks,
     ) -> EngineState
         requires made { All (λ k. k.number < next) keyspaces.living }
         requires planted { All (λ k. is_some (tree_at k.id (forest_of trees)) ≡ true) keyspaces.living }
@@ -116,7 +121,7 @@ impl EngineState {
         requires below { AreBefore next (forest_of trees) }
         requires bare { AreBare (forest_of trees) }
         requires small { next ≤ 2 ^ 63 }
-        ensures { result ≡ remembered keyspaces (forest_of trees) damaged.items next sealed }
+        ensures { result ≡ remembered keyspaces (forest_of trees) damaged.items next (journals_of sealed active watermarks) }
     {
         EngineState {
             keyspaces,
@@ -127,6 +132,8 @@ impl EngineState {
             lasting: Vec::new(alloc),
             damaged,
             sealed,
+            active,
+            watermarks,
         }
     }
 
@@ -169,16 +176,23 @@ impl EngineState {
 
     /// How many journals there are: the sealed ones and the active one.
     pub fn journal_count(&self) -> usize
-        ensures { result ≡ length self.now.sealed + 1 }
+        ensures { result ≡ length self.now.journals.sealed + 1 }
     {
         self.sealed.journal_count()
     }
 
     /// How many bytes the files of the sealed journals have, at most the greatest `u64`.
     pub fn sealed_journal_space(&self) -> u64
-        ensures { result ≡ bytes_of self.now.sealed }
+        ensures { result ≡ bytes_of self.now.journals.sealed }
     {
         self.sealed.disk_space_used()
+    }
+
+    /// The number of the active journal.
+    pub fn active_journal(&self) -> u64
+        ensures { result ≡ self.now.journals.active }
+    {
+        self.active
     }
 
     /// How many keyspaces live.

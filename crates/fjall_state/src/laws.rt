@@ -6,6 +6,7 @@ ghost use Rattle.fjall_base.specs.Pairs.{Bytes};
 ghost use Rattle.fjall_base.specs.Store.{Store, map_at};
 ghost use Rattle.fjall_base.specs.declared.error.Error.{Error};
 ghost use Rattle.fjall_journal.specs.Changes.{Change, Items};
+ghost use Rattle.fjall_journal.specs.Writer.{counted};
 ghost use Rattle.fjall_meta.specs.Keyspaces.{id_of, is_name};
 ghost use Rattle.fjall_options.specs.Options.{AreOptions};
 ghost use Rattle.fjall_maps.specs.Maps.{pairs_in, store_of};
@@ -20,8 +21,8 @@ ghost use Rattle.fjall_state.specs.Allowed.{FitsBatch, IsOfLiving, MayChange, Ma
 ghost use Rattle.fjall_state.specs.Shapes.{OneLess, Persistence, Shape};
 ghost use Rattle.fjall_state.specs.Machine as machine;
 ghost use Rattle.fjall_state.specs.Machine.{Facts, IsPoisoned, Parts, Run, State, Step, StepOf, TakesMemory, accepted, change_refusals, created, creation_refusals, deleted, deletion_refusals};
-ghost use Rattle.fjall_state.specs.Machine.{due, due_in, first_due, handle_refusals, handles_of, has_name, is_living, maps_in, one_more, opened_state, persists_by_hand, present, rotates, times, view_refusals};
-ghost use Rattle.fjall_state.specs.Remembered.{IsDueOrMemory, IsLawful, Remembered, StandsFor, facts_of, instant_in, poisoned, released, retained, rotated, with_change, with_creation, with_deletion, with_tickets};
+ghost use Rattle.fjall_state.specs.Machine.{due, due_in, first_due, handle_refusals, handles_of, has_name, is_living, journal_refusals, maps_in, one_more, opened_state, persists_by_hand, present, rotates, times, view_refusals};
+ghost use Rattle.fjall_state.specs.Remembered.{IsDueOrMemory, IsLawful, Remembered, StandsFor, facts_of, instant_in, journal_rotated, poisoned, released, retained, rotated, with_change, with_creation, with_deletion, with_tickets};
 
 /// What is held tells which refusal is due in each state that it stands for.
 pub fn facts_agree()
@@ -48,6 +49,12 @@ pub fn a_rotation_stands()
     ensures { (m : Remembered) (table : ℕ) (s : State) → StandsFor m table s → (id : ℕ) → StandsFor (rotated id m) table (machine.rotated s id) }
 {}
 
+/// A journal that is sealed, with all that waited in its file, is a rotation.
+pub fn a_journal_rotation_stands()
+    ensures { (m : Remembered) (table : ℕ) (s : State) → StandsFor m table s → (len : ℕ) → len ≡ counted (s.parts.journal + s.parts.buffer)
+        → StandsFor (journal_rotated len m) table (machine.journal_rotated s) }
+{}
+
 /// A keyspace more is a creation.
 pub fn a_creation_stands()
     ensures { (m : Remembered) (table : ℕ) (s : State) → StandsFor m table s → (name : Bytes) (options : List Bytes) → is_name name ≡ true
@@ -72,16 +79,17 @@ pub fn a_release_stands()
     ensures { (m : Remembered) (table : ℕ) (s : State) → StandsFor m table s → (id : ℕ) → StandsFor (released id m) table (machine.released s id) }
 {}
 
-/// After a fault what is held stands for poisoned states, whatever their parts but the trees and the sealed journals are.
+/// After a fault what is held stands for poisoned states, whatever their parts but the trees and what is known of the journals
+/// are.
 pub fn a_fault_stands()
     ensures stands { (m : Remembered) (table : ℕ) (s : State) → StandsFor m table s → (parts : Parts)
-        → parts.trees ≡ m.trees → parts.sealed ≡ m.sealed → StandsFor (poisoned m) parts.table (record s { poisoned = true; parts = parts }) }
-    ensures poisoned { (s : State) (parts : Parts) → parts.trees ≡ s.parts.trees → parts.sealed ≡ s.parts.sealed → IsPoisoned s (record s { poisoned = true; parts = parts }) }
+        → parts.trees ≡ m.trees → parts.journals ≡ m.journals → StandsFor (poisoned m) parts.table (record s { poisoned = true; parts = parts }) }
+    ensures poisoned { (s : State) (parts : Parts) → parts.trees ≡ s.parts.trees → parts.journals ≡ s.parts.journals → IsPoisoned s (record s { poisoned = true; parts = parts }) }
 {}
 
 /// How many bytes the journal has is nothing that memory tells of.
 pub fn other_parts_stand()
-    ensures { (m : Remembered) (table : ℕ) (s : State) → StandsFor m table s → (parts : Parts) → parts.table ≡ table → parts.trees ≡ m.trees → parts.sealed ≡ m.sealed
+    ensures { (m : Remembered) (table : ℕ) (s : State) → StandsFor m table s → (parts : Parts) → parts.table ≡ table → parts.trees ≡ m.trees → parts.journals ≡ m.journals
         → StandsFor m table (record s { parts = parts }) }
 {}
 
@@ -146,7 +154,7 @@ pub fn options_agree()
 /// What was just opened stands for the state just opened, whichever keyspaces are damaged.
 pub fn an_opening_stands()
     ensures { (m : Remembered) → IsLawful m → m.handles ≡ empty → m.lasting ≡ [] → m.poisoned ≡ false → m.tickets ≡ no_tickets
-        → (table : ℕ) (parts : Parts) → parts.table ≡ table → parts.trees ≡ m.trees → parts.sealed ≡ m.sealed
+        → (table : ℕ) (parts : Parts) → parts.table ≡ table → parts.trees ≡ m.trees → parts.journals ≡ m.journals
         → StandsFor m table (opened_state (store_of m.keyspaces m.trees) m.damaged m.next parts) }
 {}
 
@@ -155,5 +163,6 @@ pub fn nothing_refused()
     ensures change { (f : Facts) (change : Change) → first_due (change_refusals f change) ≡ None → MayChange f change }
     ensures creation { (f : Facts) (name : Bytes) → first_due (creation_refusals f name) ≡ None → MayCreate f name }
     ensures deletion { (f : Facts) (id : ℕ) → first_due (deletion_refusals f id) ≡ None → MayDelete f id }
+    ensures journal { (f : Facts) → first_due (journal_refusals f) ≡ None → (f.poisoned ≡ false) × (f.active < 2 ^ 64 - 2) }
     ensures release { (f : Facts) (id : ℕ) → first_due (handle_refusals f OneLess id) ≡ None → 0 < handles_of f.handles id }
 {}

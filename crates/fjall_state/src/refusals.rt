@@ -1,7 +1,7 @@
 //! What refuses a call before memory or the disk is asked for anything: the first refusal whose cause holds.
 
 ghost use Rattle.std.specs.Prelude.{◌≡◌, ◌==◌, ◌||◌, ◌-◌, ◌^◌, true};
-ghost use Rattle.fjall_state.specs.Machine.{are_used_up, clear_refusals, creation_refusals, deletion_refusals, first_due, handle_refusals, items_refusals, rotation_refusals, some_deleted, some_unknown};
+ghost use Rattle.fjall_state.specs.Machine.{are_used_up, clear_refusals, creation_refusals, deletion_refusals, first_due, handle_refusals, items_refusals, journal_refusals, rotation_refusals, some_deleted, some_unknown};
 ghost use Rattle.fjall_state.specs.Shapes.{OneLess};
 ghost use Rattle.fjall_state.specs.Remembered.{facts_of};
 
@@ -11,6 +11,9 @@ use fjall_journal::{BatchItem, has_empty_key, has_key_too_long, has_value_too_lo
 
 /// Sequence numbers lie below this one.
 const SEQNO_LIMIT: u64 = 1 << 63;
+
+/// The number of a journal that can have a next one lies below this one.
+const JOURNAL_LIMIT: u64 = u64::MAX - 1;
 
 /// How many items a batch has at most.
 const BATCH_LIMIT: usize = 4_294_967_295;
@@ -71,6 +74,19 @@ impl EngineState {
         }
         if self.is_poisoned() {
             return Some(Error::Poisoned);
+        }
+        None
+    }
+
+    /// What refuses a rotation of the journal.
+    pub fn journal_refusal(&self) -> Option<Error>
+        ensures { result ≡ first_due (journal_refusals (facts_of self.now 0)) }
+    {
+        if self.is_poisoned() {
+            return Some(Error::Poisoned);
+        }
+        if self.active_journal() >= JOURNAL_LIMIT {
+            return Some(Error::NumbersUsedUp);
         }
         None
     }

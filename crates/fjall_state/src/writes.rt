@@ -17,8 +17,8 @@ use fjall_commit::append_batch;
 use fjall_journal::{BatchItem, PersistMode, Writer};
 
 impl EngineState {
-    /// Keeps what these items make of their keyspaces, under the next number, and hands their batch to the journal, by this
-    /// mode or none. Of two items of one key the later one counts. All memory is got before the first byte goes to the disk.
+    /// Keeps what these items make of their keyspaces, under the next number, raises the watermarks of these, and hands the batch
+    /// to the journal, by this mode or none. Of two items of one key the later one counts. All memory is got before the first byte goes to the disk.
     ///
     /// There is an item, they are ones that a batch may have, and their keyspaces live. After a refusal, for want of memory
     /// or by a fault of the disk, what is held in memory is as before. Want of memory leaves the journal and the disk as
@@ -60,11 +60,13 @@ impl EngineState {
         ensures kinds { IsTrue D.honest → StaysTidy (D.meaning disk.old) (D.meaning disk.new) }
     {
         let seqno = self.tickets.seqno();
+        self.watermarks.make_places(items)?;
         let marks = self.trees.push_items(items, seqno)?;
         if let Err(error) = append_batch(journal, disk, mode, items, seqno) {
             self.trees.take_back(marks);
             return Err(error);
         }
+        self.watermarks.raise_all(items, seqno);
         self.tickets.publish();
         Ok(())
     }

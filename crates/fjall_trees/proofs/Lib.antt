@@ -7,4 +7,5 @@ pub mod Pushing
 pub mod Reading
 pub mod Rooms
 pub mod Same
+pub mod Sealed
 pub mod Searches

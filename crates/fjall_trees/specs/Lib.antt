@@ -1,5 +1,6 @@
 pub mod Forests
 pub mod Lists
+pub mod Sealing
 pub mod Tables
 pub mod Views
 pub mod Writes

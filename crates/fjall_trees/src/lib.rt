@@ -8,6 +8,7 @@ mod laws;
 mod marks;
 mod memory;
 mod reads;
+mod sealing;
 mod trees;
 mod writes;
 

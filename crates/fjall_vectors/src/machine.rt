@@ -2,7 +2,7 @@
 
 use fjall_base::{Error, KvPair, Result, Slice, StorageError};
 use fjall_journal::{BatchItem, Op, PersistMode, ValueType, Writer};
-use fjall_manager::JournalManager;
+use fjall_manager::{ActiveWatermarks, JournalManager};
 use fjall_memory::MemoryDisk;
 use fjall_meta::MetaKeyspace;
 use fjall_options::KeyspaceCreateOptions;
@@ -127,6 +127,8 @@ fn empty(alloc: Global) -> EngineState {
         Vec::new(alloc),
         1,
         JournalManager::new(alloc),
+        0,
+        ActiveWatermarks::new(alloc),
     )
 }
 
@@ -139,6 +141,8 @@ fn first_damaged(alloc: Global) -> Result<EngineState> {
         Vec::from_slice(alloc, &[1])?,
         1,
         JournalManager::new(alloc),
+        0,
+        ActiveWatermarks::new(alloc),
     ))
 }
 

@@ -3,7 +3,7 @@
 use crate::machine::{one_deleted, two};
 use fjall_base::{Error, Result, Slice};
 use fjall_journal::{BatchItem, Op};
-use fjall_manager::JournalManager;
+use fjall_manager::{ActiveWatermarks, JournalManager};
 use fjall_meta::MetaKeyspace;
 use fjall_state::EngineState;
 use fjall_trees::Trees;
@@ -35,6 +35,8 @@ fn memory_of(alloc: Global, named: Given) -> Result<EngineState> {
             Vec::new(alloc),
             1 << 63,
             JournalManager::new(alloc),
+            u64::MAX - 1,
+            ActiveWatermarks::new(alloc),
         ),
     })
 }
@@ -49,6 +51,7 @@ enum Asked {
     Deletion(u64, u64),
     Clear(u64),
     Rotation(u64),
+    JournalRotation,
 }
 
 use Asked::*;
@@ -74,6 +77,7 @@ fn refusal(alloc: Global, memory: &EngineState, asked: Asked) -> Result<Option<E
         Deletion(id, next_table_id) => memory.deletion_refusal(id, next_table_id),
         Clear(id) => memory.clear_refusal(id),
         Rotation(id) => memory.rotation_refusal(id),
+        JournalRotation => memory.journal_refusal(),
     })
 }
 
@@ -121,6 +125,9 @@ const REFUSALS: &[(Given, Asked, Option<Error>)] = &[
     (Given::Poisoned, Rotation(1), Some(Error::KeyspaceDeleted)),
     (Given::Poisoned, Rotation(2), Some(Error::Poisoned)),
     (Given::OneDeleted, Rotation(2), None),
+    (Given::Poisoned, JournalRotation, Some(Error::Poisoned)),
+    (Given::UsedUp, JournalRotation, Some(Error::NumbersUsedUp)),
+    (Given::Two, JournalRotation, None),
     // So do those of changes of keyspaces.
     (
         Given::OneDeleted,

@@ -20,6 +20,7 @@ use Rattle.fjall_repair.proofs.Amid.{amid_now, amid_on}
 use Rattle.fjall_recovery.specs.Folders.{IsUnfinished}
 use Rattle.fjall_repair.specs.Plans.{journals_begun}
 use Rattle.fjall_repair.proofs.Counting.{active_begun, none_begun}
+use Rattle.fjall_manager.specs.Places.{told}
 use Rattle.fjall_repair.proofs.opening.open_unfinished.Goals as goal
 
 pub returns-in_err-opened-clause-any_moment : goal.returns-in_err-opened-clause-any_moment
@@ -176,4 +177,4 @@ returns-clause-held g c honest unfinished base pending holds =
 pub returns-clause-fresh : goal.returns-clause-fresh
 returns-clause-fresh g c honest none =
     let ready = c.in_ok-opened.field-0 in
-    none_begun (standing (state_in (g.D.Disk.meaning c.args.disk.now))) ready.making ready.opened.sealed ready.opened.watermarks (c.in_ok-opened.ensures.making honest) none c.in_ok-opened.ensures.journals
+    none_begun (standing (state_in (g.D.Disk.meaning c.args.disk.now))) ready.making ready.opened.sealed (told ready.opened.watermarks) (c.in_ok-opened.ensures.making honest) none c.in_ok-opened.ensures.journals

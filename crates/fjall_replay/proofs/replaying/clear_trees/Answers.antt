@@ -1,18 +1,22 @@
-use Rattle.std.proofs.Common.{◌∙◌, ℕ, ap, cond, get_or, subst, sym, take}
+use Rattle.std.proofs.Common.{◌≡◌, ◌∙◌, ℕ, ap, cond, get_or, rules, subst, sym, take, true}
 use Rattle.fjall_lsm.specs.Puts.{emptied_once}
 use Rattle.fjall_trees.specs.Forests.{Forest, altered_at}
 use Rattle.fjall_trees.specs.Views.{forest_of}
 use Rattle.fjall_versions.specs.Replays.{counts_unpersisted}
-use Rattle.fjall_replay.specs.Replayed.{AreBegun}
-use Rattle.fjall_replay.proofs.Keeping.{begins, clear_step, clears_begun, tested}
+use Rattle.fjall_replay.specs.Beside.{BeginBy}
+use Rattle.fjall_replay.proofs.Keeping.{clear_step, tested}
+use Rattle.fjall_replay.proofs.Resting.{begin_at, clears_begin}
 use Rattle.fjall_replay.proofs.replaying.clear_trees.Goals as goal
 use Rattle.fjall_replay.proofs.replaying.clear_trees.Goals.{then-counts_unpersisted+in_ok-clear_once, else-counts_unpersisted}
 
 pub clear_once-requires-clause-from : goal.clear_once-requires-clause-from
 clear_once-requires-clause-from c shape at =
     let counted = counts_unpersisted c.args.keyspaces.now c.args.persisted.now c.args.number in
-    let begun = subst AreBegun (sym c.loop-id.invariant) (clears_begun counted c.args.number (take c.loop-id.id-index c.args.ids.now) (forest_of c.args.trees.now) c.requires.begun) in
-    begins (forest_of c.loop-id.trees) (get_or c.args.ids.now c.loop-id.id-index 0) shape c.args.number begun at
+    let n = c.args.number in
+    let id : ℕ = get_or c.args.ids.now c.loop-id.id-index 0 in
+    let counts : counted id ≡ true = search rules in
+    let begun = subst (BeginBy counted n) (sym c.loop-id.invariant) (clears_begin counted counted n n (take c.loop-id.id-index c.args.ids.now) (forest_of c.args.trees.now) c.requires.begun) in
+    begin_at counted n (forest_of c.loop-id.trees) id shape begun at counts
 
 pub loop-id-preserved : goal.loop-id-preserved
 loop-id-preserved c =

@@ -3,7 +3,7 @@ use Rattle.fjall_table.specs.Blocks.{IsEntry}
 use Rattle.fjall_trees.specs.Views.{forest_of}
 use Rattle.fjall_versions.specs.Replays.{counts_unpersisted}
 use Rattle.fjall_versions.specs.Views.{entry_of}
-use Rattle.fjall_replay.specs.Replayed.{AreBegun}
+use Rattle.fjall_replay.specs.Beside.{BeginBy}
 use Rattle.fjall_replay.specs.Steps.{with_items}
 use Rattle.fjall_replay.proofs.replaying.put_items.Given as goal
 
@@ -13,7 +13,7 @@ invariant-loop-item l = record {
   left : with_items (counts_unpersisted l.keyspaces l.persisted l.number) l.number l.rest (forest_of l.trees)
       ≡ with_items (counts_unpersisted l.keyspaces l.persisted l.number) l.number l.items (forest_of l.fn.trees);
   fits : All (λ item. IsEntry (entry_of l.number item)) l.rest;
-  begun : AreBegun (forest_of l.trees);
+  begun : BeginBy (counts_unpersisted l.keyspaces l.persisted l.number) l.number (forest_of l.trees);
 }
 
 abbrev pub decreases-loop-item : goal.decreases-loop-item

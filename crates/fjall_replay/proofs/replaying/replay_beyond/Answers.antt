@@ -10,6 +10,7 @@ use Rattle.fjall_versions.specs.Replays.{counts_unpersisted}
 use Rattle.fjall_replay.specs.Replayed.{AreBegun, AreReplayed, MayReplay, ids_of}
 use Rattle.fjall_replay.specs.Steps.{with_batch, with_batches}
 use Rattle.fjall_replay.proofs.Keeping.{batch_step, batches_bare, batches_before, batches_begun, batches_ids}
+use Rattle.fjall_replay.proofs.Resting.{begun_begin}
 use Rattle.fjall_replay.proofs.Storing.{replay_told}
 use Rattle.fjall_replay.proofs.replaying.replay_beyond.Goals as goal
 
@@ -19,7 +20,9 @@ loop-batch-init c = refl
 pub take-requires-clause-begun : goal.take-requires-clause-begun
 take-requires-clause-begun c =
     let counted = counts_unpersisted c.args.keyspaces.now c.args.persisted.now in
-    subst AreBegun (sym c.loop-batch.invariant) (batches_begun counted (map view (take c.loop-batch.batch-index c.args.batches.items)) (forest_of c.args.trees.now) c.requires.begun)
+    let n = c.batch-item.result.seqno in
+    begun_begin (counted n) n (forest_of c.loop-batch.trees)
+    (subst AreBegun (sym c.loop-batch.invariant) (batches_begun counted (map view (take c.loop-batch.batch-index c.args.batches.items)) (forest_of c.args.trees.now) c.requires.begun))
 
 pub loop-batch-preserved : goal.loop-batch-preserved
 loop-batch-preserved c =

@@ -10,5 +10,8 @@ returns-clause-creation c = Dues.may_create
 pub returns-clause-deletion : goal.returns-clause-deletion
 returns-clause-deletion c = Dues.may_delete
 
+pub returns-clause-journal : goal.returns-clause-journal
+returns-clause-journal c = Dues.may_rotate
+
 pub returns-clause-release : goal.returns-clause-release
 returns-clause-release c = Dues.is_counted

@@ -1,7 +1,7 @@
 use Rattle.std.proofs.Common.{◌∙◌, ap}
 use Rattle.fjall_trees.specs.Views.{forest_of}
 use Rattle.fjall_state.specs.Machine.{one_less}
-use Rattle.fjall_state.specs.Remembered.{Remembered}
+use Rattle.fjall_state.specs.Remembered.{Remembered, journals_of}
 use Rattle.fjall_state.proofs.engine_state.EngineState.count_less.Goals as goal
 
 pub returns : goal.returns
@@ -16,6 +16,6 @@ returns c =
       lasting = c.self.inside.lasting.items;
       damaged = c.self.inside.damaged.items;
       tickets = c.self.inside.tickets.tickets;
-      sealed = c.self.inside.sealed;
+      journals = journals_of c.self.inside.sealed c.self.inside.active c.self.inside.watermarks;
     })
     ∙ ap (λ (m : Remembered). record m { handles = one_less m.handles c.args.id }) c.self.view_is

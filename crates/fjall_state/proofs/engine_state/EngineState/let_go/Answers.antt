@@ -2,7 +2,7 @@ use Rattle.std.proofs.Common.{◌≡◌, ◌∙◌, ap, subst, rules}
 use Rattle.std.proofs.lemmas.Fn.{filter_same}
 use Rattle.fjall_trees.specs.Forests as forests
 use Rattle.fjall_state.specs.Machine.{without}
-use Rattle.fjall_state.specs.Remembered.{IsLawful, Remembered, let_go}
+use Rattle.fjall_state.specs.Remembered.{IsLawful, Remembered, journals_of, let_go}
 use Rattle.fjall_state.proofs.Counting.{map_of}
 use Rattle.fjall_state.proofs.Lawful.{alike, let_go_is_lawful}
 use Rattle.fjall_state.proofs.engine_state.EngineState.let_go.Goals as goal
@@ -27,6 +27,6 @@ returns c =
       lasting = ids i;
       damaged = c.self.inside.damaged.items;
       tickets = c.self.inside.tickets.tickets;
-      sealed = c.self.inside.sealed;
+      journals = journals_of c.self.inside.sealed c.self.inside.active c.self.inside.watermarks;
     })
     ∙ ap (let_go c.args.id) c.self.view_is

@@ -3,13 +3,13 @@ use Rattle.fjall_history.specs.Tickets.{Tracked}
 use Rattle.fjall_history.proofs.Values.{all_none}
 use Rattle.fjall_trees.specs.Views.{forest_of}
 use Rattle.fjall_trees.proofs.Places.{forest_is}
-use Rattle.fjall_state.specs.Remembered.{IsLawful, remembered}
+use Rattle.fjall_state.specs.Remembered.{IsLawful, journals_of, remembered}
 use Rattle.fjall_state.proofs.Lawful.{alike}
 use Rattle.fjall_state.proofs.engine_state.EngineState.new.Goals as goal
 
 pub invariant_of-result : goal.invariant_of-result
 invariant_of-result c =
-    let m = remembered c.args.keyspaces (forest_of c.args.trees) c.args.damaged.items c.args.next c.args.sealed in
+    let m = remembered c.args.keyspaces (forest_of c.args.trees) c.args.damaged.items c.args.next (journals_of c.args.sealed c.args.active c.args.watermarks) in
     let is : IsLawful m = record {
       keyspaces = search rules;
       made = c.requires.made;

@@ -2,7 +2,7 @@ use Rattle.std.proofs.Common.{◌≡◌, ◌+◌, ◌∙◌, ap, sym}
 use Rattle.std.specs.FinMap.{insert}
 use Rattle.fjall_trees.specs.Views.{forest_of}
 use Rattle.fjall_state.specs.Machine.{handles_of, one_more}
-use Rattle.fjall_state.specs.Remembered.{Remembered, retained}
+use Rattle.fjall_state.specs.Remembered.{Remembered, journals_of, retained}
 use Rattle.fjall_state.proofs.Counting.{inserted, map_of}
 use Rattle.fjall_state.proofs.engine_state.EngineState.retain.Goals as goal
 
@@ -24,6 +24,6 @@ returns-clause-ok c =
       lasting = c.self.inside.lasting.items;
       damaged = c.self.inside.damaged.items;
       tickets = c.self.inside.tickets.tickets;
-      sealed = c.self.inside.sealed;
+      journals = journals_of c.self.inside.sealed c.self.inside.active c.self.inside.watermarks;
     })
     ∙ ap (retained id) c.self.view_is

@@ -1,0 +1,10 @@
+pub mod Layers
+pub mod Covered
+pub mod AfterRecords
+pub mod AfterHomes
+pub mod NewTables
+pub mod Composed
+pub mod Flushing
+pub mod SameStore
+pub mod SameNumber
+pub mod Taken

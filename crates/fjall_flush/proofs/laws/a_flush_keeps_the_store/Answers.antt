@@ -1,0 +1,15 @@
+use Rattle.fjall_flush.proofs.SameNumber.{same_number}
+use Rattle.fjall_flush.proofs.SameStore.{same_memory, same_pending, same_store}
+use Rattle.fjall_flush.proofs.laws.a_flush_keeps_the_store.Goals as goal
+
+pub returns-clause-store : goal.returns-clause-store
+returns-clause-store c j t id f lists h versions behind rest may is = same_store j t id f lists h versions may behind rest is
+
+pub returns-clause-number : goal.returns-clause-number
+returns-clause-number c j t id f lists h versions behind rest may is = same_number j t id f lists h versions may behind rest is
+
+pub returns-clause-pending : goal.returns-clause-pending
+returns-clause-pending c = same_pending
+
+pub returns-clause-memory : goal.returns-clause-memory
+returns-clause-memory c = same_memory

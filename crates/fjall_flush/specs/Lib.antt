@@ -1,0 +1,3 @@
+pub mod Flushes
+pub mod Plans
+pub mod Covering

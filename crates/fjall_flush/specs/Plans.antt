@@ -1,0 +1,67 @@
+-- A flush that is planned: all that is to be written of it, and for which trees.
+use Rattle.std.specs.Prelude.{◌≡◌, ⊤, ℕ, ◌-◌, ◌<◌, ◌≤◌, ◌^◌, List, [], ◌∷◌, length, String, string_bytes, Option, Some, None}
+use Rattle.std.specs.declared.alloc.Global.{Global}
+use Rattle.fjall_base.specs.declared.error.Error.{Error}
+use Rattle.fjall_base.specs.declared.error.Error.TheVariants.{NumbersUsedUp, OutOfMemory, TooManyItems}
+use Rattle.fjall_base.specs.Disk.{Meaning, state_in}
+use Rattle.fjall_files.specs.Names.{IsNameOf, current_name, keyspace_folder, table_name}
+use Rattle.fjall_table.specs.Blocks.{Entry}
+use Rattle.fjall_jobs.specs.declared.flush_made.FlushMade.{FlushMade}
+use Rattle.fjall_jobs.specs.declared.made_table.MadeTable.{MadeTable}
+use Rattle.fjall_tree.specs.Records.{Fields, Fits, body, record_text, view}
+use Rattle.fjall_home.specs.Homes.{Home, IsFree, IsReady}
+use Rattle.fjall_recovery.specs.Halves.{Tree}
+use Rattle.fjall_recovery.specs.Places.{LiesInTree}
+use Rattle.fjall_flush.specs.declared.plan.FlushPlan.{FlushPlan}
+use Rattle.fjall_flush.specs.Flushes.{Flush, Follows, HasAt, flush_of, flush_with, home_after, record_after, tree_after}
+
+-- where a table was made, its file has the name of this id's, which isn't the greatest; where none was made, there is no name
+abbrev pub IsNamed : (id next : ℕ) → List MadeTable → Option (String Global) → Type 0
+IsNamed id next [] None = Unit {0}
+IsNamed id next (t ∷ []) (Some name) = (next < 2 ^ 64 - 1) × (string_bytes name ≡ table_name id next)
+IsNamed id next tables name = ⊥
+
+-- What is planned of a flush of the keyspace of this id with that last record: the record after it with its text, and the names of
+-- the keyspace's folder, of the file of its records, and of the new table's file.
+pub record IsPlan (id : ℕ) (last : Fields) (f : Flush) (plan : FlushPlan) : Type 0 where
+  pub record_is : view plan.record ≡ record_after f last
+  pub folder : IsNameOf keyspace_folder (string_bytes plan.folder) id
+  pub current : IsNameOf current_name (string_bytes plan.current) id
+  pub table : IsNamed id last.next_table_id f.tables plan.table
+  pub text : plan.record_text.items ≡ record_text (record_after f last)
+  pub fits : Fits (record_after f last)
+
+-- Why a flush can't be planned: memory ran out; ids of tables are used up; or the record has no room for so many tables and clears.
+abbrev pub IsPlanRefusal : Fields → Flush → Error → Type 0
+IsPlanRefusal last f OutOfMemory = ⊤
+IsPlanRefusal last f NumbersUsedUp = (0 < length f.tables) × (last.next_table_id ≡ 2 ^ 64 - 1)
+IsPlanRefusal last f TooManyItems = 2 ^ 32 ≤ length (body (record_after f last))
+IsPlanRefusal last f error = ⊥
+
+-- ---- of whatever a flush was planned
+
+-- for the keyspace of which a plan is, whatever its last record is
+abbrev pub ForPlan : FlushPlan → FlushMade → (ℕ → Type 0) → Type 0
+ForPlan plan made Holds = (id number : ℕ) (last : Fields) → IsPlan id last (flush_of number made) plan → Holds id
+
+-- the same, of whatever tables were planned with whichever clears
+abbrev pub ForPlanOf : FlushPlan → List MadeTable → (ℕ → Type 0) → Type 0
+ForPlanOf plan tables Holds = (id number : ℕ) (clears : List ℕ) (last : Fields) → IsPlan id last (flush_with number tables clears) plan → Holds id
+
+-- for whichever home is ready, where a plan is of its last record, and the home with these tables behind its own
+abbrev pub ForHomeOn : Meaning → FlushPlan → List MadeTable → (ℕ → List Fields → Home → Home → Type 0) → Type 0
+ForHomeOn disk plan tables Holds = (id number : ℕ) (clears : List ℕ) (records : List Fields) (h : Home) → IsReady (state_in disk) id records h
+    → IsPlan id h.last (flush_with number tables clears) plan → Holds id records h (home_after (flush_with number tables clears) h)
+
+-- for whichever tree lies on the disk with a keyspace that has room for a new table, and the tree with these tables behind that
+-- keyspace's
+abbrev pub ForTablesOn : Meaning → FlushPlan → List MadeTable → (List Fields → Tree → ℕ → Home → Tree → Type 0) → Type 0
+ForTablesOn disk plan tables Holds = (records : List Fields) (t : Tree) (id number : ℕ) (clears : List ℕ) (h : Home) (versions : List Entry) (lists : List (List Entry))
+    → LiesInTree (state_in disk) records t → HasAt t id h versions → IsFree (state_in disk) id h.last.next_table_id → IsPlan id h.last (flush_with number tables clears) plan
+    → Follows (flush_with number tables clears) lists h.last → Holds records t id h (tree_after id (flush_with number tables clears) lists h versions t)
+
+-- for whichever tree lies on the disk with a keyspace that has room for a new table, and the tree after a flush of that keyspace
+abbrev pub ForFlushOn : Meaning → FlushPlan → FlushMade → (List Fields → Tree → ℕ → Home → Tree → Type 0) → Type 0
+ForFlushOn disk plan made Holds = (records : List Fields) (t : Tree) (id number : ℕ) (h : Home) (versions : List Entry) (lists : List (List Entry)) → LiesInTree (state_in disk) records t
+    → HasAt t id h versions → IsFree (state_in disk) id h.last.next_table_id → IsPlan id h.last (flush_of number made) plan → Follows (flush_of number made) lists h.last
+    → Holds records t id h (tree_after id (flush_of number made) lists h versions t)

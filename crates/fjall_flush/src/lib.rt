@@ -1,0 +1,14 @@
+//! A finished flush on the disk: the new table and the record that makes it count, all of which is planned before the disk is
+//! changed; and that it changes no store.
+#![tactic(auto)]
+
+mod laws;
+mod plan;
+mod writing;
+
+pub use laws::{
+    a_crash_keeps_what_was_synced, a_flush_keeps_the_store, a_flush_of_memory_may_count,
+    a_flush_that_is_out_takes_parts, a_flushed_home_is_right, other_keyspaces_keep_their_room,
+};
+pub use plan::{FlushPlan, plan_flush, plan_tables};
+pub use writing::{write_flush, write_tables};

@@ -1,0 +1,9 @@
+pub mod Tables
+pub mod Refusing
+pub mod Right
+pub mod Silence
+pub mod Batch
+pub mod Storing
+pub mod Numbers
+pub mod Crashes
+pub mod Following

@@ -1,0 +1,3 @@
+pub mod Ingests
+pub mod Plans
+pub mod Commands

@@ -1,0 +1,53 @@
+-- An ingestion that is planned, and for which trees.
+use Rattle.std.specs.Prelude.{◌≡◌, ◌≢◌, ⊤, ℕ, ◌-◌, ◌<◌, ◌≤◌, ◌^◌, List, [], None, length}
+use Rattle.fjall_base.specs.declared.error.Error.{Error}
+use Rattle.fjall_base.specs.declared.error.Error.TheVariants.{NumbersUsedUp, OutOfMemory, TooManyItems}
+use Rattle.fjall_base.specs.Disk.{Meaning, state_in}
+use Rattle.fjall_flush.specs.Flushes.{HasAt, record_after}
+use Rattle.fjall_flush.specs.Plans.{IsPlan}
+use Rattle.fjall_home.specs.Homes.{Home, IsFree}
+use Rattle.fjall_jobs.specs.declared.made_table.MadeTable.{MadeTable}
+use Rattle.fjall_jobs.specs.Sequences.{Makes}
+use Rattle.fjall_recovery.specs.Halves.{Tree}
+use Rattle.fjall_recovery.specs.Places.{LiesInTree}
+use Rattle.fjall_table.specs.Blocks.{Entry}
+use Rattle.fjall_tree.specs.Records.{Fields, body}
+use Rattle.fjall_writes.specs.Ingestions.{KeyOp}
+use Rattle.fjall_ingest.specs.declared.plan.IngestPlan.{IngestPlan}
+use Rattle.fjall_ingest.specs.Ingests.{as_flush, tree_with, versions_made}
+
+-- the tables are an ingestion's: one of exactly the versions that it makes, or none where it has no item
+abbrev pub AreOf : ℕ → List KeyOp → List MadeTable → Type 0
+AreOf number items tables = Makes None tables (versions_made number items)
+
+-- What is planned of an ingestion into the keyspace of this id with that last record: its table, and the record after it with the
+-- names of the files.
+pub record IsIngestPlan (id number : ℕ) (items : List KeyOp) (last : Fields) (plan : IngestPlan) : Type 0 where
+  pub tables : AreOf number items plan.tables.items
+  pub planned : IsPlan id last (as_flush number plan.tables.items) plan.writes
+
+-- The record after an ingestion has no room for so many tables and clears.
+pub record HasNoRoom (number : ℕ) (items : List KeyOp) (last : Fields) : Type 0 where
+  pub tables : List MadeTable
+  pub are : AreOf number items tables
+  pub long : 2 ^ 32 ≤ length (body (record_after (as_flush number tables) last))
+
+-- Why an ingestion can't be planned: memory ran out; ids of tables are used up; or the record has no room.
+abbrev pub IsIngestRefusal : ℕ → List KeyOp → Fields → Error → Type 0
+IsIngestRefusal number items last OutOfMemory = ⊤
+IsIngestRefusal number items last NumbersUsedUp = (items ≢ []) × (last.next_table_id ≡ 2 ^ 64 - 1)
+IsIngestRefusal number items last TooManyItems = HasNoRoom number items last
+IsIngestRefusal number items last error = ⊥
+
+-- ---- of whatever ingestion was planned
+
+-- for the keyspace of which a plan is, whatever its last record is
+abbrev pub ForIngest : IngestPlan → (ℕ → Type 0) → Type 0
+ForIngest plan Holds = (id number : ℕ) (items : List KeyOp) (last : Fields) → IsIngestPlan id number items last plan → Holds id
+
+-- for whichever tree lies on the disk with a keyspace that has room for a new table, and the tree after an ingestion into that
+-- keyspace, under a number below 2^63
+abbrev pub ForIngestOn : Meaning → IngestPlan → (List Fields → Tree → ℕ → Home → Tree → Type 0) → Type 0
+ForIngestOn disk plan Holds = (records : List Fields) (t : Tree) (id number : ℕ) (items : List KeyOp) (h : Home) (versions : List Entry) → LiesInTree (state_in disk) records t → HasAt t id h versions
+    → IsFree (state_in disk) id h.last.next_table_id → number < 2 ^ 63 → IsIngestPlan id number items h.last plan
+    → Holds records t id h (tree_with id number items plan.tables.items h versions t)

@@ -1,0 +1,153 @@
+//! Trees over the tables of the keyspaces that live, which stay on the disk.
+
+ghost use Rattle.std.specs.Prelude.{◌≡◌, ◌⊎◌, ◌↔◌, ◌++◌, ◌∷◌, ℕ, ◌<◌, ◌^◌, [], All, List, IfErr, IfOk, IfSome, IsTrue, OnOk, IsOkUnless, map};
+ghost use Rattle.std.specs.List.Sorted.{IsStrictlyIncreasing};
+ghost use Rattle.fjall_base.specs.declared.error.Error.TheVariants.{Storage};
+ghost use Rattle.fjall_base.specs.declared.error.StorageError.TheVariants.{RecordDamaged};
+ghost use Rattle.fjall_base.specs.Disk.{Image, Meaning};
+ghost use Rattle.fjall_files.specs.Calls.{seen};
+ghost use Rattle.fjall_loading.specs.Opening.{HaveEntries, IsOpenedOn, MayOpen, MayOpenAll, ShowsEntries, ShowsStored, opened, reader_of, told_by};
+ghost use Rattle.fjall_recovery.specs.Folders.{Contents, IsOpenable};
+ghost use Rattle.fjall_recovery.specs.Homes.{AreHomesRead, ClearsAreWithin, HaveVersionsBut, Versions};
+ghost use Rattle.fjall_replay.specs.Beside.{AreEndedBy};
+ghost use Rattle.fjall_replay.specs.Replayed.{ids_of, past};
+ghost use Rattle.fjall_table.specs.Blocks.{Entry};
+ghost use Rattle.fjall_tree.specs.Records.{view};
+ghost use Rattle.fjall_trees.specs.Forests.{AreBefore};
+ghost use Rattle.fjall_trees.specs.Views.{forest_of};
+
+use fjall_base::{Error, Result, StorageError};
+use fjall_blocks::TableReader;
+use fjall_home::LoadedHome;
+use fjall_lsm::Tree;
+use fjall_meta::MetaKeyspace;
+use fjall_recovery::is_beyond;
+use fjall_table::TableFile;
+use fjall_tree::Record;
+use fjall_trees::Trees;
+use std::alloc::Global;
+
+/// What is answered for a home that tells of no tree.
+const DAMAGED: Error = Error::Storage(StorageError::RecordDamaged);
+
+/// Numbers of changes lie below this one.
+const NUMBER_LIMIT: u64 = 1 << 63;
+
+/// Whether there is no persisted number, or one of a change.
+fn is_number(persisted: Option<u64>) -> bool
+    ensures { IsTrue result ↔ IfSome persisted (λ n. n < 2 ^ 63) }
+{
+    match persisted {
+        Some(number) => number < NUMBER_LIMIT,
+        None => true,
+    }
+}
+
+/// Whether each number is below the next one.
+fn ascend(numbers: &[u64]) -> bool
+    ensures { IsTrue result ↔ IsStrictlyIncreasing numbers.now }
+{
+    for place in 1..numbers.len() {
+        if numbers[place - 1] >= numbers[place] {
+            return false;
+        }
+    }
+    true
+}
+
+/// Whether no clear that a record tells is beyond its persisted number.
+fn are_within(last: &Record) -> bool
+    ensures { IsTrue result ↔ ClearsAreWithin (view last.now) }
+{
+    last.clears
+        .iter()
+        .all(|number| !is_beyond(last.persisted, *number))
+}
+
+/// Whether a home is that of this id, and its record tells of a tree.
+fn may_open(id: u64, home: &LoadedHome) -> bool
+    ensures { IsTrue result ↔ MayOpen id home.now }
+{
+    let record = &home.record;
+    home.id == id && is_number(record.persisted) && are_within(record) && ascend(&record.clears)
+}
+
+/// One past the number, and 0 where there is none.
+fn past(persisted: Option<u64>) -> u64
+    requires { IfSome persisted (λ n. n < 2 ^ 63) }
+    ensures { result ≡ past persisted }
+{
+    match persisted {
+        Some(number) => number + 1,
+        None => 0,
+    }
+}
+
+/// Readers of these tables, which keep no block yet.
+fn readers_of(alloc: Global, files: Vec<TableFile>) -> Result<Vec<TableReader>>
+    ensures ok { IfOk result (λ readers. readers.items ≡ map reader_of files.items) }
+    ensures only { IsOkUnless result Error.OutOfMemory }
+{
+    let mut readers = Vec::new(alloc);
+    for file in files {
+        readers.push(TableReader::new(alloc, file)?)?;
+    }
+    Ok(readers)
+}
+
+/// Plants the tree of a home behind all others. The keyspace has this id.
+fn open_home(alloc: Global, id: u64, home: LoadedHome, trees: &mut Trees) -> Result<()>
+    requires { All (λ k. k.id < id) (forest_of trees.old) }
+    ensures ok { OnOk result (forest_of trees.new ≡ forest_of trees.old ++ opened home ∷ []) }
+    ensures may { OnOk result (MayOpen id home) }
+    ensures cause { IfErr result (λ e. (e ≡ Error.OutOfMemory) ⊎ ((e ≡ Storage RecordDamaged) × (MayOpen id home → ⊥))) }
+{
+    if !may_open(id, &home) {
+        return Err(DAMAGED);
+    }
+    let LoadedHome { record, tables, .. } = home;
+    let readers = readers_of(alloc, tables)?;
+    let from = past(record.persisted);
+    let tree = Tree::new(alloc, readers, record.clears, from);
+    trees.add(id, tree)?;
+    Ok(())
+}
+
+/// Plants a tree of each keyspace that lives, over the tables that its home's last record names. They have these homes, one by
+/// one. The trees' clears are those of the records, nothing is in memory, and memory begins one past the persisted number. No
+/// block is read, and the disk isn't asked.
+///
+/// Refuses for want of memory; and with `Storage(RecordDamaged)` where the homes aren't those of the keyspaces, or a record
+/// tells of no tree, which no home is that was read of a disk.
+pub fn open_homes(alloc: Global, keyspaces: &MetaKeyspace, homes: Vec<LoadedHome>) -> Result<Trees>
+    ensures trees { IfOk result (λ trees. forest_of trees ≡ map opened homes.items) }
+    ensures live { IfOk result (λ trees. ids_of (forest_of trees) ≡ map (λ k. k.id) keyspaces.now.living) }
+    ensures theirs { OnOk result (MayOpenAll (map (λ k. k.id) keyspaces.now.living) homes.items) }
+    ensures before { (bound : ℕ) → All (λ home. IfSome home.record.persisted (λ n. n < bound)) homes.items → IfOk result (λ trees. AreBefore bound (forest_of trees)) }
+    // The first journal's batches go on behind what is persisted.
+    ensures ended { IfOk result (λ trees. AreEndedBy (map told_by homes.items) 0 (forest_of trees)) }
+    // Over a disk from which the homes were read, each tree is over the tables there, also where a block of them is wrong.
+    ensures opened { (disk : Meaning) (c : Contents) → IsOpenable (seen disk) c → c.keyspaces ≡ keyspaces.now → AreHomesRead (seen disk) keyspaces.now.living homes.items
+        → IfOk result (λ trees. All (IsOpenedOn disk c) (forest_of trees)) }
+    // Where the tables have some entries, but for wrong blocks, they are read there as tables of these.
+    ensures reads { (disk : Meaning) (c : Contents) → IsOpenable (seen disk) c → c.keyspaces ≡ keyspaces.now → AreHomesRead (seen disk) keyspaces.now.living homes.items
+        → (entries : ℕ → List (List Entry)) → HaveEntries disk c entries → IfOk result (λ trees. ShowsEntries disk c entries (forest_of trees)) }
+    // Where the blocks are right, but for those of damaged keyspaces, the tables are read there, and the trees show what is stored.
+    ensures shows { (disk : Meaning) (c : Contents) → IsOpenable (seen disk) c → c.keyspaces ≡ keyspaces.now → AreHomesRead (seen disk) keyspaces.now.living homes.items
+        → (damaged : List ℕ) (versions : Versions) → HaveVersionsBut damaged c.homes versions → IfOk result (λ trees. ShowsStored disk c damaged versions (forest_of trees)) }
+    ensures cause { IfErr result (λ e. (e ≡ Error.OutOfMemory) ⊎ ((e ≡ Storage RecordDamaged) × (MayOpenAll (map (λ k. k.id) keyspaces.now.living) homes.items → ⊥))) }
+    ensures only { (image : Image) → AreHomesRead image keyspaces.now.living homes.items → IsOkUnless result Error.OutOfMemory }
+{
+    prove!(0 < keyspaces.next_id());
+    let living = keyspaces.living();
+    if homes.len() != living.len() {
+        return Err(DAMAGED);
+    }
+    let mut trees = Trees::new(alloc);
+    let mut place = 0;
+    for home in homes {
+        open_home(alloc, living[place].id, home, &mut trees)?;
+        place += 1;
+    }
+    Ok(trees)
+}

@@ -1,0 +1,78 @@
+-- The raising of watermarks, one after another, as relations of look-ups.
+use Rattle.std.proofs.Common.{◌≡◌, ◌≢◌, ℕ, arith, cond, max, List, [], ◌∷◌, ◌++◌, map, nat_eq, unwrap_or, refl, sym, ap, ◌∙◌, subst}
+use Rattle.std.proofs.lemmas.List.{append-nil, append_assoc, map-append}
+use Rattle.std.specs.Prelude.{Some, None}
+use Rattle.std.specs.declared.cmp.Ordering.{Ordering}
+use Rattle.std.specs.BTreeMap.{insert_entry}
+use Rattle.fjall_journal.specs.Batches.{Shown, Written, clears_of, items_of, shown}
+use Rattle.fjall_journal.specs.Changes.{Change, Emptied, Items, of_change}
+use Rattle.std.specs.Ordering.{match_ordering, nat_cmp}
+use Rattle.fjall_journal.specs.Ops.{BatchItem, entry_of}
+use Rattle.fjall_manager.specs.Marks.{IsRaised, Marks, lsn_of}
+use Rattle.fjall_manager.specs.Places.{marked, raising, raising_all}
+use Rattle.fjall_manager.specs.Telling.{AreMarksOf, AreRaised, changed_by}
+use Rattle.fjall_manager.proofs.Raising.{by_order, raised_is, test_false, test_true}
+use Rattle.fjall_manager.proofs.Telling.{marks_more, raised_more}
+
+abbrev put : ℕ → ℕ → ℕ × ℕ → Marks → Ordering → Marks
+put id v mark marks r = match_ordering r ((id, v) ∷ mark ∷ marks) ((mark.0, v) ∷ marks) (mark ∷ insert_entry nat_cmp marks id v)
+
+put_here : (id v : ℕ) (marks : Marks) → lsn_of (insert_entry nat_cmp marks id v) id ≡ Some v
+put_here id v [] = ap (λ b. cond b (Some v) None) (test_true id id refl)
+put_here id v (mark ∷ marks) =
+    by_order id mark.0 (λ r. lsn_of (put id v mark marks r) id ≡ Some v)
+    (λ l. ap (λ b. cond b (Some v) (lsn_of (mark ∷ marks) id)) (test_true id id refl))
+    (λ e. ap (λ b. cond b (Some v) (lsn_of marks id)) (test_true id mark.0 e))
+    (λ g. ap (λ b. cond b (Some mark.1) (lsn_of (insert_entry nat_cmp marks id v) id)) (test_false id mark.0 (λ e. omega (arith, g, e))) ∙ put_here id v marks)
+
+put_elsewhere : (id v : ℕ) (marks : Marks) (q : ℕ) → q ≢ id → lsn_of (insert_entry nat_cmp marks id v) q ≡ lsn_of marks q
+put_elsewhere id v [] q other = ap (λ b. cond b (Some v) None) (test_false q id other)
+put_elsewhere id v (mark ∷ marks) q other =
+    by_order id mark.0 (λ r. lsn_of (put id v mark marks r) q ≡ lsn_of (mark ∷ marks) q)
+    (λ l. ap (λ b. cond b (Some v) (lsn_of (mark ∷ marks) q)) (test_false q id other))
+    (λ e.
+    let not_here = test_false q mark.0 (λ is. other (is ∙ sym e)) in
+    ap (λ b. cond b (Some v) (lsn_of marks q)) not_here ∙ sym (ap (λ b. cond b (Some mark.1) (lsn_of marks q)) not_here))
+    (λ g. ap (λ o. cond (nat_eq q mark.0) (Some mark.1) o) (put_elsewhere id v marks q other))
+
+pub raising_raises : (lsn id : ℕ) (marks : Marks) → IsRaised id lsn marks (raising lsn id marks)
+raising_raises lsn id marks =
+    let v = max (unwrap_or (lsn_of marks id) 0) lsn in
+    record {
+      here = put_here id v marks ∙ raised_is (lsn_of marks id) lsn;
+      others = λ q other. put_elsewhere id v marks q other;
+    }
+
+abbrev ids_of : List BatchItem → List ℕ
+ids_of items = map (λ item. item.0) items
+
+goes_on : (lsn : ℕ) (old : Marks) (seen items : List BatchItem) (mid : Marks) → AreRaised (ids_of seen) lsn old mid → AreRaised (ids_of (seen ++ items)) lsn old (raising_all lsn items mid)
+goes_on lsn old seen [] mid raised = subst (λ (l : List BatchItem). AreRaised (ids_of l) lsn old mid) (sym (append-nil seen)) raised
+goes_on lsn old seen (item ∷ items) mid raised =
+    let next = raising lsn item.0 mid in
+    subst (λ (l : List BatchItem). AreRaised (ids_of l) lsn old (raising_all lsn items next)) (append_assoc seen (item ∷ []) items)
+    (goes_on lsn old (seen ++ item ∷ []) items next
+    (subst (λ (l : List ℕ). AreRaised l lsn old next) (sym (map-append (λ (i : BatchItem). i.0) seen (item ∷ [])))
+    (raised_more (ids_of seen) item.0 lsn old mid next raised (raising_raises lsn item.0 mid))))
+
+-- each of them in turn
+pub all_raised : (lsn : ℕ) (items : List BatchItem) (marks : Marks) → AreRaised (map (λ item. item.0) items) lsn marks (raising_all lsn items marks)
+all_raised lsn items marks = goes_on lsn marks [] items marks (λ id. refl)
+
+-- ---- the batch of a change
+
+changed_items : (items : List BatchItem) → map (λ i. i.keyspace_id) (items_of (map entry_of items)) ++ clears_of (map entry_of items) ≡ ids_of items
+changed_items [] = refl
+changed_items (item ∷ items) = ap (λ (l : List ℕ). item.0 ∷ l) (changed_items items)
+
+change_raises : (number : ℕ) (change : Change) (marks : Marks) → AreRaised (changed_by (shown (of_change change number))) number marks (marked number change marks)
+change_raises number (Items items) marks =
+    subst (λ (l : List ℕ). AreRaised l number marks (raising_all number items marks)) (sym (changed_items items)) (all_raised number items marks)
+change_raises number (Emptied id) marks = raised_more [] id number marks marks (raising number id marks) (λ q. refl) (raising_raises number id marks)
+
+pub change_marks : (batches : List Written) (change : Change) (number : ℕ) (marks : Marks) → AreMarksOf (map shown batches) marks
+    → AreMarksOf (map shown (batches ++ of_change change number ∷ [])) (marked number change marks)
+change_marks batches change number marks are =
+    let batch = of_change change number in
+    let new = marked number change marks in
+    subst (λ (l : List Shown). AreMarksOf l new) (sym (map-append shown batches (batch ∷ []))) (marks_more (map shown batches) (shown batch) marks new (change_raises number change marks) are)

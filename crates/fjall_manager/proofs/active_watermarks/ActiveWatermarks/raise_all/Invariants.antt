@@ -1,0 +1,6 @@
+use Rattle.std.proofs.Common.{◌≡◌, ℕ, take}
+use Rattle.fjall_manager.specs.Places.{HasPlace, raising_all, told}
+use Rattle.fjall_manager.proofs.active_watermarks.ActiveWatermarks.raise_all.Given as goal
+
+abbrev pub invariant-loop-item : goal.invariant-loop-item
+invariant-loop-item l = (told l.self ≡ raising_all l.lsn (take l.item-index l.items) (told l.fn.self)) × ((id : ℕ) → HasPlace l.fn.self id → HasPlace l.self id)

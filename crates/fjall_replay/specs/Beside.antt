@@ -1,0 +1,58 @@
+-- What the trees of keyspaces show beside their tables, while the journals are replayed one after another.
+use Rattle.std.specs.Prelude.{◌≡◌, Bool, true, ℕ, ◌≤◌, max, List, All, Some, None, map}
+use Rattle.fjall_base.specs.Pairs.{Bytes}
+use Rattle.fjall_journal.specs.Batches.{Shown}
+use Rattle.fjall_meta.specs.Keyspaces.{Keyspaces}
+use Rattle.fjall_table.specs.Blocks.{Entry}
+use Rattle.fjall_views.specs.Jobs.{AreBelow}
+use Rattle.fjall_views.specs.Views.{value_at}
+use Rattle.fjall_sorted.specs.Sorted.{flat}
+use Rattle.fjall_parts.specs.Parts.{empty_from, with_active}
+use Rattle.fjall_versions.specs.declared.recovery.Persisted.{Persisted}
+use Rattle.fjall_versions.specs.Replays.{first_fault, persisted_at}
+use Rattle.fjall_contents.specs.Contents.{Stored, clears_held, versions_held}
+use Rattle.fjall_lsm.specs.Trees.{Shape, clears_of, floor_of, versions_of, with_memory}
+use Rattle.fjall_trees.specs.Forests.{Forest, tree_at}
+use Rattle.fjall_replay.specs.Replayed.{past}
+
+-- ---- what is shown
+
+-- To each view the tree shows, with tables that have these entries, what these clears and versions make. The tables are older
+-- than what is in memory.
+pub record ShowsWith (entries : List (List Entry)) (clears : List ℕ) (versions : List Entry) (shape : Shape) : Type 0 where
+  pub below : AreBelow (floor_of shape.memory) (flat entries)
+  pub shows : (key : Bytes) (instant : ℕ) → value_at key instant (clears_of shape) (versions_of shape entries) ≡ value_at key instant clears versions
+
+-- Each keyspace that lives has a tree, which shows with its tables, of which these are the entries, what its files hold and what
+-- the batches make beyond that.
+abbrev pub AreReplayedWith : (ℕ → List (List Entry)) → Keyspaces → (ℕ → Stored) → List Shown → Forest → Type 0
+AreReplayedWith entries s stored batches trees =
+    All (λ k. (shape : Shape) × (tree_at k.id trees ≡ Some shape)
+    × ShowsWith (entries k.id) (clears_held s (stored k.id) k.id batches) (versions_held s (stored k.id) k.id batches) shape) s.living
+
+-- ---- where memory ends
+
+-- No number in a tree's memory is beyond the keyspace's persisted one, or else it is below that of each batch to come, which is
+-- at least this one.
+abbrev pub AreEndedBy : List Persisted → ℕ → Forest → Type 0
+AreEndedBy persisted least trees = All (λ k. k.shape.memory.active.until ≤ max (past (persisted_at k.id persisted)) least) trees
+
+-- These batches have no fault, and may be replayed behind what is in memory.
+pub record MayFollow (persisted : List Persisted) (batches : List Shown) (trees : Forest) : Type 0 where
+  pub least : ℕ
+  pub sound : first_fault least batches ≡ None
+  pub ended : AreEndedBy persisted least trees
+
+-- ---- what a replay takes of trees
+
+-- The memory of each tree whose id passes the test begins at that number or before.
+abbrev pub BeginBy : (ℕ → Bool) → ℕ → Forest → Type 0
+BeginBy counted number trees = All (λ k. counted k.id ≡ true → k.shape.memory.active.from ≤ number) trees
+
+-- the tree with nothing in its active memtable
+abbrev pub at_rest : Shape → Shape
+at_rest shape = with_memory (with_active (empty_from shape.memory.active.from) shape.memory) shape
+
+-- all trees so
+abbrev pub all_at_rest : Forest → Forest
+all_at_rest trees = map (λ k. record { id = k.id; shape = at_rest k.shape }) trees
