@@ -1,29 +1,26 @@
 -- Where a rotation of the journal leads a core and its disk.
-use Rattle.std.proofs.Common.{◌≡◌, inl, inr, ℕ, ◌+◌, ◌≤◌, ◌<◌, ◌-◌, ◌^◌, arith, Bool, true, false, if◌then◌else◌, List, [], ◌∷◌, ◌++◌, map, Option, None, Some, Result, Ok, Err, refl, sym, ◌∙◌, ap, subst}
+use Rattle.std.proofs.Common.{◌≡◌, inl, inr, ◌+◌, ◌<◌, ◌-◌, ◌^◌, arith, Bool, true, false, if◌then◌else◌, List, [], ◌++◌, Option, None, Result, Ok, Err, refl, sym, ◌∙◌, ap, subst}
 use Rattle.std.proofs.lemmas.List.{append-nil}
 use Rattle.fjall_base.specs.Store.{Store, Command, fold, kept}
-use Rattle.fjall_base.specs.Disk.{DeviceFailed, LeavesOnly, Meaning, Took, state_in}
-use Rattle.fjall_base.specs.Errors.{IsFaultOrMemory, Rose}
+use Rattle.fjall_base.specs.Disk.{LeavesOnly, Meaning, state_in}
+use Rattle.fjall_base.specs.Errors.{IsFaultOrMemory}
 use Rattle.fjall_base.specs.declared.error.Error.{Error}
 use Rattle.fjall_base.specs.declared.error.Error.TheVariants.{Io, OutOfMemory}
 use Rattle.fjall_base.proofs.Moments.{at_end, weaken}
 use Rattle.fjall_files.specs.Names.{Journal as JournalFile, journal_name}
 use Rattle.fjall_files.specs.Tidy.{IsTidy}
-use Rattle.fjall_journal.specs.Batches.{Written, shown}
 use Rattle.fjall_journal.specs.Writer.{Journal, written_out}
 use Rattle.fjall_manager.specs.Journals.{Journals, next_journal}
-use Rattle.fjall_manager.specs.Rotations.{RotationTook, empty_journal, rotating, sealed_of}
+use Rattle.fjall_manager.specs.Rotations.{RotationTook, sealed_of}
 use Rattle.fjall_maps.specs.Maps.{store_of}
-use Rattle.fjall_recovery.specs.Places.{Journaling, contents_with}
+use Rattle.fjall_recovery.specs.Places.{Journaling}
 use Rattle.fjall_commit.specs.Journaling.{IsWriting}
 use Rattle.fjall_commit.specs.Rotations.{LeavesRotation, rotated}
-use Rattle.fjall_commit.specs.Watermarks.{AreMarked}
 use Rattle.fjall_commit.proofs.CrashedJournals.{rotated_base, rotation_stands}
 use Rattle.fjall_commit.proofs.MarkedJournals.{marked_more}
 use Rattle.fjall_commit.proofs.StoredJournals.{rotated_number}
 use Rattle.fjall_history.specs.declared.reply.Reply.TheVariants.{Done, Refused}
 use Rattle.fjall_state.specs.Machine.{first_due, journal_refusals}
-use Rattle.fjall_state.specs.Machine as machine
 use Rattle.fjall_state.specs.Remembered.{Remembered, facts_of, poisoned}
 use Rattle.fjall_state.specs.Shapes.{OfJournalRotation}
 use Rattle.fjall_state.proofs.Dues.{may_rotate}

@@ -4,7 +4,6 @@ use Rattle.std.proofs.lemmas.Bool.{true≢false}
 use Rattle.std.proofs.lemmas.List.{append-nil, append_assoc}
 use Rattle.std.proofs.lemmas.List.Elements.{All-weaker}
 use Rattle.std.specs.Option.{is_some, option_map}
-use Rattle.std.specs.List.{AllZip}
 use Rattle.fjall_manager.specs.Journals.{Journals}
 use Rattle.fjall_manager.specs.Places.{marked}
 use Rattle.fjall_manager.specs.Telling.{AreMarksOf}

@@ -1,8 +1,6 @@
 -- Where a sync of the journal leads a core and its disk.
 use Rattle.std.proofs.Common.{◌≡◌, inl, Bool, true, false, List, [], ◌∷◌, ◌++◌, max, map, refl, sym, ◌∙◌, ap, subst}
 use Rattle.std.proofs.lemmas.List.{append-nil}
-use Rattle.fjall_manager.specs.Journals.{Journals}
-use Rattle.fjall_manager.specs.Telling.{AreMarksOf}
 use Rattle.fjall_base.specs.Store.{Store, Command, fold, kept}
 use Rattle.fjall_base.specs.Disk.{LeavesOnly, state_in}
 use Rattle.fjall_base.proofs.Moments.{at_end}
