@@ -45,7 +45,8 @@ pub fn page<D: Disk>(
 ) -> Result<Vec<KvPair>>
     ensures pairs { IsTrue D.honest → (entries : List (List Entry)) → AreRead (D.meaning disk.old) tables.old entries → All (IsInTurn query.back) memory.entry.items
         → OnceEach (flat entries ++ flat (map (in_turn query.back) memory.entry.items))
-        → IfOk result (λ pairs. pairs.items ≡ in_turn query.back (take query.max (page_of query.back query.instant query.bound (in_turn query.back (sorted (entries_within (key_range range.entry) (flat entries) ++ flat (map (in_turn query.back) memory.entry.items))))))) }
+        → IfOk result (λ pairs. pairs.items ≡ in_turn query.back (take query.max (page_of query.back query.instant query.bound
+        (in_turn query.back (sorted (entries_within (key_range range.entry) (flat entries) ++ flat (map (in_turn query.back) memory.entry.items))))))) }
     ensures reads { IsTrue D.honest → (entries : List (List Entry)) → AreRead (D.meaning disk.old) tables.old entries → AreRead (D.meaning disk.new) tables.new entries }
     ensures refused { IsTrue D.honest → (entries : List (List Entry)) → AreRead (D.meaning disk.old) tables.old entries
         → IfErr result (IsRefused (SomeTableIsWrong (D.meaning disk.old) tables.old) (D.meaning disk.old).faults (D.meaning disk.new).faults) }
