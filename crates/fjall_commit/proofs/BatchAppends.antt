@@ -108,11 +108,11 @@ no_mode_part writer text old new took = command_part true writer text old new (s
 
 -- ---- what a batch changes on the disk
 
-took_but : (mode : Option PersistMode) (writer : Journal) (text : List ℕ) (old new : Meaning) → Took old new (batch_steps mode writer text) → SameBut writer.name (state_in old) (state_in new)
+pub took_but : (mode : Option PersistMode) (writer : Journal) (text : List ℕ) (old new : Meaning) → Took old new (batch_steps mode writer text) → SameBut writer.name (state_in old) (state_in new)
 took_but None writer text old new took = part_but old new writer.name (writer.buffer ++ text) (no_mode_part writer text old new took)
 took_but (Some mode) writer text old new took = mode_but old new writer.name (writer.buffer ++ text) mode took
 
-part_but_one : (mode : Option PersistMode) (writer : Journal) (text : List ℕ) (old new : Meaning) → BatchTook mode old new writer text → SameBut writer.name (state_in old) (state_in new)
+pub part_but_one : (mode : Option PersistMode) (writer : Journal) (text : List ℕ) (old new : Meaning) → BatchTook mode old new writer text → SameBut writer.name (state_in old) (state_in new)
 part_but_one mode writer text old new (inl part) = part_but old new writer.name (writer.buffer ++ text) part
 part_but_one mode writer text old new (inr (other, took)) = took_but mode writer text old new took
 

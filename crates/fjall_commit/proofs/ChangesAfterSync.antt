@@ -13,6 +13,7 @@ use Rattle.fjall_catalog.specs.Updates.{IsTableGone}
 use Rattle.fjall_recovery.specs.Places.{LiesInTree}
 use Rattle.fjall_commit.specs.declared.creation.Creation.{Creation}
 use Rattle.fjall_commit.specs.Changes.{HasEither, HasRoom, ForCreation, ForCreationOn, ForDeletionOn, ForNewId, ForUpdate}
+use Rattle.fjall_commit.specs.Journaling.{KeepsOtherHomes}
 use Rattle.fjall_commit.specs.SyncedChanges.{Persisted, CreatedKeyspace, SyncsThenChanges, DeletedKeyspace}
 
 -- what came of the change, behind a sync that was done
@@ -30,28 +31,30 @@ not_done e = absurd (true≢false (sym e))
 
 module _ (mid new : Meaning) (creation : Creation) (within : Within (codes "keyspaces") mid new)
     (leaves : ForCreationOn mid creation (λ records t next. LeavesOnly mid new (HasEither t next)))
+    (others : ForNewId creation (λ id number. KeepsOtherHomes id mid new))
     (served : ForCreationOn mid creation (λ records t next. HasRoom (state_in mid) t.keyspaces.next → new.misuses ≡ mid.misuses))
     (kinds : ForNewId creation (λ id number. StaysTidy mid new)) where
   pub created_any : CreatedKeyspace mid new creation false
-  created_any = record { within = within; leaves = leaves; lies = λ e. not_done e; served = served; gone = λ e. not_done e; kinds = kinds }
+  created_any = record { within = within; leaves = leaves; lies = λ e. not_done e; others = others; served = served; gone = λ e. not_done e; kinds = kinds }
 
   pub created : (r : Result Unit Error)
       → ForCreationOn mid creation (λ records t next. OnOk r (LiesInTree (state_in new) (records ++ fields creation.update.catalog ∷ []) next))
       → ForCreation creation (λ old. OnOk r (IsTableGone (state_in new) old))
       → OnOk r (CreatedKeyspace mid new creation true)
-  created (Ok _) lies gone = record { within = within; leaves = leaves; lies = λ e. lies; served = served; gone = λ e. gone; kinds = kinds }
+  created (Ok _) lies gone = record { within = within; leaves = leaves; lies = λ e. lies; others = others; served = served; gone = λ e. gone; kinds = kinds }
   created (Err error) lies gone = tt
 
 module _ (mid new : Meaning) (update : Update) (within : Within (codes "keyspaces") mid new)
     (leaves : ForDeletionOn mid update (λ records t next. LeavesOnly mid new (HasEither t next)))
+    (others : ForUpdate update (λ old. KeepsOtherHomes 0 mid new))
     (served : ForDeletionOn mid update (λ records t next. new.misuses ≡ mid.misuses))
     (kinds : StaysTidy mid new) where
   pub deleted_any : DeletedKeyspace mid new update false
-  deleted_any = record { within = within; leaves = leaves; lies = λ e. not_done e; served = served; gone = λ e. not_done e; kinds = kinds }
+  deleted_any = record { within = within; leaves = leaves; lies = λ e. not_done e; others = others; served = served; gone = λ e. not_done e; kinds = kinds }
 
   pub deleted : (r : Result Unit Error)
       → ForDeletionOn mid update (λ records t next. OnOk r (LiesInTree (state_in new) (records ++ fields update.catalog ∷ []) next))
       → ForUpdate update (λ old. OnOk r (IsTableGone (state_in new) old))
       → OnOk r (DeletedKeyspace mid new update true)
-  deleted (Ok _) lies gone = record { within = within; leaves = leaves; lies = λ e. lies; served = served; gone = λ e. gone; kinds = kinds }
+  deleted (Ok _) lies gone = record { within = within; leaves = leaves; lies = λ e. lies; others = others; served = served; gone = λ e. gone; kinds = kinds }
   deleted (Err error) lies gone = tt

@@ -15,6 +15,7 @@ pub mod TidyWrites
 pub mod ChangesAfterSync
 pub mod ComingAndGoing
 pub mod KeepingKeyspaces
+pub mod KeptHomes
 pub mod CrashesInRotations
 pub mod CrashesInEvictions
 pub mod StoredJournals

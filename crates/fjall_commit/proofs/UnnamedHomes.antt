@@ -260,7 +260,7 @@ module _ (id : ℕ) (old mid : Meaning) (took : Took old mid []) (option : Optio
   own_gone new gone = subst (λ (n : Name). (state_in new n).now ≡ Missing) folder_at gone
 
 -- a sync of names changes nothing that stands
-settled_now : (folder : Name) (old new : Meaning) (r : Result Unit Error) → OnOk r (Took old new (SyncFolder folder ∷ [])) → OnErr r (Took old new []) → (q : Name) → (state_in new q).now ≡ (state_in old q).now
+pub settled_now : (folder : Name) (old new : Meaning) (r : Result Unit Error) → OnOk r (Took old new (SyncFolder folder ∷ [])) → OnErr r (Took old new []) → (q : Name) → (state_in new q).now ≡ (state_in old q).now
 settled_now folder old new (Ok done) ok err q = ap (λ (s : State). (s q).now) ok.state ∙ settle-now (state_in old) folder q
 settled_now folder old new (Err e) ok err q = ap (λ (s : State). (s q).now) err.state
 

@@ -1,12 +1,12 @@
 -- The active journal of a database as it is written: batches go out behind those that stand, and are synced.
-use Rattle.std.specs.Prelude.{◌≡◌, ℕ, ◌<◌, ◌≤◌, ◌^◌, Bool, if◌then◌else◌, List, [], ◌∷◌, ◌++◌, length, map, take, true, Option, None, Some, is_none}
+use Rattle.std.specs.Prelude.{◌≡◌, ◌≢◌, ℕ, ◌<◌, ◌≤◌, ◌^◌, Bool, if◌then◌else◌, List, [], ◌∷◌, ◌++◌, length, map, take, true, Option, None, Some, is_none}
 use Rattle.fjall_base.specs.Disk.{State, Image, Step, Survives, Meaning, Name, state_in}
-use Rattle.fjall_files.specs.Regions.{IsImageIn}
+use Rattle.fjall_files.specs.Regions.{IsImageIn, is_under}
 use Rattle.fjall_journal.specs.declared.persist_mode.PersistMode.{PersistMode}
 use Rattle.fjall_journal.specs.declared.persist_mode.PersistMode.TheVariants.{Buffer, SyncData, SyncAll}
 use Rattle.fjall_journal.specs.Batches.{Written, shown, batch_text}
 use Rattle.fjall_journal.specs.Writer.{Journal, PersistTook, goes_out, persist_steps, written_out}
-use Rattle.fjall_files.specs.Names.{journal_name}
+use Rattle.fjall_files.specs.Names.{journal_name, keyspace_folder}
 use Rattle.fjall_versions.specs.Replays.{least_after}
 use Rattle.fjall_recovery.specs.Journals.{batches_in}
 use Rattle.fjall_recovery.specs.Halves.{HasRoot, is_of_keyspaces}
@@ -92,3 +92,17 @@ ForFollowing disk writer seqno Holds = (j : Journaling) → IsWriting (state_in 
 -- what stands in `keyspaces` stayed
 abbrev pub KeepsKeyspaces : Meaning → Meaning → Type 0
 KeepsKeyspaces old new = (q : Name) → is_of_keyspaces q ≡ true → state_in new q ≡ state_in old q
+
+-- ---- keyspaces' homes
+
+-- what stands in sight in the keyspace's folder stayed, and so did the folder
+abbrev pub KeepsHome : Meaning → Meaning → ℕ → Type 0
+KeepsHome old new id = (q : Name) → is_under (keyspace_folder id) q ≡ true → (state_in new q).now ≡ (state_in old q).now
+
+-- so it is of each id
+abbrev pub KeepsHomes : Meaning → Meaning → Type 0
+KeepsHomes old new = (id : ℕ) → KeepsHome old new id
+
+-- so it is of each keyspace but this one, tree 0 aside
+abbrev pub KeepsOtherHomes : ℕ → Meaning → Meaning → Type 0
+KeepsOtherHomes id old new = (other : ℕ) → 0 < other → other < 2 ^ 64 → other ≢ id → KeepsHome old new other

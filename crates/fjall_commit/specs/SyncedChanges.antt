@@ -10,35 +10,39 @@ use Rattle.fjall_journal.specs.Writer.{Journal}
 use Rattle.fjall_catalog.specs.declared.update.Update.{Update}
 use Rattle.fjall_catalog.specs.Catalog.{fields}
 use Rattle.fjall_catalog.specs.Updates.{IsTableGone}
+use Rattle.fjall_recovery.specs.Halves.{is_of_keyspaces}
 use Rattle.fjall_recovery.specs.Places.{LiesInTree}
-use Rattle.fjall_commit.specs.Journaling.{IsWriting, LeavesRoot, after_persist, ForWriting, KeepsKeyspaces}
+use Rattle.fjall_commit.specs.Journaling.{IsWriting, LeavesRoot, after_persist, ForWriting, KeepsHomes, KeepsKeyspaces, KeepsOtherHomes}
 use Rattle.fjall_commit.specs.declared.creation.Creation.{Creation}
 use Rattle.fjall_commit.specs.Changes.{HasEither, HasRoom, ForCreation, ForCreationOn, ForDeletionOn, ForNewId, ForUpdate}
 
 -- All that waited went out in that mode, and where it was done the writer goes on behind it; what stands in `keyspaces`
--- stayed.
+-- stayed, and so did the homes there wherever else the journal's file is.
 pub record Persisted (old new : Meaning) (before after : Journal) (mode : PersistMode) (done : Bool) : Type 0 where
   pub leaves : ForWriting old before (λ j. LeavesOnly old new (LeavesRoot (state_in old) j j.later))
   pub lies : done ≡ true → ForWriting old before (λ j. IsWriting (state_in new) after (after_persist mode j))
   pub elsewhere : ForWriting old before (λ j. KeepsKeyspaces old new)
+  pub homes : is_of_keyspaces before.name ≡ false → KeepsHomes old new
   pub served : ForWriting old before (λ j. new.misuses ≡ old.misuses)
   pub kinds : StaysTidy old new
 
 -- A keyspace was made: a crash meanwhile leaves the tree before or the one with it, and where it was done, that one lies
--- on the disk, and tree 0's table of before stands there no more.
+-- on the disk, and tree 0's table of before stands there no more. All other homes stayed.
 pub record CreatedKeyspace (mid new : Meaning) (creation : Creation) (done : Bool) : Type 0 where
   pub within : Within (codes "keyspaces") mid new
   pub leaves : ForCreationOn mid creation (λ records t next. LeavesOnly mid new (HasEither t next))
   pub lies : done ≡ true → ForCreationOn mid creation (λ records t next. LiesInTree (state_in new) (records ++ fields creation.update.catalog ∷ []) next)
+  pub others : ForNewId creation (λ id number. KeepsOtherHomes id mid new)
   pub served : ForCreationOn mid creation (λ records t next. HasRoom (state_in mid) t.keyspaces.next → new.misuses ≡ mid.misuses)
   pub gone : done ≡ true → ForCreation creation (λ old. IsTableGone (state_in new) old)
   pub kinds : ForNewId creation (λ id number. StaysTidy mid new)
 
--- the same of a deletion
+-- the same of a deletion, which leaves all homes but that of tree 0
 pub record DeletedKeyspace (mid new : Meaning) (update : Update) (done : Bool) : Type 0 where
   pub within : Within (codes "keyspaces") mid new
   pub leaves : ForDeletionOn mid update (λ records t next. LeavesOnly mid new (HasEither t next))
   pub lies : done ≡ true → ForDeletionOn mid update (λ records t next. LiesInTree (state_in new) (records ++ fields update.catalog ∷ []) next)
+  pub others : ForUpdate update (λ old. KeepsOtherHomes 0 mid new)
   pub served : ForDeletionOn mid update (λ records t next. new.misuses ≡ mid.misuses)
   pub gone : done ≡ true → ForUpdate update (λ old. IsTableGone (state_in new) old)
   pub kinds : StaysTidy mid new

@@ -9,6 +9,7 @@ ghost use Rattle.fjall_catalog.specs.Catalog.{fields};
 ghost use Rattle.fjall_catalog.specs.Updates.{IsPreparingRefusal, IsTableGone};
 ghost use Rattle.fjall_recovery.specs.Halves.{HasTree};
 ghost use Rattle.fjall_recovery.specs.Places.{HasSafeHome, LiesInTree};
+ghost use Rattle.fjall_commit.specs.Journaling.{KeepsOtherHomes};
 ghost use Rattle.fjall_commit.specs.Changes.{HasEither, HasRoom, IsCreation, ForCreation, ForCreationOn, ForHomeOn, ForNewId, ServesFirstFile, ServesHome, first_home};
 
 use crate::change::change_tree;
@@ -80,6 +81,8 @@ fn build_home<D: Disk>(disk: &mut D, creation: &Creation) -> Result<()>
     // Where the folder of all keyspaces is safe, so is all of the new home.
     ensures home { IsTrue D.honest → ForNewId creation.now (λ id number. OnOk result (state_in (D.meaning disk.new) (codes "keyspaces") ≡ only Folder
         → HasSafeHome (state_in (D.meaning disk.new)) id (first_home number))) }
+    // All other homes stay, also where the call fails.
+    ensures others { IsTrue D.honest → ForNewId creation.now (λ id number. KeepsOtherHomes id (D.meaning disk.old) (D.meaning disk.new)) }
     // A folder that is already there may be used; a file in its place, or a folder in that of its file, no disk can pass by.
     ensures served { IsTrue D.honest → ServesHome (D.meaning disk.old) (D.meaning disk.new) creation.now }
     ensures cause { OnlyFaults (D.meaning disk.old) (D.meaning disk.new) result }
@@ -108,6 +111,8 @@ pub fn create_keyspace<D: Disk>(disk: &mut D, creation: &Creation) -> Result<()>
     // At Ok only those with the new one.
     ensures ok { IsTrue D.honest → ForCreationOn (D.meaning disk.old) creation.now (λ records t next.
         OnOk result (LiesInTree (state_in (D.meaning disk.new)) (records ++ fields creation.now.update.catalog ∷ []) next)) }
+    // The homes of all other keyspaces stay, also where the call fails.
+    ensures others { IsTrue D.honest → ForNewId creation.now (λ id number. KeepsOtherHomes id (D.meaning disk.old) (D.meaning disk.new)) }
     ensures served { IsTrue D.honest → ForCreationOn (D.meaning disk.old) creation.now (λ records t next.
         HasRoom (state_in (D.meaning disk.old)) t.keyspaces.next → (D.meaning disk.new).misuses ≡ (D.meaning disk.old).misuses) }
     ensures cause { OnlyFaults (D.meaning disk.old) (D.meaning disk.new) result }

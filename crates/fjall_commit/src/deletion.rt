@@ -7,6 +7,7 @@ ghost use Rattle.fjall_files.specs.Tidy.{StaysTidy};
 ghost use Rattle.fjall_catalog.specs.Catalog.{fields};
 ghost use Rattle.fjall_catalog.specs.Updates.{IsTableGone};
 ghost use Rattle.fjall_recovery.specs.Places.{LiesInTree};
+ghost use Rattle.fjall_commit.specs.Journaling.{KeepsOtherHomes};
 ghost use Rattle.fjall_commit.specs.Changes.{HasEither, ForUpdate, ForDeletionOn};
 
 use crate::change::change_tree;
@@ -24,6 +25,8 @@ pub fn delete_keyspace<D: Disk>(disk: &mut D, update: &Update) -> Result<()>
     // At Ok only the others.
     ensures ok { IsTrue D.honest → ForDeletionOn (D.meaning disk.old) update.now (λ records t next.
         OnOk result (LiesInTree (state_in (D.meaning disk.new)) (records ++ fields update.now.catalog ∷ []) next)) }
+    // The homes of all keyspaces stay, also where the call fails.
+    ensures others { IsTrue D.honest → ForUpdate update.now (λ old. KeepsOtherHomes 0 (D.meaning disk.old) (D.meaning disk.new)) }
     ensures served { IsTrue D.honest → ForDeletionOn (D.meaning disk.old) update.now (λ records t next.
         (D.meaning disk.new).misuses ≡ (D.meaning disk.old).misuses) }
     ensures cause { OnlyFaults (D.meaning disk.old) (D.meaning disk.new) result }

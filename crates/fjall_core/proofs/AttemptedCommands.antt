@@ -5,7 +5,7 @@ use Rattle.std.proofs.lemmas.Bool.{true≢false}
 use Rattle.fjall_base.specs.Pairs.{Bytes}
 use Rattle.fjall_base.specs.Store.{Command, Create, Delete}
 use Rattle.fjall_base.specs.declared.error.Error.{Error}
-use Rattle.fjall_base.specs.declared.error.Error.TheVariants.{Io, OutOfMemory, ValueTooLong}
+use Rattle.fjall_base.specs.declared.error.Error.TheVariants.{Io, OutOfMemory, Storage, ValueTooLong}
 use Rattle.fjall_versions.specs.Replays.{option_pairs}
 use Rattle.fjall_journal.specs.Changes.{Emptied, Items, command_of}
 use Rattle.fjall_history.specs.declared.reply.Reply.{Reply}
@@ -13,10 +13,10 @@ use Rattle.fjall_history.specs.declared.reply.Reply.TheVariants.{Refused}
 use Rattle.fjall_history.specs.Histories.{Accepted, grown, extended, plain}
 use Rattle.fjall_state.specs.declared.call.Call.{Call}
 use Rattle.fjall_state.specs.Shapes.{OfChange, OfCount, OfCreation, OfDeletion, OfHandle, OfJournalRotation, OfPersist, OfRead, OfRotation, OfTickets, OneLess, OneMore, Shape, shape_of}
-use Rattle.fjall_state.specs.Machine.{Answers, CreatesOrFinds, State, StepOf, Refuses, MayFail, IsPoisoned, deleted, due, facts, is_living, present, rotated, rotates}
+use Rattle.fjall_state.specs.Machine.{Answers, CreatesOrFinds, State, StepOf, ReadsTables, Refuses, MayFail, IsPoisoned, at_fault, deleted, due, facts, is_living, present, rotated, rotates}
+use Rattle.fjall_trees.specs.Forests.{Forest}
 use Rattle.fjall_core.specs.Durables.{Durable}
 use Rattle.fjall_core.specs.Crashes.{asked, attempt, RunOn, Tried, is_io}
-use Rattle.fjall_core.specs.Standing.{}
 use Rattle.fjall_core.proofs.Refusals.{Asks, asks, asks_nothing, asks_one, is_fault, never_due, no_attempt}
 
 -- what a step tried and what it did to the history
@@ -28,14 +28,43 @@ pub data Moves (s : State) (tried : List Command) (t : State) : Type 0 where
 as_it_was : (s t : State) (tried : List Command) → tried ≡ [] → t ≡ s → Moves s tried t
 as_it_was s t tried none same = stays none (ap (λ (x : State). x.history) same) (λ bad. ap (λ (x : State). x.poisoned) same ∙ bad)
 
+-- what a fault leaves, but that it poisons, has the history and the flag
+same_history : (s : State) (shape : Shape) → (at_fault s shape).history ≡ s.history
+same_history s (OfHandle OneLess id) = refl
+same_history s (OfHandle OneMore id) = refl
+same_history s (OfChange change how) = refl
+same_history s (OfCreation name options) = refl
+same_history s (OfDeletion id) = refl
+same_history s (OfRotation id) = refl
+same_history s OfJournalRotation = refl
+same_history s (OfRead view id query) = refl
+same_history s (OfTickets call) = refl
+same_history s (OfPersist mode) = refl
+same_history s (OfCount count) = refl
+
 -- a fault, of whatever was asked
-fault_moves : (s t : State) (shape : Shape) → Asks s shape → due s shape ≡ None → IsPoisoned s t → Moves s (asked s shape) t
-fault_moves s t shape (asks_nothing none) due_is (fault, trees, sealed) = stays none (ap (λ (x : State). x.history) fault) (λ _. ap (λ (x : State). x.poisoned) fault)
-fault_moves s t shape (asks_one command is well) due_is (fault, trees, sealed) = faults command is (ap (λ (x : State). x.history) fault) (ap (λ (x : State). x.poisoned) fault) (well due_is)
+fault_moves : (s left t : State) (shape : Shape) → Asks s shape → due s shape ≡ None → left.history ≡ s.history → IsPoisoned left t → Moves s (asked s shape) t
+fault_moves s left t shape (asks_nothing none) due_is same fault = stays none (ap (λ (x : State). x.history) fault.is ∙ same) (λ _. ap (λ (x : State). x.poisoned) fault.is)
+fault_moves s left t shape (asks_one command is well) due_is same fault = faults command is (ap (λ (x : State). x.history) fault.is ∙ same) (ap (λ (x : State). x.poisoned) fault.is) (well due_is)
+
+-- a read asks for nothing
+reads_ask : (s : State) (trees : Forest) (shape : Shape) → ReadsTables trees shape → asked s shape ≡ []
+reads_ask s trees (OfRead view id query) reads = refl
+reads_ask s trees (OfHandle call id) reads = absurd reads
+reads_ask s trees (OfChange change how) reads = absurd reads
+reads_ask s trees (OfCreation name options) reads = absurd reads
+reads_ask s trees (OfDeletion id) reads = absurd reads
+reads_ask s trees (OfRotation id) reads = absurd reads
+reads_ask s trees OfJournalRotation reads = absurd reads
+reads_ask s trees (OfTickets call) reads = absurd reads
+reads_ask s trees (OfPersist mode) reads = absurd reads
+reads_ask s trees (OfCount count) reads = absurd reads
 
 failure_moves : (s t : State) (shape : Shape) (error : Error) → due s shape ≡ None → MayFail shape error s t → Moves s (attempt s shape (Refused error)) t
-failure_moves s t shape (Io kind) none (changes, fault) = fault_moves s t shape (asks s shape) none fault
+failure_moves s t shape (Io kind) none (inl (changes, fault)) = fault_moves s (at_fault s shape) t shape (asks s shape) none (same_history s shape) fault
+failure_moves s t shape (Io kind) none (inr (reads, same)) = as_it_was s t _ (reads_ask s s.parts.trees shape reads) same
 failure_moves s t shape OutOfMemory none (takes, same) = as_it_was s t _ refl same
+failure_moves s t shape (Storage told) none (is, damage, same) = as_it_was s t _ refl same
 failure_moves s t shape ValueTooLong none (long, same) = as_it_was s t _ refl same
 failure_moves s t shape error none fault = absurd fault
 

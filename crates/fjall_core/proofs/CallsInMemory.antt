@@ -1,75 +1,37 @@
 -- What the calls serve that leave the disk as it is.
-use Rattle.std.proofs.Common.{◌≡◌, ℕ, Bool, Option, None, Result, Ok, Err, IfOk, IfErr, OnOk, OnErr, IsOkUnless, IsPermutation, IsSorted, Vec, [], refl, sym, ◌∙◌, ap, subst}
+use Rattle.std.proofs.Common.{◌≡◌, ℕ, Bool, List, None, Result, Ok, Err, IfOk, IfErr, OnOk, OnErr, IsOkUnless, IsPermutation, IsSorted, Vec, [], refl, sym, ◌∙◌, ap, subst}
 use Rattle.std.specs.FinMap.{values}
 use Rattle.std.specs.declared.alloc.Global.{Global}
-use Rattle.fjall_base.specs.Pairs.{Bytes, KeyRange, byte_order, lookup, page, pairs_between}
+use Rattle.fjall_base.specs.Pairs.{Bytes, byte_order}
 use Rattle.fjall_base.specs.Store.{kept}
 use Rattle.fjall_base.specs.declared.error.Error.{Error}
 use Rattle.fjall_base.specs.declared.error.Error.TheVariants.{OutOfMemory}
-use Rattle.fjall_maps.specs.Maps.{pairs_in}
-use Rattle.fjall_history.specs.declared.ticket.View.{View}
-use Rattle.fjall_history.specs.declared.ticket.View.TheVariants.{At, Present}
 use Rattle.fjall_history.specs.declared.reply.Reply.{Reply}
-use Rattle.fjall_history.specs.declared.reply.Reply.TheVariants.{Done, Flag, Names, Number, Pairs, Value, Refused}
-use Rattle.fjall_history.specs.Queries.{Get, Page, Query}
+use Rattle.fjall_history.specs.declared.reply.Reply.TheVariants.{Done, Flag, Names, Number, Refused}
 use Rattle.fjall_state.specs.Shapes.{Count, Exists, OfCount, OfHandle, OfRead, OneMore, Shape}
 use Rattle.fjall_state.specs.Shapes as shapes
-use Rattle.fjall_state.specs.Machine.{State, due_in, first_due, has_name, view_refusals}
-use Rattle.fjall_state.specs.Remembered.{IsDueOrMemory, Remembered, facts_of, instant_in, retained}
+use Rattle.fjall_state.specs.Machine.{State, due_in, has_name}
+use Rattle.fjall_state.specs.Remembered.{IsDueOrMemory, Remembered, facts_of, retained}
 use Rattle.fjall_files.proofs.Tidying.{stays_start}
 use Rattle.fjall_core.specs.Crashes.{BlamesDevice, IsSync, attempt}
+use Rattle.fjall_table.specs.Blocks.{Entry}
 use Rattle.fjall_core.specs.Holding.{Held}
-use Rattle.fjall_core.specs.Standing.{HeldCount, OnDisk, Owes, Serves, held_due, names_reply, pairs_reply, reply_of, store_in, value_reply}
-use Rattle.fjall_core.proofs.ServedCalls.{answer_serves, either_owes, either_serves, led_by, memory_owes, memory_serves, serves_by}
+use Rattle.fjall_core.specs.Standing.{HeldCount, OnDisk, Owes, Serves, names_reply, reply_of, store_in, store_with_tables}
+use Rattle.fjall_core.proofs.ServedCalls.{answer_serves, either_serves, led_by, memory_owes, memory_serves, serves_by}
+use Rattle.fjall_core.proofs.TablesAtHome.{carry_all, keeps_disk, outside_same}
 use Rattle.fjall_core.proofs.KeyspaceCalls.{Recounts, recount_leads}
-
--- ---- reads
-
--- a read's refusals look at no table, and at the same in a core's memory
-due_here : (core : Held) (m : Remembered) (view : View) (id : ℕ) → m ≡ core.memory → (query : Query) → first_due (view_refusals (facts_of m 0) view id) ≡ held_due core (OfRead view id query)
-due_here core m Present id same query = ap (λ (x : Remembered). first_due (view_refusals (facts_of x 0) Present id)) same
-due_here core m (At ticket) id same query = ap (λ (x : Remembered). first_due (view_refusals (facts_of x 0) (At ticket) id)) same
-
-cause_here : (core : Held) (m : Remembered) (view : View) (id : ℕ) → m ≡ core.memory → (query : Query) (error : Error) → IsDueOrMemory (first_due (view_refusals (facts_of m 0) view id)) error → IsDueOrMemory (held_due core (OfRead view id query)) error
-cause_here core m view id same query error cause = subst (λ first. IsDueOrMemory first error) (due_here core m view id same query) cause
-
-pub value_owes : (core : Held) (m : Remembered) (view : View) (id : ℕ) (key : Bytes) (result : Result (Option Bytes) Error) → m ≡ core.memory → OnOk result (first_due (view_refusals (facts_of m 0) view id) ≡ None)
-    → IfOk result (λ found. found ≡ lookup (pairs_in id (instant_in m view) m.trees) key) → IfErr result (IsDueOrMemory (first_due (view_refusals (facts_of m 0) view id))) → Owes core (OfRead view id (Get key)) (value_reply result) core
-value_owes core m view id key (Ok found) same none is cause =
-    let value : found ≡ lookup (pairs_in id (instant_in core.memory view) core.memory.trees) key =
-    is ∙ ap (λ (x : Remembered). lookup (pairs_in id (instant_in x view) x.trees) key) same in
-    (sym (due_here core m view id same (Get key)) ∙ none, (ap Value value, refl))
-value_owes core m view id key (Err error) same none is cause = either_owes core (OfRead view id (Get key)) error tt (cause_here core m view id same (Get key) error cause)
-
-pub pairs_owes : (core : Held) (m : Remembered) (view : View) (id : ℕ) (range : KeyRange) (back : Bool) (max : ℕ) (result : Result (Vec (Bytes × Bytes) Global) Error) → m ≡ core.memory → OnOk result (first_due (view_refusals (facts_of m 0) view id) ≡ None)
-    → IfOk result (λ found. found.items ≡ page back max (pairs_between range (pairs_in id (instant_in m view) m.trees))) → IfErr result (IsDueOrMemory (first_due (view_refusals (facts_of m 0) view id))) → Owes core (OfRead view id (Page range back max)) (pairs_reply result) core
-pairs_owes core m view id range back max (Ok found) same none is cause =
-    (sym (due_here core m view id same (Page range back max)) ∙ none, ((found, refl, is ∙ ap (λ (x : Remembered). page back max (pairs_between range (pairs_in id (instant_in x view) x.trees))) same), refl))
-pairs_owes core m view id range back max (Err error) same none is cause = either_owes core (OfRead view id (Page range back max)) error tt (cause_here core m view id same (Page range back max) error cause)
-
--- what a view has, as it was found in a core's memory
-pub value_serves : (core : Held) (m : Remembered) (view : View) (id : ℕ) (key : Bytes) (result : Result (Option Bytes) Error) → m ≡ core.memory → OnOk result (first_due (view_refusals (facts_of m 0) view id) ≡ None)
-    → IfOk result (λ found. found ≡ lookup (pairs_in id (instant_in m view) m.trees) key) → IfErr result (IsDueOrMemory (first_due (view_refusals (facts_of m 0) view id))) → Serves core (OfRead view id (Get key)) (value_reply result) core
-value_serves core m view id key (Ok found) same none is cause = answer_serves core (OfRead view id (Get key)) (Value found) (value_owes core m view id key (Ok found) same none is cause) refl refl (λ s. refl) (λ s sync. sync)
-value_serves core m view id key (Err error) same none is cause = either_serves core (OfRead view id (Get key)) error tt (cause_here core m view id same (Get key) error cause)
-
-pub pairs_serves : (core : Held) (m : Remembered) (view : View) (id : ℕ) (range : KeyRange) (back : Bool) (max : ℕ) (result : Result (Vec (Bytes × Bytes) Global) Error) → m ≡ core.memory → OnOk result (first_due (view_refusals (facts_of m 0) view id) ≡ None)
-    → IfOk result (λ found. found.items ≡ page back max (pairs_between range (pairs_in id (instant_in m view) m.trees))) → IfErr result (IsDueOrMemory (first_due (view_refusals (facts_of m 0) view id))) → Serves core (OfRead view id (Page range back max)) (pairs_reply result) core
-pairs_serves core m view id range back max (Ok found) same none is cause =
-    answer_serves core (OfRead view id (Page range back max)) (Pairs found) (pairs_owes core m view id range back max (Ok found) same none is cause) refl refl (λ s. refl) (λ s sync. sync)
-pairs_serves core m view id range back max (Err error) same none is cause = either_serves core (OfRead view id (Page range back max)) error tt (cause_here core m view id same (Page range back max) error cause)
 
 -- ---- handles
 
 abbrev pub with_handle : Held → ℕ → Held
 with_handle core id = record core { memory = retained id core.memory }
 
-retained_counts : (old new : Held) (id : ℕ) → new ≡ with_handle old id → Recounts old new
-retained_counts old new id is = record {
+retained_counts : (entries : ℕ → List (List Entry)) (old new : Held) (id : ℕ) → new ≡ with_handle old id → Recounts entries old new
+retained_counts entries old new id is = record {
   keyspaces = ap (λ (core : Held). core.memory.keyspaces) is;
   next = ap (λ (core : Held). core.memory.next) is;
   poisoned = ap (λ (core : Held). core.memory.poisoned) is;
-  store = ap (λ (core : Held). kept (store_in core)) (sym is);
+  store = ap (λ (core : Held). kept (store_with_tables entries core)) (sym is);
   catalog = ap (λ (core : Held). core.catalog) is;
   journal = ap (λ (core : Held). core.journal) is;
   journals = ap (λ (core : Held). core.memory.journals) is;
@@ -80,8 +42,9 @@ retained_there : (core : Held) (m : Remembered) (id : ℕ) (result : Result Unit
 retained_there core m id (Ok _) none is same cause =
     let new : Held = record core { memory = m } in
     let new_is : new ≡ with_handle core id = ap (λ (x : Remembered). record core { memory = x }) is in
-    serves_by core new (OfHandle OneMore id) Done (none, (refl, new_is)) refl (stays_start core.disk) (λ s d stands on tidy. refl)
-    (λ s d stands on. led_by new s d (OfHandle OneMore id) Done [] refl (λ sync. sync) (recount_leads core new d refl (retained_counts core new id new_is) on))
+    serves_by core new (OfHandle OneMore id) Done (none, (refl, new_is)) (λ reads. reads) refl (stays_start core.disk)
+    (keeps_disk core new refl (carry_all core.memory.trees new.memory.trees (ap (λ (x : Remembered). x.trees) is)) (outside_same core new (ap (λ (x : Remembered). x.poisoned) is) refl)) (λ s d stands on tidy. refl)
+    (λ s d stands on. led_by new s d (OfHandle OneMore id) Done [] refl (λ sync. sync) (recount_leads s.parts.entries core new d refl (retained_counts s.parts.entries core new id new_is) on))
 retained_there core m id (Err error) none is same cause =
     subst (λ (x : Remembered). Serves core (OfHandle OneMore id) (Refused error) (record core { memory = x })) (sym same) (either_serves core (OfHandle OneMore id) error tt cause)
 
@@ -96,7 +59,7 @@ retained_serves old core m id result same none is unchanged cause =
 -- a count that takes no memory
 pub count_serves : (core : Held) (shape : Shape) (count : Count) (reply : Reply) → shape ≡ OfCount count → HeldCount core count reply → BlamesDevice reply core.disk core.disk → OnDisk core (OfCount count) reply core
     → Owes core (OfCount count) reply core → ((s : State) → attempt s (OfCount count) reply ≡ []) → ((s : State) → IsSync s (OfCount count) reply → ⊥) → Serves core shape reply core
-count_serves core shape count reply asked told blames disk owes none unsynced = subst (λ (c : Shape). Serves core c reply core) (sym asked) (answer_serves core (OfCount count) reply owes disk blames none unsynced)
+count_serves core shape count reply asked told blames disk owes none unsynced = subst (λ (c : Shape). Serves core c reply core) (sym asked) (answer_serves core (OfCount count) reply (λ reads. reads) owes disk blames none unsynced)
 
 pub number_serves : (core : Held) (shape : Shape) (count : Count) (n : ℕ) → shape ≡ OfCount count → HeldCount core count (Number n) → Serves core shape (Number n) core
 number_serves core shape count n asked told = count_serves core shape count (Number n) asked told refl refl (refl, (told, refl)) (λ s. refl) (λ s sync. sync)
@@ -114,7 +77,7 @@ pub exists_owes : (core : Held) (name given : Bytes) (exists : Bool) → given �
 exists_owes core name given exists same is = (refl, (ap Flag (is ∙ ap (has_name (store_in core)) same), refl))
 
 pub exists_serves : (core : Held) (name given : Bytes) (exists : Bool) → given ≡ name → exists ≡ has_name (store_in core) given → Serves core (OfCount (Exists name)) (Flag exists) core
-exists_serves core name given exists same is = answer_serves core (OfCount (Exists name)) (Flag exists) (exists_owes core name given exists same is) refl refl (λ s. refl) (λ s sync. sync)
+exists_serves core name given exists same is = answer_serves core (OfCount (Exists name)) (Flag exists) (λ reads. reads) (exists_owes core name given exists same is) refl refl (λ s. refl) (λ s sync. sync)
 
 -- ---- names
 
@@ -125,5 +88,5 @@ names_owes core (Err error) all sorted only = subst (λ (e : Error). Owes core (
 
 pub names_serves : (core : Held) (result : Result (Vec Bytes Global) Error) → IfOk result (λ names. IsPermutation (values (store_in core).names) names.items) → IfOk result (λ names. IsSorted byte_order names.items)
     → IsOkUnless result OutOfMemory → Serves core (OfCount shapes.Names) (names_reply result) core
-names_serves core (Ok names) all sorted only = answer_serves core (OfCount shapes.Names) (Names names) (names_owes core (Ok names) all sorted only) refl refl (λ s. refl) (λ s sync. sync)
+names_serves core (Ok names) all sorted only = answer_serves core (OfCount shapes.Names) (Names names) (λ reads. reads) (names_owes core (Ok names) all sorted only) refl refl (λ s. refl) (λ s sync. sync)
 names_serves core (Err error) all sorted only = subst (λ (e : Error). Serves core (OfCount shapes.Names) (Refused e) core) (sym only) (memory_serves core (OfCount shapes.Names) tt refl)

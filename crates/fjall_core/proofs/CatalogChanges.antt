@@ -9,7 +9,6 @@ use Rattle.fjall_files.specs.Regions.{Within}
 use Rattle.fjall_journal.specs.Batches.{Shown}
 use Rattle.fjall_tree.specs.Records.{Fields}
 use Rattle.fjall_versions.specs.Replays.{first_fault, least_after}
-use Rattle.fjall_maps.specs.Maps.{store_of}
 use Rattle.fjall_versions.proofs.Kept.{kept_along}
 use Rattle.fjall_contents.proofs.Following.{before_least}
 use Rattle.fjall_recovery.specs.Folders.{past_record, past_records}
@@ -21,6 +20,8 @@ use Rattle.fjall_recovery.proofs.Holding.{made}
 use Rattle.fjall_commit.specs.Journaling.{IsWriting}
 use Rattle.fjall_commit.specs.Changes.{HasEither}
 use Rattle.fjall_state.specs.Remembered.{Remembered}
+use Rattle.fjall_table.specs.Blocks.{Entry}
+use Rattle.fjall_maps.specs.Tables.{store_with}
 use Rattle.fjall_core.specs.Holding.{Held}
 use Rattle.fjall_core.specs.Durables.{Durable, Lies, Rests, StandsAmid, StaysFinished, AreKnown}
 use Rattle.fjall_core.specs.Standing.{Poisons, StandsOn}
@@ -68,14 +69,14 @@ change_leaves base mid new j t next command is after none lies run leaves =
     change_amid base j t next command image is after (subst (λ l. HasRoot image (journals_with j l)) (no_more root.0 root.1 (root.2 ∙ none)) root.3) left.0 none)
 
 -- a fault before a command was done, or while it was
-pub ill_leads : (old new : Held) (d : Durable) (command : Command) → old.memory.poisoned ≡ false → Poisons old new
+pub ill_leads : (entries : ℕ → List (List Entry)) (old new : Held) (d : Durable) (command : Command) → old.memory.poisoned ≡ false → Poisons old.memory old new
     → ((base : Store) (pending : List Command) → Lies old (held_on old base pending) → LeavesOnly old.disk new.disk (StandsAmid base [] (pending ++ command ∷ [])))
-    → ((base : Store) (pending : List Command) → Lies old (held_on old base pending) → StaysFinished (state_in new.disk)) → StandsOn old d → Leads new d (command ∷ [])
-ill_leads old new d command well fault leaves finished = leads_on old new d (command ∷ []) (λ base pending on.
+    → ((base : Store) (pending : List Command) → Lies old (held_on old base pending) → StaysFinished (state_in new.disk)) → StandsOn old entries d → Leads entries new d (command ∷ [])
+ill_leads entries old new d command well fault leaves finished = leads_on entries old new d (command ∷ []) (λ base pending on.
     let left = leaves base pending (on.lies well) in
     let rests : Rests (held_on new base (pending ++ command ∷ [])) = at_end old.disk new.disk _ left in
-    let was = present_of old (held_on old base pending) false well on ∙ ap (λ (m : Remembered). kept (store_of m.keyspaces m.trees)) (sym fault.memory_is) in
-    let still = stands_ill new base (pending ++ command ∷ []) (ap (λ (m : Remembered). m.poisoned) fault.memory_is) rests (finished base pending (on.lies well)) (inr (pending, command, refl, was)) in
+    let was = present_of entries old (held_on old base pending) false well on ∙ ap (λ (m : Remembered). kept (store_with entries m.keyspaces m.trees)) (sym fault.memory_is) in
+    let still = stands_ill entries new base (pending ++ command ∷ []) (ap (λ (m : Remembered). m.poisoned) fault.memory_is) rests (finished base pending (on.lies well)) (inr (pending, command, refl, was)) in
     (held_on new base (pending ++ command ∷ []), still, record { leaves = left; safe = []; base = refl; rest = refl; rests = rests }))
 
 -- ---- a change that was done
@@ -114,10 +115,10 @@ changed_lies mid new base command lies none c =
     }
 
 -- and what passes on the way
-pub changed_settles : (mid new : Held) (base : Store) (command : Command) (lies : Lies mid (held_on mid base [])) → lies.journals.later ≡ [] → Changed mid new lies.journals lies.tree command true → new.memory.poisoned ≡ false
-    → kept (apply base command) ≡ kept (store_of new.memory.keyspaces new.memory.trees) → Settles new (held_on mid base []) (command ∷ [])
-changed_settles mid new base command lies none c well present =
-    let still = stands_well new (apply base command) [] well (changed_lies mid new base command lies none c) present in (
+pub changed_settles : (entries : ℕ → List (List Entry)) (mid new : Held) (base : Store) (command : Command) (lies : Lies mid (held_on mid base [])) → lies.journals.later ≡ [] → Changed mid new lies.journals lies.tree command true → new.memory.poisoned ≡ false
+    → kept (apply base command) ≡ kept (store_with entries new.memory.keyspaces new.memory.trees) → Settles entries new (held_on mid base []) (command ∷ [])
+changed_settles entries mid new base command lies none c well present =
+    let still = stands_well entries new (apply base command) [] well (changed_lies mid new base command lies none c) present in (
       held_on new (apply base command) [],
       still,
       record {

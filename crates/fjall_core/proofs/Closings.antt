@@ -11,6 +11,7 @@ use Rattle.fjall_recovery.specs.Amid.{HoldsAmid}
 use Rattle.fjall_recovery.specs.Places.{contents_with}
 use Rattle.fjall_recovery.proofs.Holding.{a_rest_holds}
 use Rattle.fjall_files.specs.Tidy.{StaysTidy}
+use Rattle.fjall_commit.proofs.KeptHomes.{persisted_homes}
 use Rattle.fjall_commit.proofs.TidyWrites.{persist_stays}
 use Rattle.fjall_commit.proofs.CrashesInWrites.{persist_apart, persist_leaves, persist_out}
 use Rattle.fjall_state.specs.Shapes.{OfPersist}
@@ -19,7 +20,7 @@ use Rattle.fjall_state.specs.Machine as machine
 use Rattle.fjall_core.specs.Holding.{Held}
 use Rattle.fjall_core.specs.Durables.{Durable, Passes}
 use Rattle.fjall_core.specs.Crashes.{BlamesDevice, attempt}
-use Rattle.fjall_core.specs.Standing.{Closes, ClosesDisk, HandsOver, OnDisk, Owes, Serves, StandsFor, StandsOn, reply_of}
+use Rattle.fjall_core.specs.Standing.{Closes, ClosesDisk, HandsOver, OnDisk, Owes, ReadsOn, Serves, StandsFor, StandsOn, reply_of}
 use Rattle.fjall_core.proofs.Refusals.{none_due}
 use Rattle.fjall_core.proofs.CrashImages.{lies_rest, root_finished}
 use Rattle.fjall_core.proofs.Reopening.{a_core_holds_amid, finished_amid}
@@ -43,13 +44,14 @@ synced_out old new hands took served = record {
   leaves = λ j writing. persist_leaves old.disk new.disk old.journal j writing SyncAll took;
   lies = λ _ j writing. persist_out old.disk new.disk old.journal j writing SyncAll new.journal took (ap (λ (w : Journal). w.name) hands.journal) (ap (λ (w : Journal). w.buffer) hands.journal);
   elsewhere = λ j writing. persist_apart old.disk new.disk old.journal j writing SyncAll took;
+  homes = λ out. persisted_homes old.journal old.disk new.disk out SyncAll took;
   served = λ j writing. served;
   kinds = persist_stays old.disk new.disk old.journal SyncAll took;
 }
 
 -- nothing waits for a sync any more, so that the disk holds what it stands for
-synced_closes : (old new : Held) (s : machine.State) (base : Store) (pending : List Command) → old.memory.poisoned ≡ false → HandsOver old new → Persisted old new SyncAll true → IsHoused (state_in new.disk) → StandsFor old s → StandsOn old (held_on old base pending)
-    → Closes s (held_on old base pending) (Ok tt) new.disk
+synced_closes : (old new : Held) (s : machine.State) (base : Store) (pending : List Command) → old.memory.poisoned ≡ false → HandsOver old new → Persisted old new SyncAll true → IsHoused (state_in new.disk)
+    → StandsFor old s → StandsOn old s.parts.entries (held_on old base pending) → Closes s (held_on old base pending) (Ok tt) new.disk
 synced_closes old new s base pending well hands out housed stands on =
     let same = same_of old new hands in
     let lies = on.lies well in
@@ -64,7 +66,7 @@ synced_closes old new s base pending well hands out housed stands on =
         Some (contents_with after.journals after.tree []),
         a_rest_holds (state_in new.disk) after.journals after.records after.tree none after.writing.root after.in_tree.rests,
         tt,
-        stands.remembered.present ∙ sym (present_of old (held_on old base pending) false well on) ∙ after.made,
+        stands.remembered.present ∙ sym (present_of s.parts.entries old (held_on old base pending) false well on) ∙ after.made,
       );
       device = out.served lies.journals lies.writing;
       kinds = out.kinds;
@@ -72,21 +74,23 @@ synced_closes old new s base pending well hands out housed stands on =
 
 -- closing leaves what it may
 pub closing : (old new : Held) (result : Result Unit Error) (s : machine.State) (d : Durable) → Owes old (OfPersist SyncAll) (reply_of result) new → Serves old (OfPersist SyncAll) (reply_of result) new
-    → ((s : machine.State) (d : Durable) → StandsFor old s → StandsOn old d → BlamesDevice (reply_of result) old.disk new.disk) → IsHoused (state_in new.disk) → StandsFor old s → StandsOn old d → Closes s d result new.disk
-closing old new (Ok _) s d (none, (told, hands)) serves blames housed stands on =
+    → ((s : machine.State) (d : Durable) → StandsFor old s → StandsOn old s.parts.entries d → BlamesDevice (reply_of result) old.disk new.disk) → IsHoused (state_in new.disk)
+    → StandsFor old s → ReadsOn old s → StandsOn old s.parts.entries d → Closes s d result new.disk
+closing old new (Ok _) s d (none, (told, hands)) serves blames housed stands reads on =
     let well = (none_due ((old.memory.poisoned, Poisoned) ∷ []) none).0 in
     let here : d ≡ held_on old d.base d.pending = λ i. record { meaning = on.same i; base = d.base; pending = d.pending } in
     subst (λ (x : Durable). Closes s x (Ok tt) new.disk) (sym here)
-    (synced_closes old new s d.base d.pending well hands (synced_out old new hands serves.disk (blames s d stands on)) housed stands (subst (λ (x : Durable). StandsOn old x) here on))
-closing old new (Err error) s d owes serves blames housed stands on =
-    let led = serves.crash s d stands on in
-    let there : IsHoused (state_in led.1.meaning) = subst (λ (m : Meaning). IsHoused (state_in m)) (sym led.3.same) housed in
+    (synced_closes old new s d.base d.pending well hands (synced_out old new hands serves.disk (blames s d stands on)) housed stands (subst (λ (x : Durable). StandsOn old s.parts.entries x) here on))
+closing old new (Err error) s d owes serves blames housed stands reads on =
+    let next = serves.goes_on s stands reads in
+    let led = next.4 d on in
+    let there : IsHoused (state_in led.0.meaning) = subst (λ (m : Meaning). IsHoused (state_in m)) (sym led.1.same) housed in
     record {
-      after = led.1;
-      same = led.3.same;
-      passes = subst (λ (l : List Command). Passes d l led.1) (no_command s error) led.5.0;
-      amid = subst (λ (m : Meaning). HoldsAmid (state_in m) led.1.base led.1.pending) led.3.same (a_core_holds_amid new led.1 led.3 there);
+      after = led.0;
+      same = led.1.same;
+      passes = subst (λ (l : List Command). Passes d l led.0) (no_command s error) led.2.0;
+      amid = subst (λ (m : Meaning). HoldsAmid (state_in m) led.0.base led.0.pending) led.1.same (a_core_holds_amid new next.0.parts.entries led.0 led.1 there);
       closed = tt;
       device = subst (λ (m : Meaning). BlamesDevice (Refused error) m new.disk) (sym on.same) (blames s d stands on);
-      kinds = subst (λ (m : Meaning). StaysTidy d.meaning m) led.3.same led.5.3;
+      kinds = subst (λ (m : Meaning). StaysTidy d.meaning m) led.1.same led.2.3;
     }

@@ -1,5 +1,5 @@
 -- `Io` only where the device failed.
-use Rattle.std.proofs.Common.{◌≡◌, ℕ, ◌<◌, ◌^◌, true, false, refl, sym, subst}
+use Rattle.std.proofs.Common.{◌≡◌, ℕ, List, ◌<◌, ◌^◌, true, false, refl, sym, subst}
 use Rattle.std.proofs.lemmas.Bool.{true≢false}
 use Rattle.fjall_base.specs.Disk.{DeviceFailed, IsNoFile, IsNoFolder, Meaning, Name, Place, state_in}
 use Rattle.fjall_files.specs.Names.{current_name, keyspace_folder}
@@ -15,6 +15,7 @@ use Rattle.fjall_recovery.specs.Refusals.{HasRisen}
 use Rattle.fjall_recovery.specs.Places.{Journaling}
 use Rattle.fjall_commit.specs.Journaling.{IsWriting}
 use Rattle.fjall_history.specs.declared.reply.Reply.TheVariants.{Refused}
+use Rattle.fjall_table.specs.Blocks.{Entry}
 use Rattle.fjall_core.specs.Holding.{Held}
 use Rattle.fjall_core.specs.Durables.{Durable}
 use Rattle.fjall_core.specs.Crashes.{BlamesDevice, is_io}
@@ -31,20 +32,20 @@ risen_blames (Io kind) old new risen served = record { rose = risen; served = se
 risen_blames error old new risen served = served
 
 -- what holds of the active journal's disk holds where the core stands
-pub served_on : (old : Held) (new : Meaning) (d : Durable) → old.memory.poisoned ≡ false → ((j : Journaling) → IsWriting (state_in old.disk) old.journal j → new.misuses ≡ old.disk.misuses) → StandsOn old d → new.misuses ≡ old.disk.misuses
-served_on old new d well served on =
+pub served_on : (entries : ℕ → List (List Entry)) (old : Held) (new : Meaning) (d : Durable) → old.memory.poisoned ≡ false → ((j : Journaling) → IsWriting (state_in old.disk) old.journal j → new.misuses ≡ old.disk.misuses) → StandsOn old entries d → new.misuses ≡ old.disk.misuses
+served_on entries old new d well served on =
     let lies = on.lies well in
     served lies.journals (subst (λ (m : Meaning). IsWriting (state_in m) old.journal lies.journals) on.same lies.writing)
 
-pub failed_on : (old : Held) (new : Meaning) (d : Durable) → old.memory.poisoned ≡ false → Rose old.disk.faults new.faults → ((j : Journaling) → IsWriting (state_in old.disk) old.journal j → new.misuses ≡ old.disk.misuses) → StandsOn old d
+pub failed_on : (entries : ℕ → List (List Entry)) (old : Held) (new : Meaning) (d : Durable) → old.memory.poisoned ≡ false → Rose old.disk.faults new.faults → ((j : Journaling) → IsWriting (state_in old.disk) old.journal j → new.misuses ≡ old.disk.misuses) → StandsOn old entries d
     → DeviceFailed old.disk new
-failed_on old new d well rose served on = record { rose = rose; served = served_on old new d well served on }
+failed_on entries old new d well rose served on = record { rose = rose; served = served_on entries old new d well served on }
 
 -- a refusal of what holds of the active journal's disk is a fault of the device
-pub fault_blames : (old : Held) (new : Meaning) (d : Durable) (error : Error) → old.memory.poisoned ≡ false → IsFault old.disk.faults new.faults error → ((j : Journaling) → IsWriting (state_in old.disk) old.journal j → new.misuses ≡ old.disk.misuses) → StandsOn old d
+pub fault_blames : (entries : ℕ → List (List Entry)) (old : Held) (new : Meaning) (d : Durable) (error : Error) → old.memory.poisoned ≡ false → IsFault old.disk.faults new.faults error → ((j : Journaling) → IsWriting (state_in old.disk) old.journal j → new.misuses ≡ old.disk.misuses) → StandsOn old entries d
     → BlamesDevice (Refused error) old.disk new
-fault_blames old new d (Io kind) well cause served on = failed_on old new d well cause served on
-fault_blames old new d error well cause served on = absurd cause
+fault_blames entries old new d (Io kind) well cause served on = failed_on entries old new d well cause served on
+fault_blames entries old new d error well cause served on = absurd cause
 
 -- where the disk is tidy there is room for a keyspace, also once the journal was synced
 pub room_on : (old mid : Meaning) (id : ℕ) → id < 2 ^ 64 → IsTidy (state_in old) → ((q : Name) → is_of_keyspaces q ≡ true → state_in mid q ≡ state_in old q) → HasRoom (state_in mid) id

@@ -1,5 +1,5 @@
 -- Where a rotation of the journal leads a core and its disk.
-use Rattle.std.proofs.Common.{◌≡◌, inl, inr, ◌+◌, ◌<◌, ◌-◌, ◌^◌, arith, Bool, true, false, if◌then◌else◌, List, [], ◌++◌, Option, None, Result, Ok, Err, refl, sym, ◌∙◌, ap, subst}
+use Rattle.std.proofs.Common.{◌≡◌, inl, inr, ℕ, ◌+◌, ◌<◌, ◌-◌, ◌^◌, arith, Bool, true, false, if◌then◌else◌, List, [], ◌++◌, Option, None, Result, Ok, Err, refl, sym, ◌∙◌, ap, subst}
 use Rattle.std.proofs.lemmas.List.{append-nil}
 use Rattle.fjall_base.specs.Store.{Store, Command, fold, kept}
 use Rattle.fjall_base.specs.Disk.{LeavesOnly, Meaning, state_in}
@@ -12,7 +12,6 @@ use Rattle.fjall_files.specs.Tidy.{IsTidy}
 use Rattle.fjall_journal.specs.Writer.{Journal, written_out}
 use Rattle.fjall_manager.specs.Journals.{Journals, next_journal}
 use Rattle.fjall_manager.specs.Rotations.{RotationTook, sealed_of}
-use Rattle.fjall_maps.specs.Maps.{store_of}
 use Rattle.fjall_recovery.specs.Places.{Journaling}
 use Rattle.fjall_commit.specs.Journaling.{IsWriting}
 use Rattle.fjall_commit.specs.Rotations.{LeavesRotation, rotated}
@@ -24,6 +23,11 @@ use Rattle.fjall_state.specs.Machine.{first_due, journal_refusals}
 use Rattle.fjall_state.specs.Remembered.{Remembered, facts_of, poisoned}
 use Rattle.fjall_state.specs.Shapes.{OfJournalRotation}
 use Rattle.fjall_state.proofs.Dues.{may_rotate}
+use Rattle.fjall_table.specs.Blocks.{Entry}
+use Rattle.fjall_maps.specs.Tables.{store_with}
+use Rattle.fjall_recovery.specs.Halves.{is_of_keyspaces}
+use Rattle.fjall_commit.proofs.KeepingKeyspaces.{journal_apart}
+use Rattle.fjall_commit.proofs.KeptHomes.{rotated_homes, unrotated_homes}
 use Rattle.fjall_core.specs.Holding.{Held}
 use Rattle.fjall_core.specs.CallParts.{Turns, WentOver}
 use Rattle.fjall_core.specs.Crashes.{is_io}
@@ -35,6 +39,7 @@ use Rattle.fjall_core.proofs.KeyspacesUnchanged.{tree_along}
 use Rattle.fjall_core.proofs.Refusals.{no_sync}
 use Rattle.fjall_core.proofs.ServedCalls.{led_by, memory_owes, memory_serves, serves_by}
 use Rattle.fjall_core.proofs.Syncs.{synced_passes}
+use Rattle.fjall_core.proofs.TablesAtHome.{KeepsReads, all_stay, carry_all, keeps_homes, outside_ill}
 
 -- what is due, as it was looked for in a core's memory
 pub journal_due : (view core : Held) → view ≡ core → (first : Option Error) → first ≡ first_due (journal_refusals (facts_of view.memory 0)) → held_due core OfJournalRotation ≡ first
@@ -94,29 +99,29 @@ module _ (old new : Held) (base : Store) (pending : List Command) (lies : Lies o
 
 -- ---- where it leads
 
-same_present : (old new : Held) → RotatesJournal old new → kept (store_of old.memory.keyspaces old.memory.trees) ≡ kept (store_of new.memory.keyspaces new.memory.trees)
-same_present old new turns = ap (λ (m : Remembered). kept (store_of m.keyspaces m.trees)) (sym turns.memory_is)
+same_present : (entries : ℕ → List (List Entry)) (old new : Held) → RotatesJournal old new → kept (store_with entries old.memory.keyspaces old.memory.trees) ≡ kept (store_with entries new.memory.keyspaces new.memory.trees)
+same_present entries old new turns = ap (λ (m : Remembered). kept (store_with entries m.keyspaces m.trees)) (sym turns.memory_is)
 
-turn_settles : (old new : Held) (d : Durable) → old.memory.poisoned ≡ false → RotatesJournal old new → WentOver old.disk new.disk old.journal new.journal old.memory.journals.active true → StandsOn old d → Settles new d []
-turn_settles old new d well turns over = settles_on old new d [] (λ base pending on.
+turn_settles : (entries : ℕ → List (List Entry)) (old new : Held) (d : Durable) → old.memory.poisoned ≡ false → RotatesJournal old new → WentOver old.disk new.disk old.journal new.journal old.memory.journals.active true → StandsOn old entries d → Settles entries new d []
+turn_settles entries old new d well turns over = settles_on entries old new d [] (λ base pending on.
     let lies = on.lies well in
     let after = turn_lies old new base pending lies turns over in
-    let still = stands_well new (fold base pending) [] (ap (λ (m : Remembered). m.poisoned) turns.memory_is ∙ well) after (present_of old (held_on old base pending) false well on ∙ same_present old new turns) in
+    let still = stands_well entries new (fold base pending) [] (ap (λ (m : Remembered). m.poisoned) turns.memory_is ∙ well) after (present_of entries old (held_on old base pending) false well on ∙ same_present entries old new turns) in
     (held_on new (fold base pending) [], still, synced_passes old new base pending (turn_leaves old new base pending lies true over) still.rests, refl))
 
-turn_fails : (old new : Held) (d : Durable) → old.memory.poisoned ≡ false → Poisons old new → WentOver old.disk new.disk old.journal new.journal old.memory.journals.active false → StandsOn old d → Leads new d []
-turn_fails old new d well fault over = leads_on old new d [] (λ base pending on.
+turn_fails : (entries : ℕ → List (List Entry)) (old new : Held) (d : Durable) → old.memory.poisoned ≡ false → Poisons old.memory old new → WentOver old.disk new.disk old.journal new.journal old.memory.journals.active false → StandsOn old entries d → Leads entries new d []
+turn_fails entries old new d well fault over = leads_on entries old new d [] (λ base pending on.
     let lies = on.lies well in
     let leaves = turn_leaves old new base pending lies false over in
     let rests : Rests (held_on new base (pending ++ [])) = at_end old.disk new.disk _ leaves in
-    let was = present_of old (held_on old base pending) false well on ∙ ap (λ (m : Remembered). kept (store_of m.keyspaces m.trees)) (sym fault.memory_is) in
-    let still = stands_ill new base (pending ++ []) (ap (λ (m : Remembered). m.poisoned) fault.memory_is) rests (turn_finished old new base pending lies false over) (inl (ap (λ (l : List Command). kept (fold base l)) (append-nil pending) ∙ was)) in
+    let was = present_of entries old (held_on old base pending) false well on ∙ ap (λ (m : Remembered). kept (store_with entries m.keyspaces m.trees)) (sym fault.memory_is) in
+    let still = stands_ill entries new base (pending ++ []) (ap (λ (m : Remembered). m.poisoned) fault.memory_is) rests (turn_finished old new base pending lies false over) (inl (ap (λ (l : List Command). kept (fold base l)) (append-nil pending) ∙ was)) in
     (held_on new base (pending ++ []), still, record { leaves = leaves; safe = []; base = refl; rest = refl; rests = rests }))
 
 -- no call was one that no disk can serve, where nothing stands in the way
-turn_served : (old : Held) (new : Held) (d : Durable) (done : Bool) → old.memory.poisoned ≡ false → old.memory.journals.active < 2 ^ 64 - 2 → WentOver old.disk new.disk old.journal new.journal old.memory.journals.active done
-    → StandsOn old d → IsTidy (state_in old.disk) → new.disk.misuses ≡ old.disk.misuses
-turn_served old new d done well numbered over on tidy =
+turn_served : (entries : ℕ → List (List Entry)) (old : Held) (new : Held) (d : Durable) (done : Bool) → old.memory.poisoned ≡ false → old.memory.journals.active < 2 ^ 64 - 2 → WentOver old.disk new.disk old.journal new.journal old.memory.journals.active done
+    → StandsOn old entries d → IsTidy (state_in old.disk) → new.disk.misuses ≡ old.disk.misuses
+turn_served entries old new d done well numbered over on tidy =
     let lies = on.lies well in
     let next = old.memory.journals.active + 1 in
     over.served lies.journals (subst (λ (m : Meaning). IsWriting (state_in m) old.journal lies.journals) on.same lies.writing) lies.told.active
@@ -127,22 +132,39 @@ turn_served old new d done well numbered over on tidy =
 is_well : (core : Held) → held_due core OfJournalRotation ≡ None → core.memory.poisoned ≡ false
 is_well core none = (may_rotate (facts_of core.memory core.catalog.next_table_id) none).0
 
+next_apart : (core : Held) → held_due core OfJournalRotation ≡ None → is_of_keyspaces (next_name core) ≡ false
+next_apart core none = let small = is_numbered core none in journal_apart (core.memory.journals.active + 1) (omega (arith, small))
+
 pub turned_owes : (honest : Type 0) (old new : Held) (result : Result Unit Error) → held_due old OfJournalRotation ≡ None → Turns honest old result new → Owes old OfJournalRotation (reply_of result) new
 turned_owes honest old new (Ok _) none t = (none, (refl, t.0))
 turned_owes honest old new (Err (Io kind)) none t =
-    subst (λ first. OwesRefusal first old OfJournalRotation (Io kind) new) (sym none) (tt, record { memory_is = t.0; faults = t.1 })
+    subst (λ first. OwesRefusal first old OfJournalRotation (Io kind) new) (sym none) (inl (tt, record { memory_is = t.0; faults = t.1 }))
 turned_owes honest old new (Err error) none t =
     subst (λ (h : Held). Owes old OfJournalRotation (Refused error) h) (sym t.0) (subst (λ e. Owes old OfJournalRotation (Refused e) old) (sym t.1) (memory_owes old OfJournalRotation tt none))
 
+-- its disk keeps the tables
+turned_keeps : (honest : Type 0) (old new : Held) → held_due old OfJournalRotation ≡ None → Turns honest old (Ok tt) new → honest → KeepsReads old new
+turned_keeps honest old new none t h =
+    let next : is_of_keyspaces (next_name old) ≡ false = next_apart old none in
+    keeps_homes old new (carry_all old.memory.trees new.memory.trees (ap (λ (m : Remembered). m.trees) t.0.memory_is))
+    (λ s stands reads. all_stay old.disk new.disk new.memory.trees (rotated_homes old.disk new.disk old.journal (next_name old) (reads.writer (is_well old none)) next (t.1 h)))
+    (λ out well. ap (λ (j : Journal). is_of_keyspaces j.name) t.0.journal ∙ next)
+
+unturned_keeps : (honest : Type 0) (old new : Held) (kind : _) → held_due old OfJournalRotation ≡ None → Turns honest old (Err (Io kind)) new → honest → KeepsReads old new
+unturned_keeps honest old new kind none t h =
+    keeps_homes old new (carry_all old.memory.trees new.memory.trees (ap (λ (m : Remembered). m.trees) t.0))
+    (λ s stands reads. all_stay old.disk new.disk new.memory.trees (unrotated_homes old.disk new.disk old.journal (next_name old) (reads.writer (is_well old none)) (next_apart old none) new.journal (t.2 h)))
+    (outside_ill old new (ap (λ (m : Remembered). m.poisoned) t.0))
+
 pub turned_serves : (honest : Type 0) (old new : Held) (result : Result Unit Error) → held_due old OfJournalRotation ≡ None → Turns honest old result new → honest → Serves old OfJournalRotation (reply_of result) new
 turned_serves honest old new (Ok _) none t h =
-    serves_by old new OfJournalRotation Done (turned_owes honest old new (Ok tt) none t) (t.1 h) (t.2 h).kinds
-    (λ s d stands on tidy. turn_served old new d true (is_well old none) (is_numbered old none) (t.2 h) on tidy)
-    (λ s d stands on. let led = turn_settles old new d (is_well old none) t.0 (t.2 h) on in (led.0, led.1, (led.2, λ _. led.3)))
+    serves_by old new OfJournalRotation Done (turned_owes honest old new (Ok tt) none t) (λ reads. reads) (t.1 h) (t.2 h).kinds (turned_keeps honest old new none t h)
+    (λ s d stands on tidy. turn_served s.parts.entries old new d true (is_well old none) (is_numbered old none) (t.2 h) on tidy)
+    (λ s d stands on. let led = turn_settles s.parts.entries old new d (is_well old none) t.0 (t.2 h) on in (led.0, led.1, (led.2, λ _. led.3)))
 turned_serves honest old new (Err (Io kind)) none t h =
-    serves_by old new OfJournalRotation (Refused (Io kind)) (turned_owes honest old new (Err (Io kind)) none t) (t.2 h) (t.3 h).kinds
-    (λ s d stands on tidy. record { rose = t.1; served = turn_served old new d false (is_well old none) (is_numbered old none) (t.3 h) on tidy })
-    (λ s d stands on. led_by new s d OfJournalRotation (Refused (Io kind)) [] refl (no_sync s OfJournalRotation (Io kind)) (turn_fails old new d (is_well old none) (record { memory_is = t.0; faults = t.1 }) (t.3 h) on))
+    serves_by old new OfJournalRotation (Refused (Io kind)) (turned_owes honest old new (Err (Io kind)) none t) (λ reads. reads) (t.2 h) (t.3 h).kinds (unturned_keeps honest old new kind none t h)
+    (λ s d stands on tidy. record { rose = t.1; served = turn_served s.parts.entries old new d false (is_well old none) (is_numbered old none) (t.3 h) on tidy })
+    (λ s d stands on. led_by new s d OfJournalRotation (Refused (Io kind)) [] refl (no_sync s OfJournalRotation (Io kind)) (turn_fails s.parts.entries old new d (is_well old none) (record { memory_is = t.0; faults = t.1 }) (t.3 h) on))
 turned_serves honest old new (Err error) none t h =
     subst (λ (x : Held). Serves old OfJournalRotation (Refused error) x) (sym t.0) (subst (λ e. Serves old OfJournalRotation (Refused e) old) (sym t.1) (memory_serves old OfJournalRotation tt none))
 

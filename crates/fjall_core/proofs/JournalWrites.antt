@@ -19,15 +19,16 @@ use Rattle.fjall_journal.specs.declared.persist_mode.PersistMode.TheVariants.{Bu
 use Rattle.fjall_meta.specs.declared.living.LivingKeyspace.{LivingKeyspace}
 use Rattle.fjall_meta.specs.Keyspaces.{Keyspaces, keyspace_at}
 use Rattle.fjall_versions.specs.Replays.{counts, first_fault, journal_commands}
-use Rattle.fjall_maps.specs.Maps.{store_of}
+use Rattle.fjall_table.specs.Blocks.{Entry}
+use Rattle.fjall_maps.specs.Tables.{AreOlder, pairs_with, store_with}
 use Rattle.fjall_versions.proofs.Found.{found_has}
 use Rattle.fjall_versions.proofs.Kept.{kept_along}
 use Rattle.fjall_versions.proofs.Naming.{living_names}
 use Rattle.fjall_versions.proofs.Slots.{fold-append}
 use Rattle.fjall_versions.proofs.Writes.{batch_command, clear_command}
-use Rattle.fjall_maps.proofs.Emptied.{emptied_store}
-use Rattle.fjall_maps.proofs.Pushed.{pushed_store}
-use Rattle.fjall_maps.proofs.Reading.{store_is_kept}
+use Rattle.fjall_maps.proofs.Emptied.{clear_with}
+use Rattle.fjall_maps.proofs.Pushed.{write_with}
+use Rattle.fjall_maps.proofs.Stores.{kept_by}
 use Rattle.fjall_catalog.specs.Catalog.{fields}
 use Rattle.fjall_contents.proofs.Following.{beyond_all}
 use Rattle.fjall_recovery.specs.Homes.{lasts, stored_in}
@@ -46,55 +47,55 @@ use Rattle.fjall_core.specs.Holding.{Held}
 use Rattle.fjall_core.specs.Durables.{Durable, Lies, MakesPresent, Passes, Rests, StandsAmid, StaysFinished, AreKnown}
 use Rattle.fjall_core.specs.CallParts.{WentOut}
 use Rattle.fjall_core.specs.Crashes.{IsSyncOf}
-use Rattle.fjall_core.specs.Standing.{Poisons, StandsOn, store_in}
+use Rattle.fjall_core.specs.Standing.{Poisons, StandsOn, store_in, store_with_tables}
 use Rattle.fjall_core.proofs.KeyspacesUnchanged.{tree_along}
 use Rattle.fjall_commit.proofs.CrashedJournals.{commanded, commands_more, kept_with}
 use Rattle.fjall_core.proofs.CrashImages.{leaves_finished, lies_rest, root_amid, root_finished}
 
 -- the core stands on some disk now, to which these commands lead
-abbrev pub Leads : Held → Durable → List Command → Type 0
-Leads new d tried = (e : Durable) × StandsOn new e × Passes d tried e
+abbrev pub Leads : (ℕ → List (List Entry)) → Held → Durable → List Command → Type 0
+Leads entries new d tried = (e : Durable) × StandsOn new entries e × Passes d tried e
 
 -- a core's disk with this base and this pending
 abbrev pub held_on : Held → Store → List Command → Durable
 held_on core base pending = record { meaning = core.disk; base = base; pending = pending }
 
 -- it is enough to look at the core's own disk
-pub leads_on : (old new : Held) (d : Durable) (tried : List Command) → ((base : Store) (pending : List Command) → StandsOn old (held_on old base pending) → Leads new (held_on old base pending) tried) → StandsOn old d → Leads new d tried
-leads_on old new d tried leads stands =
+pub leads_on : (entries : ℕ → List (List Entry)) (old new : Held) (d : Durable) (tried : List Command) → ((base : Store) (pending : List Command) → StandsOn old entries (held_on old base pending) → Leads entries new (held_on old base pending) tried) → StandsOn old entries d → Leads entries new d tried
+leads_on entries old new d tried leads stands =
     let here : d ≡ held_on old d.base d.pending = λ i. record { meaning = stands.same i; base = d.base; pending = d.pending } in
-    subst (λ (x : Durable). Leads new x tried) (sym here) (leads d.base d.pending (subst (λ (x : Durable). StandsOn old x) here stands))
+    subst (λ (x : Durable). Leads entries new x tried) (sym here) (leads d.base d.pending (subst (λ (x : Durable). StandsOn old entries x) here stands))
 
 -- the same, and nothing is pending any more
-abbrev pub Settles : Held → Durable → List Command → Type 0
-Settles new d tried = (e : Durable) × StandsOn new e × Passes d tried e × (e.pending ≡ [])
+abbrev pub Settles : (ℕ → List (List Entry)) → Held → Durable → List Command → Type 0
+Settles entries new d tried = (e : Durable) × StandsOn new entries e × Passes d tried e × (e.pending ≡ [])
 
-pub settles_on : (old new : Held) (d : Durable) (tried : List Command) → ((base : Store) (pending : List Command) → StandsOn old (held_on old base pending) → Settles new (held_on old base pending) tried) → StandsOn old d → Settles new d tried
-settles_on old new d tried settles stands =
+pub settles_on : (entries : ℕ → List (List Entry)) (old new : Held) (d : Durable) (tried : List Command) → ((base : Store) (pending : List Command) → StandsOn old entries (held_on old base pending) → Settles entries new (held_on old base pending) tried) → StandsOn old entries d → Settles entries new d tried
+settles_on entries old new d tried settles stands =
     let here : d ≡ held_on old d.base d.pending = λ i. record { meaning = stands.same i; base = d.base; pending = d.pending } in
-    subst (λ (x : Durable). Settles new x tried) (sym here) (settles d.base d.pending (subst (λ (x : Durable). StandsOn old x) here stands))
+    subst (λ (x : Durable). Settles entries new x tried) (sym here) (settles d.base d.pending (subst (λ (x : Durable). StandsOn old entries x) here stands))
 
-pub present_of : (core : Held) (d : Durable) (flag : Bool) → core.memory.poisoned ≡ flag → StandsOn core d → MakesPresent flag d (store_in core)
-present_of core d flag is stands = subst (λ b. MakesPresent b d (store_in core)) is stands.present
+pub present_of : (entries : ℕ → List (List Entry)) (core : Held) (d : Durable) (flag : Bool) → core.memory.poisoned ≡ flag → StandsOn core entries d → MakesPresent flag d (store_with_tables entries core)
+present_of entries core d flag is stands = subst (λ b. MakesPresent b d (store_with_tables entries core)) is stands.present
 
 -- a core that no fault has poisoned stands where base and pending lie
-pub stands_well : (core : Held) (base : Store) (pending : List Command) → core.memory.poisoned ≡ false → Lies core (held_on core base pending) → kept (fold base pending) ≡ kept (store_in core) → StandsOn core (held_on core base pending)
-stands_well core base pending well lies present = record {
+pub stands_well : (entries : ℕ → List (List Entry)) (core : Held) (base : Store) (pending : List Command) → core.memory.poisoned ≡ false → Lies core (held_on core base pending) → kept (fold base pending) ≡ kept (store_with_tables entries core) → StandsOn core entries (held_on core base pending)
+stands_well entries core base pending well lies present = record {
   same = refl;
   rests = lies_rest core (held_on core base pending) lies;
   finished = root_finished (state_in core.disk) lies.journals lies.writing.root;
   lies = λ _. lies;
-  present = subst (λ b. MakesPresent b (held_on core base pending) (store_in core)) (sym well) present;
+  present = subst (λ b. MakesPresent b (held_on core base pending) (store_with_tables entries core)) (sym well) present;
 }
 
 -- and one that a fault has poisoned where it rests
-pub stands_ill : (core : Held) (base : Store) (pending : List Command) → core.memory.poisoned ≡ true → Rests (held_on core base pending) → StaysFinished (state_in core.disk) → MakesPresent true (held_on core base pending) (store_in core) → StandsOn core (held_on core base pending)
-stands_ill core base pending ill rests finished present = record {
+pub stands_ill : (entries : ℕ → List (List Entry)) (core : Held) (base : Store) (pending : List Command) → core.memory.poisoned ≡ true → Rests (held_on core base pending) → StaysFinished (state_in core.disk) → MakesPresent true (held_on core base pending) (store_with_tables entries core) → StandsOn core entries (held_on core base pending)
+stands_ill entries core base pending ill rests finished present = record {
   same = refl;
   rests = rests;
   finished = finished;
   lies = λ well. absurd (true≢false (sym ill ∙ well));
-  present = subst (λ b. MakesPresent b (held_on core base pending) (store_in core)) (sym ill) present;
+  present = subst (λ b. MakesPresent b (held_on core base pending) (store_with_tables entries core)) (sym ill) present;
 }
 
 -- ---- a change that nothing refuses
@@ -155,22 +156,22 @@ is_found : (core : Held) (id : ℕ) → is_living (store_in core) id ≡ true �
 is_found core id is = sym (living_names core.memory.keyspaces [] id) ∙ is
 
 -- a change more in memory is one command more
-change_store : (old : Held) (change : Change) → IsAdmitted old change → kept (apply (store_in old) (command_of change)) ≡ store_of old.memory.keyspaces (with_change change old.memory).trees
-change_store old (Items items) admitted =
+change_store : (entries : ℕ → List (List Entry)) (old : Held) (change : Change) → IsAdmitted old change → AreOlder old.memory.trees entries → kept (apply (store_with_tables entries old) (command_of change)) ≡ store_with entries old.memory.keyspaces (with_change change old.memory).trees
+change_store entries old (Items items) admitted older =
     let is = admitted.lawful in
-    pushed_store old.memory.next items old.memory.trees (record { forest = is.forest; before = is.below; small = admitted.room; fits = admitted.fits }) old.memory.keyspaces is.planted
+    write_with entries old.memory.next items old.memory.trees (record { forest = is.forest; before = is.below; small = admitted.room; fits = admitted.fits }) older old.memory.keyspaces is.planted
     (All-weaker (λ (i : BatchItem). is_living (store_in old) i.0 ≡ true) (λ (i : BatchItem). is_some (keyspace_at i.0 old.memory.keyspaces.living) ≡ true) (λ i there. is_found old i.0 there) items admitted.living)
-change_store old (Emptied id) admitted =
+change_store entries old (Emptied id) admitted older =
     let is = admitted.lawful in
-    emptied_store old.memory.next id old.memory.trees is.forest is.below admitted.room old.memory.keyspaces (is_found old id admitted.living)
+    clear_with entries old.memory.next id old.memory.trees is.forest older is.below admitted.room old.memory.keyspaces
 
-pub present_more : (old new : Held) (base : Store) (pending : List Command) (change : Change) → IsAdmitted old change → new.memory ≡ with_change change old.memory → kept (fold base pending) ≡ kept (store_in old)
-    → kept (fold base (pending ++ command_of change ∷ [])) ≡ kept (store_in new)
-present_more old new base pending change admitted is was =
+pub present_more : (entries : ℕ → List (List Entry)) (old new : Held) (base : Store) (pending : List Command) (change : Change) → IsAdmitted old change → AreOlder old.memory.trees entries → new.memory ≡ with_change change old.memory → kept (fold base pending) ≡ kept (store_with_tables entries old)
+    → kept (fold base (pending ++ command_of change ∷ [])) ≡ kept (store_with_tables entries new)
+present_more entries old new base pending change admitted older is was =
     ap kept (fold-append base pending (command_of change ∷ []))
-    ∙ kept_along (fold base pending) (store_in old) (command_of change ∷ []) was
-    ∙ change_store old change admitted ∙ sym (store_is_kept old.memory.keyspaces (with_change change old.memory).trees)
-    ∙ ap (λ (m : Remembered). kept (store_of m.keyspaces m.trees)) (sym is)
+    ∙ kept_along (fold base pending) (store_with_tables entries old) (command_of change ∷ []) was
+    ∙ change_store entries old change admitted older ∙ sym (kept_by (λ q. pairs_with entries q (2 ^ 63) (with_change change old.memory).trees) old.memory.keyspaces)
+    ∙ ap (λ (m : Remembered). kept (store_with entries m.keyspaces m.trees)) (sym is)
 
 -- what the change did to the disk and to the journal's writer
 abbrev pub Wrote : Held → Held → Change → Option PersistMode → Bool → Type 0
@@ -292,25 +293,25 @@ module _ (old new : Held) (base : Store) (pending : List Command) (change : Chan
       ∙ ap (λ (l : List Journal). store_held t.keyspaces (stored_in t.homes t.versions) (map shown (batches_in l))) (sym synced_too)
 
 -- a change that waits, or is in the file and isn't synced
-unsynced_leads : (old new : Held) (change : Change) (mode : Option PersistMode) (base : Store) (pending : List Command) (admitted : IsAdmitted old change) → GoesOn old new change → (stands : StandsOn old (held_on old base pending))
-    → Wrote old new change mode true → Lies new (held_on new base (pending ++ command_of change ∷ [])) → Leads new (held_on old base pending) (command_of change ∷ [])
-unsynced_leads old new change mode base pending admitted goes stands out after =
+unsynced_leads : (entries : ℕ → List (List Entry)) (old new : Held) (change : Change) (mode : Option PersistMode) (base : Store) (pending : List Command) (admitted : IsAdmitted old change) → AreOlder old.memory.trees entries → GoesOn old new change → (stands : StandsOn old entries (held_on old base pending))
+    → Wrote old new change mode true → Lies new (held_on new base (pending ++ command_of change ∷ [])) → Leads entries new (held_on old base pending) (command_of change ∷ [])
+unsynced_leads entries old new change mode base pending admitted older goes stands out after =
     let command = command_of change in
     let well : new.memory.poisoned ≡ false = ap (λ (m : Remembered). m.poisoned) goes.memory_is ∙ admitted.well in
-    let on = stands_well new base (pending ++ command ∷ []) well after (present_more old new base pending change admitted goes.memory_is (present_of old (held_on old base pending) false admitted.well stands)) in (
+    let on = stands_well entries new base (pending ++ command ∷ []) well after (present_more entries old new base pending change admitted older goes.memory_is (present_of entries old (held_on old base pending) false admitted.well stands)) in (
       held_on new base (pending ++ command ∷ []),
       on,
       record { leaves = change_leaves old new base pending change mode true admitted (stands.lies admitted.well) out; safe = []; base = refl; rest = refl; rests = on.rests },
     )
 
 -- a change that was synced: nothing is pending
-synced_settles : (old new : Held) (change : Change) (mode : PersistMode) (base : Store) (pending : List Command) (admitted : IsAdmitted old change) → GoesOn old new change → (stands : StandsOn old (held_on old base pending))
-    → Wrote old new change (Some mode) true → Lies new (held_on new (fold base (pending ++ command_of change ∷ [])) []) → Settles new (held_on old base pending) (command_of change ∷ [])
-synced_settles old new change mode base pending admitted goes stands out after =
+synced_settles : (entries : ℕ → List (List Entry)) (old new : Held) (change : Change) (mode : PersistMode) (base : Store) (pending : List Command) (admitted : IsAdmitted old change) → AreOlder old.memory.trees entries → GoesOn old new change → (stands : StandsOn old entries (held_on old base pending))
+    → Wrote old new change (Some mode) true → Lies new (held_on new (fold base (pending ++ command_of change ∷ [])) []) → Settles entries new (held_on old base pending) (command_of change ∷ [])
+synced_settles entries old new change mode base pending admitted older goes stands out after =
     let command = command_of change in
     let all = pending ++ command ∷ [] in
     let well : new.memory.poisoned ≡ false = ap (λ (m : Remembered). m.poisoned) goes.memory_is ∙ admitted.well in
-    let on = stands_well new (fold base all) [] well after (present_more old new base pending change admitted goes.memory_is (present_of old (held_on old base pending) false admitted.well stands)) in (
+    let on = stands_well entries new (fold base all) [] well after (present_more entries old new base pending change admitted older goes.memory_is (present_of entries old (held_on old base pending) false admitted.well stands)) in (
       held_on new (fold base all) [],
       on,
       record { leaves = change_leaves old new base pending change (Some mode) true admitted (stands.lies admitted.well) out; safe = all; base = refl; rest = append-nil all; rests = on.rests },
@@ -318,56 +319,56 @@ synced_settles old new change mode base pending admitted goes stands out after =
     )
 
 -- what a change that was done leads to: where its mode syncs, nothing is pending
-abbrev pub LeadsBy : Held → Durable → Change → Option PersistMode → Type 0
-LeadsBy new d change mode = (e : Durable) × StandsOn new e × Passes d (command_of change ∷ []) e × (IsSyncOf mode → e.pending ≡ [])
+abbrev pub LeadsBy : (ℕ → List (List Entry)) → Held → Durable → Change → Option PersistMode → Type 0
+LeadsBy entries new d change mode = (e : Durable) × StandsOn new entries e × Passes d (command_of change ∷ []) e × (IsSyncOf mode → e.pending ≡ [])
 
 -- that the batch was written as the mode has it
 writes_so : (old new : Held) (base : Store) (pending : List Command) (change : Change) (mode : Option PersistMode) → IsAdmitted old change → (lies : Lies old (held_on old base pending)) → Wrote old new change mode true
     → IsWriting (state_in new.disk) new.journal (after_mode mode (with_batch (is_out mode old.journal (batch_of old change)) lies.journals (batch_of old change)))
 writes_so old new base pending change mode admitted lies out = out.lies refl lies.journals lies.writing (it_follows old base pending admitted.room lies)
 
-pub write_leads : (old new : Held) (change : Change) (mode : Option PersistMode) (d : Durable) → IsAdmitted old change → GoesOn old new change → Wrote old new change mode true → StandsOn old d → LeadsBy new d change mode
-write_leads old new change None d admitted goes out stands =
-    let led = leads_on old new d (command_of change ∷ []) (λ base pending on.
+pub write_leads : (entries : ℕ → List (List Entry)) (old new : Held) (change : Change) (mode : Option PersistMode) (d : Durable) → IsAdmitted old change → AreOlder old.memory.trees entries → GoesOn old new change → Wrote old new change mode true → StandsOn old entries d → LeadsBy entries new d change mode
+write_leads entries old new change None d admitted older goes out stands =
+    let led = leads_on entries old new d (command_of change ∷ []) (λ base pending on.
     let lies = on.lies admitted.well in
     let writes = writes_so old new base pending change None admitted lies out in
     let goes_out = is_out None old.journal (batch_of old change) in
-    unsynced_leads old new change None base pending admitted goes on out
+    unsynced_leads entries old new change None base pending admitted older goes on out
     (pending_lies old new base pending change None admitted goes lies out goes_out writes lies.made (waits_too old new base pending change None admitted goes lies out goes_out writes))) stands in
     (led.0, led.1, led.2, λ sync. absurd sync)
-write_leads old new change (Some Buffer) d admitted goes out stands =
-    let led = leads_on old new d (command_of change ∷ []) (λ base pending on.
+write_leads entries old new change (Some Buffer) d admitted older goes out stands =
+    let led = leads_on entries old new d (command_of change ∷ []) (λ base pending on.
     let lies = on.lies admitted.well in
     let writes = writes_so old new base pending change (Some Buffer) admitted lies out in
     let goes_out = is_out (Some Buffer) old.journal (batch_of old change) in
-    unsynced_leads old new change (Some Buffer) base pending admitted goes on out
+    unsynced_leads entries old new change (Some Buffer) base pending admitted older goes on out
     (pending_lies old new base pending change (Some Buffer) admitted goes lies out goes_out writes lies.made (waits_too old new base pending change (Some Buffer) admitted goes lies out goes_out writes))) stands in
     (led.0, led.1, led.2, λ sync. absurd sync)
-write_leads old new change (Some SyncData) d admitted goes out stands =
-    let led = settles_on old new d (command_of change ∷ []) (λ base pending on.
+write_leads entries old new change (Some SyncData) d admitted older goes out stands =
+    let led = settles_on entries old new d (command_of change ∷ []) (λ base pending on.
     let lies = on.lies admitted.well in
     let writes = writes_so old new base pending change (Some SyncData) admitted lies out in
     let goes_out = is_out (Some SyncData) old.journal (batch_of old change) in
-    synced_settles old new change SyncData base pending admitted goes on out
+    synced_settles entries old new change SyncData base pending admitted older goes on out
     (settled_lies old new base pending change (Some SyncData) admitted goes lies out goes_out writes (settled_made old new base pending change (Some SyncData) admitted goes lies out goes_out writes) refl)) stands in
     (led.0, led.1, led.2, λ _. led.3)
-write_leads old new change (Some SyncAll) d admitted goes out stands =
-    let led = settles_on old new d (command_of change ∷ []) (λ base pending on.
+write_leads entries old new change (Some SyncAll) d admitted older goes out stands =
+    let led = settles_on entries old new d (command_of change ∷ []) (λ base pending on.
     let lies = on.lies admitted.well in
     let writes = writes_so old new base pending change (Some SyncAll) admitted lies out in
     let goes_out = is_out (Some SyncAll) old.journal (batch_of old change) in
-    synced_settles old new change SyncAll base pending admitted goes on out
+    synced_settles entries old new change SyncAll base pending admitted older goes on out
     (settled_lies old new base pending change (Some SyncAll) admitted goes lies out goes_out writes (settled_made old new base pending change (Some SyncAll) admitted goes lies out goes_out writes) refl)) stands in
     (led.0, led.1, led.2, λ _. led.3)
 
 -- a change that a fault refused: a crash may leave it or not
-pub torn_leads : (old new : Held) (change : Change) (mode : Option PersistMode) (d : Durable) → IsAdmitted old change → Poisons old new → Wrote old new change mode false → StandsOn old d → Leads new d (command_of change ∷ [])
-torn_leads old new change mode d admitted fault out = leads_on old new d (command_of change ∷ []) (λ base pending stands.
+pub torn_leads : (entries : ℕ → List (List Entry)) (old new : Held) (change : Change) (mode : Option PersistMode) (d : Durable) → IsAdmitted old change → Poisons old.memory old new → Wrote old new change mode false → StandsOn old entries d → Leads entries new d (command_of change ∷ [])
+torn_leads entries old new change mode d admitted fault out = leads_on entries old new d (command_of change ∷ []) (λ base pending stands.
     let command = command_of change in
     let lies = stands.lies admitted.well in
     let leaves = change_leaves old new base pending change mode false admitted lies out in
     let finished = leaves_finished old.disk new.disk (state_in old.disk) lies.journals _ (out.leaves lies.journals lies.writing (it_follows old base pending admitted.room lies)) in
     let rests : Rests (held_on new base (pending ++ command ∷ [])) = at_end old.disk new.disk _ leaves in
-    let was = present_of old (held_on old base pending) false admitted.well stands ∙ ap (λ (m : Remembered). kept (store_of m.keyspaces m.trees)) (sym fault.memory_is) in
-    let on = stands_ill new base (pending ++ command ∷ []) (ap (λ (m : Remembered). m.poisoned) fault.memory_is) rests finished (inr (pending, command, refl, was)) in
+    let was = present_of entries old (held_on old base pending) false admitted.well stands ∙ ap (λ (m : Remembered). kept (store_with entries m.keyspaces m.trees)) (sym fault.memory_is) in
+    let on = stands_ill entries new base (pending ++ command ∷ []) (ap (λ (m : Remembered). m.poisoned) fault.memory_is) rests finished (inr (pending, command, refl, was)) in
     (held_on new base (pending ++ command ∷ []), on, record { leaves = leaves; safe = []; base = refl; rest = refl; rests = rests }))

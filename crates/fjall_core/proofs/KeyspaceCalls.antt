@@ -1,20 +1,21 @@
 -- Where a creation, a deletion and a release lead a core and its disk.
-use Rattle.std.proofs.Common.{◌≡◌, inl, inr, Bool, true, false, List, [], ◌∷◌, ◌++◌, refl, sym, ◌∙◌, ap, subst, codes}
+use Rattle.std.proofs.Common.{◌≡◌, inl, inr, ℕ, Bool, true, false, List, [], ◌∷◌, ◌++◌, refl, sym, ◌∙◌, ap, subst, codes}
 use Rattle.std.proofs.lemmas.List.{append-nil}
 use Rattle.fjall_base.specs.Store.{Store, Command, apply, fold, kept}
 use Rattle.fjall_base.specs.Disk.{LeavesOnly, state_in}
 use Rattle.fjall_base.proofs.Moments.{at_end, runs_on, weaken}
 use Rattle.fjall_files.specs.Regions.{Within}
 use Rattle.fjall_journal.specs.declared.persist_mode.PersistMode.TheVariants.{SyncAll}
-use Rattle.fjall_maps.specs.Maps.{store_of}
+use Rattle.fjall_maps.specs.Tables.{store_with}
 use Rattle.fjall_versions.proofs.Kept.{kept_along}
 use Rattle.fjall_recovery.specs.Halves.{HasTree}
 use Rattle.fjall_recovery.specs.Places.{LiesInTree}
 use Rattle.fjall_commit.specs.Journaling.{IsWriting}
 use Rattle.fjall_state.specs.Remembered.{Remembered}
+use Rattle.fjall_table.specs.Blocks.{Entry}
 use Rattle.fjall_core.specs.Holding.{Held}
 use Rattle.fjall_core.specs.Durables.{Durable, Lies, MakesPresent, Rests, StandsAmid, AreKnown}
-use Rattle.fjall_core.specs.Standing.{Poisons, StandsOn, store_in}
+use Rattle.fjall_core.specs.Standing.{Poisons, StandsOn, store_with_tables}
 use Rattle.fjall_core.proofs.CatalogChanges.{Changed, change_leaves, changed_settles, ill_leads}
 use Rattle.fjall_core.proofs.CrashesInRuns.{amid_least, amid_more, amid_shift, passes_on, passes_still}
 use Rattle.fjall_core.proofs.CatalogOnDisk.{removal_leaves}
@@ -28,14 +29,14 @@ abbrev pub ChangesTo : Held → Held → Command → Bool → Type 0
 ChangesTo mid new command done = (base : Store) (lies : Lies mid (held_on mid base [])) → lies.journals.later ≡ [] → Changed mid new lies.journals lies.tree command done
 
 -- a change of the keyspaces that was done: nothing is pending
-pub alter_settles : (old mid new : Held) (d : Durable) (command : Command) → old.memory.poisoned ≡ false → StaysSame old mid → Persisted old mid SyncAll true → ChangesTo mid new command true → new.memory.poisoned ≡ false
-    → kept (apply (store_in old) command) ≡ kept (store_in new) → StandsOn old d → Settles new d (command ∷ [])
-alter_settles old mid new d command well same out changes well' present = settles_on old new d (command ∷ []) (λ base pending on.
+pub alter_settles : (entries : ℕ → List (List Entry)) (old mid new : Held) (d : Durable) (command : Command) → old.memory.poisoned ≡ false → StaysSame old mid → Persisted old mid SyncAll true → ChangesTo mid new command true → new.memory.poisoned ≡ false
+    → kept (apply (store_with_tables entries old) command) ≡ kept (store_with_tables entries new) → StandsOn old entries d → Settles entries new d (command ∷ [])
+alter_settles entries old mid new d command well same out changes well' present = settles_on entries old new d (command ∷ []) (λ base pending on.
     let lies = on.lies well in
     let after = sync_lies old mid base pending same lies out in
     let none = sync_empty old mid base pending same lies out in
-    let was = present_of old (held_on old base pending) false well on in
-    let settled = changed_settles mid new (fold base pending) command after none (changes (fold base pending) after none) well' (kept_along (fold base pending) (store_in old) (command ∷ []) was ∙ present) in
+    let was = present_of entries old (held_on old base pending) false well on in
+    let settled = changed_settles entries mid new (fold base pending) command after none (changes (fold base pending) after none) well' (kept_along (fold base pending) (store_with_tables entries old) (command ∷ []) was ∙ present) in
     let first = synced_passes old mid base pending (hand_leaves old mid SyncAll true base pending lies out) (lies_rest mid (held_on mid (fold base pending) []) after) in
     (settled.0, settled.1, passes_on (held_on old base pending) (held_on mid (fold base pending) []) settled.0 [] (command ∷ []) first settled.2, settled.3))
 
@@ -45,15 +46,15 @@ asked_more old new base pending command leaves =
     weaken old.disk new.disk _ _ leaves (λ image s. amid_more base [] pending (command ∷ []) image (subst (λ (l : List Command). StandsAmid base [] l image) (append-nil pending) s))
 
 -- a sync that failed, before any change
-pub unsynced_leads : (old new : Held) (d : Durable) (command : Command) → old.memory.poisoned ≡ false → Poisons old new → Persisted old new SyncAll false → StandsOn old d → Leads new d (command ∷ [])
-unsynced_leads old new d command well fault out =
-    ill_leads old new d command well fault (λ base pending lies. asked_more old new base pending command (hand_leaves old new SyncAll false base pending lies out))
+pub unsynced_leads : (entries : ℕ → List (List Entry)) (old new : Held) (d : Durable) (command : Command) → old.memory.poisoned ≡ false → Poisons old.memory old new → Persisted old new SyncAll false → StandsOn old entries d → Leads entries new d (command ∷ [])
+unsynced_leads entries old new d command well fault out =
+    ill_leads entries old new d command well fault (λ base pending lies. asked_more old new base pending command (hand_leaves old new SyncAll false base pending lies out))
     (λ base pending lies. leaves_finished old.disk new.disk (state_in old.disk) lies.journals _ (out.leaves lies.journals lies.writing))
 
 -- a change that failed
-pub unaltered_leads : (old mid new : Held) (d : Durable) (command : Command) → old.memory.poisoned ≡ false → StaysSame old mid → Persisted old mid SyncAll true → ChangesTo mid new command false → Poisons old new → StandsOn old d
-    → Leads new d (command ∷ [])
-unaltered_leads old mid new d command well same out changes fault = ill_leads old new d command well fault (λ base pending lies.
+pub unaltered_leads : (entries : ℕ → List (List Entry)) (old mid new : Held) (d : Durable) (command : Command) → old.memory.poisoned ≡ false → StaysSame old mid → Persisted old mid SyncAll true → ChangesTo mid new command false → Poisons old.memory old new → StandsOn old entries d
+    → Leads entries new d (command ∷ [])
+unaltered_leads entries old mid new d command well same out changes fault = ill_leads entries old new d command well fault (λ base pending lies.
     let after = sync_lies old mid base pending same lies out in
     let none = sync_empty old mid base pending same lies out in
     let c = changes (fold base pending) after none in
@@ -68,11 +69,11 @@ unaltered_leads old mid new d command well same out changes fault = ill_leads ol
 -- ---- handles
 
 -- What counting handles leaves of a core: keyspaces, number and flag, and what the versions make of the keyspaces.
-pub record Recounts (old new : Held) : Type 0 where
+pub record Recounts (entries : ℕ → List (List Entry)) (old new : Held) : Type 0 where
   pub keyspaces : new.memory.keyspaces ≡ old.memory.keyspaces
   pub next : new.memory.next ≡ old.memory.next
   pub poisoned : new.memory.poisoned ≡ old.memory.poisoned
-  pub store : kept (store_in old) ≡ kept (store_in new)
+  pub store : kept (store_with_tables entries old) ≡ kept (store_with_tables entries new)
   pub catalog : new.catalog ≡ old.catalog
   pub journal : new.journal ≡ old.journal
   pub journals : new.memory.journals ≡ old.memory.journals
@@ -82,9 +83,9 @@ present_along false d a b same is = is ∙ same
 present_along true d a b same (inl is) = inl (is ∙ same)
 present_along true d a b same (inr (front, last, all, is)) = inr (front, last, all, is ∙ same)
 
-recounted_lies : (old new : Held) (base : Store) (pending : List Command) → Recounts old new → (lies : Lies old (held_on old base pending)) → Within (codes "keyspaces") old.disk new.disk → LiesInTree (state_in new.disk) lies.records lies.tree
+recounted_lies : (entries : ℕ → List (List Entry)) (old new : Held) (base : Store) (pending : List Command) → Recounts entries old new → (lies : Lies old (held_on old base pending)) → Within (codes "keyspaces") old.disk new.disk → LiesInTree (state_in new.disk) lies.records lies.tree
     → Lies new (held_on new base pending)
-recounted_lies old new base pending c lies run in_tree = record {
+recounted_lies entries old new base pending c lies run in_tree = record {
   journals = lies.journals;
   records = lies.records;
   tree = lies.tree;
@@ -99,8 +100,8 @@ recounted_lies old new base pending c lies run in_tree = record {
 }
 
 -- handles counted anew, on a disk that stays as it is
-pub recount_leads : (old new : Held) (d : Durable) → new.disk ≡ old.disk → Recounts old new → StandsOn old d → Leads new d []
-recount_leads old new d same c stands = (
+pub recount_leads : (entries : ℕ → List (List Entry)) (old new : Held) (d : Durable) → new.disk ≡ old.disk → Recounts entries old new → StandsOn old entries d → Leads entries new d []
+recount_leads entries old new d same c stands = (
   d,
   record {
     same = stands.same ∙ sym same;
@@ -121,7 +122,7 @@ recount_leads old new d same c stands = (
           waits = lies.waits;
           next = c.next ∙ lies.next;
         };
-    present = present_along new.memory.poisoned d (store_in old) (store_in new) c.store (subst (λ b. MakesPresent b d (store_in old)) (sym c.poisoned) stands.present);
+    present = present_along new.memory.poisoned d (store_with_tables entries old) (store_with_tables entries new) c.store (subst (λ b. MakesPresent b d (store_with_tables entries old)) (sym c.poisoned) stands.present);
   },
   passes_still d stands.rests,
 )
@@ -133,11 +134,11 @@ pub record Removed (old new : Held) : Type 0 where
   pub lies : (base : Store) (pending : List Command) (lies : Lies old (held_on old base pending)) → LiesInTree (state_in new.disk) lies.records lies.tree
 
 -- a release that removed a deleted keyspace
-pub removed_leads : (old new : Held) (d : Durable) → old.memory.poisoned ≡ false → Recounts old new → Removed old new → StandsOn old d → Leads new d []
-removed_leads old new d well c gone = leads_on old new d [] (λ base pending on.
+pub removed_leads : (entries : ℕ → List (List Entry)) (old new : Held) (d : Durable) → old.memory.poisoned ≡ false → Recounts entries old new → Removed old new → StandsOn old entries d → Leads entries new d []
+removed_leads entries old new d well c gone = leads_on entries old new d [] (λ base pending on.
     let lies = on.lies well in
-    let after = recounted_lies old new base pending c lies gone.within (gone.lies base pending lies) in
-    let still = stands_well new base pending (c.poisoned ∙ well) after (present_of old (held_on old base pending) false well on ∙ c.store) in
+    let after = recounted_lies entries old new base pending c lies gone.within (gone.lies base pending lies) in
+    let still = stands_well entries new base pending (c.poisoned ∙ well) after (present_of entries old (held_on old base pending) false well on ∙ c.store) in
     let leaves = removal_leaves old new base pending lies gone.within (gone.leaves base pending lies) in (
       held_on new base pending,
       still,
@@ -145,11 +146,12 @@ removed_leads old new d well c gone = leads_on old new d [] (λ base pending on.
     ))
 
 -- a removal that a fault refused
-pub unremoved_leads : (old new : Held) (d : Durable) → old.memory.poisoned ≡ false → Poisons old new → Removed old new → StandsOn old d → Leads new d []
-unremoved_leads old new d well fault gone = leads_on old new d [] (λ base pending on.
+pub unremoved_leads : (entries : ℕ → List (List Entry)) (left : Remembered) (old new : Held) (d : Durable) → old.memory.poisoned ≡ false → Poisons left old new
+    → kept (store_with_tables entries old) ≡ kept (store_with entries left.keyspaces left.trees) → Removed old new → StandsOn old entries d → Leads entries new d []
+unremoved_leads entries left old new d well fault same gone = leads_on entries old new d [] (λ base pending on.
     let lies = on.lies well in
     let leaves = removal_leaves old new base pending lies gone.within (gone.leaves base pending lies) in
     let rests : Rests (held_on new base pending) = at_end old.disk new.disk _ leaves in
-    let was = present_of old (held_on old base pending) false well on ∙ ap (λ (m : Remembered). kept (store_of m.keyspaces m.trees)) (sym fault.memory_is) in
-    let still = stands_ill new base pending (ap (λ (m : Remembered). m.poisoned) fault.memory_is) rests (within_finished old.disk new.disk lies.journals lies.writing.root gone.within) (inl was) in
+    let was = present_of entries old (held_on old base pending) false well on ∙ same ∙ ap (λ (m : Remembered). kept (store_with entries m.keyspaces m.trees)) (sym fault.memory_is) in
+    let still = stands_ill entries new base pending (ap (λ (m : Remembered). m.poisoned) fault.memory_is) rests (within_finished old.disk new.disk lies.journals lies.writing.root gone.within) (inl was) in
     (held_on new base pending, still, record { leaves = weaken old.disk new.disk _ _ leaves (λ image s. amid_more base [] pending [] image s); safe = []; base = refl; rest = sym (append-nil pending); rests = rests }))

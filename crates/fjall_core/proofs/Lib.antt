@@ -7,6 +7,9 @@ mod CrashImages
 mod KeyspacesUnchanged
 mod JournalWrites
 mod Syncs
+mod TablesAtHome
+mod KeptEntries
+mod ReadCalls
 mod RootUnchanged
 mod CatalogChanges
 mod NextNumbers

@@ -24,12 +24,11 @@ use Rattle.fjall_core.specs.Holding.{Held}
 use Rattle.fjall_core.specs.Durables.{Durable, IsBeginning, Passes, StandsAmid}
 use Rattle.fjall_core.specs.Crashes.{BlamesEach, Settled, Tried, at_most_one}
 use Rattle.fjall_core.specs.Openings.{OpensAmid, OpensAs}
-use Rattle.fjall_core.specs.Standing.{Closes, OwesAll, Runs, StandsOn}
+use Rattle.fjall_core.specs.Standing.{Closes, StandsOn}
 use Rattle.fjall_core.specs.Lives.{AreLeftOf, Closed, CutBehind, CutBehindSync, CutInCalls, CutInClosing, CutInOpening, Dropped, Ended, GoesOn, HoldsFold, IsLeftOf, Life, LastSync, Lived, Lives, NoLife, NoSync, OneMore, Opened, Served, Unclosed, Unopened, UpTo, all_left, begun, start_of}
 use Rattle.fjall_core.proofs.CrashesInRuns.{no_more, run_blames, run_passes}
 use Rattle.fjall_core.proofs.CrashedDisks.{crash_holds}
 use Rattle.fjall_core.proofs.Reopening.{a_core_holds_amid, holds_store_amid}
-use Rattle.fjall_core.proofs.OwedSteps.{owes_run}
 
 -- ---- what is left
 
@@ -98,7 +97,8 @@ settled_of core new store calls replies opens run synced (NoSync none) =
 settled_of core new store calls replies opens run synced (UpTo i sync last) = (run.synced i sync).settled
 
 -- the images of a closing
-closing_amid : (new : Held) (s : machine.State) (d : Durable) (result : Result Unit Error) (disk : Meaning) (added : List Step) (image : Image) → StandsOn new d → Closes s d result disk → Took new.disk disk added → Leaves (state_in new.disk) added image → StandsAmid d.base [] (d.pending ++ []) image
+closing_amid : (new : Held) (s : machine.State) (d : Durable) (result : Result Unit Error) (disk : Meaning) (added : List Step) (image : Image)
+    → StandsOn new s.parts.entries d → Closes s d result disk → Took new.disk disk added → Leaves (state_in new.disk) added image → StandsAmid d.base [] (d.pending ++ []) image
 closing_amid new s d result disk added image on closes took left =
     let moments = closes.passes.leaves in
     let here : Took d.meaning disk moments.added = subst (λ (m : Meaning). Took d.meaning m moments.added) closes.same moments.took in
@@ -106,7 +106,7 @@ closing_amid new s d result disk added image on closes took left =
     let left_there : Leaves (state_in d.meaning) added image = subst (λ (m : Meaning). Leaves (state_in m) added image) (sym on.same) left in
     moments.each image (leaves_as d.meaning disk added moments.added image there here left_there)
 
-closing_kinds : (new : Held) (s : machine.State) (d : Durable) (result : Result Unit Error) (disk : Meaning) → StandsOn new d → Closes s d result disk → StaysTidy new.disk disk
+closing_kinds : (new : Held) (s : machine.State) (d : Durable) (result : Result Unit Error) (disk : Meaning) → StandsOn new s.parts.entries d → Closes s d result disk → StaysTidy new.disk disk
 closing_kinds new s d result disk on closes = subst (λ (m : Meaning). StaysTidy m disk) on.same closes.kinds
 
 -- what waits after a closing that was refused
@@ -135,22 +135,22 @@ ended core new store calls replies opens run synced end next waits (CutBehind sa
     cut_ends (state_in new.disk) [] image store run.tried synced left is stands (of.0, of.1, of.2, one_store image left (kept (fold d.base amid.front)) stands amid.stands ∙ of.3)
 ended core new store calls replies opens run synced end next waits (CutInClosing safe result disk added image left sync safely took leaves stands) =
     let d = run.durable in
-    let amid = closing_amid new run.state d result disk added image run.on (safely run.state d run.stands run.on) took leaves in
+    let amid = closing_amid new run.state d result disk added image run.on (safely run.state d run.stands run.reads run.on) took leaves in
     let of = settled_left core store synced run.tried d (settled_of core new store calls replies opens run synced sync) amid.front (amid.within.0, amid.within.1 ∙ append-nil d.pending) in
     cut_ends (state_in new.disk) added image store run.tried synced left leaves stands (of.0, of.1, of.2, one_store image left (kept (fold d.base amid.front)) stands amid.stands ∙ of.3)
 ended core new store calls replies opens run synced end next waits (Dropped safe sync housed) =
     let d = run.durable in
     let there : IsHoused (state_in d.meaning) = subst (λ (m : Meaning). IsHoused (state_in m)) (sym run.on.same) housed in
     record {
-      amid = subst (λ (m : Meaning). HoldsAmid (state_in m) d.base d.pending) run.on.same (a_core_holds_amid new d run.on there);
+      amid = subst (λ (m : Meaning). HoldsAmid (state_in m) d.base d.pending) run.on.same (a_core_holds_amid new run.state.parts.entries d run.on there);
       each = settled_left core store synced run.tried d (settled_of core new store calls replies opens run synced sync);
     }
 ended core new store calls replies opens run synced end next waits (Unclosed safe error disk sync safely) =
     let d = run.durable in
-    let closes = safely run.state d run.stands run.on in
+    let closes = safely run.state d run.stands run.reads run.on in
     record { amid = closes.amid; each = unclosed_left core store synced run.tried d closes.after (settled_of core new store calls replies opens run synced sync) closes.passes }
 ended core new store calls replies opens run synced end next waits (Closed disk owes safely) =
-    let closes = safely run.state run.durable run.stands run.on in
+    let closes = safely run.state run.durable run.stands run.reads run.on in
     let well = run.stands.remembered.poisoned ∙ owes.0 in
     let is = all_present core store opens run.tried run.state run.accepted well in
     record {
@@ -242,13 +242,13 @@ ended_tidy core new store calls replies opens run synced end next waits tidy (Cu
     left_tidy late (state_in at.safe.moment) image between.1 between.0 leaves
 ended_tidy core new store calls replies opens run synced end next waits tidy (CutBehind safe image left sync is stands) = image_tidy (state_in new.disk) image (tidy_on core.disk new.disk run.kinds tidy) is
 ended_tidy core new store calls replies opens run synced end next waits tidy (CutInClosing safe result disk added image left sync safely took leaves stands) =
-    let kinds = closing_kinds new run.state run.durable result disk run.on (safely run.state run.durable run.stands run.on) in
+    let kinds = closing_kinds new run.state run.durable result disk run.on (safely run.state run.durable run.stands run.reads run.on) in
     left_tidy added (state_in new.disk) image (each_tidy new.disk disk added kinds took) (tidy_on core.disk new.disk run.kinds tidy) leaves
 ended_tidy core new store calls replies opens run synced end next waits tidy (Dropped safe sync housed) = tidy_on core.disk new.disk run.kinds tidy
 ended_tidy core new store calls replies opens run synced end next waits tidy (Unclosed safe error disk sync safely) =
-    tidy_on new.disk disk (closing_kinds new run.state run.durable (Err error) disk run.on (safely run.state run.durable run.stands run.on)) (tidy_on core.disk new.disk run.kinds tidy)
+    tidy_on new.disk disk (closing_kinds new run.state run.durable (Err error) disk run.on (safely run.state run.durable run.stands run.reads run.on)) (tidy_on core.disk new.disk run.kinds tidy)
 ended_tidy core new store calls replies opens run synced end next waits tidy (Closed disk owes safely) =
-    tidy_on new.disk disk (closing_kinds new run.state run.durable (Ok tt) disk run.on (safely run.state run.durable run.stands run.on)) (tidy_on core.disk new.disk run.kinds tidy)
+    tidy_on new.disk disk (closing_kinds new run.state run.durable (Ok tt) disk run.on (safely run.state run.durable run.stands run.reads run.on)) (tidy_on core.disk new.disk run.kinds tidy)
 
 lived_tidy : (old : Meaning) (base : Store) (pending : List Command) (life : Life) (new : State) (next : Store) (waits : List Command) → IsTidy (state_in old) → Lived old base pending life new next waits → IsTidy new
 lived_tidy old base pending life new next waits tidy (Unopened after stays) = tidy_on old after stays.kinds tidy
@@ -267,7 +267,3 @@ pub lives_blame : (first : State) (start : Store) (lives : List Life) (old : Mea
 lives_blame first start lives old base pending core new calls replies tidy lived_before opened run =
     let store = kept (fold base opened.front) in
     run_blames (start_of core store opened.opens) run.state (begun core store) run.durable calls replies run.tried (tidy_on old core.disk opened.kinds (lives_stay_tidy first start lives (state_in old) base pending tidy lived_before)) run.run
-
--- what calls owe whatever the disk is makes them a run of the machine
-pub owed_runs : (old new : Held) (calls : List Call) (replies : List Reply) → OwesAll old calls replies new → Runs old calls replies new
-owed_runs old new calls replies owes s stands = owes_run old new calls replies s owes stands

@@ -1,11 +1,12 @@
 -- A core over a folder that was opened.
-use Rattle.std.proofs.Common.{arith, ◌≤◌, ◌≡◌, ℕ, List, [], ◌∷◌, ◌++◌, map, take, Option, refl, sym, ◌∙◌, ap, subst}
+use Rattle.std.proofs.Common.{arith, ◌<◌, ◌≤◌, ◌==◌, ◌≡◌, ℕ, zero, suc, true, false, cond, List, [], ◌∷◌, ◌++◌, All, AllPairs, get_or, map, take, unwrap_or, Option, Some, eq-eqb, refl, sym, ◌∙◌, ap, subst}
+use Rattle.std.proofs.lemmas.Bool.Decides.{nat_tests}
 use Rattle.std.proofs.lemmas.List.{append-nil}
 use Rattle.std.specs.List.{AllByRecursion, AllZip}
 use Rattle.std.proofs.Math.Seq.{take-nil}
 use Rattle.fjall_base.specs.Store.{Store, kept}
 use Rattle.fjall_base.specs.Disk as disks
-use Rattle.fjall_base.specs.Disk.{File, Image, LeavesOnly, Meaning, state_in}
+use Rattle.fjall_base.specs.Disk.{File, LeavesOnly, Meaning, state_in}
 use Rattle.fjall_base.specs.declared.error.Error.{Error}
 use Rattle.fjall_base.specs.declared.error.Error.TheVariants.{Io}
 use Rattle.fjall_journal.specs.Batches.{Written, shown}
@@ -13,28 +14,37 @@ use Rattle.fjall_journal.specs.Writer.{Journal}
 use Rattle.fjall_manager.specs.Journals.{Sealed}
 use Rattle.fjall_manager.specs.Places.{told}
 use Rattle.fjall_manager.specs.Telling.{AreMarksOf}
+use Rattle.fjall_table.specs.Blocks.{Entry}
+use Rattle.fjall_blocks.specs.Readers.{AreRead, Reader, SomeTableIsWrong}
+use Rattle.fjall_lsm.specs.Puts.{bare_tree}
+use Rattle.fjall_lsm.specs.Trees.{Shape}
+use Rattle.fjall_trees.specs.Forests.{Forest, tree_at}
+use Rattle.fjall_trees.specs.Tables.{AreReadOn, shape_in}
 use Rattle.fjall_trees.specs.Views.{forest_of}
-use Rattle.fjall_maps.specs.Maps.{store_of as store_behind}
+use Rattle.fjall_maps.specs.Tables.{store_with}
 use Rattle.fjall_recovery.specs.Folders.{Contents, StandsFor, number_of, store_of}
 use Rattle.fjall_recovery.specs.Held.{Holds, number_held, store_held}
 use Rattle.fjall_files.specs.Names.{journal_name}
 use Rattle.fjall_files.specs.Regions.{IsSafe}
 use Rattle.fjall_recovery.specs.Journals as read
+use Rattle.fjall_recovery.specs.Halves.{is_of_keyspaces}
 use Rattle.fjall_recovery.specs.Told.{TellsOf}
 use Rattle.fjall_recovery.specs.Places.{contents_with, texts_of}
 use Rattle.fjall_commit.specs.Watermarks.{AreMarked}
-use Rattle.fjall_commit.proofs.RootAfterWrites.{begins}
+use Rattle.fjall_commit.proofs.KeepingKeyspaces.{journal_apart}
+use Rattle.fjall_commit.proofs.RootAfterWrites.{active_fits, begins}
 use Rattle.fjall_repair.specs.declared.opened.Opened.{Opened}
-use Rattle.fjall_repair.specs.Opened.{ComesBack, IsOpenedFrom, IsUnopened}
+use Rattle.fjall_repair.specs.Opened.{AreAtHome, ComesBack, IsOpenedFrom, IsUnopened, WritesJournal, store_entries}
 use Rattle.fjall_repair.specs.Opened as repair
-use Rattle.fjall_state.specs.Remembered.{Remembered, journals_of, remembered}
+use Rattle.fjall_state.specs.Remembered.{AreBeside, Remembered, journals_of, remembered}
 use Rattle.fjall_history.proofs.Values.{all_none}
 use Rattle.fjall_state.specs.Remembered as memory
-use Rattle.fjall_state.specs.Machine.{opened_state}
+use Rattle.fjall_state.specs.Machine.{is_among, opened_state}
 use Rattle.fjall_state.proofs.Standing.{an_opening_stands}
 use Rattle.fjall_core.specs.Holding.{Held}
 use Rattle.fjall_core.specs.Durables.{Durable, Lies}
-use Rattle.fjall_core.specs.Openings.{AreWhole, IsAtEnd, IsDueTo, KeepsStore, Opens, OpensAs, OpensOn, parts_of}
+use Rattle.fjall_core.specs.Openings.{AreAllDamaged, AreWhole, IsAtEnd, IsDueTo, KeepsStore, Opens, OpensAs, OpensOn, opened_as, parts_of}
+use Rattle.fjall_core.specs.Standing.{ReadsOn, store_with_tables}
 use Rattle.fjall_commit.proofs.CrashedJournals.{commanded, store_is_kept}
 use Rattle.fjall_core.proofs.CrashImages.{lies_rest, root_finished}
 
@@ -42,11 +52,14 @@ use Rattle.fjall_core.proofs.CrashImages.{lies_rest, root_finished}
 abbrev pub held_of : Meaning → Opened → Remembered → Held
 held_of disk o memory = record { disk = disk; journal = o.journal; catalog = o.catalog; memory = memory }
 
+abbrev pub memory_of : Opened → Remembered
+memory_of o = remembered o.keyspaces (forest_of o.trees) o.number (journals_of o.sealed o.active o.watermarks)
+
 abbrev pub core_of : Meaning → Opened → Held
-core_of disk o = held_of disk o (remembered o.keyspaces (forest_of o.trees) o.damaged.items o.number (journals_of o.sealed o.active o.watermarks))
+core_of disk o = held_of disk o (memory_of o)
 
 -- what was opened is lawful
-lawful_of : (o : Opened) → repair.IsLawful o → memory.IsLawful (remembered o.keyspaces (forest_of o.trees) o.damaged.items o.number (journals_of o.sealed o.active o.watermarks))
+lawful_of : (o : Opened) → repair.IsLawful o → memory.IsLawful (memory_of o)
 lawful_of o lawful = record {
   keyspaces = lawful.keyspaces;
   made = lawful.made;
@@ -54,31 +67,87 @@ lawful_of o lawful = record {
   planted = lawful.planted;
   given = lawful.given;
   below = lawful.below;
-  bare = lawful.bare;
   small = lawful.small;
   reached = all_none (λ i. i ≤ o.number);
   spared = λ some. let bad : ⊥ = omega (arith, some) in absurd bad;
 }
 
--- it stands for the store of the folder
-pub opens : (disk : Meaning) (o : Opened) (store : Store) (next : ℕ) → repair.IsLawful o → store_behind o.keyspaces (forest_of o.trees) ≡ store → o.number ≡ next → Opens (core_of disk o) store o.damaged.items next
-opens disk o store next lawful made number =
-    let m = remembered o.keyspaces (forest_of o.trees) o.damaged.items o.number (journals_of o.sealed o.active o.watermarks) in
+-- a tree without tables reads no entries
+none_read : (disk : Meaning) (tables : List Reader) (entries : List (List Entry)) → AreRead disk tables entries → tables ≡ [] → entries ≡ []
+none_read disk [] [] are none = refl
+none_read disk [] (es ∷ entries) are none = absurd are
+none_read disk (t ∷ tables) entries are none = absurd cc
+
+-- what its trees read is older than what is in memory
+beside_of : (disk : Meaning) (o : Opened) (entries : ℕ → List (List Entry)) → AreReadOn disk (forest_of o.trees) entries → ((id : ℕ) → o.keyspaces.next ≤ id → entries id ≡ []) → AreBeside (memory_of o) entries
+beside_of disk o entries on unused = record {
+  older = λ i d lt. record { below = (on i d lt).below; once = (on i d lt).once };
+  none = λ i d lt bare. let k = get_or (forest_of o.trees) i d in none_read disk k.shape.tables (entries k.id) (on i d lt).tables bare;
+  unused = unused;
+}
+
+-- it stands for the store that its trees show with their tables, where these have such entries
+pub opens : (disk : Meaning) (o : Opened) (entries : ℕ → List (List Entry)) (store : Store) (damaged : List ℕ) (next : ℕ) → repair.IsLawful o → AreBeside (memory_of o) entries
+    → store_with entries o.keyspaces (forest_of o.trees) ≡ store → o.number ≡ next → Opens (core_of disk o) store entries damaged next
+opens disk o entries store damaged next lawful beside made number =
+    let m = memory_of o in
     let table = o.catalog.next_table_id in
-    let parts = parts_of (core_of disk o) in
+    let parts = parts_of (core_of disk o) entries in
     record {
-      remembered = subst (λ (s : Store). memory.StandsFor m table (opened_state s o.damaged.items next parts)) made
-          (subst (λ (n : ℕ). memory.StandsFor m table (opened_state (store_behind o.keyspaces (forest_of o.trees)) o.damaged.items n parts)) number
-          (an_opening_stands m (lawful_of o lawful) refl refl refl refl table parts refl refl refl));
+      remembered = subst (λ (s : Store). memory.StandsFor m table (opened_state s damaged next parts)) made
+          (subst (λ (n : ℕ). memory.StandsFor m table (opened_state (store_with entries o.keyspaces (forest_of o.trees)) damaged n parts)) number
+          (an_opening_stands m (lawful_of o lawful) refl refl refl refl table parts refl refl refl beside damaged));
       journal = refl;
       buffer = refl;
     }
 
-pub opens_on : (image : Image) (disk : Meaning) (o : Opened) → repair.IsLawful o → IsOpenedFrom image o → OpensOn image (core_of disk o)
-opens_on image disk o lawful (folder, is, store, number) = (folder, o.damaged.items, is, opens disk o (store_held folder) (number_held folder) lawful store number)
+pub opens_beside : (disk : Meaning) (o : Opened) → repair.IsLawful o → (entries : ℕ → List (List Entry)) → AreBeside (memory_of o) entries → (damaged : List ℕ)
+    → Opens (core_of disk o) (store_with_tables entries (core_of disk o)) entries damaged o.number
+opens_beside disk o lawful entries beside damaged = opens disk o entries (store_with_tables entries (core_of disk o)) damaged o.number lawful beside refl refl
 
-pub opens_new : (disk : Meaning) (o : Opened) → repair.IsLawful o → (store : Store) × (damaged : List ℕ) × (next : ℕ) × Opens (core_of disk o) store damaged next
-opens_new disk o lawful = (store_behind o.keyspaces (forest_of o.trees), o.damaged.items, o.number, opens disk o (store_behind o.keyspaces (forest_of o.trees)) o.number lawful refl refl)
+-- ---- what it reads
+
+-- each tree of these is the one of its id
+placed : (trees : Forest) → AllPairs (λ j k. j.id < k.id) trees → All (λ k. shape_in k.id trees ≡ k.shape) trees
+placed [] ascend i d lt = let bad : ⊥ = omega (arith, lt) in absurd bad
+placed (k ∷ trees) ascend zero d lt = ap (λ b. unwrap_or (cond b (Some k.shape) (tree_at k.id trees)) (bare_tree 0)) (eq-eqb k.id k.id refl)
+placed (k ∷ trees) ascend (suc i) d lt =
+    let x = get_or trees i d in
+    let less : k.id < x.id = ascend 0 (suc i) d (omega arith) lt in
+    let other : (k.id == x.id) ≡ false = grind (arith, nat_tests, less) in
+    ap (λ b. unwrap_or (cond b (Some k.shape) (tree_at x.id trees)) (bare_tree 0)) other
+    ∙ placed trees (λ i j d lt within. ascend (suc i) (suc j) d (omega (arith, lt)) (omega (arith, within))) i d (omega (arith, lt))
+
+-- those keyspaces are damaged that have a wrong block
+abbrev IsTold : Meaning → List ℕ → Forest → Type 0
+IsTold disk damaged trees = All (λ k. SomeTableIsWrong disk k.shape.tables → is_among damaged k.id ≡ true) trees
+
+told_all : (disk : Meaning) (o : Opened) (damaged : List ℕ) → repair.IsLawful o → AreAllDamaged (core_of disk o) damaged → IsTold disk damaged (forest_of o.trees)
+told_all disk o damaged lawful all = λ i d lt wrong.
+    let k = get_or (forest_of o.trees) i d in
+    all k.id (subst (λ (shape : Shape). SomeTableIsWrong disk shape.tables) (sym (placed (forest_of o.trees) lawful.forest.ascend i d lt)) wrong)
+
+-- its disk has the tables of its trees
+reads_of : (disk : Meaning) (o : Opened) (entries : ℕ → List (List Entry)) (store : Store) (damaged : List ℕ) (next : ℕ) → repair.IsLawful o → AreReadOn disk (forest_of o.trees) entries → AreAtHome (forest_of o.trees)
+    → IsTold disk damaged (forest_of o.trees) → is_of_keyspaces o.journal.name ≡ false → ReadsOn (core_of disk o) (opened_as (core_of disk o) store entries damaged next)
+reads_of disk o entries store damaged next lawful on named wrong outside = record {
+  tables = λ i d lt. record { positive = lawful.positive i d lt; read = (on i d lt).tables; named = named i d lt; damage = wrong i d lt };
+  writer = λ well. outside;
+}
+
+pub opens_on : (old new : Meaning) (o : Opened) → repair.IsLawful o → WritesJournal o → IsOpenedFrom old new o → OpensOn old (core_of new o)
+opens_on old new o lawful writes from = record {
+  folder = from.folder;
+  is = from.is;
+  opens = λ entries have damaged all.
+      let reads = from.reads entries have in
+      let next = number_held from.folder in
+      let store = store_entries entries from.folder in (
+        opens new o entries store damaged next lawful (beside_of new o entries reads.on reads.unused) reads.store from.number,
+        reads_of new o entries store damaged next lawful reads.on from.named (told_all new o damaged lawful all)
+            (ap is_of_keyspaces writes.2 ∙ journal_apart writes.0 writes.1),
+      );
+}
 
 -- the sealed journals are known, and their files are whole
 marked_as : (journals : List read.Journal) (sealed : List Sealed) → AllZip TellsOf journals sealed → AreMarked sealed journals
@@ -96,7 +165,7 @@ whole_as state (j ∷ journals) (s ∷ sealed) tell safe =
     ((texts_of j.batches, subst (λ (n : ℕ). IsSafe state (journal_name n) (texts_of j.batches)) (sym tell.0.id_is) safe.0, tell.0.len_is), whole_as state journals sealed tell.1 safe.1)
 
 -- with that store as its base, and nothing pending
-module _ (disk : Meaning) (folder : Option Contents) (o : Opened) (is : repair.Opens (state_in disk) folder o) where
+module _ (disk : Meaning) (folder : Option Contents) (o : Opened) (is : repair.Opens disk folder o) where
   abbrev here : Durable
   here = record { meaning = disk; base = store_held folder; pending = [] }
 
@@ -139,10 +208,16 @@ module _ (disk : Meaning) (folder : Option Contents) (o : Opened) (is : repair.O
     buffer = ap (λ (w : Journal). w.buffer) is.journal;
   }
 
+  -- its journal stands outside of keyspaces' folders
+  writes_outside : is_of_keyspaces o.journal.name ≡ false
+  writes_outside = ap (λ (w : Journal). is_of_keyspaces w.name) is.journal ∙ journal_apart is.j.active (active_fits (state_in disk) is.j is.root)
+
   pub opens_as : (store : Store) → repair.IsLawful o → store ≡ store_held folder → OpensAs (core_of disk o) store
   opens_as store lawful same = subst (λ (s : Store). OpensAs (core_of disk o) s) (sym same) (record {
     next = number_held folder;
-    state = subst (λ (damaged : List ℕ). Opens (core_of disk o) (store_held folder) damaged (number_held folder)) is.whole (opens disk o (store_held folder) (number_held folder) lawful (is.made ∙ is.store) is.same);
+    entries = is.entries;
+    state = opens disk o is.entries (store_held folder) [] (number_held folder) lawful (beside_of disk o is.entries is.on is.unused) (is.made ∙ is.store) is.same;
+    reads = reads_of disk o is.entries (store_held folder) [] (number_held folder) lawful is.on is.named (λ i d lt wrong. absurd (is.right i d lt wrong)) writes_outside;
     journal = at_end;
     sealed = whole_as (state_in disk) is.j.sealed o.sealed is.sealed is.root.sealed;
     base = record { same = refl; rests = lies_rest (core_of disk o) here lies; finished = root_finished (state_in disk) is.j is.root; lies = λ well. lies; present = ap kept (sym held ∙ sym is.made) };

@@ -5,9 +5,8 @@ use Rattle.std.specs.Option.{is_none, is_some}
 use Rattle.std.specs.Prelude.{IsPermutation}
 use Rattle.std.specs.FinMap.{get, len, values}
 use Rattle.fjall_base.specs.Pairs.{Bytes}
-use Rattle.fjall_base.specs.Store.{Create, Delete}
 use Rattle.fjall_base.specs.declared.error.Error.{Error}
-use Rattle.fjall_base.specs.declared.error.Error.TheVariants.{Io, OutOfMemory, ValueTooLong}
+use Rattle.fjall_base.specs.declared.error.Error.TheVariants.{Io, OutOfMemory, Storage, ValueTooLong}
 use Rattle.fjall_journal.specs.Changes.{Change, Emptied, Items, change_text}
 use Rattle.fjall_journal.specs.Writer.{Journal, after_command, counted, filled, goes_out}
 use Rattle.fjall_journal.specs.Writer as writer
@@ -15,9 +14,6 @@ use Rattle.fjall_journal.specs.declared.persist_mode.PersistMode.TheVariants.{Bu
 use Rattle.fjall_options.specs.Options.{AreOptions}
 use Rattle.fjall_meta.specs.declared.living.LivingKeyspace.{LivingKeyspace}
 use Rattle.fjall_meta.specs.Keyspaces.{id_of}
-use Rattle.fjall_versions.specs.Replays.{option_pairs}
-use Rattle.fjall_maps.specs.Maps.{pairs_in}
-use Rattle.fjall_versions.proofs.Kept.{kept_along}
 use Rattle.fjall_history.specs.declared.ticket.View.{View}
 use Rattle.fjall_history.specs.declared.reply.Reply.{Reply}
 use Rattle.fjall_history.specs.declared.reply.Reply.TheVariants.{Done, Number, Flag, Opened, Refused}
@@ -29,19 +25,18 @@ use Rattle.fjall_state.specs.declared.call.Call.{Call}
 use Rattle.fjall_state.specs.Shapes.{AsKeyspace, ByMode, Clone, Close, Collect, Count, Exists, JournalSpace, Keyspaces, Next, OfChange, OfCount, OfCreation, OfDeletion, OfHandle, OfJournalRotation, OfPersist, OfRead, OfRotation, OfTickets, OneLess, OneMore, Open, OpenTickets, Persistence, Entries, SealedMemtables, Shape, TicketCall, Visible, WriteBuffer, shape_of}
 use Rattle.fjall_state.specs.Shapes as shapes
 use Rattle.fjall_state.specs.Allowed.{MayChange}
-use Rattle.fjall_state.specs.Machine.{Answers, CountIs, creation_refusals, first_due, has_name, State, Parts, StepOf, Run, Refuses, ChangesDisk, MayFail, TooLong, TurnsTickets, accepted, created, deleted, due, facts, is_living, leaves_buffer, mode_in, present, rotates, written, written_out}
+use Rattle.fjall_state.specs.Machine.{Answers, CountIs, creation_refusals, first_due, has_name, State, Parts, StepOf, ReadsTables, Refuses, ChangesDisk, MayFail, TakesMemory, TooLong, TurnsTickets, accepted, created, deleted, due, facts, is_living, leaves_buffer, mode_in, present, rotates, written, written_out}
 use Rattle.fjall_state.specs.Machine as machine
 use Rattle.fjall_state.specs.Remembered.{IsLawful, Remembered, facts_of, instant_in, poisoned}
 use Rattle.fjall_state.specs.Remembered as memory
 use Rattle.fjall_manager.specs.Journals.{Journals, bytes_of}
-use Rattle.fjall_trees.specs.Forests.{Forest}
-use Rattle.fjall_trees.specs.Tables.{shape_in}
 use Rattle.fjall_state.proofs.ByHand.{options_agree}
-use Rattle.fjall_state.proofs.Sizes.{buffers_agree, wants_agree}
+use Rattle.fjall_state.proofs.Sizes.{buffers_agree, rotations_agree, sealed_agree, versions_agree, wants_agree}
 use Rattle.fjall_state.proofs.Dues.{may_change, may_create, may_delete}
 use Rattle.fjall_state.proofs.Standing as law
 use Rattle.fjall_core.specs.Holding.{Held}
-use Rattle.fjall_core.specs.Standing.{StandsFor, Gives, Owes, OwesAll, RotatesJournal, OwesChange, OwesCreation, OwesDeletion, OwesRefusal, OwesFailure, Poisons, RanOut, Grows, HandsOver, HeldCount, Alters, Counts, Creates, Deletes, held_due, mode_of, store_in, text_of}
+use Rattle.fjall_blocks.specs.Readers.{Reader}
+use Rattle.fjall_core.specs.Standing.{StandsFor, at_fault, tables_of, Looks, LooksAt, GivesRead, Gives, Owes, OwesAll, RotatesJournal, OwesChange, OwesCreation, OwesDeletion, OwesRefusal, OwesFailure, Poisons, RanOut, Grows, HandsOver, HeldCount, Alters, Counts, Creates, Deletes, held_due, mode_of, store_in, text_of}
 
 -- the machine may step so, to a state that the core stands for now
 abbrev pub Steps : Held → State → Shape → Reply → Type 0
@@ -55,31 +50,58 @@ Answered new s shape reply = (t : State) × StandsFor new t × ((due s shape ≡
 pub same_due : (core : Held) (s : State) (shape : Shape) → StandsFor core s → due s shape ≡ held_due core shape
 same_due core s shape stands = law.facts_agree core.memory core.catalog.next_table_id s stands.remembered shape
 
--- the parts that a core's counts speak of
-abbrev pub parts_held : Held → Parts
-parts_held core = record { journals = core.memory.journals; journal = core.journal.len; buffer = length core.journal.buffer; table = core.catalog.next_table_id; trees = core.memory.trees }
+-- a state's parts, with what a core knows of lengths and of tree 0's next table
+abbrev pub parts_held : Held → State → Parts
+parts_held core s = record s.parts { journal = core.journal.len; buffer = length core.journal.buffer; table = core.catalog.next_table_id }
 
 -- ---- refusals
 
 -- the state after a fault in a change
 abbrev pub poisoned_state : Held → State → State
-poisoned_state new s = record s { poisoned = true; parts = parts_held new }
+poisoned_state new s = record s { poisoned = true; parts = parts_held new s }
 
-poisoned_stands : (old new : Held) (s : State) → Poisons old new → StandsFor old s → StandsFor new (poisoned_state new s)
-poisoned_stands old new s fault stands = record {
-  remembered = subst (λ (m : Remembered). memory.StandsFor m new.catalog.next_table_id (poisoned_state new s)) (sym fault.memory_is)
-      (law.a_fault_stands old.memory old.catalog.next_table_id s stands.remembered (parts_held new) (ap (λ (m : Remembered). m.trees) fault.memory_is) (ap (λ (m : Remembered). m.journals) fault.memory_is));
+poisoned_stands : (left : Remembered) (old new : Held) (table : ℕ) (s : State) → Poisons left old new → memory.StandsFor left table s → StandsFor new (poisoned_state new s)
+poisoned_stands left old new table s fault stands = record {
+  remembered = subst (λ (m : Remembered). memory.StandsFor m new.catalog.next_table_id (poisoned_state new s)) (sym fault.memory_is) (law.a_fault_stands left table s stands (parts_held new s) refl refl refl);
   journal = refl;
   buffer = refl;
 }
+
+-- what a fault leaves in memory, but that it poisons the core, stands for what it leaves of a state
+fault_left : (old : Held) (s : State) (shape : Shape) → StandsFor old s → memory.StandsFor (at_fault shape old.memory) old.catalog.next_table_id (machine.at_fault s shape)
+fault_left old s (OfChange change how) stands = stands.remembered
+fault_left old s (OfCreation name options) stands = stands.remembered
+fault_left old s (OfDeletion id) stands = stands.remembered
+fault_left old s (OfHandle OneMore id) stands = stands.remembered
+fault_left old s (OfHandle OneLess id) stands = law.a_release_stands old.memory old.catalog.next_table_id s stands.remembered id
+fault_left old s (OfRotation id) stands = stands.remembered
+fault_left old s OfJournalRotation stands = stands.remembered
+fault_left old s (OfRead view id query) stands = stands.remembered
+fault_left old s (OfTickets call) stands = stands.remembered
+fault_left old s (OfPersist mode) stands = stands.remembered
+fault_left old s (OfCount count) stands = stands.remembered
+
+-- a core that a read looked at the disk for
+pub looked_stands : (old new : Held) (s : State) → Looks old new → StandsFor old s → StandsFor new s
+looked_stands old new s looks stands = record {
+  remembered = subst (λ (m : Remembered). memory.StandsFor m new.catalog.next_table_id s) (sym looks.memory_is)
+      (subst (λ c. memory.StandsFor (memory.with_trees new.memory.trees old.memory) c s) (ap (λ c. c.next_table_id) (sym looks.catalog))
+      (law.a_read_stands old.memory old.catalog.next_table_id s stands.remembered new.memory.trees looks.trees));
+  journal = stands.journal ∙ ap (λ (j : Journal). j.len) (sym looks.journal);
+  buffer = stands.buffer ∙ ap (λ (j : Journal). length j.buffer) (sym looks.journal);
+}
+
+pub looked_at_stands : (old new : Held) (s : State) (tables : List Reader) → LooksAt tables old new → StandsFor old s → StandsFor new s
+looked_at_stands old new s [] same stands = subst (λ c. StandsFor c s) (sym same) stands
+looked_at_stands old new s (t ∷ tables) looks stands = looked_stands old new s looks stands
 
 still : (old new : Held) (s : State) → new ≡ old → StandsFor old s → StandsFor new s
 still old new s same stands = subst (λ c. StandsFor c s) (sym same) stands
 
 -- what is too long for the core is so for the state
 same_long : (old : Held) (s : State) (shape : Shape) → StandsFor old s → TooLong (store_in old) shape → TooLong (present s) shape
-same_long old s (OfCreation name options) stands long = subst machine.HasLongOption (kept_along (store_in old) (present s) (Create name (option_pairs options) ∷ []) (sym stands.remembered.present)) long
-same_long old s (OfDeletion id) stands long = subst machine.HasLongOption (kept_along (store_in old) (present s) (Delete id ∷ []) (sym stands.remembered.present)) long
+same_long old s (OfCreation name options) stands long = law.long_creation old.memory old.catalog.next_table_id s stands.remembered name options long
+same_long old s (OfDeletion id) stands long = law.long_deletion old.memory old.catalog.next_table_id s stands.remembered id long
 same_long old s (OfChange change how) stands long = absurd long
 same_long old s (OfHandle call id) stands long = absurd long
 same_long old s (OfRotation id) stands long = absurd long
@@ -125,20 +147,36 @@ ran_out_still old new s (OfCreation name options) same stands = still old new s 
 ran_out_still old new s (OfDeletion id) same stands = still old new s same stands
 ran_out_still old new s (OfRotation id) same stands = still old new s same stands
 ran_out_still old new s OfJournalRotation same stands = still old new s same stands
-ran_out_still old new s (OfRead view id query) same stands = still old new s same stands
+ran_out_still old new s (OfRead view id query) looks stands = looked_at_stands old new s (tables_of old id) looks stands
 ran_out_still old new s (OfTickets call) same stands = still old new s same stands
 ran_out_still old new s (OfPersist mode) same stands = still old new s same stands
 ran_out_still old new s (OfCount count) same stands = still old new s same stands
 
-failure_steps : (old new : Held) (s : State) (shape : Shape) (error : Error) → StandsFor old s → OwesFailure old shape error new → (t : State) × StandsFor new t × MayFail shape error s t
-failure_steps old new s shape (Io kind) stands (changes, fault) = (poisoned_state new s, poisoned_stands old new s fault stands, (same_changes old s shape stands changes, (refl, ap (λ (m : Remembered). m.trees) fault.memory_is ∙ sym stands.remembered.trees, ap (λ (m : Remembered). m.journals) fault.memory_is ∙ sym stands.remembered.journals)))
-failure_steps old new s shape OutOfMemory stands (takes, out) = (s, ran_out_still old new s shape out stands, (takes, refl))
-failure_steps old new s shape ValueTooLong stands (long, same) = (s, still old new s same stands, (same_long old s shape stands long, refl))
-failure_steps old new s shape error stands none = absurd none
+failure_steps : (old new : Held) (s : State) (shape : Shape) (error : Error) → (ReadsTables old.memory.trees shape → ⊥) → StandsFor old s → OwesFailure old shape error new → (t : State) × StandsFor new t × MayFail shape error s t
+failure_steps old new s shape (Io kind) none stands (inl (changes, fault)) =
+    let left = machine.at_fault s shape in (
+      poisoned_state new left,
+      poisoned_stands (at_fault shape old.memory) old new old.catalog.next_table_id left fault (fault_left old s shape stands),
+      inl (same_changes old s shape stands changes, record { is = refl; trees = refl; entries = refl; journals = refl }),
+    )
+failure_steps old new s shape (Io kind) none stands (inr (reads, looks, rose)) = absurd (none reads)
+failure_steps old new s shape OutOfMemory none stands (takes, out) = (s, ran_out_still old new s shape out stands, (takes, refl))
+failure_steps old new s shape (Storage told) none stands (is, reads, looks) = absurd (none reads)
+failure_steps old new s shape ValueTooLong none stands (long, same) = (s, still old new s same stands, (same_long old s shape stands long, refl))
+failure_steps old new s shape error none stands bad = absurd bad
 
-refusal_steps : (old new : Held) (s : State) (shape : Shape) (error : Error) (first : Option Error) → StandsFor old s → OwesRefusal first old shape error new → (t : State) × StandsFor new t × Refuses first shape error s t
-refusal_steps old new s shape error (Some first) stands (is, same) = (s, still old new s same stands, (is, refl))
-refusal_steps old new s shape error None stands failure = failure_steps old new s shape error stands failure
+refusal_steps : (old new : Held) (s : State) (shape : Shape) (error : Error) (first : Option Error) → (ReadsTables old.memory.trees shape → ⊥) → StandsFor old s → OwesRefusal first old shape error new → (t : State) × StandsFor new t × Refuses first shape error s t
+refusal_steps old new s shape error (Some first) none stands (is, same) = (s, still old new s same stands, (is, refl))
+refusal_steps old new s shape error None none stands failure = failure_steps old new s shape error none stands failure
+
+-- a refusal that is due, and changes nothing
+pub due_step : (core : Held) (s : State) (shape : Shape) (error : Error) → held_due core shape ≡ Some error → StandsFor core s → Steps core s shape (Refused error)
+due_step core s shape error due stands = (s, stands, subst (λ first. Refuses first shape error s s) (sym (same_due core s shape stands ∙ due)) (refl, refl))
+
+-- want of memory, where none is due
+pub memory_step : (old new : Held) (s : State) (shape : Shape) → TakesMemory shape → held_due old shape ≡ None → RanOut old shape new → StandsFor old s → Steps new s shape (Refused OutOfMemory)
+memory_step old new s shape takes none out stands =
+    (s, ran_out_still old new s shape out stands, subst (λ first. Refuses first shape OutOfMemory s s) (sym (same_due old s shape stands ∙ none)) (takes, refl))
 
 -- ---- changes
 
@@ -190,7 +228,7 @@ handed_stands : (old new : Held) (s : State) → HandsOver old new → StandsFor
 handed_stands old new s hands stands = record {
   remembered = subst (λ (m : Remembered). memory.StandsFor m new.catalog.next_table_id (record s { parts = written_out s.parts 0 })) (sym hands.memory_is)
       (law.other_parts_stand old.memory new.catalog.next_table_id s (subst (λ c. memory.StandsFor old.memory c s) (ap (λ c. c.next_table_id) (sym hands.catalog)) stands.remembered) (written_out s.parts 0)
-      (stands.remembered.next_table ∙ ap (λ c. c.next_table_id) (sym hands.catalog)) stands.remembered.trees stands.remembered.journals);
+      (stands.remembered.next_table ∙ ap (λ c. c.next_table_id) (sym hands.catalog)) refl refl refl);
   journal = none_more old.journal s.parts stands.journal stands.buffer ∙ ap (λ (j : Journal). j.len) (sym hands.journal);
   buffer = ap (λ (j : Journal). length j.buffer) (sym hands.journal);
 }
@@ -231,7 +269,7 @@ created_steps old new s name options id none fresh is creates stands =
     let after = law.a_creation_stands old.memory old.catalog.next_table_id s held name options named fresh option_list (some_id old name none fresh) ((may_create (facts_of old.memory old.catalog.next_table_id) name none).room fresh).numbered in (
       created s name options,
       altered_stands old new s (created s name options) _ _ creates after refl refl stands,
-      (same_due old s (OfCreation name options) stands ∙ none, (id, refl, inr ((λ i. has_name (held.present i) name) ∙ fresh, is ∙ sym (law.next_agrees old.memory old.catalog.next_table_id s held), refl))),
+      (same_due old s (OfCreation name options) stands ∙ none, (id, refl, inr (law.a_name_agrees old.memory old.catalog.next_table_id s held name ∙ fresh, is ∙ sym (law.next_agrees old.memory old.catalog.next_table_id s held), refl))),
     )
 
 found_steps : (old new : Held) (s : State) (name : Bytes) (options : List Bytes) (id : ℕ) → held_due old (OfCreation name options) ≡ None → id_of name old.memory.keyspaces.living ≡ Some id → new ≡ old → StandsFor old s
@@ -257,7 +295,7 @@ found_steps old new s name options id none found same stands =
 -- ---- a deletion
 
 same_count : (old : Held) (s : State) → StandsFor old s → len (store_in old).names ≡ len (present s).names
-same_count old s stands = sym (λ i. len (stands.remembered.present i).names)
+same_count old s stands = sym (ap len (law.same_names old.memory old.catalog.next_table_id s stands.remembered))
 
 deleted_steps : (old new : Held) (s : State) (id : ℕ) → held_due old (OfDeletion id) ≡ None → is_living (store_in old) id ≡ true → Deletes old id new → StandsFor old s → Steps new s (OfDeletion id) Done
 deleted_steps old new s id none living deletes stands =
@@ -296,13 +334,13 @@ rotation_steps : (old new : Held) (s : State) (id : ℕ) (reply : Reply) → hel
     → new ≡ (if seals then record old { memory = memory.rotated id old.memory } else old) → StandsFor old s → Answered new s (OfRotation id) reply
 rotation_steps old new s id reply none true rotates_so told is stands =
     let t = machine.rotated s id in
-    let seals = law.rotations_agree old.memory old.catalog.next_table_id s stands.remembered id ∙ rotates_so in (
+    let seals = rotations_agree old.memory old.catalog.next_table_id s stands.remembered id ∙ rotates_so in (
       t,
       subst (λ c. StandsFor c t) (sym is) (record { remembered = law.a_rotation_stands old.memory old.catalog.next_table_id s stands.remembered id; journal = stands.journal; buffer = stands.buffer }),
       (same_due old s (OfRotation id) stands ∙ none, (told ∙ ap Flag (sym seals), ap (λ b. if b then t else s) (sym seals))),
     )
 rotation_steps old new s id reply none false rotates_so told is stands =
-    let seals = law.rotations_agree old.memory old.catalog.next_table_id s stands.remembered id ∙ rotates_so in
+    let seals = rotations_agree old.memory old.catalog.next_table_id s stands.remembered id ∙ rotates_so in
     (s, still old new s is stands, (same_due old s (OfRotation id) stands ∙ none, (told ∙ ap Flag (sym seals), ap (λ b. if b then machine.rotated s id else s) (sym seals))))
 
 -- the active journal was sealed
@@ -374,26 +412,27 @@ module _ (old new : Held) (s : State) (stands : StandsFor old s) (is : new ≡ r
 
 -- ---- each call
 
--- a read of a map that is the view's
-read_steps : (old new : Held) (s : State) (view : View) (id : ℕ) (query : Query) (reply : Reply) → held_due old (OfRead view id query) ≡ None → Tells query (pairs_in id (instant_in old.memory view) old.memory.trees) reply → new ≡ old → StandsFor old s
-    → Answered new s (OfRead view id query) reply
-read_steps old new s view id query reply none told same stands = (
+-- a read of a keyspace without tables, of a map that is the view's
+read_steps : (old new : Held) (s : State) (view : View) (id : ℕ) (query : Query) (reply : Reply) (tables : List Reader) → tables_of old id ≡ tables → (tables ≢ [] → ⊥) → held_due old (OfRead view id query) ≡ None
+    → GivesRead tables old view id query reply → LooksAt tables old new → StandsFor old s → Answered new s (OfRead view id query) reply
+read_steps old new s view id query reply [] bare some none told same stands = (
   s,
   still old new s same stands,
-  (same_due old s (OfRead view id query) stands ∙ none, (subst (λ m. Tells query m reply) (law.pairs_agree old.memory old.catalog.next_table_id s stands.remembered view id none) told, refl)),
+  (same_due old s (OfRead view id query) stands ∙ none, (subst (λ m. Tells query m reply) (law.bare_agree old.memory old.catalog.next_table_id s stands.remembered view id none bare) told, refl)),
 )
+read_steps old new s view id query reply (t ∷ tables) bare some none told same stands = absurd (some (λ is. let bad : ⊥ = cc in bad))
 
 same_counts : (old : Held) (s : State) (count : Count) (reply : Reply) → HeldCount old count reply → StandsFor old s → CountIs s count reply
 same_counts old s Keyspaces reply told stands = told ∙ ap Number (sym (law.names_counted old.memory old.catalog.next_table_id s stands.remembered))
-same_counts old s shapes.Names reply (names, told, all, sorted) stands = (names, told, subst (λ l. IsPermutation l names.items) (sym (λ i. values (stands.remembered.present i).names)) all, sorted)
-same_counts old s (Exists name) reply told stands = told ∙ ap Flag (sym (λ i. has_name (stands.remembered.present i) name))
+same_counts old s shapes.Names reply (names, told, all, sorted) stands = (names, told, subst (λ l. IsPermutation l names.items) (sym (ap values (law.same_names old.memory old.catalog.next_table_id s stands.remembered))) all, sorted)
+same_counts old s (Exists name) reply told stands = told ∙ ap Flag (sym (law.a_name_agrees old.memory old.catalog.next_table_id s stands.remembered name))
 same_counts old s Next reply told stands = told ∙ ap Number (sym stands.remembered.number)
 same_counts old s Visible reply told stands = told ∙ ap Number (sym stands.remembered.number)
 same_counts old s shapes.Journals reply told stands = told ∙ ap (λ (j : Journals). Number (length j.sealed + 1)) (sym stands.remembered.journals)
 same_counts old s JournalSpace reply told stands = told ∙ (λ i. Number (counted (bytes_of (sym stands.remembered.journals i).sealed + sym stands.journal i)))
 same_counts old s OpenTickets reply told stands = told ∙ ap (λ (t : Tickets). Number (len t.instants)) (sym stands.remembered.tickets)
-same_counts old s (Entries id) reply told stands = told ∙ ap (λ (trees : Forest). Number (counted (machine.version_count (shape_in id trees)))) (sym stands.remembered.trees)
-same_counts old s (SealedMemtables id) reply told stands = told ∙ ap (λ (trees : Forest). Number (length (shape_in id trees).memory.sealed)) (sym stands.remembered.trees)
+same_counts old s (Entries id) reply told stands = told ∙ ap (λ n. Number (counted n)) (sym (versions_agree old.memory old.catalog.next_table_id s stands.remembered id))
+same_counts old s (SealedMemtables id) reply told stands = told ∙ ap Number (sym (sealed_agree old.memory old.catalog.next_table_id s stands.remembered id))
 same_counts old s WriteBuffer reply told stands = told ∙ ap (λ n. Number (counted n)) (sym (buffers_agree old.memory old.catalog.next_table_id s stands.remembered))
 same_counts old s (shapes.WantsRotation id) reply told stands = told ∙ ap Flag (sym (wants_agree old.memory old.catalog.next_table_id s stands.remembered id))
 
@@ -405,35 +444,25 @@ deletion_steps : (old new : Held) (s : State) (id : ℕ) → held_due old (OfDel
 deletion_steps old new s id none (inl (gone, same)) stands = gone_steps old new s id none gone same stands
 deletion_steps old new s id none (inr (living, deletes)) stands = deleted_steps old new s id none living deletes stands
 
-gives_step : (old new : Held) (shape : Shape) (reply : Reply) (s : State) → held_due old shape ≡ None → Gives old shape reply new → StandsFor old s → Answered new s shape reply
-gives_step old new (OfChange change how) reply s none (told, owes) stands = subst (λ r. Answered new s (OfChange change how) r) (sym told) (changed_steps old new s change how none owes stands)
-gives_step old new (OfCreation name options) reply s none (id, told, owes) stands = subst (λ r. Answered new s (OfCreation name options) r) (sym told) (creation_steps old new s name options id none owes stands)
-gives_step old new (OfDeletion id) reply s none (told, owes) stands = subst (λ r. Answered new s (OfDeletion id) r) (sym told) (deletion_steps old new s id none owes stands)
-gives_step old new (OfHandle OneMore id) reply s none (told, is) stands = subst (λ r. Answered new s (OfHandle OneMore id) r) (sym told) (retained_steps old new s id none is stands)
-gives_step old new (OfHandle OneLess id) reply s none (told, counts) stands = subst (λ r. Answered new s (OfHandle OneLess id) r) (sym told) (released_steps old new s id none counts stands)
-gives_step old new (OfRotation id) reply s none (told, is) stands = rotation_steps old new s id reply none (rotates old.memory.trees id) refl told is stands
-gives_step old new OfJournalRotation reply s none (told, turns) stands = subst (λ r. Answered new s OfJournalRotation r) (sym told) (turned_steps old new s none turns stands)
-gives_step old new (OfRead view id query) reply s none (told, same) stands = read_steps old new s view id query reply none told same stands
-gives_step old new (OfTickets call) reply s none (turns, is) stands = tickets_step old new s stands is call reply none turns
-gives_step old new (OfPersist mode) reply s none (told, hands) stands =
+gives_step : (old new : Held) (shape : Shape) (reply : Reply) (s : State) → (ReadsTables old.memory.trees shape → ⊥) → held_due old shape ≡ None → Gives old shape reply new → StandsFor old s → Answered new s shape reply
+gives_step old new (OfChange change how) reply s bare none (told, owes) stands = subst (λ r. Answered new s (OfChange change how) r) (sym told) (changed_steps old new s change how none owes stands)
+gives_step old new (OfCreation name options) reply s bare none (id, told, owes) stands = subst (λ r. Answered new s (OfCreation name options) r) (sym told) (creation_steps old new s name options id none owes stands)
+gives_step old new (OfDeletion id) reply s bare none (told, owes) stands = subst (λ r. Answered new s (OfDeletion id) r) (sym told) (deletion_steps old new s id none owes stands)
+gives_step old new (OfHandle OneMore id) reply s bare none (told, is) stands = subst (λ r. Answered new s (OfHandle OneMore id) r) (sym told) (retained_steps old new s id none is stands)
+gives_step old new (OfHandle OneLess id) reply s bare none (told, counts) stands = subst (λ r. Answered new s (OfHandle OneLess id) r) (sym told) (released_steps old new s id none counts stands)
+gives_step old new (OfRotation id) reply s bare none (told, is) stands = rotation_steps old new s id reply none (rotates old.memory.trees id) refl told is stands
+gives_step old new OfJournalRotation reply s bare none (told, turns) stands = subst (λ r. Answered new s OfJournalRotation r) (sym told) (turned_steps old new s none turns stands)
+gives_step old new (OfRead view id query) reply s bare none (told, looks) stands = read_steps old new s view id query reply (tables_of old id) refl bare none told looks stands
+gives_step old new (OfTickets call) reply s bare none (turns, is) stands = tickets_step old new s stands is call reply none turns
+gives_step old new (OfPersist mode) reply s bare none (told, hands) stands =
     (record s { parts = written_out s.parts 0 }, handed_stands old new s hands stands, (same_due old s (OfPersist mode) stands ∙ none, (told, refl)))
-gives_step old new (OfCount count) reply s none (told, same) stands = (s, still old new s same stands, (same_due old s (OfCount count) stands ∙ none, (same_counts old s count reply told stands, refl)))
+gives_step old new (OfCount count) reply s bare none (told, same) stands = (s, still old new s same stands, (same_due old s (OfCount count) stands ∙ none, (same_counts old s count reply told stands, refl)))
 
--- each call is a step
-pub owes_step : (old new : Held) (shape : Shape) (reply : Reply) (s : State) → Owes old shape reply new → StandsFor old s → Steps new s shape reply
-owes_step old new shape (Refused error) s owes stands =
-    subst (λ first. (t : State) × StandsFor new t × Refuses first shape error s t) (sym (same_due old s shape stands)) (refusal_steps old new s shape error (held_due old shape) stands owes)
-owes_step old new shape reply s (none, gives) stands = gives_step old new shape reply s none gives stands
-
--- calls one after another are a run
-pub owes_run : (old new : Held) (calls : List Call) (replies : List Reply) (s : State) → OwesAll old calls replies new → StandsFor old s → (t : State) × StandsFor new t × Run s calls replies t
-owes_run old new [] [] s same stands = (s, subst (λ c. StandsFor c s) (sym same) stands, refl)
-owes_run old new (call ∷ calls) (reply ∷ replies) s (mid, owes, more) stands =
-    let next = owes_step old mid (shape_of call) reply s owes stands in
-    let rest = owes_run mid new calls replies next.0 more next.1 in
-    (rest.0, rest.1, (next.0, next.2, rest.2))
-owes_run old new [] (reply ∷ replies) s none stands = absurd none
-owes_run old new (call ∷ calls) [] s none stands = absurd none
+-- each call is a step, but a read of a keyspace that has tables
+pub owes_step : (old new : Held) (shape : Shape) (reply : Reply) (s : State) → (ReadsTables old.memory.trees shape → ⊥) → Owes old shape reply new → StandsFor old s → Steps new s shape reply
+owes_step old new shape (Refused error) s bare owes stands =
+    subst (λ first. (t : State) × StandsFor new t × Refuses first shape error s t) (sym (same_due old s shape stands)) (refusal_steps old new s shape error (held_due old shape) bare stands owes)
+owes_step old new shape reply s bare (none, gives) stands = gives_step old new shape reply s bare none gives stands
 
 -- one call more
 pub owes_push : (old mid new : Held) (calls : List Call) (replies : List Reply) (call : Call) (reply : Reply) → OwesAll old calls replies mid → Owes mid (shape_of call) reply new → OwesAll old (calls ++ call ∷ []) (replies ++ reply ∷ []) new

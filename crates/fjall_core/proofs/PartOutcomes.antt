@@ -1,7 +1,7 @@
 -- What came of the parts of a call.
-use Rattle.std.proofs.Common.{◌≡◌, ℕ, ◌≤◌, Bool, true, false, if◌then◌else◌, is_none, [], Option, Ok, Err, refl, sym, ◌∙◌, ap, subst}
+use Rattle.std.proofs.Common.{◌≡◌, ℕ, ◌≤◌, Bool, true, false, if◌then◌else◌, is_none, [], Option, Result, Ok, Err, OnOk, refl, sym, ◌∙◌, ap, subst}
 use Rattle.std.proofs.lemmas.Bool.{true≢false}
-use Rattle.fjall_base.specs.Disk.{Took}
+use Rattle.fjall_base.specs.Disk.{HasCause, Took}
 use Rattle.fjall_base.specs.Errors.{IsFault, IsFaultOrMemory}
 use Rattle.fjall_base.specs.declared.error.Error.{Error}
 use Rattle.fjall_base.specs.declared.error.Error.TheVariants.{Io, OutOfMemory}
@@ -14,6 +14,7 @@ use Rattle.fjall_catalog.specs.Updates.{IsUpdate}
 use Rattle.fjall_commit.specs.declared.creation.Creation.{Creation}
 use Rattle.fjall_commit.specs.Changes.{IsCreation}
 use Rattle.fjall_commit.specs.Journaling.{is_out}
+use Rattle.fjall_commit.specs.Removals.{RemovesOwn}
 use Rattle.fjall_state.specs.Remembered.{poisoned, with_change}
 use Rattle.fjall_core.specs.Holding.{Held}
 use Rattle.fjall_core.specs.Crashes.{is_io}
@@ -88,10 +89,14 @@ module _ (honest : Type 0) (old new : Held) (id number : ℕ) (s : Keyspaces) (h
 
 -- ---- a removal
 
-pub remove_failed : (honest : Type 0) (old mid new : Held) (id : ℕ) (error : Error) → mid ≡ record old { disk = mid.disk } → new ≡ (if is_io error then record mid { memory = poisoned mid.memory } else mid)
-    → old.disk.faults ≤ mid.disk.faults → IsFaultOrMemory old.disk.faults mid.disk.faults error → (honest → FilesGone id old.disk mid.disk) → (honest → error ≡ OutOfMemory → Took old.disk mid.disk []) → Removes honest old id (Err error) new
-remove_failed honest old mid new id (Io kind) same is later cause gone took =
-    subst (λ (h : Held). Removes honest old id (Err (Io kind)) h) (sym is) (subst (λ (h : Held). Removes honest old id (Err (Io kind)) (record h { memory = poisoned h.memory })) (sym same) (refl, cause, gone))
-remove_failed honest old mid new id OutOfMemory same is later cause gone took =
-    subst (λ (h : Held). Removes honest old id (Err OutOfMemory) h) (sym is) (same, refl, later, gone, λ h. took h refl)
-remove_failed honest old mid new id error same is later cause gone took = absurd cause
+pub remove_failed : (honest : Type 0) (old new : Held) (id : ℕ) (error : Error) → new ≡ record old { disk = new.disk } → old.disk.faults ≤ new.disk.faults → IsFaultOrMemory old.disk.faults new.disk.faults error
+    → (honest → FilesGone id old.disk new.disk) → (honest → error ≡ OutOfMemory → Took old.disk new.disk []) → Removes honest old id (Err error) new
+remove_failed honest old new id (Io kind) same later cause gone took = (same, cause, gone)
+remove_failed honest old new id OutOfMemory same later cause gone took = (same, refl, later, gone, λ h. took h refl)
+remove_failed honest old new id error same later cause gone took = absurd cause
+
+-- what came of a removal
+pub removal_comes : (honest : Type 0) (old new : Held) (id : ℕ) (result : Result Unit Error) → new ≡ record old { disk = new.disk } → HasCause old.disk new.disk result → (honest → FilesGone id old.disk new.disk)
+    → (honest → OnOk result (RemovesOwn id old.disk new.disk)) → (honest → result ≡ Err OutOfMemory → Took old.disk new.disk []) → Removes honest old id result new
+removal_comes honest old new id (Ok done) same has gone removed took = (same, has.later, gone, removed)
+removal_comes honest old new id (Err error) same has gone removed took = remove_failed honest old new id error same has.later has.cause gone (λ h is. took h (ap Err is))

@@ -1,8 +1,8 @@
 -- What a release makes of a core.
-use Rattle.std.proofs.Common.{◌≡◌, ◌≢◌, ◌⊎◌, inl, inr, MatchBool, ℕ, ◌<◌, ◌≤◌, ◌^◌, ◌==◌, ◌||◌, ◌&&◌, nat_le, not, Bool, true, false, List, [], ◌∷◌, Option, None, Some, All, Ok, Err, refl, sym, ◌∙◌, ap, subst, arith, codes}
+use Rattle.std.proofs.Common.{◌≡◌, ◌≢◌, ◌⊎◌, inl, inr, MatchBool, if◌then◌else◌, ℕ, ◌<◌, ◌≤◌, ◌^◌, ◌==◌, ◌||◌, ◌&&◌, nat_le, not, Bool, true, false, List, [], ◌∷◌, Option, None, Some, All, Ok, Err, refl, sym, ◌∙◌, ap, subst, arith, codes}
 use Rattle.std.proofs.lemmas.Bool.{true≢false}
 use Rattle.std.proofs.lemmas.Bool.Decides.{nat_tests}
-use Rattle.std.proofs.lemmas.List.Elements.{All-cons, All-nil}
+use Rattle.std.proofs.lemmas.List.Elements.{All-cons, All-filter, All-nil, All-weaker, filter_passes}
 use Rattle.std.proofs.lemmas.Option.{none-some}
 use Rattle.std.specs.Option.{is_some}
 use Rattle.fjall_base.specs.Store.{kept}
@@ -15,18 +15,26 @@ use Rattle.fjall_files.specs.Tidy.{IsTidy, StaysTidy}
 use Rattle.fjall_files.proofs.Tidying.{stays_start}
 use Rattle.fjall_meta.specs.declared.living.LivingKeyspace.{LivingKeyspace}
 use Rattle.fjall_meta.specs.Keyspaces.{AreKeyspaces, Keyspaces, keyspace_at}
+use Rattle.fjall_base.specs.Errors.{Rose}
+use Rattle.fjall_journal.specs.Writer.{Journal}
+use Rattle.fjall_table.specs.Blocks.{Entry}
 use Rattle.fjall_maps.specs.Maps.{store_of}
+use Rattle.fjall_maps.specs.Tables.{store_with}
+use Rattle.fjall_trees.specs.Forests.{Planted, without}
+use Rattle.fjall_commit.proofs.KeptHomes.{homes_none, removal_others}
 use Rattle.fjall_versions.proofs.Naming.{living_names}
 use Rattle.fjall_commit.specs.Removals.{IsUnused, RemovesOwn}
 use Rattle.fjall_state.specs.Shapes.{OfHandle, OneLess}
 use Rattle.fjall_history.specs.declared.reply.Reply.TheVariants.{Done, Refused}
 use Rattle.fjall_state.specs.Machine.{State, handles_of, is_living, is_unknown}
-use Rattle.fjall_state.specs.Remembered.{Remembered, is_last, released}
+use Rattle.fjall_state.specs.Remembered.{Remembered, is_last, poisoned, released}
 use Rattle.fjall_state.proofs.Dues.{none_due}
 use Rattle.fjall_state.proofs.Standing as law
 use Rattle.fjall_core.specs.Holding.{Held}
 use Rattle.fjall_core.specs.Durables.{Durable}
-use Rattle.fjall_core.specs.Standing.{Counts, Owes, OwesRefusal, Serves, StandsFor, StandsOn, held_due, store_in}
+use Rattle.fjall_core.specs.Crashes.{is_io}
+use Rattle.fjall_core.specs.Standing.{Counts, Owes, OwesRefusal, Poisons, Serves, StandsFor, StandsOn, held_due, store_in, store_with_tables}
+use Rattle.fjall_core.proofs.TablesAtHome.{CarryTables, HomesStay, IsOutside, KeepsReads, all_stay, carry_all, carry_along, carry_dropped, keeps_disk, keeps_homes, others_there, outside_ill, outside_same}
 use Rattle.fjall_core.proofs.JournalWrites.{held_on}
 use Rattle.fjall_core.specs.CallParts.{FilesGone, Removes}
 use Rattle.fjall_core.proofs.ServedCalls.{led_by, serves_by}
@@ -79,14 +87,29 @@ deleted m id last = by_living (is_living (store_of m.keyspaces m.trees) id) refl
 
 -- ---- what is held
 
-recounts_of : (old new : Held) (s : State) (id : ℕ) → StandsFor old s → Counts old (released id old.memory) new → Recounts old new
+-- a release changes nothing of what is shown
+same_shown : (old : Held) (s : State) (id : ℕ) → StandsFor old s → kept (store_with_tables s.parts.entries old) ≡ kept (store_with s.parts.entries (released id old.memory).keyspaces (released id old.memory).trees)
+same_shown old s id stands = let held = stands.remembered in sym held.present ∙ (law.a_release_stands old.memory old.catalog.next_table_id s held id).present
+
+-- the trees after it
+carry_released : (old new : Held) (id : ℕ) → new.memory.trees ≡ (released id old.memory).trees → CarryTables old.memory.trees new.memory.trees
+carry_released old new id is = carry_along old.memory.trees _ new.memory.trees is (by (is_last old.memory id))
+  where
+    by : (last : Bool) → CarryTables old.memory.trees (if last then without id old.memory.trees else old.memory.trees)
+    by true = carry_dropped id old.memory.trees
+    by false = carry_all old.memory.trees old.memory.trees refl
+
+counts_outside : (old new : Held) (id : ℕ) → Counts old (released id old.memory) new → IsOutside old → IsOutside new
+counts_outside old new id counts = outside_same old new (ap (λ (m : Remembered). m.poisoned) counts.memory_is) (ap (λ (j : Journal). j.name) counts.journal)
+
+recounts_of : (old new : Held) (s : State) (id : ℕ) → StandsFor old s → Counts old (released id old.memory) new → Recounts s.parts.entries old new
 recounts_of old new s id stands counts =
     let held = stands.remembered in
     record {
       keyspaces = ap (λ (m : Remembered). m.keyspaces) counts.memory_is;
       next = ap (λ (m : Remembered). m.next) counts.memory_is;
       poisoned = ap (λ (m : Remembered). m.poisoned) counts.memory_is;
-      store = sym held.present ∙ (law.a_release_stands old.memory old.catalog.next_table_id s held id).present ∙ ap (λ (m : Remembered). kept (store_of m.keyspaces m.trees)) (sym counts.memory_is);
+      store = same_shown old s id stands ∙ ap (λ (m : Remembered). kept (store_with s.parts.entries m.keyspaces m.trees)) (sym counts.memory_is);
       catalog = counts.catalog;
       journal = counts.journal;
       journals = ap (λ (m : Remembered). m.journals) counts.memory_is;
@@ -108,18 +131,18 @@ kept_on_disk A B true false (inr ill) b = absurd (true≢false (sym ill))
 -- handles counted, on a disk that stays as it is
 pub counted_serves : (old new : Held) (id : ℕ) → held_due old (OfHandle OneLess id) ≡ None → (is_last old.memory id ≡ false) ⊎ (old.memory.poisoned ≡ true) → Counts old (released id old.memory) new → new.disk ≡ old.disk → Serves old (OfHandle OneLess id) Done new
 counted_serves old new id none why counts same =
-    serves_by old new (OfHandle OneLess id) Done (none, (refl, counts)) (kept_on_disk (RemovesOwn id old.disk new.disk × Within (codes "keyspaces") old.disk new.disk) (new.disk ≡ old.disk) (is_last old.memory id) old.memory.poisoned why same)
-    (subst (λ disk. StaysTidy old.disk disk) (sym same) (stays_start old.disk)) (λ s d stands on tidy. ap (λ (m : Meaning). m.misuses) same) (λ s d stands on.
-    led_by new s d (OfHandle OneLess id) Done [] refl (λ sync. sync) (recount_leads old new d same (recounts_of old new s id stands counts) on))
+    serves_by old new (OfHandle OneLess id) Done (none, (refl, counts)) (λ reads. reads) (kept_on_disk (RemovesOwn id old.disk new.disk × Within (codes "keyspaces") old.disk new.disk) (new.disk ≡ old.disk) (is_last old.memory id) old.memory.poisoned why same)
+    (subst (λ disk. StaysTidy old.disk disk) (sym same) (stays_start old.disk)) (keeps_disk old new same (carry_released old new id (ap (λ (m : Remembered). m.trees) counts.memory_is)) (counts_outside old new id counts)) (λ s d stands on tidy. ap (λ (m : Meaning). m.misuses) same) (λ s d stands on.
+    led_by new s d (OfHandle OneLess id) Done [] refl (λ sync. sync) (recount_leads s.parts.entries old new d same (recounts_of old new s id stands counts) on))
 
 unused_by : (old : Held) (s : State) (id : ℕ) → StandsFor old s → held_due old (OfHandle OneLess id) ≡ None → is_last old.memory id ≡ true → IsUnused id old.memory.keyspaces
 unused_by old s id stands none last = unused_of old.memory id stands.remembered.lawful.keyspaces (known old id none) (deleted old.memory id last)
 
 -- wherever the core stood, no call was one that no disk can serve
-release_served : (old new : Held) (id : ℕ) → FilesGone id old.disk new.disk → IsUnused id old.memory.keyspaces → old.memory.poisoned ≡ false → (d : Durable) → StandsOn old d → IsTidy (state_in old.disk) → new.disk.misuses ≡ old.disk.misuses
-release_served old new id gone unused well d on tidy =
+release_served : (old new : Held) (id : ℕ) → FilesGone id old.disk new.disk → IsUnused id old.memory.keyspaces → old.memory.poisoned ≡ false → (entries : ℕ → List (List Entry)) (d : Durable) → StandsOn old entries d → IsTidy (state_in old.disk) → new.disk.misuses ≡ old.disk.misuses
+release_served old new id gone unused well entries d on tidy =
     let here : d ≡ held_on old d.base d.pending = λ i. record { meaning = on.same i; base = d.base; pending = d.pending } in
-    let lies = (subst (λ (x : Durable). StandsOn old x) here on).lies well in
+    let lies = (subst (λ (x : Durable). StandsOn old entries x) here on).lies well in
     gone.served lies.records lies.tree lies.in_tree (folder_kind (state_in old.disk) id unused.fits tidy)
 
 removed_of : (old new : Held) (s : State) (id : ℕ) → StandsFor old s → held_due old (OfHandle OneLess id) ≡ None → is_last old.memory id ≡ true → FilesGone id old.disk new.disk → Removed old new
@@ -131,25 +154,44 @@ removed_of old new s id stands none last gone =
       lies = λ base pending lies. gone.lies lies.records lies.tree (subst (λ (k : Keyspaces). IsUnused id k) (sym lies.keyspaces) unused) lies.in_tree;
     }
 
+-- its disk keeps the tables of all others
+gone_keeps : (old new : Held) (id : ℕ) → held_due old (OfHandle OneLess id) ≡ None → is_last old.memory id ≡ true → FilesGone id old.disk new.disk → new.memory.trees ≡ (released id old.memory).trees → (IsOutside old → IsOutside new) → KeepsReads old new
+gone_keeps old new id none last gone is outside =
+    let rest : new.memory.trees ≡ without id old.memory.trees = is ∙ ap (λ b. if b then without id old.memory.trees else old.memory.trees) last in
+    keeps_homes old new (carry_along old.memory.trees (without id old.memory.trees) new.memory.trees rest (carry_dropped id old.memory.trees)) (λ s stands reads.
+    let lawful = stands.remembered.lawful in
+    let there = unused_by old s id stands none last in
+    let fits = All-weaker (λ (k : Planted). k.id < old.memory.keyspaces.next) (λ k. k.id < 2 ^ 64) (λ k less. let small = lawful.keyspaces.fits in omega (arith, less, small)) old.memory.trees lawful.given in
+    subst (HomesStay old.disk new.disk) (sym rest)
+    (others_there id old.disk new.disk s (without id old.memory.trees) (removal_others id old.disk new.disk there.fits gone.others) (carry_dropped id old.memory.trees old.disk s reads.tables)
+    (All-filter (λ k. not (k.id == id)) (λ (k : Planted). k.id < 2 ^ 64) old.memory.trees fits)
+    (All-weaker (λ (k : Planted). not (k.id == id) ≡ true) (λ k. k.id ≢ id) (λ k passes same. let here : (k.id == id) ≡ true = grind (arith, nat_tests) in true≢false (sym passes ∙ ap not here)) (without id old.memory.trees)
+    (filter_passes (λ (k : Planted). not (k.id == id)) old.memory.trees)))) outside
+
+out_keeps : (old new : Held) → new ≡ record old { disk = new.disk } → Took old.disk new.disk [] → KeepsReads old new
+out_keeps old new same took =
+    keeps_homes old new (carry_all old.memory.trees new.memory.trees (ap (λ (h : Held). h.memory.trees) same)) (λ s stands reads. all_stay old.disk new.disk new.memory.trees (homes_none old.disk new.disk took))
+    (outside_same old new (ap (λ (h : Held). h.memory.poisoned) same) (ap (λ (h : Held). h.journal.name) same))
+
 -- files removed, and then handles counted
 pub removed_serves : (old new : Held) (id : ℕ) → held_due old (OfHandle OneLess id) ≡ None → is_last old.memory id ≡ true → old.memory.poisoned ≡ false → Counts old (released id old.memory) new → FilesGone id old.disk new.disk → RemovesOwn id old.disk new.disk
     → Serves old (OfHandle OneLess id) Done new
 removed_serves old new id none last well counts gone removed =
-    serves_by old new (OfHandle OneLess id) Done (none, (refl, counts))
-    (gone_on_disk (RemovesOwn id old.disk new.disk × Within (codes "keyspaces") old.disk new.disk) (new.disk ≡ old.disk) (is_last old.memory id) old.memory.poisoned last well (removed, gone.within)) gone.kinds
-    (λ s d stands on tidy. release_served old new id gone (unused_by old s id stands none last) well d on tidy) (λ s d stands on.
-    led_by new s d (OfHandle OneLess id) Done [] refl (λ sync. sync) (removed_leads old new d well (recounts_of old new s id stands counts) (removed_of old new s id stands none last gone) on))
+    serves_by old new (OfHandle OneLess id) Done (none, (refl, counts)) (λ reads. reads)
+    (gone_on_disk (RemovesOwn id old.disk new.disk × Within (codes "keyspaces") old.disk new.disk) (new.disk ≡ old.disk) (is_last old.memory id) old.memory.poisoned last well (removed, gone.within)) gone.kinds (gone_keeps old new id none last gone (ap (λ (m : Remembered). m.trees) counts.memory_is) (counts_outside old new id counts))
+    (λ s d stands on tidy. release_served old new id gone (unused_by old s id stands none last) well s.parts.entries d on tidy) (λ s d stands on.
+    led_by new s d (OfHandle OneLess id) Done [] refl (λ sync. sync) (removed_leads s.parts.entries old new d well (recounts_of old new s id stands counts) (removed_of old new s id stands none last gone) on))
 
 -- memory ran out before anything was removed
 out_owes : (old new : Held) (id : ℕ) → held_due old (OfHandle OneLess id) ≡ None → new ≡ record old { disk = new.disk } → old.disk.faults ≤ new.disk.faults → Owes old (OfHandle OneLess id) (Refused OutOfMemory) new
 out_owes old new id none same later = subst (λ first. OwesRefusal first old (OfHandle OneLess id) OutOfMemory new) (sym none) (tt, (same, later))
 
-same_counts : (old new : Held) → new ≡ record old { disk = new.disk } → Recounts old new
-same_counts old new same = record {
+same_counts : (entries : ℕ → List (List Entry)) (old new : Held) → new ≡ record old { disk = new.disk } → Recounts entries old new
+same_counts entries old new same = record {
   keyspaces = ap (λ (h : Held). h.memory.keyspaces) same;
   next = ap (λ (h : Held). h.memory.next) same;
   poisoned = ap (λ (h : Held). h.memory.poisoned) same;
-  store = sym (ap (λ (h : Held). kept (store_in h)) same);
+  store = sym (ap (λ (h : Held). kept (store_with_tables entries h)) same);
   catalog = ap (λ (h : Held). h.catalog) same;
   journal = ap (λ (h : Held). h.journal) same;
   journals = ap (λ (h : Held). h.memory.journals) same;
@@ -158,26 +200,68 @@ same_counts old new same = record {
 out_serves : (old new : Held) (id : ℕ) → held_due old (OfHandle OneLess id) ≡ None → is_last old.memory id ≡ true → old.memory.poisoned ≡ false → new ≡ record old { disk = new.disk } → old.disk.faults ≤ new.disk.faults
     → FilesGone id old.disk new.disk → Took old.disk new.disk [] → Serves old (OfHandle OneLess id) (Refused OutOfMemory) new
 out_serves old new id none last well same later gone took =
-    serves_by old new (OfHandle OneLess id) (Refused OutOfMemory) (out_owes old new id none same later) took gone.kinds
-    (λ s d stands on tidy. release_served old new id gone (unused_by old s id stands none last) well d on tidy) (λ s d stands on.
+    serves_by old new (OfHandle OneLess id) (Refused OutOfMemory) (out_owes old new id none same later) (λ reads. reads) took gone.kinds (out_keeps old new same took)
+    (λ s d stands on tidy. release_served old new id gone (unused_by old s id stands none last) well s.parts.entries d on tidy) (λ s d stands on.
     led_by new s d (OfHandle OneLess id) (Refused OutOfMemory) [] refl (λ sync. sync)
-    (removed_leads old new d well (same_counts old new same) (removed_of old new s id stands none last gone) on))
+    (removed_leads s.parts.entries old new d well (same_counts s.parts.entries old new same) (removed_of old new s id stands none last gone) on))
 
--- a removal that was refused
-pub unremoved_owes : (honest : Type 0) (old new : Held) (id : ℕ) (error : Error) → held_due old (OfHandle OneLess id) ≡ None → Removes honest old id (Err error) new → Owes old (OfHandle OneLess id) (Refused error) new
-unremoved_owes honest old new id (Io kind) none all = subst (λ first. OwesRefusal first old (OfHandle OneLess id) (Io kind) new) (sym none) (tt, record { memory_is = ap (λ (h : Held). h.memory) all.0; faults = all.1 })
-unremoved_owes honest old new id error none all =
-    subst (λ e. Owes old (OfHandle OneLess id) (Refused e) new) (sym all.1) (out_owes old new id none all.0 all.2)
+-- ---- a removal that was refused
 
-pub unremoved_serves : (honest : Type 0) (old new : Held) (id : ℕ) (error : Error) → held_due old (OfHandle OneLess id) ≡ None → is_last old.memory id ≡ true → old.memory.poisoned ≡ false → Removes honest old id (Err error) new → honest
-    → Serves old (OfHandle OneLess id) (Refused error) new
-unremoved_serves honest old new id (Io kind) none last well all true_ =
-    serves_by old new (OfHandle OneLess id) (Refused (Io kind)) (unremoved_owes honest old new id (Io kind) none all) (all.2 true_).within (all.2 true_).kinds
-    (λ s d stands on tidy. record { rose = all.1; served = release_served old new id (all.2 true_) (unused_by old s id stands none last) well d on tidy }) (λ s d stands on.
+-- what a fault of a removal leaves: the handle is counted less all the same
+pub record FaultLeft (old mid new : Held) (id : ℕ) (error : Error) : Type 0 where
+  pub memory_is : new.memory ≡ (if is_io error then poisoned (released id mid.memory) else mid.memory)
+  pub disk : new.disk ≡ mid.disk
+  pub catalog : new.catalog ≡ mid.catalog
+  pub journal : new.journal ≡ mid.journal
+
+faulted : (old mid new : Held) (id : ℕ) (kind : _) → mid.memory ≡ old.memory → Rose old.disk.faults mid.disk.faults → FaultLeft old mid new id (Io kind) → Poisons (released id old.memory) old new
+faulted old mid new id kind same rose left = record { memory_is = left.memory_is ∙ ap (λ (m : Remembered). poisoned (released id m)) same; faults = subst (λ (m : Meaning). Rose old.disk.faults m.faults) (sym left.disk) rose }
+
+-- else all is left as it was
+as_mid : (old mid new : Held) (id : ℕ) (error : Error) → is_io error ≡ false → mid ≡ record old { disk = mid.disk } → FaultLeft old mid new id error → new ≡ record old { disk = new.disk }
+as_mid old mid new id error other same left =
+    let memory : new.memory ≡ old.memory = left.memory_is ∙ ap (λ b. if b then poisoned (released id mid.memory) else mid.memory) other ∙ ap (λ (h : Held). h.memory) same in
+    let catalog : new.catalog ≡ old.catalog = left.catalog ∙ ap (λ (h : Held). h.catalog) same in
+    let journal : new.journal ≡ old.journal = left.journal ∙ ap (λ (h : Held). h.journal) same in
+    λ i. record { disk = new.disk; journal = journal i; catalog = catalog i; memory = memory i }
+
+pub left_by : (old mid new : Held) (id : ℕ) (error : Error) → new ≡ (if is_io error then record mid { memory = poisoned (released id mid.memory) } else mid) → FaultLeft old mid new id error
+left_by old mid new id error is = record {
+  memory_is = ap (λ (h : Held). h.memory) is ∙ of_memory (is_io error);
+  disk = ap (λ (h : Held). h.disk) is ∙ of_rest (λ h. h.disk) refl (is_io error);
+  catalog = ap (λ (h : Held). h.catalog) is ∙ of_rest (λ h. h.catalog) refl (is_io error);
+  journal = ap (λ (h : Held). h.journal) is ∙ of_rest (λ h. h.journal) refl (is_io error);
+}
+  where
+    of_memory : (b : Bool) → (if b then record mid { memory = poisoned (released id mid.memory) } else mid).memory ≡ (if b then poisoned (released id mid.memory) else mid.memory)
+    of_memory true = refl
+    of_memory false = refl
+
+    of_rest : {X : Type 0} (f : Held → X) → f (record mid { memory = poisoned (released id mid.memory) }) ≡ f mid → (b : Bool) → f (if b then record mid { memory = poisoned (released id mid.memory) } else mid) ≡ f mid
+    of_rest f same true = same
+    of_rest f same false = refl
+
+pub unremoved_owes : (honest : Type 0) (old mid new : Held) (id : ℕ) (error : Error) → held_due old (OfHandle OneLess id) ≡ None → Removes honest old id (Err error) mid → FaultLeft old mid new id error → Owes old (OfHandle OneLess id) (Refused error) new
+unremoved_owes honest old mid new id (Io kind) none all left =
+    subst (λ first. OwesRefusal first old (OfHandle OneLess id) (Io kind) new) (sym none) (inl (tt, faulted old mid new id kind (ap (λ (h : Held). h.memory) all.0) all.1 left))
+unremoved_owes honest old mid new id OutOfMemory none all left = out_owes old new id none (as_mid old mid new id OutOfMemory refl all.0 left) (subst (λ (m : Meaning). old.disk.faults ≤ m.faults) (sym left.disk) all.2)
+unremoved_owes honest old mid new id error none all left = absurd cc
+
+pub unremoved_serves : (honest : Type 0) (old mid new : Held) (id : ℕ) (error : Error) → held_due old (OfHandle OneLess id) ≡ None → is_last old.memory id ≡ true → old.memory.poisoned ≡ false → Removes honest old id (Err error) mid
+    → FaultLeft old mid new id error → honest → Serves old (OfHandle OneLess id) (Refused error) new
+unremoved_serves honest old mid new id (Io kind) none last well all left true_ =
+    let fault = faulted old mid new id kind (ap (λ (h : Held). h.memory) all.0) all.1 left in
+    let gone = subst (λ (m : Meaning). FilesGone id old.disk m) (sym left.disk) (all.2 true_) in
+    serves_by old new (OfHandle OneLess id) (Refused (Io kind)) (unremoved_owes honest old mid new id (Io kind) none all left) (λ reads. reads) gone.within gone.kinds
+    (gone_keeps old new id none last gone (ap (λ (m : Remembered). m.trees) fault.memory_is) (outside_ill old new (ap (λ (m : Remembered). m.poisoned) fault.memory_is)))
+    (λ s d stands on tidy. record { rose = fault.faults; served = release_served old new id gone (unused_by old s id stands none last) well s.parts.entries d on tidy }) (λ s d stands on.
     led_by new s d (OfHandle OneLess id) (Refused (Io kind)) [] refl (λ sync. sync)
-    (unremoved_leads old new d well (record { memory_is = ap (λ (h : Held). h.memory) all.0; faults = all.1 }) (removed_of old new s id stands none last (all.2 true_)) on))
-unremoved_serves honest old new id error none last well all true_ =
-    subst (λ e. Serves old (OfHandle OneLess id) (Refused e) new) (sym all.1) (out_serves old new id none last well all.0 all.2 (all.3 true_) (all.4 true_))
+    (unremoved_leads s.parts.entries (released id old.memory) old new d well fault (same_shown old s id stands) (removed_of old new s id stands none last gone) on))
+unremoved_serves honest old mid new id OutOfMemory none last well all left true_ =
+    let same = as_mid old mid new id OutOfMemory refl all.0 left in
+    out_serves old new id none last well same (subst (λ (m : Meaning). old.disk.faults ≤ m.faults) (sym left.disk) all.2) (subst (λ (m : Meaning). FilesGone id old.disk m) (sym left.disk) (all.3 true_))
+    (subst (λ (m : Meaning). Took old.disk m []) (sym left.disk) (all.4 true_))
+unremoved_serves honest old mid new id error none last well all left true_ = absurd cc
 
 -- a removal that was done, and then the handles counted
 counts_then : (honest : Type 0) (old mid new : Held) (id : ℕ) → Removes honest old id (Ok tt) mid → new ≡ record mid { memory = released id mid.memory } → Counts old (released id old.memory) new

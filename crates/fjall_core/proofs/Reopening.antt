@@ -6,6 +6,7 @@ use Rattle.fjall_base.specs.Crash.{IsHoused}
 use Rattle.fjall_base.proofs.Wholes.{all_kept, all_kept_is_left}
 use Rattle.fjall_base.specs.Disk.{Image, IsFile, IsImage, LeavesOnly, Meaning, State, standing, state_in}
 use Rattle.fjall_meta.specs.Keyspaces.{no_keyspaces}
+use Rattle.fjall_table.specs.Blocks.{Entry}
 use Rattle.fjall_files.specs.Names.{journal_name}
 use Rattle.fjall_files.specs.Marker.{marker_tells}
 use Rattle.fjall_files.specs.Tidy.{StaysTidy}
@@ -92,13 +93,13 @@ finished_amid state base pending housed finished crash =
       back = λ begun. absurd (told_twice stands.marker begun.marker);
     }
 
-pub a_core_holds_amid : (core : Held) (d : Durable) → StandsOn core d → IsHoused (state_in d.meaning) → HoldsAmid (state_in d.meaning) d.base d.pending
-a_core_holds_amid core d on housed = finished_amid (state_in d.meaning) d.base d.pending housed on.finished on.rests
+pub a_core_holds_amid : (core : Held) (entries : ℕ → List (List Entry)) (d : Durable) → StandsOn core entries d → IsHoused (state_in d.meaning) → HoldsAmid (state_in d.meaning) d.base d.pending
+a_core_holds_amid core entries d on housed = finished_amid (state_in d.meaning) d.base d.pending housed on.finished on.rests
 
 -- ---- what is opened
 
-pub opens_amid : (old new : Meaning) (o : Opened) (base : Store) (pending : List Command) → HoldsAmid (state_in old) base pending → StaysTidy old new → ((folder : Option Contents) → IsFolder (standing (state_in old)) folder → repair.Opens (state_in new) folder o)
-    → LeavesOnly old new (StandsAmid base [] pending) → repair.IsLawful o → OpensAmid old (core_of new o) base pending
+pub opens_amid : (old new : Meaning) (o : Opened) (base : Store) (pending : List Command) → HoldsAmid (state_in old) base pending → StaysTidy old new
+    → ((folder : Option Contents) → IsFolder (standing (state_in old)) folder → repair.Opens new folder o) → LeavesOnly old new (StandsAmid base [] pending) → repair.IsLawful o → OpensAmid old (core_of new o) base pending
 opens_amid old new o base pending holds kinds opens run lawful =
     let found = stood (standing (state_in old)) (kept (fold base holds.now.front)) holds.now.stands in
     record { front = holds.now.front; within = holds.now.within; opens = opens_as new found.0 o (opens found.0 found.1) (kept (fold base holds.now.front)) lawful found.2; any_moment = run; kinds = kinds }

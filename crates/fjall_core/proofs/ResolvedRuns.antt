@@ -8,9 +8,9 @@ use Rattle.fjall_state.specs.Places.{id_opened, resolved, resolved_all, resolved
 use Rattle.fjall_state.specs.Shapes.{shape_of}
 use Rattle.fjall_core.specs.Durables.{Durable}
 use Rattle.fjall_core.specs.Holding.{Held}
-use Rattle.fjall_core.specs.Standing.{Owes, OwesAll, Serves}
+use Rattle.fjall_core.specs.Standing.{Owes, OwesAll, Runs, Serves}
 use Rattle.fjall_core.proofs.OwedSteps.{owes_push}
-use Rattle.fjall_core.proofs.RunsOverCrashes.{SoFar, one_more}
+use Rattle.fjall_core.proofs.RunsOverCrashes.{SoFar, one_more, runs_push}
 
 -- the ids of the tickets that these replies opened
 abbrev pub ids_of : List Reply → List (Option ℕ)
@@ -39,6 +39,11 @@ module _ (calls : List Call) (replies more : List Reply) (ids : List (Option ℕ
   pub call_more : (mid new : Held) (s : State) (d : Durable) → SoFar mid s d (so_far calls i replies) replies → Serves mid (shape_of (resolved ids call)) reply new → SoFar new s d (so_far calls (i + 1) more) more
   call_more mid new s d before serves =
       subst (λ cs. SoFar new s d cs more) (sym grows) (subst (λ rs. SoFar new s d (so_far calls i replies ++ resolved ids call ∷ []) rs) (sym pushed) (one_more mid new s d (so_far calls i replies) replies (resolved ids call) reply before serves))
+
+  pub runs_more : (old mid new : Held) → Runs old (so_far calls i replies) replies mid → Serves mid (shape_of (resolved ids call)) reply new → Runs old (so_far calls (i + 1) more) more new
+  runs_more old mid new before serves =
+      subst (λ cs. Runs old cs more new) (sym grows) (subst (λ rs. Runs old (so_far calls i replies ++ resolved ids call ∷ []) rs new) (sym pushed)
+      (runs_push old mid new (so_far calls i replies) replies (resolved ids call) reply before serves))
 
   pub owed_more : (old mid new : Held) → OwesAll old (so_far calls i replies) replies mid → Owes mid (shape_of (resolved ids call)) reply new → OwesAll old (so_far calls (i + 1) more) more new
   owed_more old mid new before owes =

@@ -1,16 +1,18 @@
 -- A memtable that is sealed: what is shown, and what lies on the disk, stay as they are.
-use Rattle.std.proofs.Common.{◌≡◌, ℕ, Bool, true, false, if◌then◌else◌, [], Option, None, Result, Ok, Err, IfOk, IsOkUnless, OnErr, refl, sym, ap, subst, ◌∙◌}
+use Rattle.std.proofs.Common.{◌≡◌, ℕ, Bool, true, false, if◌then◌else◌, List, [], Option, None, Result, Ok, Err, IfOk, IsOkUnless, OnErr, refl, sym, ap, subst, ◌∙◌}
 use Rattle.fjall_base.specs.Store.{kept}
 use Rattle.fjall_base.specs.declared.error.Error.{Error}
 use Rattle.fjall_base.specs.declared.error.Error.TheVariants.{OutOfMemory}
 use Rattle.fjall_files.proofs.Tidying.{stays_start}
-use Rattle.fjall_maps.proofs.Rotated.{rotated_store}
+use Rattle.fjall_table.specs.Blocks.{Entry}
+use Rattle.fjall_maps.proofs.Rotated.{rotated_store_with}
 use Rattle.fjall_history.specs.declared.reply.Reply.TheVariants.{Flag, Refused}
 use Rattle.fjall_state.specs.Machine.{first_due, rotates, rotation_refusals}
 use Rattle.fjall_state.specs.Remembered.{Remembered, facts_of, rotated}
 use Rattle.fjall_state.specs.Shapes.{OfRotation}
 use Rattle.fjall_core.specs.Holding.{Held}
 use Rattle.fjall_core.specs.Standing.{Owes, Serves, flag_reply, held_due}
+use Rattle.fjall_core.proofs.TablesAtHome.{KeepsReads, carry_all, carry_sealed, keeps_disk, outside_same}
 use Rattle.fjall_core.proofs.KeyspaceCalls.{Recounts, recount_leads}
 use Rattle.fjall_core.proofs.ServedCalls.{led_by, memory_owes, memory_serves, serves_by}
 
@@ -26,9 +28,14 @@ module _ (core : Held) (id : ℕ) (none : held_due core (OfRotation id) ≡ None
   abbrev with_memory : Remembered → Held
   with_memory m = record core { memory = m }
 
-  recounts : (seals : Bool) → Recounts core (with_memory (after seals))
-  recounts true = record { keyspaces = refl; next = refl; poisoned = refl; store = ap kept (sym (rotated_store id core.memory.keyspaces core.memory.trees)); catalog = refl; journal = refl; journals = refl }
-  recounts false = record { keyspaces = refl; next = refl; poisoned = refl; store = refl; catalog = refl; journal = refl; journals = refl }
+  recounts : (entries : ℕ → List (List Entry)) (seals : Bool) → Recounts entries core (with_memory (after seals))
+  recounts entries true = record { keyspaces = refl; next = refl; poisoned = refl; store = ap kept (sym (rotated_store_with entries id core.memory.keyspaces core.memory.trees)); catalog = refl; journal = refl; journals = refl }
+  recounts entries false = record { keyspaces = refl; next = refl; poisoned = refl; store = refl; catalog = refl; journal = refl; journals = refl }
+
+  -- its disk keeps the tables
+  rotated_keeps : (seals : Bool) → KeepsReads core (with_memory (after seals))
+  rotated_keeps true = keeps_disk core (with_memory (after true)) refl (carry_sealed id core.memory.trees) (outside_same core (with_memory (after true)) refl refl)
+  rotated_keeps false = keeps_disk core (with_memory (after false)) refl (carry_all core.memory.trees core.memory.trees refl) (outside_same core (with_memory (after false)) refl refl)
 
   same_core : (seals : Bool) → with_memory (after seals) ≡ (if seals then with_memory (rotated id core.memory) else core)
   same_core true = refl
@@ -39,8 +46,8 @@ module _ (core : Held) (id : ℕ) (none : held_due core (OfRotation id) ≡ None
 
   done_serves : (seals : Bool) → seals ≡ rotates core.memory.trees id → Serves core (OfRotation id) (Flag seals) (with_memory (after seals))
   done_serves seals value =
-      serves_by core (with_memory (after seals)) (OfRotation id) (Flag seals) (done_owes seals value) refl (stays_start core.disk) (λ s d stands on tidy. refl)
-      (λ s d stands on. led_by (with_memory (after seals)) s d (OfRotation id) (Flag seals) [] refl (λ sync. sync) (recount_leads core (with_memory (after seals)) d refl (recounts seals) on))
+      serves_by core (with_memory (after seals)) (OfRotation id) (Flag seals) (done_owes seals value) (λ reads. reads) refl (stays_start core.disk) (rotated_keeps seals) (λ s d stands on tidy. refl)
+      (λ s d stands on. led_by (with_memory (after seals)) s d (OfRotation id) (Flag seals) [] refl (λ sync. sync) (recount_leads s.parts.entries core (with_memory (after seals)) d refl (recounts s.parts.entries seals) on))
 
   abbrev answer : Bool → Result Bool Error
   answer seals = Ok seals

@@ -6,11 +6,11 @@ use Rattle.fjall_files.specs.Tidy.{StaysTidy}
 use Rattle.fjall_state.specs.declared.call.Call.{Call}
 use Rattle.fjall_state.specs.Shapes.{shape_of}
 use Rattle.fjall_history.specs.declared.reply.Reply.{Reply}
-use Rattle.fjall_state.specs.Machine.{State}
+use Rattle.fjall_state.specs.Machine.{Run, State, Step}
 use Rattle.fjall_core.specs.Holding.{Held}
 use Rattle.fjall_core.specs.Durables.{Durable, StandsAmid}
 use Rattle.fjall_core.specs.Crashes.{attempt, RunOn, SafeAt}
-use Rattle.fjall_core.specs.Standing.{StandsFor, StandsOn, Serves, RunsOn, RunsSafely}
+use Rattle.fjall_core.specs.Standing.{ReadsOn, StandsFor, StandsOn, Serves, Runs, RunsOn, RunsSafely}
 use Rattle.fjall_core.proofs.CrashesInRuns.{run_kinds, run_passes, run_safe, run-push}
 use Rattle.fjall_core.proofs.AttemptedCommands.{run_tries}
 
@@ -20,23 +20,26 @@ pub record SoFar (new : Held) (s : State) (d : Durable) (calls : List Call) (rep
   pub state : State
   pub durable : Durable
   pub stands : StandsFor new state
-  pub on : StandsOn new durable
+  pub reads : ReadsOn new state
+  pub on : StandsOn new state.parts.entries durable
   pub run : RunOn s d calls replies tried state durable
 
-pub none_yet : (core : Held) (s : State) (d : Durable) → StandsFor core s → StandsOn core d → SoFar core s d [] []
-none_yet core s d stands on = record { tried = []; state = s; durable = d; stands = stands; on = on; run = (refl, refl, refl) }
+pub none_yet : (core : Held) (s : State) (d : Durable) → StandsFor core s → ReadsOn core s → StandsOn core s.parts.entries d → SoFar core s d [] []
+none_yet core s d stands reads on = record { tried = []; state = s; durable = d; stands = stands; reads = reads; on = on; run = (refl, refl, refl) }
 
 -- one call more
 pub one_more : (mid new : Held) (s : State) (d : Durable) (calls : List Call) (replies : List Reply) (c : Call) (r : Reply) → SoFar mid s d calls replies → Serves mid (shape_of c) r new → SoFar new s d (calls ++ c ∷ []) (replies ++ r ∷ [])
 one_more mid new s d calls replies c r so_far serves =
-    let next = serves.crash so_far.state so_far.durable so_far.stands so_far.on in
+    let next = serves.goes_on so_far.state so_far.stands so_far.reads in
+    let led = next.4 so_far.durable so_far.on in
     record {
       tried = so_far.tried ++ attempt so_far.state (shape_of c) r;
       state = next.0;
-      durable = next.1;
-      stands = next.2;
-      on = next.3;
-      run = run-push s so_far.state next.0 d so_far.durable next.1 calls replies so_far.tried c r so_far.run next.4 next.5;
+      durable = led.0;
+      stands = next.1;
+      reads = next.2;
+      on = led.1;
+      run = run-push s so_far.state next.0 d so_far.durable led.0 calls replies so_far.tried c r so_far.run next.3 led.2;
     }
 
 -- one run behind another
@@ -57,7 +60,7 @@ run_behind s m t d n e [] more (r ∷ replies) others tried rest first run = abs
 run_behind s m t d n e (c ∷ calls) more [] others tried rest first run = absurd first
 
 -- a whole run
-pub ends : (old new : Held) (s : State) (d : Durable) (calls : List Call) (replies : List Reply) → StandsOn old d → SoFar new s d calls replies → RunsOn old calls replies new s d
+pub ends : (old new : Held) (s : State) (d : Durable) (calls : List Call) (replies : List Reply) → StandsOn old s.parts.entries d → SoFar new s d calls replies → RunsOn old calls replies new s d
 ends old new s d calls replies on end =
     let passes = run_passes s end.state d end.durable calls replies end.tried on.rests end.run in
     record {
@@ -65,6 +68,7 @@ ends old new s d calls replies on end =
       state = end.state;
       durable = end.durable;
       stands = end.stands;
+      reads = end.reads;
       on = end.on;
       run = end.run;
       accepted = run_tries s end.state d end.durable calls replies end.tried end.run;
@@ -75,18 +79,39 @@ ends old new s d calls replies on end =
     }
 
 -- no call
-pub no_run : (core : Held) (s : State) (d : Durable) → StandsFor core s → StandsOn core d → RunsOn core [] [] core s d
-no_run core s d stands on = ends core core s d [] [] on (none_yet core s d stands on)
+pub no_run : (core : Held) (s : State) (d : Durable) → StandsFor core s → ReadsOn core s → StandsOn core s.parts.entries d → RunsOn core [] [] core s d
+no_run core s d stands reads on = ends core core s d [] [] on (none_yet core s d stands reads on)
 
 -- one run behind another is one run
-pub runs_behind : (old mid new : Held) (s : State) (d : Durable) (calls more : List Call) (replies others : List Reply) → StandsOn old d → RunsOn old calls replies mid s d → RunsSafely mid more others new → RunsOn old (calls ++ more) (replies ++ others) new s d
+pub runs_behind : (old mid new : Held) (s : State) (d : Durable) (calls more : List Call) (replies others : List Reply) → StandsOn old s.parts.entries d → RunsOn old calls replies mid s d → RunsSafely mid more others new
+    → RunsOn old (calls ++ more) (replies ++ others) new s d
 runs_behind old mid new s d calls more replies others on first safely =
-    let then = safely first.state first.durable first.stands first.on in
+    let then = safely first.state first.durable first.stands first.reads first.on in
     ends old new s d (calls ++ more) (replies ++ others) on (record {
       tried = first.tried ++ then.tried;
       state = then.state;
       durable = then.durable;
       stands = then.stands;
+      reads = then.reads;
       on = then.on;
       run = run_behind s first.state then.state d first.durable then.durable calls more replies others first.tried then.tried first.run then.run;
     })
+
+-- ---- the same as a run of the machine, whatever it stood on
+
+-- one step more
+run_more : (s m t : State) (calls : List Call) (replies : List Reply) (c : Call) (r : Reply) → Run s calls replies m → Step m c r t → Run s (calls ++ c ∷ []) (replies ++ r ∷ []) t
+run_more s m t [] [] c r run step = (t, subst (λ (x : State). Step x c r t) run step, refl)
+run_more s m t (c' ∷ calls) (r' ∷ replies) c r (mid, first, run) step = (mid, first, run_more mid m t calls replies c r run step)
+run_more s m t [] (r' ∷ replies) c r run step = absurd run
+run_more s m t (c' ∷ calls) [] c r run step = absurd run
+
+pub runs_none : (core : Held) → Runs core [] [] core
+runs_none core s stands reads = (s, stands, reads, refl)
+
+-- one call more
+pub runs_push : (old mid new : Held) (calls : List Call) (replies : List Reply) (c : Call) (r : Reply) → Runs old calls replies mid → Serves mid (shape_of c) r new → Runs old (calls ++ c ∷ []) (replies ++ r ∷ []) new
+runs_push old mid new calls replies c r runs serves s stands reads =
+    let so_far = runs s stands reads in
+    let next = serves.goes_on so_far.0 so_far.1 so_far.2 in
+    (next.0, next.1, next.2, run_more s so_far.0 next.0 calls replies c r so_far.3 next.3)

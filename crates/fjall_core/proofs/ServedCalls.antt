@@ -6,7 +6,7 @@ use Rattle.fjall_base.specs.Store.{Command}
 use Rattle.fjall_base.specs.Disk.{Meaning, state_in}
 use Rattle.fjall_base.specs.Disk as disk
 use Rattle.fjall_base.specs.declared.error.Error.{Error}
-use Rattle.fjall_base.specs.declared.error.Error.TheVariants.{Io, OutOfMemory, ValueTooLong}
+use Rattle.fjall_base.specs.declared.error.Error.TheVariants.{Io, OutOfMemory, Storage, ValueTooLong}
 use Rattle.fjall_files.specs.Regions.{IsSafe}
 use Rattle.fjall_table.specs.declared.table_info.TableInfo.{TableInfo}
 use Rattle.fjall_files.specs.Names.{table_name}
@@ -16,60 +16,108 @@ use Rattle.fjall_catalog.specs.Catalog.{listed}
 use Rattle.fjall_catalog.specs.Updates.{IsTableGone}
 use Rattle.fjall_files.specs.Tidy.{IsTidy, StaysTidy}
 use Rattle.fjall_files.proofs.Tidying.{stays_start}
-use Rattle.fjall_state.specs.Shapes.{OfHandle, OneLess, Shape}
+use Rattle.fjall_state.specs.Shapes.{OfChange, OfCount, OfCreation, OfDeletion, OfHandle, OfJournalRotation, OfPersist, OfRead, OfRotation, OfTickets, OneLess, OneMore, Shape}
+use Rattle.fjall_table.specs.Blocks.{Entry}
+use Rattle.fjall_blocks.specs.Readers.{Reader}
+use Rattle.fjall_trees.proofs.Same.{same_trees}
 use Rattle.fjall_history.specs.declared.reply.Reply.{Reply}
 use Rattle.fjall_history.specs.declared.reply.Reply.TheVariants.{Refused}
-use Rattle.fjall_state.specs.Machine.{State, TakesMemory, TooLong}
+use Rattle.fjall_state.specs.Machine.{State, ReadsTables, StepOf, TakesMemory, TooLong}
 use Rattle.fjall_state.specs.Remembered.{IsDueOrMemory, facts_of}
 use Rattle.fjall_core.specs.Holding.{Held}
 use Rattle.fjall_core.specs.Durables.{Durable, Passes}
 use Rattle.fjall_core.specs.Crashes.{BlamesDevice, CallLeaves, IsSync, attempt, is_io}
-use Rattle.fjall_core.specs.Standing.{HasTable, OnDisk, Owes, OwesRefusal, RanOut, ReplacesTable, Serves, StandsFor, StandsOn, held_due, store_in}
+use Rattle.fjall_core.specs.Standing.{DiskLooked, DiskRead, HasTable, LooksAt, OnDisk, Owes, OwesRefusal, RanOut, ReadsOn, ReplacesTable, Serves, StandsFor, StandsOn, held_due, store_in, tables_of}
 use Rattle.fjall_core.proofs.CrashesInRuns.{passes_still}
 use Rattle.fjall_core.proofs.Refusals.{is_fault, never_due, no_attempt, no_sync}
-use Rattle.fjall_core.proofs.OwedSteps.{owes_step}
+use Rattle.fjall_core.proofs.KeptEntries.{step_keeps}
+use Rattle.fjall_core.proofs.TablesAtHome.{KeepsReads, keeps_same, said_same}
+use Rattle.fjall_core.proofs.OwedSteps.{due_step, memory_step, owes_step}
 use Rattle.fjall_core.proofs.DeviceFaults.{refusal_blames}
 use Rattle.fjall_core.proofs.JournalWrites.{Leads}
 
 -- the core stands on some disk now, to which such a call leads
 abbrev pub Led : Held → State → Durable → Shape → Reply → Type 0
-Led new s d shape reply = (e : Durable) × StandsOn new e × CallLeaves s d shape reply e
+Led new s d shape reply = (e : Durable) × StandsOn new s.parts.entries e × CallLeaves s d shape reply e
 
--- what a call owes, what it did to the disk, and where it leads, is what it serves
-pub serves_by : (old new : Held) (shape : Shape) (reply : Reply) → Owes old shape reply new → OnDisk old shape reply new → StaysTidy old.disk new.disk → ((s : State) (d : Durable) → StandsFor old s → StandsOn old d → IsTidy (state_in old.disk) → BlamesDevice reply old.disk new.disk) → ((s : State) (d : Durable) → StandsFor old s → StandsOn old d → Led new s d shape reply) → Serves old shape reply new
-serves_by old new shape reply owes disk stays device led = record {
+-- what the device is to blame for, wherever the core stood
+abbrev pub Blames : Held → Reply → Held → Type 0
+Blames old reply new = (s : State) (d : Durable) → StandsFor old s → StandsOn old s.parts.entries d → IsTidy (state_in old.disk) → BlamesDevice reply old.disk new.disk
+
+-- where the call leads, wherever the core stood
+abbrev pub LeadsFrom : Held → Shape → Reply → Held → Type 0
+LeadsFrom old shape reply new = (s : State) (d : Durable) → StandsFor old s → StandsOn old s.parts.entries d → Led new s d shape reply
+
+-- What a call steps to, what it did to the disk, and where it leads, is what it serves, where its disk keeps the tables.
+pub served : (old new : Held) (shape : Shape) (reply : Reply) → ((s : State) → StandsFor old s → ReadsOn old s → (t : State) × StandsFor new t × StepOf s shape reply t) → OnDisk old shape reply new → StaysTidy old.disk new.disk → KeepsReads old new
+    → Blames old reply new → LeadsFrom old shape reply new → Serves old shape reply new
+served old new shape reply steps disk stays keeps device led = record {
   disk = disk;
-  crash = λ s d stands on.
-      let stepped = owes_step old new shape reply s owes stands in
-      let way = led s d stands on in
-      let blames = subst (λ (m : Meaning). IsTidy (state_in m) → BlamesDevice reply m way.0.meaning) (sym on.same) (subst (λ (m : Meaning). IsTidy (state_in old.disk) → BlamesDevice reply old.disk m) (sym way.1.same) (device s d stands on)) in
-      let kinds = subst (λ (m : Meaning). StaysTidy m way.0.meaning) (sym on.same) (subst (λ (m : Meaning). StaysTidy old.disk m) (sym way.1.same) stays) in
-      (stepped.0, way.0, stepped.1, way.1, stepped.2, (way.2.0, way.2.1, blames, kinds));
+  goes_on = λ s stands reads.
+      let stepped = steps s stands reads in
+      let t = stepped.0 in
+      let same = step_keeps s t shape reply stepped.2 in
+      let kept = keeps s stands reads in (
+        t,
+        stepped.1,
+        record { tables = said_same new.disk s t new.memory.trees same.entries same.damaged kept.tables; writer = kept.writer },
+        stepped.2,
+        λ d on.
+            let way = led s d stands on in
+            let blames = subst (λ (m : Meaning). IsTidy (state_in m) → BlamesDevice reply m way.0.meaning) (sym on.same)
+            (subst (λ (m : Meaning). IsTidy (state_in old.disk) → BlamesDevice reply old.disk m) (sym way.1.same) (device s d stands on)) in
+            let kinds = subst (λ (m : Meaning). StaysTidy m way.0.meaning) (sym on.same) (subst (λ (m : Meaning). StaysTidy old.disk m) (sym way.1.same) stays) in
+            (way.0, subst (λ (e : ℕ → List (List Entry)). StandsOn new e way.0) (sym same.entries) way.1, (way.2.0, way.2.1, blames, kinds)),
+      );
 }
 
+-- so it is of a call that reads no tables, by what it owes
+pub serves_by : (old new : Held) (shape : Shape) (reply : Reply) → Owes old shape reply new → (ReadsTables old.memory.trees shape → ⊥) → OnDisk old shape reply new → StaysTidy old.disk new.disk → KeepsReads old new
+    → Blames old reply new → LeadsFrom old shape reply new → Serves old shape reply new
+serves_by old new shape reply owes bare disk stays keeps device led = served old new shape reply (λ s stands reads. owes_step old new shape reply s bare owes stands) disk stays keeps device led
+
 -- a way that these commands lead, of a call that tried just them and was no sync
-pub led_by : (new : Held) (s : State) (d : Durable) (shape : Shape) (reply : Reply) (tried : List Command) → attempt s shape reply ≡ tried → (IsSync s shape reply → ⊥) → Leads new d tried → Led new s d shape reply
+pub led_by : (new : Held) (s : State) (d : Durable) (shape : Shape) (reply : Reply) (tried : List Command) → attempt s shape reply ≡ tried → (IsSync s shape reply → ⊥) → Leads s.parts.entries new d tried → Led new s d shape reply
 led_by new s d shape reply tried is unsynced leads = (leads.0, leads.1, (subst (λ l. Passes d l leads.0) (sym is) leads.2, λ sync. absurd (unsynced sync)))
 
 -- nothing was done, and nothing tried
-pub still_led : (old new : Held) (s : State) (d : Durable) (shape : Shape) (reply : Reply) → attempt s shape reply ≡ [] → (IsSync s shape reply → ⊥) → new ≡ old → StandsOn old d → Led new s d shape reply
+pub still_led : (old new : Held) (s : State) (d : Durable) (shape : Shape) (reply : Reply) → attempt s shape reply ≡ [] → (IsSync s shape reply → ⊥) → new ≡ old → StandsOn old s.parts.entries d → Led new s d shape reply
 still_led old new s d shape reply none unsynced same on =
-    led_by new s d shape reply [] none unsynced (d, subst (λ core. StandsOn core d) (sym same) on, passes_still d on.rests)
+    led_by new s d shape reply [] none unsynced (d, subst (λ core. StandsOn core s.parts.entries d) (sym same) on, passes_still d on.rests)
 
 -- ---- refusals
 
-out_untouched : (core : Held) (shape : Shape) → OnDisk core shape (Refused OutOfMemory) core
+-- a core is as a read leaves it that looked at nothing
+looks_same : (tables : List Reader) (core : Held) → LooksAt tables core core
+looks_same [] core = refl
+looks_same (t ∷ tables) core = record { memory_is = refl; trees = same_trees core.memory.trees; catalog = refl; journal = refl; faults = omega arith }
+
+read_nothing : (tables : List Reader) (core : Held) → DiskRead tables core core
+read_nothing [] core = refl
+read_nothing (t ∷ tables) core = record { state = refl; steps = sym (append-nil core.disk.steps) }
+
+out_untouched : (core : Held) (shape : Shape) → DiskLooked core shape core
 out_untouched core (OfHandle OneLess id) = record { state = refl; steps = sym (append-nil core.disk.steps) }
-out_untouched core shape = refl
+out_untouched core (OfHandle OneMore id) = refl
+out_untouched core (OfRead view id query) = read_nothing (tables_of core id) core
+out_untouched core (OfChange change how) = refl
+out_untouched core (OfCreation name options) = refl
+out_untouched core (OfDeletion id) = refl
+out_untouched core (OfRotation id) = refl
+out_untouched core OfJournalRotation = refl
+out_untouched core (OfTickets call) = refl
+out_untouched core (OfPersist mode) = refl
+out_untouched core (OfCount count) = refl
 
 untouched : (core : Held) (shape : Shape) (error : Error) → is_io error ≡ false → OnDisk core shape (Refused error) core
 untouched core shape (Io kind) other = absurd (true≢false other)
 untouched core shape OutOfMemory other = out_untouched core shape
+untouched core shape (Storage told) other = out_untouched core shape
 untouched core shape error other = refl
 
 -- a refusal that is no fault and changes nothing
-refusal_serves : (core : Held) (shape : Shape) (error : Error) → is_io error ≡ false → Owes core shape (Refused error) core → Serves core shape (Refused error) core
-refusal_serves core shape error other owes = serves_by core core shape (Refused error) owes (untouched core shape error other) (stays_start core.disk)
+refusal_serves : (core : Held) (shape : Shape) (error : Error) → is_io error ≡ false → ((s : State) → StandsFor core s → (t : State) × StandsFor core t × StepOf s shape (Refused error) t) → Serves core shape (Refused error) core
+refusal_serves core shape error other steps = served core core shape (Refused error) (λ s stands reads. steps s stands) (untouched core shape error other) (stays_start core.disk) (keeps_same core core refl)
     (λ s d stands on tidy. refusal_blames error core.disk other)
     (λ s d stands on. still_led core core s d shape (Refused error) (no_attempt s shape error other) (no_sync s shape error) refl on)
 
@@ -78,25 +126,34 @@ due_owes core shape error due = subst (λ first. OwesRefusal first core shape er
 
 -- a refusal that is due
 pub due_serves : (core : Held) (shape : Shape) (error : Error) → held_due core shape ≡ Some error → Serves core shape (Refused error) core
-due_serves core shape error due = refusal_serves core shape error (ap is_fault (sym due) ∙ never_due (facts_of core.memory core.catalog.next_table_id) shape) (due_owes core shape error due)
+due_serves core shape error due = refusal_serves core shape error (ap is_fault (sym due) ∙ never_due (facts_of core.memory core.catalog.next_table_id) shape) (λ s stands. due_step core s shape error due stands)
 
 -- want of memory
 ran_out : (core : Held) (shape : Shape) → RanOut core shape core
 ran_out core (OfHandle OneLess id) = (refl, omega arith)
-ran_out core shape = refl
+ran_out core (OfHandle OneMore id) = refl
+ran_out core (OfRead view id query) = looks_same (tables_of core id) core
+ran_out core (OfChange change how) = refl
+ran_out core (OfCreation name options) = refl
+ran_out core (OfDeletion id) = refl
+ran_out core (OfRotation id) = refl
+ran_out core OfJournalRotation = refl
+ran_out core (OfTickets call) = refl
+ran_out core (OfPersist mode) = refl
+ran_out core (OfCount count) = refl
 
 pub memory_owes : (core : Held) (shape : Shape) → TakesMemory shape → held_due core shape ≡ None → Owes core shape (Refused OutOfMemory) core
 memory_owes core shape takes due = subst (λ first. OwesRefusal first core shape OutOfMemory core) (sym due) (takes, ran_out core shape)
 
 pub memory_serves : (core : Held) (shape : Shape) → TakesMemory shape → held_due core shape ≡ None → Serves core shape (Refused OutOfMemory) core
-memory_serves core shape takes due = refusal_serves core shape OutOfMemory refl (memory_owes core shape takes due)
+memory_serves core shape takes due = refusal_serves core shape OutOfMemory refl (λ s stands. memory_step core core s shape takes due (ran_out core shape) stands)
 
 -- an option that is too long
 pub long_owes : (core : Held) (shape : Shape) → TooLong (store_in core) shape → held_due core shape ≡ None → Owes core shape (Refused ValueTooLong) core
 long_owes core shape long due = subst (λ first. OwesRefusal first core shape ValueTooLong core) (sym due) (long, refl)
 
-pub long_serves : (core : Held) (shape : Shape) → TooLong (store_in core) shape → held_due core shape ≡ None → Serves core shape (Refused ValueTooLong) core
-long_serves core shape long due = refusal_serves core shape ValueTooLong refl (long_owes core shape long due)
+pub long_serves : (core : Held) (shape : Shape) → (ReadsTables core.memory.trees shape → ⊥) → TooLong (store_in core) shape → held_due core shape ≡ None → Serves core shape (Refused ValueTooLong) core
+long_serves core shape bare long due = refusal_serves core shape ValueTooLong refl (λ s stands. owes_step core core shape (Refused ValueTooLong) s bare (long_owes core shape long due) stands)
 
 -- the refusal that is due, or want of memory where none is
 pub either_owes : (core : Held) (shape : Shape) (error : Error) → TakesMemory shape → IsDueOrMemory (held_due core shape) error → Owes core shape (Refused error) core
@@ -116,15 +173,17 @@ either_serves core shape error takes is = by_due (held_due core shape) refl is
 -- ---- reads
 
 -- an answer that changes nothing, of a call that asks for no command
-pub answer_serves : (core : Held) (shape : Shape) (reply : Reply) → Owes core shape reply core → OnDisk core shape reply core → BlamesDevice reply core.disk core.disk → ((s : State) → attempt s shape reply ≡ []) → ((s : State) → IsSync s shape reply → ⊥) → Serves core shape reply core
-answer_serves core shape reply owes disk blames none unsynced =
-    serves_by core core shape reply owes disk (stays_start core.disk) (λ s d stands on tidy. blames) (λ s d stands on. still_led core core s d shape reply (none s) (unsynced s) refl on)
+pub answer_serves : (core : Held) (shape : Shape) (reply : Reply) → (ReadsTables core.memory.trees shape → ⊥) → Owes core shape reply core → OnDisk core shape reply core → BlamesDevice reply core.disk core.disk → ((s : State) → attempt s shape reply ≡ [])
+    → ((s : State) → IsSync s shape reply → ⊥) → Serves core shape reply core
+answer_serves core shape reply bare owes disk blames none unsynced =
+    serves_by core core shape reply owes bare disk (stays_start core.disk) (keeps_same core core refl) (λ s d stands on tidy. blames)
+    (λ s d stands on. still_led core core s d shape reply (none s) (unsynced s) refl on)
 
 -- ---- tree 0's table
 
 -- A core that no fault poisoned has the table that its catalog names on the disk that it stands on.
-table_there : (core : Held) (d : Durable) → StandsOn core d → core.memory.poisoned ≡ false → HasTable (state_in core.disk) core.catalog
-table_there core d on well =
+table_there : (core : Held) (entries : ℕ → List (List Entry)) (d : Durable) → StandsOn core entries d → core.memory.poisoned ≡ false → HasTable (state_in core.disk) core.catalog
+table_there core entries d on well =
     let lies = on.lies well in
     subst (λ (m : Meaning). HasTable (state_in m) core.catalog) on.same (subst (λ (c : Catalog). HasTable (state_in d.meaning) c) lies.last (of (state_in d.meaning) lies.tree.last.table _ lies.in_tree.rests.catalog.home.tables))
   where
@@ -134,8 +193,8 @@ table_there core d on well =
     of state (Some t) (bytes ∷ texts) safe = (bytes, safe.0)
 
 -- The old table is gone, and the new one is there wherever the call leads the core.
-pub replaces_table : (old new : Held) (shape : Shape) (reply : Reply) → IsTableGone (state_in new.disk) old.catalog → new.memory.poisoned ≡ false → ((s : State) (d : Durable) → StandsFor old s → StandsOn old d → Led new s d shape reply) → ReplacesTable old new
+pub replaces_table : (old new : Held) (shape : Shape) (reply : Reply) → IsTableGone (state_in new.disk) old.catalog → new.memory.poisoned ≡ false → LeadsFrom old shape reply new → ReplacesTable old new
 replaces_table old new shape reply gone well led = record {
   gone = gone;
-  there = λ s d stands on. let way = led s d stands on in table_there new way.0 way.1 well;
+  there = λ s d stands on. let way = led s d stands on in table_there new s.parts.entries way.0 way.1 well;
 }

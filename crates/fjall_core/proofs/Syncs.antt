@@ -1,5 +1,5 @@
 -- Where a sync of the journal leads a core and its disk.
-use Rattle.std.proofs.Common.{◌≡◌, inl, Bool, true, false, List, [], ◌∷◌, ◌++◌, max, map, refl, sym, ◌∙◌, ap, subst}
+use Rattle.std.proofs.Common.{◌≡◌, inl, ℕ, Bool, true, false, List, [], ◌∷◌, ◌++◌, max, map, refl, sym, ◌∙◌, ap, subst}
 use Rattle.std.proofs.lemmas.List.{append-nil}
 use Rattle.fjall_base.specs.Store.{Store, Command, fold, kept}
 use Rattle.fjall_base.specs.Disk.{LeavesOnly, state_in}
@@ -9,7 +9,6 @@ use Rattle.fjall_journal.specs.declared.persist_mode.PersistMode.{PersistMode}
 use Rattle.fjall_journal.specs.declared.persist_mode.PersistMode.TheVariants.{Buffer, SyncAll, SyncData}
 use Rattle.fjall_catalog.specs.Catalog.{fields}
 use Rattle.fjall_versions.specs.Replays.{least_after}
-use Rattle.fjall_maps.specs.Maps.{store_of}
 use Rattle.fjall_contents.specs.Contents.{store_held}
 use Rattle.fjall_recovery.specs.Homes.{lasts, stored_in}
 use Rattle.fjall_recovery.specs.Folders.{past_records}
@@ -20,6 +19,8 @@ use Rattle.fjall_state.specs.Shapes.{OfPersist}
 use Rattle.fjall_history.specs.declared.reply.Reply.TheVariants.{Done}
 use Rattle.fjall_state.specs.Machine as Machine
 use Rattle.fjall_state.specs.Remembered.{Remembered}
+use Rattle.fjall_table.specs.Blocks.{Entry}
+use Rattle.fjall_maps.specs.Tables.{store_with}
 use Rattle.fjall_core.specs.Holding.{Held}
 use Rattle.fjall_core.specs.Durables.{AreKnown, Durable, Lies, Passes, Rests, StandsAmid}
 use Rattle.fjall_commit.specs.SyncedChanges as on_disk
@@ -100,45 +101,45 @@ synced_passes old new base pending leaves rests = record { leaves = leaves; safe
 pub same_of : (old new : Held) → HandsOver old new → StaysSame old new
 same_of old new hands = record { keyspaces = ap (λ (m : Remembered). m.keyspaces) hands.memory_is; next = ap (λ (m : Remembered). m.next) hands.memory_is; catalog = hands.catalog; journals = ap (λ (m : Remembered). m.journals) hands.memory_is }
 
-same_store : (old new : Held) → new.memory ≡ old.memory → kept (standing.store_in old) ≡ kept (standing.store_in new)
-same_store old new is = ap (λ (m : Remembered). kept (store_of m.keyspaces m.trees)) (sym is)
+same_store : (entries : ℕ → List (List Entry)) (old new : Held) → new.memory ≡ old.memory → kept (standing.store_with_tables entries old) ≡ kept (standing.store_with_tables entries new)
+same_store entries old new is = ap (λ (m : Remembered). kept (store_with entries m.keyspaces m.trees)) (sym is)
 
 -- a sync that was done: nothing is pending
-pub sync_settles : (old new : Held) (d : Durable) → old.memory.poisoned ≡ false → HandsOver old new → Persisted old new SyncAll true → StandsOn old d → Settles new d []
-sync_settles old new d well hands out = settles_on old new d [] (λ base pending on.
+pub sync_settles : (entries : ℕ → List (List Entry)) (old new : Held) (d : Durable) → old.memory.poisoned ≡ false → HandsOver old new → Persisted old new SyncAll true → StandsOn old entries d → Settles entries new d []
+sync_settles entries old new d well hands out = settles_on entries old new d [] (λ base pending on.
     let lies = on.lies well in
     let after = sync_lies old new base pending (same_of old new hands) lies out in
-    let still = stands_well new (fold base pending) [] (ap (λ (m : Remembered). m.poisoned) hands.memory_is ∙ well) after (present_of old (held_on old base pending) false well on ∙ same_store old new hands.memory_is) in
+    let still = stands_well entries new (fold base pending) [] (ap (λ (m : Remembered). m.poisoned) hands.memory_is ∙ well) after (present_of entries old (held_on old base pending) false well on ∙ same_store entries old new hands.memory_is) in
     (held_on new (fold base pending) [], still, synced_passes old new base pending (hand_leaves old new SyncAll true base pending lies out) still.rests, refl))
 
 -- what waited is in the file
-buffer_leads : (old new : Held) (d : Durable) → old.memory.poisoned ≡ false → HandsOver old new → Persisted old new Buffer true → StandsOn old d → Leads new d []
-buffer_leads old new d well hands out = leads_on old new d [] (λ base pending on.
+buffer_leads : (entries : ℕ → List (List Entry)) (old new : Held) (d : Durable) → old.memory.poisoned ≡ false → HandsOver old new → Persisted old new Buffer true → StandsOn old entries d → Leads entries new d []
+buffer_leads entries old new d well hands out = leads_on entries old new d [] (λ base pending on.
     let lies = on.lies well in
     let after = buffer_lies old new base pending (same_of old new hands) lies out in
-    let still = stands_well new base pending (ap (λ (m : Remembered). m.poisoned) hands.memory_is ∙ well) after (present_of old (held_on old base pending) false well on ∙ same_store old new hands.memory_is) in
+    let still = stands_well entries new base pending (ap (λ (m : Remembered). m.poisoned) hands.memory_is ∙ well) after (present_of entries old (held_on old base pending) false well on ∙ same_store entries old new hands.memory_is) in
     (held_on new base pending, still, record { leaves = hand_leaves old new Buffer true base pending lies out; safe = []; base = refl; rest = sym (append-nil pending); rests = still.rests }))
 
 -- a persist that was done, and where it synced, nothing is pending
-pub persist_leads : (old new : Held) (mode : PersistMode) (d : Durable) → old.memory.poisoned ≡ false → HandsOver old new → Persisted old new mode true → StandsOn old d
-    → (e : Durable) × StandsOn new e × Passes d [] e × ((s : Machine.State) → IsSync s (OfPersist mode) Done → e.pending ≡ [])
-persist_leads old new Buffer d well hands out stands =
-    let led = buffer_leads old new d well hands out stands in
+pub persist_leads : (entries : ℕ → List (List Entry)) (old new : Held) (mode : PersistMode) (d : Durable) → old.memory.poisoned ≡ false → HandsOver old new → Persisted old new mode true → StandsOn old entries d
+    → (e : Durable) × StandsOn new entries e × Passes d [] e × ((s : Machine.State) → IsSync s (OfPersist mode) Done → e.pending ≡ [])
+persist_leads entries old new Buffer d well hands out stands =
+    let led = buffer_leads entries old new d well hands out stands in
     (led.0, led.1, led.2, λ s none. absurd none)
-persist_leads old new SyncData d well hands out stands =
-    let led = sync_settles old new d well hands (record { leaves = out.leaves; lies = out.lies; elsewhere = out.elsewhere; served = out.served; kinds = out.kinds }) stands in
+persist_leads entries old new SyncData d well hands out stands =
+    let led = sync_settles entries old new d well hands (record { leaves = out.leaves; lies = out.lies; elsewhere = out.elsewhere; homes = out.homes; served = out.served; kinds = out.kinds }) stands in
     (led.0, led.1, led.2, λ s _. led.3)
-persist_leads old new SyncAll d well hands out stands =
-    let led = sync_settles old new d well hands out stands in
+persist_leads entries old new SyncAll d well hands out stands =
+    let led = sync_settles entries old new d well hands out stands in
     (led.0, led.1, led.2, λ s _. led.3)
 
 -- a persist that a fault refused
-pub unpersist_leads : (old new : Held) (mode : PersistMode) (d : Durable) → old.memory.poisoned ≡ false → Poisons old new → Persisted old new mode false → StandsOn old d → Leads new d []
-unpersist_leads old new mode d well fault out = leads_on old new d [] (λ base pending on.
+pub unpersist_leads : (entries : ℕ → List (List Entry)) (old new : Held) (mode : PersistMode) (d : Durable) → old.memory.poisoned ≡ false → Poisons old.memory old new → Persisted old new mode false → StandsOn old entries d → Leads entries new d []
+unpersist_leads entries old new mode d well fault out = leads_on entries old new d [] (λ base pending on.
     let lies = on.lies well in
     let leaves = hand_leaves old new mode false base pending lies out in
     let finished = leaves_finished old.disk new.disk (state_in old.disk) lies.journals _ (out.leaves lies.journals lies.writing) in
     let rests : Rests (held_on new base (pending ++ [])) = at_end old.disk new.disk _ leaves in
-    let was = present_of old (held_on old base pending) false well on ∙ ap (λ (m : Remembered). kept (store_of m.keyspaces m.trees)) (sym fault.memory_is) in
-    let still = stands_ill new base (pending ++ []) (ap (λ (m : Remembered). m.poisoned) fault.memory_is) rests finished (inl (ap (λ (l : List Command). kept (fold base l)) (append-nil pending) ∙ was)) in
+    let was = present_of entries old (held_on old base pending) false well on ∙ ap (λ (m : Remembered). kept (store_with entries m.keyspaces m.trees)) (sym fault.memory_is) in
+    let still = stands_ill entries new base (pending ++ []) (ap (λ (m : Remembered). m.poisoned) fault.memory_is) rests finished (inl (ap (λ (l : List Command). kept (fold base l)) (append-nil pending) ∙ was)) in
     (held_on new base (pending ++ []), still, record { leaves = leaves; safe = []; base = refl; rest = refl; rests = rests }))

@@ -1,10 +1,11 @@
 -- What the calls of snapshots serve: tickets turn, and nothing else.
-use Rattle.std.proofs.Common.{◌≡◌, ℕ, [], None, Some, Result, Ok, Err, IfOk, IfErr, OnOk, OnErr, refl, sym, ◌∙◌, ap, subst}
+use Rattle.std.proofs.Common.{◌≡◌, ℕ, List, [], None, Some, Result, Ok, Err, IfOk, IfErr, OnOk, OnErr, refl, sym, ◌∙◌, ap, subst}
 use Rattle.std.specs.FinMap.{get}
 use Rattle.fjall_base.specs.Store.{kept}
 use Rattle.fjall_base.specs.declared.error.Error.{Error}
 use Rattle.fjall_files.proofs.Tidying.{stays_start}
-use Rattle.fjall_maps.specs.Maps.{store_of}
+use Rattle.fjall_table.specs.Blocks.{Entry}
+use Rattle.fjall_maps.specs.Tables.{store_with}
 use Rattle.fjall_history.specs.declared.ticket.Ticket.{Ticket}
 use Rattle.fjall_history.specs.declared.reply.Reply.{Reply}
 use Rattle.fjall_history.specs.declared.reply.Reply.TheVariants.{Done, Number, Opened, Refused}
@@ -17,6 +18,7 @@ use Rattle.fjall_core.specs.Crashes.{IsSync, attempt}
 use Rattle.fjall_core.specs.Durables.{Durable}
 use Rattle.fjall_core.specs.Standing.{Owes, Serves, StandsOn, reply_of, ticket_reply}
 use Rattle.fjall_core.proofs.ServedCalls.{Led, due_owes, due_serves, either_owes, either_serves, led_by, serves_by}
+use Rattle.fjall_core.proofs.TablesAtHome.{KeepsReads, carry_all, keeps_disk, outside_same}
 use Rattle.fjall_core.proofs.KeyspaceCalls.{Recounts, recount_leads}
 
 -- the core with such tickets, and what it leads to
@@ -30,19 +32,23 @@ module _ (core : Held) (m : Remembered) (tickets : Tickets) (is : m ≡ with_tic
   pub all_else : turned ≡ record core { memory = with_tickets m.tickets core.memory }
   all_else = ap (λ (x : Remembered). record core { memory = x }) (is ∙ ap (λ (t : Tickets). with_tickets t core.memory) (sym same_tickets))
 
-  recounts : Recounts core turned
-  recounts = record {
+  recounts : (entries : ℕ → List (List Entry)) → Recounts entries core turned
+  recounts entries = record {
     keyspaces = ap (λ (x : Remembered). x.keyspaces) is;
     next = ap (λ (x : Remembered). x.next) is;
     poisoned = ap (λ (x : Remembered). x.poisoned) is;
-    store = ap (λ (x : Remembered). kept (store_of x.keyspaces x.trees)) (sym is);
+    store = ap (λ (x : Remembered). kept (store_with entries x.keyspaces x.trees)) (sym is);
     catalog = refl;
     journal = refl;
     journals = ap (λ (x : Remembered). x.journals) is;
   }
 
-  pub turned_leads : (s : State) (d : Durable) (call : TicketCall) (reply : Reply) → attempt s (OfTickets call) reply ≡ [] → (IsSync s (OfTickets call) reply → ⊥) → StandsOn core d → Led turned s d (OfTickets call) reply
-  turned_leads s d call reply none unsynced on = led_by turned s d (OfTickets call) reply [] none unsynced (recount_leads core turned d refl recounts on)
+  pub turned_leads : (s : State) (d : Durable) (call : TicketCall) (reply : Reply) → attempt s (OfTickets call) reply ≡ [] → (IsSync s (OfTickets call) reply → ⊥) → StandsOn core s.parts.entries d → Led turned s d (OfTickets call) reply
+  turned_leads s d call reply none unsynced on = led_by turned s d (OfTickets call) reply [] none unsynced (recount_leads s.parts.entries core turned d refl (recounts s.parts.entries) on)
+
+  -- its disk keeps the tables
+  pub turned_keeps : KeepsReads core turned
+  turned_keeps = keeps_disk core turned refl (carry_all core.memory.trees turned.memory.trees (ap (λ (x : Remembered). x.trees) is)) (outside_same core turned (ap (λ (x : Remembered). x.poisoned) is) refl)
 
 -- ---- a new ticket
 
@@ -56,7 +62,7 @@ pub opened_serves : (core : Held) (m : Remembered) (result : Result Ticket Error
     → OnOk result (m ≡ with_tickets (opened core.memory.next core.memory.tickets) core.memory) → OnErr result (m ≡ core.memory) → IfErr result (IsDueOrMemory (opening_refusal core.memory.tickets))
     → Serves core (OfTickets Open) (ticket_reply result) (record core { memory = m })
 opened_serves core m (Ok ticket) none told is same cause =
-    serves_by core (record core { memory = m }) (OfTickets Open) (Opened ticket) (opened_owes core m (Ok ticket) none told is same cause) refl (stays_start core.disk) (λ s d stands on tidy. refl)
+    serves_by core (record core { memory = m }) (OfTickets Open) (Opened ticket) (opened_owes core m (Ok ticket) none told is same cause) (λ reads. reads) refl (stays_start core.disk) (turned_keeps core m (opened core.memory.next core.memory.tickets) is) (λ s d stands on tidy. refl)
     (λ s d stands on. turned_leads core m (opened core.memory.next core.memory.tickets) is s d Open (Opened ticket) refl (λ sync. sync) on)
 opened_serves core m (Err error) none told is same cause = subst (λ (x : Remembered). Serves core (OfTickets Open) (Refused error) (record core { memory = x })) (sym same) (either_serves core (OfTickets Open) error tt cause)
 
@@ -73,7 +79,7 @@ pub cloned_serves : (core : Held) (m : Remembered) (id : ℕ) (result : Result T
     → IfOk result (λ ticket. (ticket.id ≡ core.memory.tickets.next) × (get core.memory.tickets.instants id ≡ Some ticket.instant) × (m ≡ with_tickets (opened ticket.instant core.memory.tickets) core.memory)) → OnErr result (m ≡ core.memory)
     → IfErr result (IsDueOrMemory (cloning_refusal id core.memory.tickets)) → Serves core (OfTickets (Clone id)) (ticket_reply result) (record core { memory = m })
 cloned_serves core m id (Ok ticket) none told same cause =
-    serves_by core (record core { memory = m }) (OfTickets (Clone id)) (Opened ticket) (cloned_owes core m id (Ok ticket) none told same cause) refl (stays_start core.disk) (λ s d stands on tidy. refl)
+    serves_by core (record core { memory = m }) (OfTickets (Clone id)) (Opened ticket) (cloned_owes core m id (Ok ticket) none told same cause) (λ reads. reads) refl (stays_start core.disk) (turned_keeps core m (opened ticket.instant core.memory.tickets) told.2) (λ s d stands on tidy. refl)
     (λ s d stands on. turned_leads core m (opened ticket.instant core.memory.tickets) told.2 s d (Clone id) (Opened ticket) refl (λ sync. sync) on)
 cloned_serves core m id (Err error) none told same cause = subst (λ (x : Remembered). Serves core (OfTickets (Clone id)) (Refused error) (record core { memory = x })) (sym same) (either_serves core (OfTickets (Clone id)) error tt cause)
 
@@ -87,7 +93,7 @@ closed_owes core m id (Err error) none is same cause = subst (λ (x : Remembered
 pub closed_serves : (core : Held) (m : Remembered) (id : ℕ) (result : Result Unit Error) → OnOk result (closing_refusal id core.memory.tickets ≡ None) → OnOk result (m ≡ with_tickets (closed core.memory.next id core.memory.tickets) core.memory)
     → OnErr result (m ≡ core.memory) → IfErr result (λ error. closing_refusal id core.memory.tickets ≡ Some error) → Serves core (OfTickets (Close id)) (reply_of result) (record core { memory = m })
 closed_serves core m id (Ok _) none is same cause =
-    serves_by core (record core { memory = m }) (OfTickets (Close id)) Done (closed_owes core m id (Ok tt) none is same cause) refl (stays_start core.disk) (λ s d stands on tidy. refl)
+    serves_by core (record core { memory = m }) (OfTickets (Close id)) Done (closed_owes core m id (Ok tt) none is same cause) (λ reads. reads) refl (stays_start core.disk) (turned_keeps core m (closed core.memory.next id core.memory.tickets) is) (λ s d stands on tidy. refl)
     (λ s d stands on. turned_leads core m (closed core.memory.next id core.memory.tickets) is s d (Close id) Done refl (λ sync. sync) on)
 closed_serves core m id (Err error) none is same cause = subst (λ (x : Remembered). Serves core (OfTickets (Close id)) (Refused error) (record core { memory = x })) (sym same) (due_serves core (OfTickets (Close id)) error cause)
 
@@ -102,5 +108,5 @@ collected_owes core m n told is =
 pub collected_serves : (core : Held) (m : Remembered) (n : ℕ) → n ≡ (collected core.memory.next core.memory.tickets).watermark → m ≡ with_tickets (collected core.memory.next core.memory.tickets) core.memory
     → Serves core (OfTickets Collect) (Number n) (record core { memory = m })
 collected_serves core m n told is =
-    serves_by core (record core { memory = m }) (OfTickets Collect) (Number n) (collected_owes core m n told is) refl (stays_start core.disk) (λ s d stands on tidy. refl)
+    serves_by core (record core { memory = m }) (OfTickets Collect) (Number n) (collected_owes core m n told is) (λ reads. reads) refl (stays_start core.disk) (turned_keeps core m (collected core.memory.next core.memory.tickets) is) (λ s d stands on tidy. refl)
     (λ s d stands on. turned_leads core m (collected core.memory.next core.memory.tickets) is s d Collect (Number n) refl (λ sync. sync) on)

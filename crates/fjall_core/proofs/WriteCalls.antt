@@ -1,19 +1,19 @@
 -- What the parts of a change make of it.
-use Rattle.std.proofs.Common.{◌≡◌, ℕ, ◌≢◌, ◌==◌, true, false, All, List, [], ◌∷◌, length, is_none, arith, Option, None, Result, Ok, Err, refl, sym, ◌∙◌, ap, subst, length-append}
+use Rattle.std.proofs.Common.{◌≡◌, inl, ℕ, ◌≢◌, ◌==◌, Bool, true, false, if◌then◌else◌, All, List, [], ◌∷◌, ◌++◌, length, is_none, arith, Option, None, Result, Ok, Err, refl, sym, ◌∙◌, ap, subst, length-append}
 use Rattle.std.proofs.lemmas.Bool.{eqb-true, true≢false}
 use Rattle.fjall_base.specs.declared.error.Error.{Error}
 use Rattle.fjall_base.specs.declared.error.Error.TheVariants.{Io}
 use Rattle.fjall_journal.specs.declared.persist_mode.PersistMode.{PersistMode}
 use Rattle.fjall_journal.specs.Changes.{Change, Emptied, Items, command_of}
 use Rattle.fjall_journal.specs.Ops.{BatchItem}
-use Rattle.fjall_journal.specs.Writer.{batch_steps, goes_out}
+use Rattle.fjall_journal.specs.Writer.{Journal, after_command, batch_steps, filled, goes_out, written_out}
 use Rattle.fjall_base.specs.Disk.{Took}
 use Rattle.fjall_commit.proofs.BatchAppends.{refused_stays, took_stays}
 use Rattle.fjall_history.specs.declared.reply.Reply.TheVariants.{Done, Refused}
 use Rattle.fjall_state.specs.Allowed.{MayChange}
 use Rattle.fjall_state.specs.Machine.{ChangesDisk, Facts, State, TakesMemory, clear_refusals, first_due, is_living, items_refusals, leaves_buffer, mode_in, present}
 use Rattle.fjall_state.specs.Shapes.{OfChange, Persistence}
-use Rattle.fjall_state.specs.Remembered.{facts_of}
+use Rattle.fjall_state.specs.Remembered.{Remembered, facts_of}
 use Rattle.fjall_state.proofs.Dues.{may_change}
 use Rattle.fjall_core.specs.Holding.{Held}
 use Rattle.fjall_core.specs.Crashes.{IsSync, IsSyncOf, asked}
@@ -21,12 +21,22 @@ use Rattle.fjall_core.specs.Standing.{Gives, Grows, OnDisk, Owes, OwesRefusal, S
 use Rattle.fjall_core.specs.CallParts.{Writes}
 use Rattle.fjall_core.specs.Durables.{Passes}
 use Rattle.fjall_core.proofs.DeviceFaults.{failed_on, served_on}
+use Rattle.fjall_commit.proofs.KeptHomes.{unwritten_homes, wrote_homes}
+use Rattle.fjall_core.proofs.TablesAtHome.{KeepsReads, all_stay, carry_all, carry_along, carry_changed, keeps_homes, outside_ill, outside_same}
 use Rattle.fjall_core.proofs.OwedSteps.{same_mode}
 use Rattle.fjall_core.proofs.Refusals.{no_sync}
 use Rattle.fjall_core.proofs.ServedCalls.{answer_serves, led_by, memory_owes, memory_serves, serves_by}
 use Rattle.fjall_core.proofs.JournalWrites.{GoesOn, IsAdmitted, torn_leads, write_leads}
 
 -- ---- a change that takes effect
+
+-- the writer goes on in its file
+same_name : (hand : Bool) (j : Journal) (text : List ℕ) → (after_command hand j text).name ≡ j.name
+same_name hand j text = by (goes_out hand (length (j.buffer ++ text)))
+  where
+    by : (out : Bool) → (if out then written_out (filled j text) else filled j text).name ≡ j.name
+    by true = refl
+    by false = refl
 
 -- a change of no items takes none
 abbrev HasSome : Change → Type 0
@@ -92,26 +102,39 @@ module _ (honest : Type 0) (old new : Held) (change : Change) (some : HasSome ch
   written_owes (Ok _) w = (none, gives_grown old new change how some (grows w))
   written_owes (Err (Io kind)) w =
       subst (λ first. OwesRefusal first old (OfChange change how) (Io kind) new) (sym none)
-      (changes_disk (facts_of old.memory old.catalog.next_table_id) (length old.journal.buffer) change how some (ap (goes_out (is_none mode)) (sym (length-append old.journal.buffer (text_of old change))) ∙ w.4), record { memory_is = w.0; faults = w.1 })
+      (inl (changes_disk (facts_of old.memory old.catalog.next_table_id) (length old.journal.buffer) change how some (ap (goes_out (is_none mode)) (sym (length-append old.journal.buffer (text_of old change))) ∙ w.4), record { memory_is = w.0; faults = w.1 }))
   written_owes (Err error) w =
       subst (λ (h : Held). Owes old (OfChange change how) (Refused error) h) (sym w.0)
       (subst (λ e. Owes old (OfChange change how) (Refused e) old) (sym w.1) (memory_owes old (OfChange change how) (takes_memory change how some) none))
+
+  -- its disk keeps the tables
+  grown_keeps : Writes honest old change mode (Ok tt) new → honest → KeepsReads old new
+  grown_keeps w h =
+      keeps_homes old new (carry_along old.memory.trees _ new.memory.trees (ap (λ (c : Held). c.memory.trees) w.0) (carry_changed old.memory.next change old.memory.trees))
+      (λ s stands reads. all_stay old.disk new.disk new.memory.trees (wrote_homes old.journal old.disk new.disk (reads.writer may.well) mode (text_of old change) (w.2 h)))
+      (outside_same old new (ap (λ (c : Held). c.memory.poisoned) w.0) (ap (λ (c : Held). c.journal.name) w.0 ∙ same_name (is_none mode) old.journal (text_of old change)))
+
+  torn_keeps : (kind : _) → Writes honest old change mode (Err (Io kind)) new → honest → KeepsReads old new
+  torn_keeps kind w h =
+      keeps_homes old new (carry_all old.memory.trees new.memory.trees (ap (λ (m : Remembered). m.trees) w.0))
+      (λ s stands reads. all_stay old.disk new.disk new.memory.trees (unwritten_homes old.journal old.disk new.disk (reads.writer may.well) mode (text_of old change) (w.2 h)))
+      (outside_ill old new (ap (λ (m : Remembered). m.poisoned) w.0))
 
   pub written_serves : (result : Result Unit Error) → Writes honest old change mode result new → honest → Serves old (OfChange change how) (reply_of result) new
   written_serves (Ok _) w h =
       let out = w.3 h in
       let on_with : GoesOn old new change = record { memory_is = ap (λ (c : Held). c.memory) w.0; catalog = ap (λ (c : Held). c.catalog) w.0 } in
-      serves_by old new (OfChange change how) Done (written_owes (Ok tt) w) (disk_grown old new change how some (w.2 h)) (took_stays mode old.journal (text_of old change) old.disk new.disk (w.2 h))
-      (λ s d stands on tidy. served_on old new.disk d may.well out.served on) (λ s d stands on.
-      let led = write_leads old new change mode d (admits s stands) on_with out on in
+      serves_by old new (OfChange change how) Done (written_owes (Ok tt) w) (λ reads. reads) (disk_grown old new change how some (w.2 h)) (took_stays mode old.journal (text_of old change) old.disk new.disk (w.2 h)) (grown_keeps w h)
+      (λ s d stands on tidy. served_on s.parts.entries old new.disk d may.well out.served on) (λ s d stands on.
+      let led = write_leads s.parts.entries old new change mode d (admits s stands) stands.remembered.beside.older on_with out on in
       let passes = subst (λ tried. Passes d tried led.0) (sym (asks_command s change how some)) led.2 in
       (led.0, led.1, (passes, λ sync. led.3 (subst IsSyncOf (same_mode old s stands how) (sync_of s change how some sync)))))
   written_serves (Err (Io kind)) w h =
       let out = w.3 h in
-      serves_by old new (OfChange change how) (Refused (Io kind)) (written_owes (Err (Io kind)) w) (w.2 h) (refused_stays mode old.journal (text_of old change) old.disk new.disk (w.2 h))
-      (λ s d stands on tidy. failed_on old new.disk d may.well w.1 out.served on) (λ s d stands on.
+      serves_by old new (OfChange change how) (Refused (Io kind)) (written_owes (Err (Io kind)) w) (λ reads. reads) (w.2 h) (refused_stays mode old.journal (text_of old change) old.disk new.disk (w.2 h)) (torn_keeps kind w h)
+      (λ s d stands on tidy. failed_on s.parts.entries old new.disk d may.well w.1 out.served on) (λ s d stands on.
       led_by new s d (OfChange change how) (Refused (Io kind)) (command_of change ∷ []) (asks_command s change how some) (no_sync s (OfChange change how) (Io kind))
-      (torn_leads old new change mode d (admits s stands) (record { memory_is = w.0; faults = w.1 }) out on))
+      (torn_leads s.parts.entries old new change mode d (admits s stands) (record { memory_is = w.0; faults = w.1 }) out on))
   written_serves (Err error) w h =
       subst (λ (c : Held). Serves old (OfChange change how) (Refused error) c) (sym w.0)
       (subst (λ e. Serves old (OfChange change how) (Refused e) old) (sym w.1) (memory_serves old (OfChange change how) (takes_memory change how some) none))
@@ -119,7 +142,7 @@ module _ (honest : Type 0) (old new : Held) (change : Change) (some : HasSome ch
 -- ---- items that may be none
 
 pub no_items_serve : (core : Held) (items : List BatchItem) (how : Persistence) → (length items == 0) ≡ true → Serves core (OfChange (Items items) how) Done core
-no_items_serve core [] how is = answer_serves core (OfChange (Items []) how) Done (refl, (refl, refl)) refl refl (λ s. refl) (λ s sync. sync)
+no_items_serve core [] how is = answer_serves core (OfChange (Items []) how) Done (λ reads. reads) (refl, (refl, refl)) refl refl (λ s. refl) (λ s sync. sync)
 no_items_serve core (item ∷ items) how is = let none = eqb-true (length (item ∷ items)) 0 is in let bad : ⊥ = omega (arith, none) in absurd bad
 
 pub no_items_owe : (core : Held) (items : List BatchItem) (how : Persistence) → (length items == 0) ≡ true → Owes core (OfChange (Items items) how) Done core

@@ -7,7 +7,7 @@ use Rattle.fjall_base.specs.declared.error.Error.TheVariants.{Io, OutOfMemory}
 use Rattle.fjall_journal.specs.declared.persist_mode.PersistMode.{PersistMode}
 use Rattle.fjall_journal.specs.Batches.{Written}
 use Rattle.fjall_journal.specs.Changes.{Change, change_text, of_change}
-use Rattle.fjall_files.specs.Regions.{Within}
+use Rattle.fjall_files.specs.Regions.{Within, is_under}
 use Rattle.fjall_files.specs.Names.{journal_name, keyspace_folder}
 use Rattle.fjall_manager.specs.Rotations.{RotationTook, rotating}
 use Rattle.fjall_commit.specs.Rotations.{KeepsSyncedKeyspaces, LeavesRotation, rotated}
@@ -54,21 +54,22 @@ Unmakes honest old id (Err (Io kind)) new =
 Unmakes honest old id (Err error) new = (new ≡ old) × IsPreparingRefusal old.catalog (without_keyspace id old.memory.keyspaces) old.memory.next error
 
 -- What a removal of a keyspace's files did to the disk: where no living keyspace has the id, a crash meanwhile leaves the
--- tree as it is, and it lies there as before.
+-- tree as it is, and it lies there as before. What stands anywhere else stands as it did.
 pub record FilesGone (id : ℕ) (old new : Meaning) : Type 0 where
   pub within : Within (codes "keyspaces") old new
+  pub others : (q : Name) → is_under (keyspace_folder id) q ≡ false → (state_in new q).now ≡ (state_in old q).now
   pub leaves : (records : List Fields) (t : Tree) → IsUnused id t.keyspaces → LiesInTree (state_in old) records t → LeavesOnly old new (λ image. HasTree image t)
   pub lies : (records : List Fields) (t : Tree) → IsUnused id t.keyspaces → LiesInTree (state_in old) records t → LiesInTree (state_in new) records t
   pub served : (records : List Fields) (t : Tree) → LiesInTree (state_in old) records t → IsNoFile (state_in old (keyspace_folder id)).now → new.misuses ≡ old.misuses
   pub kinds : StaysTidy old new
 
--- The files of a deleted keyspace are removed for good, or left where anything else stands beside them; or a fault has poisoned
--- the core; or memory ran out, and nothing was changed.
+-- The files of a deleted keyspace are removed for good, or left where anything else stands beside them; or the disk failed; or memory
+-- ran out, and nothing was changed.
 abbrev pub Removes : Type 0 → Held → ℕ → Result Unit Error → Held → Type 0
 Removes honest old id (Ok _) new =
     (new ≡ record old { disk = new.disk }) × (old.disk.faults ≤ new.disk.faults) × (honest → FilesGone id old.disk new.disk) × (honest → RemovesOwn id old.disk new.disk)
 Removes honest old id (Err (Io kind)) new =
-    (new ≡ record old { disk = new.disk; memory = poisoned old.memory }) × Rose old.disk.faults new.disk.faults × (honest → FilesGone id old.disk new.disk)
+    (new ≡ record old { disk = new.disk }) × Rose old.disk.faults new.disk.faults × (honest → FilesGone id old.disk new.disk)
 Removes honest old id (Err error) new =
     (new ≡ record old { disk = new.disk }) × (error ≡ OutOfMemory) × (old.disk.faults ≤ new.disk.faults) × (honest → FilesGone id old.disk new.disk) × (honest → Took old.disk new.disk [])
 

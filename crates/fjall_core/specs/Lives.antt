@@ -9,18 +9,18 @@ use Rattle.fjall_recovery.specs.Folders.{StandsFor}
 use Rattle.fjall_recovery.specs.Amid.{HoldsAmid}
 use Rattle.fjall_files.specs.Tidy.{StaysTidy}
 use Rattle.fjall_state.specs.Machine as machine
-use Rattle.fjall_state.specs.Machine.{opened_state, present}
+use Rattle.fjall_state.specs.Machine.{present}
 use Rattle.fjall_state.specs.declared.call.Call.{Call}
 use Rattle.fjall_history.specs.declared.reply.Reply.{Reply}
 use Rattle.fjall_core.specs.Holding.{Held}
 use Rattle.fjall_core.specs.Durables.{Durable, IsBeginning, StandsAmid}
 use Rattle.fjall_core.specs.Crashes.{IsSyncAt}
-use Rattle.fjall_core.specs.Openings.{OpensAmid, OpensAs, StaysAmid, parts_of}
+use Rattle.fjall_core.specs.Openings.{OpensAmid, OpensAs, StaysAmid, opened_as}
 use Rattle.fjall_core.specs.Standing.{ClosesSafely, OwesClosing, RunsOn}
 
 -- what a core was that just opened as this store: the state of the machine, and that nothing is pending on its disk
 abbrev pub start_of : (core : Held) (store : Store) → OpensAs core store → machine.State
-start_of core store opens = opened_state store [] opens.next (parts_of core)
+start_of core store opens = opened_as core store opens.entries [] opens.next
 
 abbrev pub begun : Held → Store → Durable
 begun core store = record { meaning = core.disk; base = store; pending = [] }
@@ -64,7 +64,7 @@ pub data Ended (core new : Held) (store : Store) (calls : List Call) (replies : 
       → ClosesSafely new result disk → Took new.disk disk added → Leaves (state_in new.disk) added image → StandsFor image left → Ended core new store calls replies opens run synced (disk_of image) left []
   Dropped : (synced : List Command) → LastSync core new store calls replies opens run synced → IsHoused (state_in new.disk) → Ended core new store calls replies opens run synced (state_in new.disk) run.durable.base run.durable.pending
   Unclosed : (synced : List Command) (error : Error) (disk : Meaning) → LastSync core new store calls replies opens run synced → (safely : ClosesSafely new (Err error) disk)
-      → Ended core new store calls replies opens run synced (state_in disk) (safely run.state run.durable run.stands run.on).after.base (safely run.state run.durable run.stands run.on).after.pending
+      → Ended core new store calls replies opens run synced (state_in disk) (safely run.state run.durable run.stands run.reads run.on).after.base (safely run.state run.durable run.stands run.reads run.on).after.pending
   Closed : (disk : Meaning) → OwesClosing new (Ok tt) disk → ClosesSafely new (Ok tt) disk → Ended core new store calls replies opens run run.tried (state_in disk) (kept (present run.state)) []
 
 -- One life of an engine, from a disk that holds this base with a beginning of what is pending to one that holds the next. Its

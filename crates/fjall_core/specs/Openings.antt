@@ -1,7 +1,7 @@
 -- What opening makes of a disk.
-use Rattle.std.specs.Prelude.{◌≡◌, ◌⊎◌, ℕ, List, [], length, Option, Err}
+use Rattle.std.specs.Prelude.{◌≡◌, ◌⊎◌, ℕ, true, List, [], length, Option, Err}
 use Rattle.fjall_base.specs.Store.{Store, Command, fold, kept}
-use Rattle.fjall_base.specs.Disk.{Image, LeavesOnly, Meaning, State, Took, standing, state_in}
+use Rattle.fjall_base.specs.Disk.{LeavesOnly, Meaning, State, Took, standing, state_in}
 use Rattle.fjall_base.specs.declared.error.Error.{Error}
 use Rattle.fjall_base.specs.declared.error.Error.TheVariants.{Io}
 use Rattle.fjall_files.specs.Tidy.{StaysTidy}
@@ -14,26 +14,48 @@ use Rattle.fjall_recovery.specs.Folders as folders
 use Rattle.fjall_recovery.specs.Folders.{Contents}
 use Rattle.fjall_recovery.specs.Refusals.{FolderRefuses, IsDue}
 use Rattle.fjall_recovery.specs.Amid.{HoldsAmid, IsBeginning, StandsAmid}
-use Rattle.fjall_recovery.specs.Held.{IsFolderBut, number_held, store_held}
-use Rattle.fjall_repair.specs.Opened.{IsSomeFolder}
-use Rattle.fjall_state.specs.Machine.{Parts, opened_state}
+use Rattle.fjall_recovery.specs.Held.{IsOpenFolder, number_held}
+use Rattle.fjall_repair.specs.Opened.{HaveEntriesIn, IsSomeFolder, store_entries}
+use Rattle.fjall_table.specs.Blocks.{Entry}
+use Rattle.fjall_blocks.specs.Readers.{SomeTableIsWrong}
+use Rattle.fjall_trees.specs.Tables.{shape_in}
+use Rattle.fjall_state.specs.Machine as machine
+use Rattle.fjall_state.specs.Machine.{Parts, is_among, opened_state}
 use Rattle.fjall_core.specs.Holding.{Held}
-use Rattle.fjall_core.specs.Standing.{HoldsStore, StandsFor, StandsOn, reply_of}
+use Rattle.fjall_core.specs.Standing.{HoldsStore, ReadsOn, StandsFor, StandsOn, reply_of}
 use Rattle.fjall_repair.specs.Sweeps.{IsSwept}
 use Rattle.fjall_core.specs.Crashes.{BlamesDevice}
 
--- the parts that a core's counts speak of
-abbrev pub parts_of : Held → Parts
-parts_of core = record { journals = core.memory.journals; journal = core.journal.len; buffer = length core.journal.buffer; table = core.catalog.next_table_id; trees = core.memory.trees }
+-- the parts that a core's counts and reads speak of, where its tables have these entries
+abbrev pub parts_of : Held → (ℕ → List (List Entry)) → Parts
+parts_of core entries = record {
+  journals = core.memory.journals;
+  journal = core.journal.len;
+  buffer = length core.journal.buffer;
+  table = core.catalog.next_table_id;
+  trees = core.memory.trees;
+  entries = entries;
+}
 
--- a core that was just opened stands for this store, of which these keyspaces are damaged, and its next command takes this
--- number
-abbrev pub Opens : Held → Store → List ℕ → ℕ → Type 0
-Opens core store damaged next = StandsFor core (opened_state store damaged next (parts_of core))
+-- a core that was just opened as this store, whose tables have these entries, of which these keyspaces are damaged, and whose next
+-- command takes this number
+abbrev pub opened_as : Held → Store → (ℕ → List (List Entry)) → List ℕ → ℕ → machine.State
+opened_as core store entries damaged next = opened_state store damaged next (parts_of core entries)
 
--- a core that was opened on what stands there: a folder but for the tables of the damaged keyspaces
-abbrev pub OpensOn : Image → Held → Type 0
-OpensOn image core = (folder : Option Contents) × (damaged : List ℕ) × IsFolderBut image folder damaged × Opens core (store_held folder) damaged (number_held folder)
+abbrev pub Opens : Held → Store → (ℕ → List (List Entry)) → List ℕ → ℕ → Type 0
+Opens core store entries damaged next = StandsFor core (opened_as core store entries damaged next)
+
+-- The tables of these keyspaces have a wrong block on the core's disk, if any do.
+abbrev pub AreAllDamaged : Held → List ℕ → Type 0
+AreAllDamaged core damaged = (id : ℕ) → SomeTableIsWrong core.disk (shape_in id core.memory.trees).tables → is_among damaged id ≡ true
+
+-- A core that was opened on what stands there, a folder that opens: whatever its tables have, but for wrong blocks, the core stands
+-- for the store of that, its disk has these tables, and those keyspaces are damaged that have a wrong block.
+pub record OpensOn (old : Meaning) (core : Held) : Type 0 where
+  pub folder : Option Contents
+  pub is : IsOpenFolder (standing (state_in old)) folder
+  pub opens : (entries : ℕ → List (List Entry)) → HaveEntriesIn old folder entries → (damaged : List ℕ) → AreAllDamaged core damaged
+      → Opens core (store_entries entries folder) entries damaged (number_held folder) × ReadsOn core (opened_as core (store_entries entries folder) entries damaged (number_held folder))
 
 -- Over a disk that returns what it holds, a refusal but `Io` is due to the folder or to want of memory, and the disk
 -- holds what it held; after `Io` it does so too, or what stood there is a folder that opens.
@@ -56,13 +78,16 @@ pub record IsAtEnd (state : State) (writer : Journal) : Type 0 where
 abbrev pub AreWhole : State → List Sealed → Type 0
 AreWhole state sealed = AllByRecursion (λ s. (text : List ℕ) × IsSafe state (journal_name s.id) text × (s.len ≡ length text)) sealed
 
--- A core that was just opened stands for this store, with it as its base, nothing is pending, and no keyspace is damaged.
+-- A core that was just opened stands for this store, with it as its base, nothing is pending, and no keyspace is damaged. Its disk
+-- has the tables of all keyspaces.
 pub record OpensAs (core : Held) (store : Store) : Type 0 where
   pub next : ℕ
-  pub state : Opens core store [] next
+  pub entries : ℕ → List (List Entry)
+  pub state : Opens core store entries [] next
+  pub reads : ReadsOn core (opened_as core store entries [] next)
   pub journal : IsAtEnd (state_in core.disk) core.journal
   pub sealed : AreWhole (state_in core.disk) core.memory.journals.sealed
-  pub base : StandsOn core (record { meaning = core.disk; base = store; pending = [] })
+  pub base : StandsOn core entries (record { meaning = core.disk; base = store; pending = [] })
 
 -- A core that was opened on a disk of which a crash might leave different stores: it stands for what stood there, the base
 -- with a beginning of the pending commands, and so did whatever a crash during the opening left. Each step put at a name

@@ -1,5 +1,5 @@
 -- What a core stands for, and what its calls owe.
-use Rattle.std.specs.Prelude.{Bool, ◌≡◌, ◌⊎◌, ℕ, ◌+◌, ◌≤◌, ◌&&◌, true, false, nat_le, not, if◌then◌else◌, List, [], ◌∷◌, ◌++◌, length, codes, IfSome, MatchBool, MatchOption, Option, Some, None, is_none, Result, Ok, Err, OnOk, IsPermutation, IsSorted, Vec}
+use Rattle.std.specs.Prelude.{All, Bool, ◌≡◌, ◌⊎◌, ℕ, ◌+◌, ◌<◌, ◌≤◌, ◌&&◌, true, false, nat_le, not, if◌then◌else◌, List, [], ◌∷◌, ◌++◌, length, codes, IfSome, MatchBool, MatchOption, Option, Some, None, is_none, Result, Ok, Err, OnOk, IsPermutation, IsSorted, Vec}
 use Rattle.std.specs.FinMap.{len, values}
 use Rattle.std.specs.declared.alloc.Global.{Global}
 use Rattle.fjall_base.specs.Pairs.{Bytes, byte_order}
@@ -8,41 +8,47 @@ use Rattle.fjall_base.specs.Disk.{Meaning, Name, Took, TookPart, LeavesOnly, sta
 use Rattle.fjall_base.specs.Disk as disk
 use Rattle.fjall_base.specs.Errors.{Rose}
 use Rattle.fjall_base.specs.declared.error.Error.{Error}
-use Rattle.fjall_base.specs.declared.error.Error.TheVariants.{Io, OutOfMemory, Poisoned, ValueTooLong}
-use Rattle.fjall_files.specs.Regions.{IsSafe, Within}
+use Rattle.fjall_base.specs.declared.error.Error.TheVariants.{Io, OutOfMemory, Poisoned, Storage, ValueTooLong}
+use Rattle.fjall_base.specs.declared.error.StorageError.TheVariants.{TableDamaged}
+use Rattle.fjall_files.specs.Regions.{IsSafe, Within, is_under}
 use Rattle.fjall_files.specs.Tidy.{StaysTidy}
 use Rattle.fjall_recovery.specs.Amid.{HoldsAmid}
 use Rattle.fjall_journal.specs.declared.persist_mode.PersistMode.{PersistMode}
 use Rattle.fjall_journal.specs.declared.persist_mode.PersistMode.TheVariants.{SyncAll}
 use Rattle.fjall_journal.specs.Writer.{BatchTook, after_command, batch_steps, counted, goes_out, persist_steps, written_out}
-use Rattle.fjall_files.specs.Names.{journal_name, table_name}
+use Rattle.fjall_files.specs.Names.{journal_name, keyspace_folder, table_name}
+use Rattle.fjall_recovery.specs.Halves.{is_of_keyspaces}
+use Rattle.fjall_table.specs.Blocks.{Entry}
+use Rattle.fjall_blocks.specs.Readers.{AreRead, Reader, SomeTableIsWrong}
 use Rattle.fjall_meta.specs.Keyspaces.{id_of}
 use Rattle.fjall_catalog.specs.declared.catalog.Catalog.{Catalog}
 use Rattle.fjall_catalog.specs.Updates.{IsTableGone}
 use Rattle.fjall_maps.specs.Maps.{pairs_in, store_of}
+use Rattle.fjall_maps.specs.Tables.{store_with}
 use Rattle.fjall_recovery.specs.Folders.{Contents}
 use Rattle.fjall_recovery.specs.Held.{Holds, store_held}
 use Rattle.fjall_repair.specs.Opened.{ComesBack}
 use Rattle.fjall_commit.specs.Removals.{RemovesOwn}
 use Rattle.fjall_manager.specs.Journals.{bytes_of}
 use Rattle.fjall_manager.specs.Rotations.{RotationTook, empty_journal, rotating}
-use Rattle.fjall_trees.specs.Tables.{shape_in}
+use Rattle.fjall_trees.specs.Tables.{AreSameTrees, shape_in}
 use Rattle.fjall_journal.specs.Changes.{Change, Items, Emptied, change_text}
 use Rattle.fjall_history.specs.declared.ticket.Ticket.{Ticket}
 use Rattle.fjall_history.specs.declared.reply.Reply.{Reply}
 use Rattle.fjall_history.specs.declared.reply.Reply.TheVariants.{Done, Value, Pairs, Number, Names, Flag, Opened, Refused}
-use Rattle.fjall_history.specs.Queries.{Tells}
+use Rattle.fjall_history.specs.declared.ticket.View.{View}
+use Rattle.fjall_history.specs.Queries.{Get, Page, Query, Tells}
 use Rattle.fjall_state.specs.declared.call.Call.{Call}
 use Rattle.fjall_state.specs.Shapes.{Count, Exists, JournalSpace, Keyspaces, Next, OfChange, OfCount, OfCreation, OfDeletion, OfHandle, OfJournalRotation, OfPersist, OfRead, OfRotation, OfTickets, OneLess, OneMore, OpenTickets, Persistence, Entries, SealedMemtables, Shape, Visible, WriteBuffer, shape_of}
 use Rattle.fjall_state.specs.Shapes as shapes
-use Rattle.fjall_state.specs.Machine.{State, StepOf, Run, TakesMemory, ChangesDisk, TooLong, TurnsTickets, present, due_in, buffer_size, has_name, is_living, mode_in, rotates, version_count, wants_rotation}
-use Rattle.fjall_state.specs.Remembered.{IsLawful, Remembered, facts_of, instant_in, is_last, with_change, with_creation, with_deletion, with_tickets, retained, released, rotated, poisoned}
+use Rattle.fjall_state.specs.Machine.{State, StepOf, Run, TakesMemory, ChangesDisk, ReadsTables, TooLong, TurnsTickets, present, due_in, buffer_size, has_name, is_among, is_living, mode_in, rotates, version_count, wants_rotation}
+use Rattle.fjall_state.specs.Remembered.{IsLawful, Remembered, facts_of, instant_in, is_last, with_change, with_creation, with_deletion, with_tickets, with_trees, retained, released, rotated, poisoned}
 use Rattle.fjall_state.specs.Remembered as memory
 use Rattle.fjall_core.specs.Durables.{Durable, StandsAmid, Passes, Rests, Lies, MakesPresent, StaysFinished}
 use Rattle.fjall_core.specs.Crashes.{BlamesDevice, CallPasses, RunOn, Tried, IsSyncAt, SafeAt}
 use Rattle.fjall_core.specs.Holding.{Held}
 
--- the store that stands in memory
+-- the keyspaces that stand in memory, with their names and options, and what their trees show without tables
 abbrev pub store_in : Held → Store
 store_in core = store_of core.memory.keyspaces core.memory.trees
 
@@ -52,14 +58,35 @@ pub record StandsFor (core : Held) (s : State) : Type 0 where
   pub journal : s.parts.journal ≡ core.journal.len
   pub buffer : s.parts.buffer ≡ length core.journal.buffer
 
--- The core stands on this disk, with this base and this pending: whatever a crash leaves is the base with a beginning of
--- what is pending, in a folder whose making was finished. While no fault has poisoned it, both lie on the disk as it knows.
-pub record StandsOn (core : Held) (d : Durable) : Type 0 where
+-- the store that its trees show with their tables, where these have these entries
+abbrev pub store_with_tables : (ℕ → List (List Entry)) → Held → Store
+store_with_tables entries core = store_with entries core.memory.keyspaces core.memory.trees
+
+-- The core stands on this disk, with this base and this pending, where its tables have these entries: whatever a crash leaves is
+-- the base with a beginning of what is pending, in a folder whose making was finished. While no fault has poisoned it, both lie on
+-- the disk as it knows.
+pub record StandsOn (core : Held) (entries : ℕ → List (List Entry)) (d : Durable) : Type 0 where
   pub same : d.meaning ≡ core.disk
   pub rests : Rests d
   pub finished : StaysFinished (state_in d.meaning)
   pub lies : core.memory.poisoned ≡ false → Lies core d
-  pub present : MakesPresent core.memory.poisoned d (store_in core)
+  pub present : MakesPresent core.memory.poisoned d (store_with_tables entries core)
+
+-- ---- what it reads
+
+-- On this disk the tables of a keyspace, whose id is never 0, lie in the keyspace's folder and have these entries, but for wrong
+-- blocks, which a damaged keyspace alone may have.
+pub record LieAtHome (disk : Meaning) (id : ℕ) (entries : List (List Entry)) (is_damaged : Bool) (tables : List Reader) : Type 0 where
+  pub positive : 0 < id
+  pub read : AreRead disk tables entries
+  pub named : All (λ t. is_under (keyspace_folder id) t.name ≡ true) tables
+  pub damage : SomeTableIsWrong disk tables → is_damaged ≡ true
+
+-- Its disk has the tables of all its trees, as the state says; and while no fault has poisoned it, its writer goes on in a file
+-- outside of keyspaces' folders.
+pub record ReadsOn (core : Held) (s : State) : Type 0 where
+  pub tables : All (λ k. LieAtHome core.disk k.id (s.parts.entries k.id) (is_among s.damaged k.id) k.shape.tables) core.memory.trees
+  pub writer : core.memory.poisoned ≡ false → is_of_keyspaces core.journal.name ≡ false
 
 -- ---- what calls owe, whatever the disk is
 
@@ -79,10 +106,37 @@ text_of core change = change_text change core.memory.next
 abbrev pub next_name : Held → Name
 next_name core = journal_name (core.memory.journals.active + 1)
 
--- A fault of the disk has poisoned the core, and what is in memory is as before.
-pub record Poisons (old new : Held) : Type 0 where
-  pub memory_is : new.memory ≡ poisoned old.memory
+-- what is in memory after a fault of the disk, but that the core is poisoned: a handle is counted less all the same
+abbrev pub at_fault : Shape → Remembered → Remembered
+at_fault (OfChange change how) m = m
+at_fault (OfCreation name options) m = m
+at_fault (OfDeletion id) m = m
+at_fault (OfHandle OneMore id) m = m
+at_fault (OfHandle OneLess id) m = released id m
+at_fault (OfRotation id) m = m
+at_fault OfJournalRotation m = m
+at_fault (OfRead view id query) m = m
+at_fault (OfTickets call) m = m
+at_fault (OfPersist mode) m = m
+at_fault (OfCount count) m = m
+
+-- A fault of the disk has poisoned the core, and what is in memory is this.
+pub record Poisons (left : Remembered) (old new : Held) : Type 0 where
+  pub memory_is : new.memory ≡ poisoned left
   pub faults : Rose old.disk.faults new.disk.faults
+
+-- A read has looked at the disk, and of tables more is kept in memory, perhaps.
+pub record Looks (old new : Held) : Type 0 where
+  pub memory_is : new.memory ≡ with_trees new.memory.trees old.memory
+  pub trees : AreSameTrees old.memory.trees new.memory.trees
+  pub catalog : new.catalog ≡ old.catalog
+  pub journal : new.journal ≡ old.journal
+  pub faults : old.disk.faults ≤ new.disk.faults
+
+-- so a read of a keyspace with these tables; without any it leaves all as it was
+abbrev pub LooksAt : List Reader → Held → Held → Type 0
+LooksAt [] old new = new ≡ old
+LooksAt (t ∷ tables) old new = Looks old new
 
 -- The change stands in memory, under the next number. The batch's text is in the journal's file with all that
 -- waited or, where the change has no mode, waits too while that is less than 8,192 bytes, and the disk is left alone.
@@ -132,7 +186,11 @@ pub record RotatesJournal (old new : Held) : Type 0 where
   pub journal : new.journal ≡ empty_journal (next_name old)
   pub faults : old.disk.faults ≤ new.disk.faults
 
--- Where memory ran out nothing has changed; a release has looked at the disk by then.
+-- the tables of a keyspace
+abbrev pub tables_of : Held → ℕ → List Reader
+tables_of core id = (shape_in id core.memory.trees).tables
+
+-- Where memory ran out nothing has changed; a release, and a read of tables, has looked at the disk by then.
 abbrev pub RanOut : Held → Shape → Held → Type 0
 RanOut old (OfChange change how) new = new ≡ old
 RanOut old (OfCreation name options) new = new ≡ old
@@ -141,15 +199,19 @@ RanOut old (OfHandle OneMore id) new = new ≡ old
 RanOut old (OfHandle OneLess id) new = (new ≡ record old { disk = new.disk }) × (old.disk.faults ≤ new.disk.faults)
 RanOut old (OfRotation id) new = new ≡ old
 RanOut old OfJournalRotation new = new ≡ old
-RanOut old (OfRead view id query) new = new ≡ old
+RanOut old (OfRead view id query) new = LooksAt (tables_of old id) old new
 RanOut old (OfTickets call) new = new ≡ old
 RanOut old (OfPersist mode) new = new ≡ old
 RanOut old (OfCount count) new = new ≡ old
 
--- where no refusal is due, a fault may be told, or want of memory, or that an option's value is too long to be stored
+-- Where no refusal is due, a fault may be told, or want of memory, or that an option's value is too long to be stored; and a read of
+-- a keyspace that has tables may tell of a fault, or of a wrong block.
 abbrev pub OwesFailure : Held → Shape → Error → Held → Type 0
-OwesFailure old shape (Io kind) new = ChangesDisk (facts_of old.memory old.catalog.next_table_id) (length old.journal.buffer) shape × Poisons old new
+OwesFailure old shape (Io kind) new =
+    (ChangesDisk (facts_of old.memory old.catalog.next_table_id) (length old.journal.buffer) shape × Poisons (at_fault shape old.memory) old new)
+    ⊎ (ReadsTables old.memory.trees shape × Looks old new × Rose old.disk.faults new.disk.faults)
 OwesFailure old shape OutOfMemory new = TakesMemory shape × RanOut old shape new
+OwesFailure old shape (Storage told) new = (told ≡ TableDamaged) × ReadsTables old.memory.trees shape × Looks old new
 OwesFailure old shape ValueTooLong new = TooLong (store_in old) shape × (new ≡ old)
 OwesFailure old shape error new = ⊥
 
@@ -188,6 +250,17 @@ HeldCount core (SealedMemtables id) reply = reply ≡ Number (length (shape_in i
 HeldCount core WriteBuffer reply = reply ≡ Number (counted (buffer_size (store_in core) core.memory.trees))
 HeldCount core (shapes.WantsRotation id) reply = reply ≡ Flag (wants_rotation (store_in core) core.memory.trees id)
 
+-- an answer to such a query
+abbrev pub IsOfKind : Query → Reply → Type 0
+IsOfKind (Get key) reply = (found : Option Bytes) × (reply ≡ Value found)
+IsOfKind (Page range back max) reply = (found : Vec (Bytes × Bytes) Global) × (reply ≡ Pairs found)
+
+-- What a read gives of a keyspace with these tables: without any, what stands in memory. Of what tables hold any disk may tell
+-- anything; one that returns what it holds tells what they hold.
+abbrev pub GivesRead : List Reader → Held → View → ℕ → Query → Reply → Type 0
+GivesRead [] old view id query reply = Tells query (pairs_in id (instant_in old.memory view) old.memory.trees) reply
+GivesRead (t ∷ tables) old view id query reply = IsOfKind query reply
+
 -- where nothing refuses it, a call gives such a reply, and leaves this
 abbrev pub Gives : Held → Shape → Reply → Held → Type 0
 Gives old (OfChange change how) reply new = (reply ≡ Done) × OwesChange old change how new
@@ -197,13 +270,14 @@ Gives old (OfHandle OneMore id) reply new = (reply ≡ Done) × (new ≡ record 
 Gives old (OfHandle OneLess id) reply new = (reply ≡ Done) × Counts old (released id old.memory) new
 Gives old (OfRotation id) reply new = (reply ≡ Flag (rotates old.memory.trees id)) × (new ≡ (if rotates old.memory.trees id then record old { memory = rotated id old.memory } else old))
 Gives old OfJournalRotation reply new = (reply ≡ Done) × RotatesJournal old new
-Gives old (OfRead view id query) reply new = Tells query (pairs_in id (instant_in old.memory view) old.memory.trees) reply × (new ≡ old)
+Gives old (OfRead view id query) reply new = GivesRead (tables_of old id) old view id query reply × LooksAt (tables_of old id) old new
 Gives old (OfTickets call) reply new =
     TurnsTickets old.memory.next old.memory.tickets call reply new.memory.tickets × (new ≡ record old { memory = with_tickets new.memory.tickets old.memory })
 Gives old (OfPersist mode) reply new = (reply ≡ Done) × HandsOver old new
 Gives old (OfCount count) reply new = HeldCount old count reply × (new ≡ old)
 
--- What a call owes whatever the disk is: each refusal for its cause, with what it leaves, and each answer from memory.
+-- What a call owes whatever the disk is: each refusal for its cause, with what it leaves, and each answer from memory, but for what
+-- tables hold.
 abbrev pub Owes : Held → Shape → Reply → Held → Type 0
 Owes old shape (Refused error) new = OwesRefusal (held_due old shape) old shape error new
 Owes old shape reply new = (held_due old shape ≡ None) × Gives old shape reply new
@@ -216,6 +290,11 @@ OwesAll old calls replies new = ⊥
 
 -- ---- what a disk takes of calls that returns what it holds
 
+-- what a disk took of a read of a keyspace with these tables: nothing, though it was looked at where there are some
+abbrev pub DiskRead : List Reader → Held → Held → Type 0
+DiskRead [] old new = new.disk ≡ old.disk
+DiskRead (t ∷ tables) old new = Took old.disk new.disk []
+
 -- what the disk took of a call where it failed; of a creation and a deletion the clause on crashes tells
 abbrev pub DiskFailed : Held → Shape → Held → Type 0
 DiskFailed old (OfChange change how) new = BatchTook (mode_of old how) old.disk new.disk old.journal (text_of old change)
@@ -225,7 +304,7 @@ DiskFailed old (OfHandle OneMore id) new = ⊥
 DiskFailed old (OfHandle OneLess id) new = Within (codes "keyspaces") old.disk new.disk
 DiskFailed old (OfRotation id) new = ⊥
 DiskFailed old OfJournalRotation new = RotationTook old.disk new.disk old.journal new.journal (next_name old)
-DiskFailed old (OfRead view id query) new = ⊥
+DiskFailed old (OfRead view id query) new = Took old.disk new.disk []
 DiskFailed old (OfTickets call) new = ⊥
 DiskFailed old (OfPersist mode) new = TookPart old.disk new.disk old.journal.name old.journal.buffer ⊎ Took old.disk new.disk (persist_steps old.journal mode)
 DiskFailed old (OfCount count) new = ⊥
@@ -238,14 +317,14 @@ HasTable state c = IfSome c.table (λ t. (bytes : List ℕ) × IsSafe state (tab
 -- names now is safe there.
 pub record ReplacesTable (old new : Held) : Type 0 where
   pub gone : IsTableGone (state_in new.disk) old.catalog
-  pub there : (s : State) (d : Durable) → StandsFor old s → StandsOn old d → HasTable (state_in new.disk) new.catalog
+  pub there : (s : State) (d : Durable) → StandsFor old s → StandsOn old s.parts.entries d → HasTable (state_in new.disk) new.catalog
 
 -- With the last handle of a deleted keyspace its folder is removed for good, unless it holds anything but the engine's own
 -- files, or the core is poisoned. With each other one nothing is done.
 abbrev pub RemovesLast : Held → ℕ → Held → Type 0
 RemovesLast old id new = MatchBool (is_last old.memory id && not old.memory.poisoned) (RemovesOwn id old.disk new.disk × Within (codes "keyspaces") old.disk new.disk) (new.disk ≡ old.disk)
 
--- what a disk took of a call that memory ran out in: nothing, though a release has looked at it
+-- what a disk took of a call that memory ran out in: nothing, though a release, or a read of tables, has looked at it
 abbrev pub DiskLooked : Held → Shape → Held → Type 0
 DiskLooked old (OfChange change how) new = new.disk ≡ old.disk
 DiskLooked old (OfCreation name options) new = new.disk ≡ old.disk
@@ -254,7 +333,7 @@ DiskLooked old (OfHandle OneMore id) new = new.disk ≡ old.disk
 DiskLooked old (OfHandle OneLess id) new = Took old.disk new.disk []
 DiskLooked old (OfRotation id) new = new.disk ≡ old.disk
 DiskLooked old OfJournalRotation new = new.disk ≡ old.disk
-DiskLooked old (OfRead view id query) new = new.disk ≡ old.disk
+DiskLooked old (OfRead view id query) new = DiskRead (tables_of old id) old new
 DiskLooked old (OfTickets call) new = new.disk ≡ old.disk
 DiskLooked old (OfPersist mode) new = new.disk ≡ old.disk
 DiskLooked old (OfCount count) new = new.disk ≡ old.disk
@@ -274,7 +353,7 @@ DiskTook old (OfHandle OneMore id) new = new.disk ≡ old.disk
 DiskTook old (OfHandle OneLess id) new = RemovesLast old id new
 DiskTook old (OfRotation id) new = new.disk ≡ old.disk
 DiskTook old OfJournalRotation new = Took old.disk new.disk (rotating old.disk old.journal (next_name old))
-DiskTook old (OfRead view id query) new = new.disk ≡ old.disk
+DiskTook old (OfRead view id query) new = DiskRead (tables_of old id) old new
 DiskTook old (OfTickets call) new = new.disk ≡ old.disk
 DiskTook old (OfPersist mode) new = Took old.disk new.disk (persist_steps old.journal mode)
 DiskTook old (OfCount count) new = new.disk ≡ old.disk
@@ -282,6 +361,7 @@ DiskTook old (OfCount count) new = new.disk ≡ old.disk
 abbrev pub OnDisk : Held → Shape → Reply → Held → Type 0
 OnDisk old shape (Refused (Io kind)) new = DiskFailed old shape new
 OnDisk old shape (Refused OutOfMemory) new = DiskLooked old shape new
+OnDisk old shape (Refused (Storage told)) new = DiskLooked old shape new
 OnDisk old shape (Refused error) new = new.disk ≡ old.disk
 OnDisk old shape reply new = DiskTook old shape new
 
@@ -289,13 +369,16 @@ OnDisk old shape reply new = DiskTook old shape new
 abbrev pub Steps : Held → Shape → Reply → Held → Type 0
 Steps old shape reply new = (s : State) → StandsFor old s → (t : State) × StandsFor new t × StepOf s shape reply t
 
--- One call over a disk that returns what it holds. The disk took what such a call writes. Whatever state the core stood
--- for, and whatever base and pending it stood on, it goes on by a step of the machine, and a crash during the call or
--- after it leaves what such a step may leave.
+-- From that state, whatever base and pending the core stood on, a crash during the call or after it leaves what a step to this one
+-- may leave.
+abbrev pub LeadsOn : Held → State → Shape → Reply → Held → State → Type 0
+LeadsOn old s shape reply new t = (d : Durable) → StandsOn old s.parts.entries d → (e : Durable) × StandsOn new t.parts.entries e × CallPasses s d shape reply e
+
+-- One call over a disk that returns what it holds. The disk took what such a call writes. Whatever state the core stood for, whose
+-- tables its disk had, it goes on by a step of the machine, its disk has the tables still, and a crash leaves what it may.
 pub record Serves (old : Held) (shape : Shape) (reply : Reply) (new : Held) : Type 0 where
   pub disk : OnDisk old shape reply new
-  pub crash : (s : State) (d : Durable) → StandsFor old s → StandsOn old d
-      → (t : State) × (e : Durable) × StandsFor new t × StandsOn new e × StepOf s shape reply t × CallPasses s d shape reply e
+  pub goes_on : (s : State) → StandsFor old s → ReadsOn old s → (t : State) × StandsFor new t × ReadsOn new t × StepOf s shape reply t × LeadsOn old s shape reply new t
 
 -- the reply to a change or to a sync
 abbrev pub reply_of : Result Unit Error → Reply
@@ -332,9 +415,9 @@ abbrev pub names_reply : Result (Vec Bytes Global) Error → Reply
 names_reply (Ok names) = Names names
 names_reply (Err error) = Refused error
 
--- Calls one after another, as a run of the machine.
+-- Calls one after another over a disk that returns what it holds, as a run of the machine.
 abbrev pub Runs : Held → List Call → List Reply → Held → Type 0
-Runs old calls replies new = (s : State) → StandsFor old s → (t : State) × StandsFor new t × Run s calls replies t
+Runs old calls replies new = (s : State) → StandsFor old s → ReadsOn old s → (t : State) × StandsFor new t × ReadsOn new t × Run s calls replies t
 
 -- Calls one after another over a disk that may crash. At any moment a crash leaves the base with a beginning of what was
 -- pending and what was tried. After a sync that succeeded it leaves all that was tried up to that call. Each step put at a
@@ -344,7 +427,8 @@ pub record RunsOn (old : Held) (calls : List Call) (replies : List Reply) (new :
   pub state : State
   pub durable : Durable
   pub stands : StandsFor new state
-  pub on : StandsOn new durable
+  pub reads : ReadsOn new state
+  pub on : StandsOn new state.parts.entries durable
   pub run : RunOn s d calls replies tried state durable
   pub accepted : Tried s tried state
   pub any_moment : LeavesOnly old.disk new.disk (StandsAmid d.base [] (d.pending ++ tried))
@@ -353,7 +437,7 @@ pub record RunsOn (old : Held) (calls : List Call) (replies : List Reply) (new :
 
 -- the same from whatever state, base and pending the core stood for and on
 abbrev pub RunsSafely : Held → List Call → List Reply → Held → Type 0
-RunsSafely old calls replies new = (s : State) (d : Durable) → StandsFor old s → StandsOn old d → RunsOn old calls replies new s d
+RunsSafely old calls replies new = (s : State) (d : Durable) → StandsFor old s → ReadsOn old s → StandsOn old s.parts.entries d → RunsOn old calls replies new s d
 
 -- ---- closing
 
@@ -389,4 +473,4 @@ pub record Closes (s : State) (d : Durable) (result : Result Unit Error) (disk :
 
 -- the same from whatever state, base and pending the core stood for and on
 abbrev pub ClosesSafely : Held → Result Unit Error → Meaning → Type 0
-ClosesSafely core result disk = (s : State) (d : Durable) → StandsFor core s → StandsOn core d → Closes s d result disk
+ClosesSafely core result disk = (s : State) (d : Durable) → StandsFor core s → ReadsOn core s → StandsOn core s.parts.entries d → Closes s d result disk

@@ -1,15 +1,16 @@
 //! Calls that make, delete and hold keyspaces.
 
-ghost use Rattle.std.specs.Prelude.{◌≡◌, None, IsTrue, false, true};
-ghost use Rattle.fjall_state.specs.Machine.{has_name, is_living};
+ghost use Rattle.std.specs.Prelude.{◌≡◌, ◌<◌, None, IsTrue, false, if◌then◌else◌, true};
+ghost use Rattle.fjall_state.specs.Machine.{handles_of, has_name, is_living};
 ghost use Rattle.fjall_state.specs.Shapes.{OfCreation, OfDeletion, OfHandle, OneLess, OneMore};
 ghost use Rattle.fjall_meta.specs.Keyspaces.{id_of};
-ghost use Rattle.fjall_state.specs.Remembered.{IsLawful};
+ghost use Rattle.fjall_state.specs.Remembered.{IsLawful, poisoned, released};
+ghost use Rattle.fjall_core.specs.Crashes.{is_io};
 ghost use Rattle.fjall_core.specs.CallParts.{Makes, Removes, Unmakes};
 ghost use Rattle.fjall_core.specs.Standing.{held_due, Owes, Serves, number_reply, reply_of, store_in};
 
-use crate::engine::Core;
-use fjall_base::{Disk, Result, Slice};
+use crate::engine::{Core, is_fault};
+use fjall_base::{Disk, Error, Result, Slice};
 use fjall_catalog::prepare_deletion;
 use fjall_commit::{
     prepare_creation, remove_keyspace, sync_and_create_keyspace, sync_and_delete_keyspace,
@@ -140,7 +141,7 @@ impl<D: Disk> Core<D> {
     /// poisoned core leaves to the next opening. A folder that holds anything but the engine's own files is left as it stands.
     ///
     /// Refusals: `UnknownKeyspace` where no handle is counted; `OutOfMemory`, before which the disk was no more than looked
-    /// at; and `Io`, after which the core is poisoned. After each of them the handle is still counted.
+    /// at, and the handle is still counted; and `Io`, after which the core is poisoned and the handle is counted less all the same.
     pub fn release(&mut self, id: u64) -> Result<()>
         ensures serves { IsTrue D.honest → Serves self.old (OfHandle OneLess id) (reply_of result) self.new }
         ensures owes { Owes self.old (OfHandle OneLess id) (reply_of result) self.new }
@@ -152,21 +153,29 @@ impl<D: Disk> Core<D> {
             self.memory.release(id);
             return Ok(());
         }
-        self.remove_files(id)?;
+        if let Err(error) = self.remove_files(id) {
+            self.give_up(id, &error);
+            return Err(error);
+        }
         self.memory.release(id);
         Ok(())
+    }
+
+    // After a fault of the disk the handle is counted less all the same, and the core is poisoned.
+    fn give_up(&mut self, id: u64, error: &Error)
+        requires counted { 0 < handles_of self.old.memory.handles id }
+        ensures { self.new ≡ (if is_io error.now then record self.old { memory = poisoned (released id self.old.memory) } else self.old) }
+    {
+        if is_fault(error) {
+            self.memory.release(id);
+            self.memory.poison();
+        }
     }
 
     // Removes the files of a deleted keyspace.
     fn remove_files(&mut self, id: u64) -> Result<()>
         ensures removed { Removes (IsTrue D.honest) self.old id result self.new }
     {
-        match remove_keyspace(self.alloc, &mut self.disk, id) {
-            Ok(()) => Ok(()),
-            Err(error) => {
-                self.poison_by(&error);
-                Err(error)
-            }
-        }
+        remove_keyspace(self.alloc, &mut self.disk, id)
     }
 }

@@ -1,6 +1,6 @@
 //! What holds of the disks that the engine opens.
 
-ghost use Rattle.std.specs.Prelude.{◌≡◌, ◌++◌, List, []};
+ghost use Rattle.std.specs.Prelude.{◌≡◌, ◌++◌, ℕ, List, []};
 ghost use Rattle.fjall_base.specs.Store.{Command, Store, fold, kept};
 ghost use Rattle.std.specs.List.{AllByRecursion};
 ghost use Rattle.fjall_base.specs.Disk.{Image, IsImage, Leaves, Meaning, Missing, Name, State, Step, Took, disk_of, state_in};
@@ -10,9 +10,10 @@ ghost use Rattle.fjall_versions.specs.Replays.{bare};
 ghost use Rattle.fjall_recovery.specs.Folders.{StandsFor};
 ghost use Rattle.fjall_recovery.specs.Amid.{HoldsAmid};
 ghost use Rattle.fjall_core.specs.Durables.{IsBeginning, StandsAmid, Durable};
+ghost use Rattle.fjall_table.specs.Blocks.{Entry};
 ghost use Rattle.fjall_core.specs.Holding.{Held};
 ghost use Rattle.fjall_core.specs.Lives.{AreLeftOf, GoesOn, HoldsFold, LastSync, Life, Lived, Lives, Served, all_left, begun, start_of};
-ghost use Rattle.fjall_core.specs.Standing.{HoldsStore, Owes, OwesAll, Runs, RunsOn, RunsSafely, StandsOn, Steps};
+ghost use Rattle.fjall_core.specs.Standing.{HoldsStore, Owes, ReadsOn, RunsOn, RunsSafely, StandsOn, Steps};
 ghost use Rattle.fjall_state.specs.declared.call.Call.{Call};
 ghost use Rattle.fjall_state.specs.Shapes.{Shape};
 ghost use Rattle.fjall_history.specs.declared.reply.Reply.{Reply};
@@ -20,6 +21,7 @@ ghost use Rattle.fjall_base.specs.Crash.{IsHoused};
 ghost use Rattle.fjall_core.specs.Crashes.{BlamesEach, RunOn};
 ghost use Rattle.fjall_core.specs.Openings.{OpensAmid, OpensAs};
 ghost use Rattle.fjall_state.specs.Machine as machine;
+ghost use Rattle.fjall_state.specs.Machine.{ReadsTables};
 ghost use Rattle.fjall_core.specs.Standing as memory;
 
 /// A disk that a crash left, at whichever moment of these steps, holds the store that its image stands for.
@@ -51,10 +53,10 @@ pub fn holds_store_amid()
     ensures { (state : State) (store : Store) → HoldsStore state store → HoldsAmid state store [] }
 {}
 
-/// The disk of each core holds its base with what is pending, so that a core opens on it without a crash between; a fault
+/// The disk of each core holds its base with what is pending, whatever its tables have, so that a core opens on it without a crash between; a fault
 /// may have poisoned it. That the folder of each name stands is a law of disks.
 pub fn a_core_holds_amid()
-    ensures { (core : Held) (d : Durable) → StandsOn core d → IsHoused (state_in d.meaning) → HoldsAmid (state_in d.meaning) d.base d.pending }
+    ensures { (core : Held) (entries : ℕ → List (List Entry)) (d : Durable) → StandsOn core entries d → IsHoused (state_in d.meaning) → HoldsAmid (state_in d.meaning) d.base d.pending }
 {}
 
 /// One life of an engine, wherever it was cut off, dropped or refused: what its disk holds then is the base with a beginning
@@ -92,13 +94,13 @@ pub fn a_last_sync()
 
 /// No call is a run too.
 pub fn no_calls_run()
-    ensures { (core : Held) (s : machine.State) (d : Durable) → memory.StandsFor core s → StandsOn core d → RunsOn core [] [] core s d }
+    ensures { (core : Held) (s : machine.State) (d : Durable) → memory.StandsFor core s → ReadsOn core s → StandsOn core s.parts.entries d → RunsOn core [] [] core s d }
 {}
 
 /// One run behind another is one run.
 pub fn runs_go_on()
     ensures { (old mid new : Held) (s : machine.State) (d : Durable) (calls more : List Call) (replies others : List Reply)
-        → StandsOn old d → RunsOn old calls replies mid s d → RunsSafely mid more others new
+        → StandsOn old s.parts.entries d → RunsOn old calls replies mid s d → RunsSafely mid more others new
         → RunsOn old (calls ++ more) (replies ++ others) new s d }
 {}
 
@@ -145,12 +147,9 @@ pub fn a_run_blames_the_device()
 
 // ---- what calls owe
 
-/// What a call owes whatever the disk is makes it a step of the machine.
+/// What a call owes whatever the disk is makes it a step of the machine, but for a read of a keyspace that has tables: of what these
+/// hold a disk may tell anything.
 pub fn an_owed_call_steps()
-    ensures { (old new : Held) (shape : Shape) (reply : Reply) → Owes old shape reply new → Steps old shape reply new }
-{}
-
-/// What calls owe whatever the disk is makes them a run of the machine.
-pub fn owed_calls_run()
-    ensures { (old new : Held) (calls : List Call) (replies : List Reply) → OwesAll old calls replies new → Runs old calls replies new }
+    ensures { (old new : Held) (shape : Shape) (reply : Reply) → Owes old shape reply new → (ReadsTables old.memory.trees shape → ⊥)
+        → Steps old shape reply new }
 {}

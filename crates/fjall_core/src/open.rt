@@ -1,13 +1,15 @@
 //! A core that opens on a disk.
 
 ghost use Rattle.std.specs.Prelude.{◌≡◌, ◌≤◌, ℕ, List, IsTrue, IsErrAnd, IfOk, IfErr};
-ghost use Rattle.fjall_base.specs.Disk.{standing, state_in};
+ghost use Rattle.fjall_base.specs.Disk.{state_in};
 ghost use Rattle.fjall_base.specs.declared.error.Error.{Error};
 ghost use Rattle.fjall_base.specs.Store.{Store};
 ghost use Rattle.fjall_recovery.specs.Refusals.{AreOne, HasRisen, IsDue, IsOpeningRefusal};
 ghost use Rattle.fjall_files.specs.Tidy.{IsTidy, StaysTidy};
 ghost use Rattle.fjall_core.specs.Openings.{IsDueTo, KeepsStore, Opens, OpensAs, OpensOn, OpensAmid, StaysAmid, ForHeld, RefusalBlames, RefusesFolder, Sweeps};
-ghost use Rattle.fjall_core.specs.Standing.{HoldsStore};
+ghost use Rattle.fjall_core.specs.Standing.{HoldsStore, store_with_tables};
+ghost use Rattle.fjall_table.specs.Blocks.{Entry};
+ghost use Rattle.fjall_state.specs.Remembered.{AreBeside};
 
 use crate::config::Config;
 use crate::engine::Core;
@@ -20,20 +22,22 @@ impl<D: Disk> Core<D> {
     /// Opens the database on a disk: reads its folder whole, begins a database where none is there or goes on with one
     /// whose making was cut short, cuts what a crash left unfinished, syncs what counts, and removes what nothing names. The
     /// folder of a keyspace that doesn't live is removed only where all that stands in it are files with the engine's own
-    /// names, and otherwise left wholly as it stands. A keyspace that has a table with a wrong block is damaged: the rest
-    /// works, and reads of that keyspace are refused.
+    /// names, and otherwise left wholly as it stands. No block of a keyspace's table is read: a wrong one is met by the read
+    /// that wants it.
     ///
     /// Refusals hand the disk back: `InvalidVersion`; `JournalRecovery`, `Unrecoverable` and `InvalidTag` for what
     /// stands in journals; `Storage` for what stands in records, tables and options; `OutOfMemory`; `Io`. All is read,
     /// and all memory got, before anything is changed, so that after each but `Io` the disk holds what it held.
     pub fn open(alloc: Global, config: Config, disk: D) -> std::result::Result<Core<D>, Refused<D>>
-        ensures opened { IsTrue D.honest → IfOk result (λ core. OpensOn (standing (state_in (D.meaning disk))) core) }
+        ensures opened { IsTrue D.honest → IfOk result (OpensOn (D.meaning disk)) }
         ensures safe { IsTrue D.honest → (store : Store) → HoldsStore (state_in (D.meaning disk)) store → IfOk result (λ core. OpensAs core store) }
         ensures any_moment { IsTrue D.honest → IfOk result (λ core. KeepsStore (D.meaning disk) core.disk) }
         ensures any_moment_err { IsTrue D.honest → IfErr result (λ refused. KeepsStore (D.meaning disk) (D.meaning refused.value)) }
         // Nothing of the engine's own is left that no record names.
         ensures swept { IsTrue D.honest → IfOk result (λ core. Sweeps (D.meaning disk) core) }
-        ensures stands { IfOk result (λ core. (store : Store) × (damaged : List ℕ) × (next : ℕ) × Opens core store damaged next) }
+        // Over any disk at all it stands for what its trees show, whatever older entries their tables have.
+        ensures stands { IfOk result (λ core. (entries : ℕ → List (List Entry)) → AreBeside core.memory entries → (damaged : List ℕ)
+            → Opens core (store_with_tables entries core) entries damaged core.memory.next) }
         ensures later { IfOk result (λ core. (D.meaning disk).faults ≤ core.disk.faults) }
         ensures later_err { IfErr result (λ refused. (D.meaning disk).faults ≤ (D.meaning refused.value).faults) }
         ensures risen { IfErr result (λ refused. HasRisen (D.meaning disk).faults (D.meaning refused.value).faults refused.error) }
@@ -67,7 +71,6 @@ impl<D: Disk> Core<D> {
                     alloc,
                     opened.keyspaces,
                     opened.trees,
-                    opened.damaged,
                     opened.number,
                     opened.sealed,
                     opened.active,

@@ -1,4 +1,4 @@
-//! Calls that read keys and counts: they change nothing.
+//! Calls that read keys and counts: they change nothing but which blocks of tables are kept.
 
 ghost use Rattle.std.specs.Prelude.{◌≡◌, ◌+◌, IsTrue, length};
 ghost use Rattle.fjall_journal.specs.Writer.{counted};
@@ -18,21 +18,20 @@ use fjall_versions::KeyRange;
 impl<D: Disk> Core<D> {
     /// The value that a key of a keyspace has in a view. A key that no write can have has none.
     ///
-    /// Refusals: `SnapshotClosed`, `UnknownKeyspace`, `KeyspaceDeleted`, `Storage(TableDamaged)` where a block of one of
-    /// its tables is wrong, `OutOfMemory`. Nothing changes.
+    /// Refusals: `SnapshotClosed`, `UnknownKeyspace`, `KeyspaceDeleted`, `Io` where the disk fails, which poisons nothing,
+    /// `Storage(TableDamaged)` where a block of one of its tables is wrong in which the key would stand, `OutOfMemory`. Nothing
+    /// changes.
     pub fn get_at(&mut self, view: View, id: u64, key: &[u8]) -> Result<Option<UserValue>>
         ensures serves { IsTrue D.honest → Serves self.old (OfRead view id (Get key.now)) (value_reply result) self.new }
         ensures owes { Owes self.old (OfRead view id (Get key.now)) (value_reply result) self.new }
-        ensures same { self.new ≡ self.old }
     {
-        self.memory.get(view, id, key)
+        self.memory.get(&mut self.disk, view, id, key)
     }
 
     /// The first pairs of a keyspace's range in a view or, where `back`, the last ones: at most `max`, in the order of
     /// their keys.
     ///
-    /// Refusals: `SnapshotClosed`, `UnknownKeyspace`, `KeyspaceDeleted`, `Storage(TableDamaged)` where a block of one of
-    /// its tables is wrong, `OutOfMemory`. Nothing changes.
+    /// Refused as [`get_at`](Core::get_at), where a block is wrong that the page wants.
     pub fn page_at(
         &mut self,
         view: View,
@@ -43,9 +42,9 @@ impl<D: Disk> Core<D> {
     ) -> Result<Vec<KvPair>>
         ensures serves { IsTrue D.honest → Serves self.old (OfRead view id (Page range.now back max)) (pairs_reply result) self.new }
         ensures owes { Owes self.old (OfRead view id (Page range.now back max)) (pairs_reply result) self.new }
-        ensures same { self.new ≡ self.old }
     {
-        self.memory.page(self.alloc, view, id, range, back, max)
+        self.memory
+            .page(self.alloc, &mut self.disk, view, id, range, back, max)
     }
 
     /// How many keyspaces live.

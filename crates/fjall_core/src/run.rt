@@ -91,7 +91,7 @@ impl<D: Disk> Core<D> {
     /// opened it; a place whose call opened none names none that is open. Only where the lists of replies and of tickets find
     /// no memory is the whole list refused, before its first call.
     pub fn run(&mut self, calls: Vec<Call>) -> Result<Vec<Reply>>
-        ensures runs { IfOk result (λ replies. Runs self.old (resolved_all calls.items replies.items) replies.items self.new) }
+        ensures runs { IsTrue D.honest → IfOk result (λ replies. Runs self.old (resolved_all calls.items replies.items) replies.items self.new) }
         ensures crash { IsTrue D.honest
             → IfOk result (λ replies. RunsSafely self.old (resolved_all calls.items replies.items) replies.items self.new) }
         ensures owes { IfOk result (λ replies. OwesAll self.old (resolved_all calls.items replies.items) replies.items self.new) }

@@ -129,7 +129,7 @@ impl<D: Disk> Core<D> {
     pub fn persist(&mut self, mode: PersistMode) -> Result<()>
         ensures serves { IsTrue D.honest → Serves self.old (OfPersist mode) (reply_of result) self.new }
         // Whatever stands in the way elsewhere, the device is to blame for `Io`.
-        ensures device { IsTrue D.honest → (s : State) (d : Durable) → StandsFor self.old s → StandsOn self.old d
+        ensures device { IsTrue D.honest → (s : State) (d : Durable) → StandsFor self.old s → StandsOn self.old s.parts.entries d
             → BlamesDevice (reply_of result) self.old.disk self.new.disk }
         ensures owes { Owes self.old (OfPersist mode) (reply_of result) self.new }
     {

@@ -154,9 +154,8 @@ const RELEASE: &[Row] = &[
     (Ask(Delete(1)), ""),
     (Ask(Release(1)), "Io(Other)"),
     (Ask(Create("more")), "Poisoned"),
-    (Get(1, "a"), "b"),
-    (Ask(Release(1)), ""),
     (Get(1, "a"), "KeyspaceDeleted"),
+    (Ask(Release(1)), "UnknownKeyspace"),
     (Leave, ""),
     (Open, ""),
     (Names, ""),
@@ -239,7 +238,7 @@ const OF_FAULTS: &[Scenario] = &[
     ("a rotation poisons", &[ROTATION, POISONED]),
     ("a creation poisons", &[CREATION, POISONED, NOT_CREATED]),
     ("a deletion poisons", &[DELETION, POISONED, NOT_DELETED]),
-    ("a failing release keeps the handle", &[RELEASE]),
+    ("a failing release counts the handle less", &[RELEASE]),
 ];
 
 const OF_SYNCS: &[Scenario] = &[

@@ -1,8 +1,9 @@
 //! Folders that no database made, or that something was added to.
 
 use crate::acts::Act::*;
-use crate::acts::{Row, Scenario, WRITTEN, first_wrong};
+use crate::acts::{Act, Row, Scenario, WRITTEN, first_wrong};
 use crate::script::Line::*;
+use std::ops::Bound::Unbounded;
 use std::test::Fail;
 
 const VERSION_1: &[Row] = &[
@@ -94,6 +95,80 @@ const LAST: &[Row] = &[
     (Get(1, "c"), "d"),
 ];
 
+/// A table that gives "a" the value "x" under number 1, and a record that names it and persists that number. The checks were
+/// computed apart from this repository.
+const TABLE: &[u8] = &[
+    17, 0, 0, 0, 0, 0, 0, 0, 1, 0, 0, 1, 0, 0, 0, 0, 0, 0, 0, 1, 0, 0, 0, 97, 120, 151, 185, 31,
+    171, 231, 224, 145, 108, 19, 0, 0, 0, 0, 0, 0, 0, 0, 0, 0, 0, 0, 0, 0, 0, 33, 0, 0, 0, 0, 0, 0,
+    0, 1, 0, 97, 150, 179, 141, 81, 162, 202, 216, 123, 70, 74, 84, 1, 33, 0, 0, 0, 0, 0, 0, 0, 35,
+    0, 0, 0, 0, 0, 0, 0, 1, 0, 0, 0, 0, 0, 0, 0, 42, 184, 162, 189, 120, 29, 104, 194,
+];
+
+const RECORD: &[u8] = &[
+    68, 0, 0, 0, 1, 1, 1, 0, 0, 0, 0, 0, 0, 0, 1, 0, 0, 0, 0, 0, 0, 0, 0, 9, 0, 0, 0, 0, 0, 0, 0,
+    0, 0, 0, 0, 0, 0, 0, 0, 1, 0, 0, 0, 1, 0, 0, 0, 0, 0, 0, 0, 0, 104, 0, 0, 0, 0, 0, 0, 0, 1, 0,
+    0, 0, 0, 0, 0, 0, 0, 0, 0, 0, 60, 70, 79, 251, 114, 152, 39, 173,
+];
+
+const FLUSHED: &[Row] = &[
+    (Add("keyspaces/1/1.table", TABLE), ""),
+    (Add("keyspaces/1/current", RECORD), ""),
+];
+
+const ALL: Act = Page(1, Unbounded, Unbounded, false, 9);
+
+const READ: &[Row] = &[
+    (Open, ""),
+    (Get(1, "a"), "x"),
+    (ALL, "a"),
+    (Ask(Snapshot), "0"),
+    (Ask(Insert(1, "a", "y")), ""),
+    (Ask(Insert(1, "c", "d")), ""),
+    (Get(1, "a"), "y"),
+    (GetAt(0, 1, "a"), "x"),
+    (ALL, "ac"),
+    (Close, ""),
+    (Open, ""),
+    (Get(1, "a"), "y"),
+    (ALL, "ac"),
+];
+
+// It is met by the reads that want it: not by one that finds its key in memory, nor by one whose key lies before all blocks.
+const WRONG_BLOCK: &[Row] = &[
+    (Damage("keyspaces/1/1.table", 24, b'y'), ""),
+    (Open, ""),
+    (Get(1, "a"), "Storage(TableDamaged)"),
+    (Get(1, "c"), "Storage(TableDamaged)"),
+    (Get(1, "A"), "-"),
+    (ALL, "Storage(TableDamaged)"),
+    (Ask(Snapshot), "0"),
+    (Ask(Insert(1, "a", "y")), ""),
+    (Get(1, "a"), "y"),
+    (GetAt(0, 1, "a"), "Storage(TableDamaged)"),
+    (ALL, "Storage(TableDamaged)"),
+    (Close, ""),
+];
+
+// All else is served, also once it is opened again.
+const SERVED: &[Row] = &[
+    (Open, ""),
+    (Ask(Create("more")), "2"),
+    (Ask(Insert(2, "c", "d")), ""),
+    (Get(2, "c"), "d"),
+    (Get(1, "a"), "y"),
+    (ALL, "Storage(TableDamaged)"),
+    (Ask(Rotate(1)), "1"),
+    (Ask(Clear(1)), ""),
+    (ALL, "Storage(TableDamaged)"),
+    (Ask(Retain(1)), ""),
+    (Ask(Delete(1)), ""),
+    (ALL, "Storage(TableDamaged)"),
+    (Ask(Release(1)), ""),
+    (ALL, "KeyspaceDeleted"),
+    (Close, ""),
+    (Lists("keyspaces", "1"), "no"),
+];
+
 const OF_VERSIONS: &[Scenario] = &[
     ("version 1 is refused", &[VERSION_1]),
     ("version 2 is refused", &[VERSION_2]),
@@ -109,6 +184,11 @@ const OF_FILES: &[Scenario] = &[
     ("other files are passed over", &[OTHERS]),
     ("a torn journal before the last is refused", &[TORN]),
     ("the last journal goes on", &[LAST]),
+    ("a table is read", &[FLUSHED, READ]),
+    (
+        "a wrong block is met by the reads that want it",
+        &[FLUSHED, WRONG_BLOCK, SERVED],
+    ),
 ];
 
 #[test]

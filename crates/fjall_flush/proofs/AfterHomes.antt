@@ -18,6 +18,7 @@ use Rattle.fjall_table.specs.Blocks.{Entry}
 use Rattle.fjall_table.specs.declared.table_info.TableInfo.{TableInfo}
 use Rattle.fjall_flush.specs.Flushes.{Flush, Follows, HasAt, home_after, infos_from, raised, texts_of, tree_after}
 use Rattle.fjall_flush.proofs.AfterRecords.{clears_within, now_within, still_within}
+use Rattle.fjall_flush.proofs.Once.{both_once}
 
 -- ---- which tables it has
 
@@ -101,6 +102,7 @@ has_versions f lists h versions follows has =
             (All-weaker (λ (v : Entry). v.number ≤ f.number) P (λ v le. now_within h.last.persisted f.number v.number le) (flat lists) follows.versions),
         clears_within f lists h.last follows has.within.1,
       );
+      once = both_once h.last.persisted versions (flat lists) has.within.0 follows.beyond has.once follows.once;
     }
 
 -- the home that stands there has its versions

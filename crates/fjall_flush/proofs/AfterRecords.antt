@@ -1,6 +1,7 @@
 -- The record after a flush is one where the record before was.
 use Rattle.std.proofs.Common.{◌≡◌, ◌≢◌, ℕ, zero, suc, ◌+◌, ◌<◌, ◌≤◌, ◌^◌, max, true, false, List, [], ◌∷◌, ◌++◌, All, length, map, Option, Some, None, IfSome, refl, sym, subst, arith}
 use Rattle.std.specs.List.{AllPairs}
+use Rattle.std.specs.List.Sorted.{IsStrictlyIncreasing}
 use Rattle.std.proofs.lemmas.Bool.{le-ltb, ltb-false, ltb-true, true≢false}
 use Rattle.std.proofs.lemmas.List.{map-append}
 use Rattle.std.proofs.lemmas.List.Elements.{All-append, All-cons, All-head, All-nil, All-tail, All-weaker}
@@ -85,22 +86,26 @@ each_below bound (t ∷ tables) low =
 small_numbers : (bound number : ℕ) (ns : List ℕ) → number < bound → All (λ n. n ≤ number) ns → All (λ n. n < bound) ns
 small_numbers bound number ns lt low = All-weaker (λ n. n ≤ number) (λ n. n < bound) (λ n le. omega (arith, lt, le)) ns low
 
-pub is_record : (f : Flush) (lists : List (List Entry)) (last : Fields) → Follows f lists last → Fits (record_after f last) → IsRecord last → IsRecord (record_after f last)
-is_record f lists last follows fits is =
+pub record_with : (f : Flush) (last : Fields) → f.number < 2 ^ 63 → All (λ n. n ≤ f.number) f.clears → IsStrictlyIncreasing (last.clears ++ f.clears) → Fits (record_after f last) → IsRecord last
+    → IsRecord (record_after f last)
+record_with f last small clears ascend fits is =
     let was = is.consistent in
     let infos = infos_from last.next_table_id f.tables in
     record {
       fits = fits;
       consistent = record {
-        persisted = raised_small (2 ^ 63) last.persisted f.number was.persisted follows.small;
-        highest = raised_small (2 ^ 63) last.highest f.number was.highest follows.small;
+        persisted = raised_small (2 ^ 63) last.persisted f.number was.persisted small;
+        highest = raised_small (2 ^ 63) last.highest f.number was.highest small;
         given = All-append (λ (t : TableInfo). t.id < last.next_table_id + length f.tables) last.tables infos
             (All-weaker (λ (t : TableInfo). t.id < last.next_table_id) (λ t. t.id < last.next_table_id + length f.tables) (λ t lt. omega (arith, lt)) last.tables was.given)
             (new_below last.next_table_id f.tables);
         once = subst (AllPairs (λ a b. a ≢ b)) (sym (map-append (λ (t : TableInfo). t.id) last.tables infos))
             (both_differ last.next_table_id (ids last.tables) (ids infos) was.once (new_differ last.next_table_id f.tables) (each_below last.next_table_id last.tables was.given)
             (new_from last.next_table_id f.tables));
-        numbers = All-append (λ n. n < 2 ^ 63) last.clears f.clears was.numbers (small_numbers (2 ^ 63) f.number f.clears follows.small follows.clears);
-        ascending = follows.ascend;
+        numbers = All-append (λ n. n < 2 ^ 63) last.clears f.clears was.numbers (small_numbers (2 ^ 63) f.number f.clears small clears);
+        ascending = ascend;
       };
     }
+
+pub is_record : (f : Flush) (lists : List (List Entry)) (last : Fields) → Follows f lists last → Fits (record_after f last) → IsRecord last → IsRecord (record_after f last)
+is_record f lists last follows = record_with f last follows.small follows.clears follows.ascend

@@ -1,5 +1,6 @@
 pub mod Layers
 pub mod Covered
+pub mod Once
 pub mod AfterRecords
 pub mod AfterHomes
 pub mod NewTables

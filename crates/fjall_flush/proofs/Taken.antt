@@ -1,5 +1,5 @@
 -- What a flush takes out of memory, part by part.
-use Rattle.std.proofs.Common.{◌≡◌, ℕ, zero, suc, ◌+◌, ◌<◌, ◌≤◌, ◌^◌, true, false, List, [], ◌∷◌, ◌++◌, All, get_or, map, refl, sym, ◌∙◌, ap, subst, arith, append_assoc, take, drop, take-append-drop}
+use Rattle.std.proofs.Common.{◌≡◌, ℕ, zero, suc, ◌+◌, ◌<◌, ◌≤◌, ◌^◌, true, false, List, [], ◌∷◌, ◌++◌, All, Option, get_or, map, refl, sym, ◌∙◌, ap, subst, arith, append_assoc, take, drop, take-append-drop}
 use Rattle.std.specs.Prelude.{slice_index}
 use Rattle.std.specs.List.{AllPairs}
 use Rattle.std.specs.List.Sorted.{IsStrictlyIncreasing}
@@ -32,6 +32,7 @@ use Rattle.fjall_views.specs.Views.{value_at}
 use Rattle.fjall_flush.specs.Covering.{Covers, IsSyncedTo, MayCount, ShowsBatches, Takes}
 use Rattle.fjall_flush.specs.Flushes.{Flush, Follows, HasAt}
 use Rattle.fjall_flush.proofs.Covered.{made_of}
+use Rattle.fjall_flush.proofs.Once.{from_is_beyond, ordered_once}
 use Rattle.fjall_flush.proofs.SameStore.{first_all}
 
 -- ---- numbers of parts
@@ -72,6 +73,15 @@ clears_above number (h ∷ parts) held from =
     All-append (λ n. number < n) h.clears (clears_in parts)
     (All-weaker (λ n. h.from ≤ n) (λ n. number < n) (λ n le. omega (arith, le, begin)) h.clears (All-head IsHeld h parts held).low_clears)
     (clears_above number parts (All-tail IsHeld h parts held) (All-tail (λ (k : Held). number < k.from) h parts from))
+
+-- what parts that begin beyond a number hold is beyond it
+versions_beyond : (p : Option ℕ) (parts : List Held) → All IsHeld parts → All (λ h. is_beyond p h.from ≡ true) parts → All (λ v. is_beyond p v.number ≡ true) (versions_in parts)
+versions_beyond p [] held beyond = All-nil (λ (v : Entry). is_beyond p v.number ≡ true)
+versions_beyond p (h ∷ parts) held beyond =
+    let begin = All-head (λ (k : Held). is_beyond p k.from ≡ true) h parts beyond in
+    All-append (λ (v : Entry). is_beyond p v.number ≡ true) h.versions (versions_in parts)
+    (All-weaker (λ (v : Entry). h.from ≤ v.number) (λ v. is_beyond p v.number ≡ true) (λ v le. from_is_beyond p h.from v.number begin le) h.versions (All-head IsHeld h parts held).low)
+    (versions_beyond p parts (All-tail IsHeld h parts held) (All-tail (λ (k : Held). is_beyond p k.from ≡ true) h parts beyond))
 
 -- ---- clears that ascend
 
@@ -197,12 +207,15 @@ module _ (number : ℕ) (task : Task) (taken left : List Held) (takes : Takes nu
     refl,
   )
 
-  -- its clears ascend behind the record's, where each part begins beyond the persisted number
+  -- its versions are beyond the record's and its clears ascend behind them, where each part begins beyond the persisted number
   pub follows : (last : Fields) → number < 2 ^ 63 → IsRecord last → ClearsAreWithin last → All (λ h. is_beyond last.persisted h.from ≡ true) taken → Follows f made.lists last
   follows last small is within beyond = record {
     small = small;
     made = made.made;
     versions = made_of (λ v. v.number ≤ number) task.watermark task.clears (flat task.runs) (flat made.lists) made.kept low;
+    beyond = made_of (λ v. is_beyond last.persisted v.number ≡ true) task.watermark task.clears (flat task.runs) (flat made.lists) made.kept
+        (subst (All (λ (v : Entry). is_beyond last.persisted v.number ≡ true)) (sym input) (versions_beyond last.persisted taken held beyond));
+    once = ordered_once (flat made.lists) made.ordered;
     clears = low_clears;
     ascend = rises (last.clears ++ clears) (subst (λ (l : List ℕ). Ascends (last.clears ++ l)) (sym own_clears)
         (parts_ascend last.clears taken (ascends last.clears is.consistent.ascending) held (apart_front taken left takes.apart)

@@ -1,11 +1,13 @@
 -- A finished flush, and what it makes of a keyspace's record, of its home, and of the tree.
-use Rattle.std.specs.Prelude.{◌≡◌, ℕ, ◌+◌, ◌<◌, ◌≤◌, ◌^◌, max, List, [], ◌∷◌, ◌++◌, All, length, map, Option, Some, None}
+use Rattle.std.specs.Prelude.{◌≡◌, ℕ, ◌+◌, ◌<◌, ◌≤◌, ◌^◌, max, true, List, [], ◌∷◌, ◌++◌, All, length, map, Option, Some, None}
 use Rattle.std.specs.List.Sorted.{IsStrictlyIncreasing}
 use Rattle.std.specs.FinMap.{get}
 use Rattle.fjall_table.specs.declared.level.Level.TheVariants.{L0}
 use Rattle.fjall_table.specs.declared.table_info.TableInfo.{TableInfo}
 use Rattle.fjall_table.specs.Blocks.{Entry}
+use Rattle.fjall_contents.specs.Contents.{is_beyond}
 use Rattle.fjall_sorted.specs.Sorted.{flat}
+use Rattle.fjall_views.specs.Jobs.{OnceEach}
 use Rattle.fjall_jobs.specs.declared.flush_made.FlushMade.{FlushMade}
 use Rattle.fjall_jobs.specs.declared.made_table.MadeTable.{MadeTable}
 use Rattle.fjall_jobs.specs.Sequences.{AreMadeTables}
@@ -50,11 +52,14 @@ record_after f last = record {
   clears = last.clears ++ f.clears;
 }
 
--- Nothing that a flush made is beyond its number, with these as its tables' entries, and its clears ascend behind the record's.
+-- Nothing that a flush made is beyond its number, with these as its tables' entries, and its clears ascend behind the record's. Its
+-- versions are beyond the persisted number, and no key has two of one number.
 pub record Follows (f : Flush) (lists : List (List Entry)) (last : Fields) : Type 0 where
   pub small : f.number < 2 ^ 63
   pub made : AreMadeTables f.tables lists
   pub versions : All (λ v. v.number ≤ f.number) (flat lists)
+  pub beyond : All (λ v. is_beyond last.persisted v.number ≡ true) (flat lists)
+  pub once : OnceEach (flat lists)
   pub clears : All (λ n. n ≤ f.number) f.clears
   pub ascend : IsStrictlyIncreasing (last.clears ++ f.clears)
 

@@ -66,7 +66,8 @@ pub fn a_flush_that_is_out_takes_parts()
 {}
 
 /// What a flush makes of a home is right where the home was: its record is one, its tables have the versions of before and then
-/// those that the flush made, and nothing that it holds is beyond its persisted number. So the tree after it has its versions.
+/// those that the flush made, no key two of one number, and nothing that it holds is beyond its persisted number. So the tree after
+/// it has its versions.
 pub fn a_flushed_home_is_right()
     ensures record { (f : Flush) (lists : List (List Entry)) (last : Fields) → Follows f lists last → Fits (record_after f last) → IsRecord last → IsRecord (record_after f last) }
     ensures versions { (f : Flush) (lists : List (List Entry)) (h : Home) (versions : List Entry) → Follows f lists h.last → HasVersions h versions

@@ -1,7 +1,9 @@
 -- The greatest number of the folder is the ingestion's.
 use Rattle.std.proofs.Common.{◌≡◌, ℕ, ◌+◌, ◌≤◌, ◌==◌, max, Bool, true, false, cond, List, [], ◌∷◌, ◌++◌, All, Option, Some, None, refl, sym, ◌∙◌, ap, subst, arith}
 use Rattle.std.specs.FinMap.{get}
+use Rattle.std.proofs.lemmas.Bool.{lt-ltb}
 use Rattle.std.proofs.lemmas.List.Elements.{All-cons, All-nil, All-weaker}
+use Rattle.fjall_contents.specs.Contents.{is_beyond}
 use Rattle.fjall_flush.specs.Flushes.{raised}
 use Rattle.fjall_flush.proofs.SameNumber.{past_after}
 use Rattle.fjall_home.specs.Homes.{Home}
@@ -95,3 +97,14 @@ module _ (j : Journaling) (t : Tree) (id number : ℕ) (tables : List MadeTable)
   both_numbers =
       let below = was_below in
       (raised_above h.last.persisted number (omega (arith, below)), raised_above h.last.highest number (omega (arith, below)))
+
+  -- which is beyond the persisted one
+  later : is_beyond h.last.persisted number ≡ true
+  later = of h.last.persisted (let below = was_below in omega (arith, below))
+    where
+      of : (p : Option ℕ) → past p ≤ number → is_beyond p number ≡ true
+      of None le = refl
+      of (Some n) le = lt-ltb n number (omega (arith, le))
+
+pub is_later : (j : Journaling) (t : Tree) (id number : ℕ) (h : Home) (versions : List Entry) → MayCome j t id number h versions → is_beyond h.last.persisted number ≡ true
+is_later j t id number h versions may = later j t id number [] h versions may

@@ -28,7 +28,8 @@ ghost use Rattle.fjall_ingest.specs.Plans.{AreOf};
 
 /// The store after an ingestion is the one command applied to the store before it, whatever beginning of the later batches stands
 /// behind the synced ones; so it is too where nothing is pending and memory has nothing to show. The greatest number of the folder and
-/// both numbers of the record are the ingestion's then, what is pending stays, and nothing is left for memory to show.
+/// both numbers of the record are the ingestion's then, and it was beyond the persisted one; what is pending stays, and nothing is left
+/// for memory to show.
 pub fn an_ingestion_is_one_command()
     ensures store { (j : Journaling) (t : Tree) (id number : ℕ) (items : List KeyOp) (tables : List MadeTable) (h : Home) (versions : List Entry) (behind rest : List Written)
         → MayIngest j t id number h versions → behind ++ rest ≡ j.later
@@ -44,6 +45,7 @@ pub fn an_ingestion_is_one_command()
         → number_of (contents_with j (tree_with id number items tables h versions t) behind) ≡ number + 1 }
     ensures numbers { (j : Journaling) (t : Tree) (id number : ℕ) (tables : List MadeTable) (h : Home) (versions : List Entry) → MayCome j t id number h versions
         → let last = (home_with number tables h).last in (last.persisted ≡ Some number) × (last.highest ≡ Some number) }
+    ensures beyond { (j : Journaling) (t : Tree) (id number : ℕ) (h : Home) (versions : List Entry) → MayCome j t id number h versions → is_beyond h.last.persisted number ≡ true }
     ensures pending { (j : Journaling) (t : Tree) (id number : ℕ) (items : List KeyOp) (tables : List MadeTable) (h : Home) (versions : List Entry) → MayIngest j t id number h versions
         → let next = tree_with id number items tables h versions t in journal_beyond next.keyspaces (stored_in next.homes next.versions) (map shown j.later)
         ≡ journal_beyond t.keyspaces (stored_in t.homes t.versions) (map shown j.later) }
@@ -70,15 +72,16 @@ pub fn all_is_persisted()
 {}
 
 /// What an ingestion makes of a home is right where the home was: its record is one, its tables have the versions of before and then
-/// the ingestion's, and nothing that it holds is beyond its persisted number. So the tree after it has its versions.
+/// the ingestion's, no key two of one number, and nothing that it holds is beyond its persisted number. So the tree after it has its
+/// versions. The ingestion's number is beyond the persisted one, as it is of one that may come.
 pub fn an_ingested_home_is_right()
     ensures record { (number : ℕ) (items : List KeyOp) (tables : List MadeTable) (last : Fields) → number < 2 ^ 63 → AreOf number items tables
         → Fits (record_after (as_flush number tables) last) → IsRecord last → IsRecord (record_after (as_flush number tables) last) }
-    ensures versions { (number : ℕ) (items : List KeyOp) (tables : List MadeTable) (h : Home) (versions : List Entry) → number < 2 ^ 63 → AreOf number items tables
-        → IsRecord h.last → HasVersions h versions → HasVersions (home_with number tables h) (versions ++ versions_made number items) }
+    ensures versions { (number : ℕ) (items : List KeyOp) (tables : List MadeTable) (h : Home) (versions : List Entry) → number < 2 ^ 63
+        → is_beyond h.last.persisted number ≡ true → AreOf number items tables → IsRecord h.last → HasVersions h versions → HasVersions (home_with number tables h) (versions ++ versions_made number items) }
     ensures clears { (number : ℕ) (tables : List MadeTable) (last : Fields) → ClearsAreWithin last → ClearsAreWithin (record_after (as_flush number tables) last) }
     ensures tree { (t : Tree) (id number : ℕ) (items : List KeyOp) (tables : List MadeTable) (h : Home) (versions : List Entry) → HasAt t id h versions → number < 2 ^ 63
-        → AreOf number items tables → IsRecord h.last → HaveVersions t.homes t.versions
+        → is_beyond h.last.persisted number ≡ true → AreOf number items tables → IsRecord h.last → HaveVersions t.homes t.versions
         → let next = tree_with id number items tables h versions t in HaveVersions next.homes next.versions }
     ensures made { (t : Tree) (id number : ℕ) (items : List KeyOp) (tables : List MadeTable) (h : Home) (versions : List Entry) → AreMade t.last t.keyspaces
         → let next = tree_with id number items tables h versions t in AreMade next.last next.keyspaces }

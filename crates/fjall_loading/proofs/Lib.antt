@@ -1,5 +1,3 @@
-pub mod Taking
-pub mod Loadings
-pub mod LoadedHomes
+pub mod Turns
 pub mod Opening
 pub mod Opened

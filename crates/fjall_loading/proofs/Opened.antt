@@ -1,34 +1,38 @@
 -- What the trees of homes that were read show, on the disk that they were read from.
-use Rattle.std.proofs.Common.{◌≡◌, ℕ, suc, ◌<◌, ◌==◌, Bool, true, false, cond, List, [], ◌∷◌, ◌++◌, get_or, map, All, AllPairs, Option, None, Some, is_some, refl, sym, ◌∙◌, ap, subst, arith}
-use Rattle.std.specs.Prelude.{MatchBool}
-use Rattle.std.specs.List.{list_any}
+use Rattle.std.proofs.Common.{◌≡◌, ℕ, zero, suc, ◌<◌, ◌==◌, Bool, true, false, cond, List, [], ◌∷◌, ◌++◌, get_or, length, map, slice_get, All, AllPairs, Option, None, Some, is_some, refl, sym, ◌∙◌, ap, subst, arith}
 use Rattle.std.specs.FinMap.{get}
+use Rattle.std.specs.Prelude.{IfSome}
 use Rattle.std.proofs.lemmas.Bool.{eq-eqb}
 use Rattle.std.proofs.lemmas.List.Elements.{All-cons, All-head, All-map, All-nil, All-tail, All-weaker}
 use Rattle.fjall_base.specs.Disk.{Image, Meaning}
 use Rattle.fjall_base.proofs.Codecs.{some_is}
-use Rattle.fjall_blocks.specs.Readers.{AreRead, Reader}
-use Rattle.fjall_contents.specs.Contents.{IsWithin, clears_held, is_beyond, versions_held}
+use Rattle.fjall_blocks.specs.Readers.{AreRead, HoldsAWrongBlock, Reader, SomeTableIsWrong, unread}
+use Rattle.fjall_contents.specs.Contents.{IsWithin, Stored, clears_held, is_beyond, versions_held}
 use Rattle.fjall_files.specs.Calls.{seen}
 use Rattle.fjall_home.specs.declared.reading.LoadedHome.{LoadedHome}
-use Rattle.fjall_home.specs.Homes.{Home}
+use Rattle.fjall_home.specs.Homes.{HoldTables, Home}
+use Rattle.fjall_files.specs.Names.{table_name}
 use Rattle.fjall_home.specs.Reading.{AreRight}
 use Rattle.fjall_lsm.specs.Trees.{Shape, floor_of}
 use Rattle.fjall_meta.specs.declared.living.LivingKeyspace.{LivingKeyspace}
 use Rattle.fjall_meta.specs.Keyspaces.{Keyspaces, keyspace_at}
 use Rattle.fjall_recovery.specs.Folders.{Contents, IsOpenable}
-use Rattle.fjall_recovery.specs.Homes.{AreHomesRead, HasVersionsAt, HaveVersionsBut, IsRead, LacksVersionsAt, Versions, stored_at, stored_in, stored_of}
+use Rattle.fjall_recovery.specs.Homes.{AreHomesRead, HasHomeAt, HasOpenableHome, HasVersionsAt, HaveHomes, HaveVersions, Homes, IsRead, Versions, stored_at, stored_in, stored_of}
 use Rattle.fjall_replay.specs.Beside.{AreReplayedWith, ShowsWith}
 use Rattle.fjall_replay.specs.Replayed.{past}
 use Rattle.fjall_sorted.specs.Sorted.{flat}
+use Rattle.fjall_table.specs.declared.table_info.TableInfo.{TableInfo}
 use Rattle.fjall_table.specs.Blocks.{Entry}
+use Rattle.fjall_table.specs.Files.{HoldsNoBlock, IsTableOf, bytes_in}
+use Rattle.fjall_table.specs.Tables.{Handle}
+use Rattle.fjall_table.proofs.FileScans.{wrong_block}
 use Rattle.fjall_tree.specs.Records.{Fields}
 use Rattle.fjall_trees.specs.Forests.{Forest, Planted, tree_at}
 use Rattle.fjall_versions.proofs.Ids.{each_lives}
-use Rattle.fjall_views.specs.Jobs.{AreBelow}
+use Rattle.fjall_views.specs.Jobs.{AreBelow, OnceEach}
 use Rattle.fjall_views.specs.Views.{value_at}
-use Rattle.fjall_loading.specs.Opening.{HaveEntries, IsOpenedOn, ShowsEntries, ShowsStored, opened, stored_entries, stored_with, tree_of}
-use Rattle.fjall_loading.proofs.LoadedHomes.{home_at}
+use Rattle.fjall_loading.specs.Opening.{AreReadersOf, AreTablesOf, HaveEntries, IsOpenedOn, ShowsEntries, ShowsStored, opened, stored_entries, stored_with, tree_of}
+use Rattle.fjall_loading.proofs.Turns.{home_at, same_bytes}
 use Rattle.fjall_loading.proofs.Opening.{below_past, its_readers, other_id, read_tree, readers_read, right_but}
 
 -- ---- each home that was read
@@ -76,61 +80,61 @@ trees_found image (k ∷ living) (home ∷ homes) up read =
       at = at_first j.id home (map opened homes) false (other_id home.id j.id less) ∙ one.at;
     })
 
--- ---- the entries of tables
+-- ---- the entries of a sound folder's tables
 
--- those of one keyspace: none where it is damaged
-abbrev lists_at : (damaged : Bool) (h : Option Home) (versions : Option (List Entry)) → MatchBool damaged (LacksVersionsAt h versions) (HasVersionsAt h versions) → List (List Entry)
-lists_at true h versions have = []
-lists_at false (Some h) (Some versions) have = have.lists
-lists_at false (Some h) None have = []
-lists_at false None versions have = []
+-- those of one keyspace
+abbrev lists_at : (h : Option Home) (versions : Option (List Entry)) → HasVersionsAt h versions → List (List Entry)
+lists_at (Some h) (Some versions) have = have.lists
+lists_at (Some h) None have = []
+lists_at None versions have = []
 
-lists_all : (damaged : Bool) (h : Option Home) (versions : Option (List Entry)) (have : MatchBool damaged (LacksVersionsAt h versions) (HasVersionsAt h versions))
-    → (stored_at h versions).versions ≡ flat (lists_at damaged h versions have)
-lists_all true (Some h) (Some versions) have = have.1
-lists_all true (Some h) None have = absurd have
-lists_all true None versions have = absurd have
-lists_all false (Some h) (Some versions) have = have.all
-lists_all false (Some h) None have = absurd have
-lists_all false None (Some versions) have = absurd have
-lists_all false None None have = refl
+lists_stored : (h : Option Home) (versions : Option (List Entry)) (have : HasVersionsAt h versions) → stored_entries h (lists_at h versions have) ≡ stored_at h versions
+lists_stored (Some h) (Some versions) have = ap (stored_of h) (sym have.all)
+lists_stored (Some h) None have = absurd have
+lists_stored None (Some versions) have = absurd have
+lists_stored None None have = refl
 
-lists_right : (damaged : Bool) (o : Option Home) (versions : Option (List Entry)) (have : MatchBool damaged (LacksVersionsAt o versions) (HasVersionsAt o versions)) (h : Home)
-    → damaged ≡ false → o ≡ Some h
-    → AreRight h.last.tables h.texts (lists_at damaged o versions have)
-lists_right true o versions have h none is = absurd cc
-lists_right false (Some g) (Some versions) have h none is = subst (λ (x : Home). AreRight x.last.tables x.texts have.lists) (some_is g h is) have.right
-lists_right false (Some g) None have h none is = absurd have
-lists_right false None versions have h none is = absurd cc
+lists_none : (h : Option Home) (versions : Option (List Entry)) (have : HasVersionsAt h versions) → h ≡ None → lists_at h versions have ≡ []
+lists_none (Some h) versions have none = absurd cc
+lists_none None versions have none = refl
 
--- none of them is beyond the persisted number
-lists_low : (damaged : Bool) (o : Option Home) (versions : Option (List Entry)) (have : MatchBool damaged (LacksVersionsAt o versions) (HasVersionsAt o versions)) (h : Home) → o ≡ Some h
-    → AreBelow (past h.last.persisted) (flat (lists_at damaged o versions have))
-lists_low true o versions have h is = All-nil (λ (v : Entry). v.number < past h.last.persisted)
-lists_low false (Some g) (Some versions) have h is =
-    subst (AreBelow (past h.last.persisted)) have.all
-    (subst (λ (x : Home). AreBelow (past x.last.persisted) versions) (some_is g h is)
-    (All-weaker (λ (v : Entry). is_beyond g.last.persisted v.number ≡ false) (λ (v : Entry). v.number < past g.last.persisted) (λ v e. below_past g.last.persisted v.number e) versions have.within.0))
-lists_low false (Some g) None have h is = absurd have
-lists_low false None versions have h is = absurd cc
+-- what is so of a home and its lists
+record AreLists (h : Home) (lists : List (List Entry)) : Type 0 where
+  right : AreRight h.last.tables h.texts lists
+  within : IsWithin (stored_of h (flat lists))
+  once : OnceEach (flat lists)
 
-stored_clears : (damaged : Bool) (o : Option Home) (versions : Option (List Entry)) → MatchBool damaged (LacksVersionsAt o versions) (HasVersionsAt o versions) → (h : Home) → o ≡ Some h
-    → (stored_at o versions).clears ≡ h.last.clears
-stored_clears true (Some g) (Some versions) have h is = ap (λ (x : Home). x.last.clears) (some_is g h is)
-stored_clears true (Some g) None have h is = absurd have
-stored_clears false (Some g) (Some versions) have h is = ap (λ (x : Home). x.last.clears) (some_is g h is)
-stored_clears false (Some g) None have h is = absurd have
-stored_clears damaged None versions have h is = absurd cc
+lists_are : (o : Option Home) (versions : Option (List Entry)) (have : HasVersionsAt o versions) (h : Home) → o ≡ Some h → AreLists h (lists_at o versions have)
+lists_are (Some g) (Some versions) have h is = subst (λ (x : Home). AreLists x have.lists) (some_is g h is) (record {
+  right = have.right;
+  within = subst (λ (vs : List Entry). IsWithin (stored_of g vs)) have.all have.within;
+  once = subst OnceEach have.all have.once;
+})
+lists_are (Some g) None have h is = absurd have
+lists_are None versions have h is = absurd cc
 
--- so the tree shows what is stored
-one_shows : (s : Keyspaces) (id : ℕ) (damaged : Bool) (o : Option Home) (versions : Option (List Entry))
-    (have : MatchBool damaged (LacksVersionsAt o versions) (HasVersionsAt o versions)) (h : Home) → o ≡ Some h
-    → (readers : List Reader)
-    → ShowsWith (lists_at damaged o versions have) (clears_held s (stored_at o versions) id []) (versions_held s (stored_at o versions) id []) (tree_of readers h.last)
-one_shows s id damaged o versions have h is readers = record {
-  below = lists_low damaged o versions have h is;
-  shows = λ key instant i. value_at key instant (sym (stored_clears damaged o versions have h is) i ++ []) (sym (lists_all damaged o versions have) i ++ []);
-}
+in_range : {X : Type 0} (xs : List X) (at : ℕ) (x : X) → slice_get xs at ≡ Some x → at < length xs
+in_range [] at x has = absurd cc
+in_range (y ∷ xs) zero x has = omega arith
+in_range (y ∷ xs) (suc at) x has = let lt = in_range xs at x has in omega (arith, lt)
+
+-- a table that is right has no wrong block
+none_wrong : (image : Image) (id : ℕ) (tables : List TableInfo) (texts : List (List ℕ)) (lists : List (List Entry)) (readers : List Reader) → HoldTables image id tables texts → AreRight tables texts lists
+    → AreReadersOf image id tables readers → (at : ℕ) (r : Reader) → slice_get readers at ≡ Some r → HoldsAWrongBlock (image r.name) r.handles → ⊥
+none_wrong image id [] texts lists [] hold right of at r has wrong = cc
+none_wrong image id [] texts lists (s ∷ readers) hold right of at r has wrong = of
+none_wrong image id (t ∷ tables) texts lists [] hold right of at r has wrong = of
+none_wrong image id (t ∷ tables) [] lists (s ∷ readers) hold right of at r has wrong = hold
+none_wrong image id (t ∷ tables) (b ∷ texts) [] (s ∷ readers) hold right of at r has wrong = right
+none_wrong image id (t ∷ tables) (b ∷ texts) (es ∷ lists) (s ∷ readers) hold right of zero r has wrong =
+    let name = table_name id t.id in
+    let bytes = bytes_in (image name) in
+    let is : IsTableOf t bytes es = subst (λ (x : List ℕ). IsTableOf t x es) (sym (same_bytes (image name) ∙ hold.0.1)) right.0 in
+    let same : unread name t of.0.handles ≡ r = sym of.0.is ∙ some_is s r has in
+    let here : HoldsAWrongBlock (image name) of.0.handles = subst (λ (x : Reader). HoldsAWrongBlock (image x.name) x.handles) (sym same) wrong in
+    let within : here.0 < length of.0.handles = in_range of.0.handles here.0 here.1 here.2 in
+    wrong_block t bytes of.0.handles of.0.holds.is here.0 within (subst (λ (o : Option Handle). IfSome o (HoldsNoBlock (image name))) (sym here.2) here.3) es is
+none_wrong image id (t ∷ tables) (b ∷ texts) (es ∷ lists) (s ∷ readers) hold right of (suc at) r has wrong = none_wrong image id tables texts lists readers hold.1 right.1 of.1 at r has wrong
 
 -- the same of whatever entries
 entries_low : (h : Home) (entries : List (List Entry)) → IsWithin (stored_of h (flat entries)) → AreBelow (past h.last.persisted) (flat entries)
@@ -146,6 +150,16 @@ entries_show s id (Some g) entries h is low readers = record {
 }
 
 -- ---- all trees
+
+-- a home that the contents have stands in the image
+housed_as : (image : Image) (living : List LivingKeyspace) (homes : Homes) → HaveHomes image living homes → (id : ℕ) (h : Home) → get homes id ≡ Some h → (k : LivingKeyspace) × HasOpenableHome image id h
+housed_as image living homes have id h at = by (keyspace_at id living) (get homes id) at (have id)
+  where
+    by : (k : Option LivingKeyspace) (o : Option Home) → o ≡ Some h → HasHomeAt image id k o → (k : LivingKeyspace) × HasOpenableHome image id h
+    by (Some k) (Some g) is has = (k, subst (HasOpenableHome image id) (some_is g h is) has)
+    by (Some k) None is has = absurd has
+    by None (Some g) is has = absurd has
+    by None None is has = absurd cc
 
 module _ (disk : Meaning) (c : Contents) (openable : IsOpenable (seen disk) c) (homes : List LoadedHome) (read : AreHomesRead (seen disk) c.keyspaces.living homes) where
   pub all_opened : All (IsOpenedOn disk c) (map opened homes)
@@ -164,71 +178,6 @@ module _ (disk : Meaning) (c : Contents) (openable : IsOpenable (seen disk) c) (
             reads = λ lists have. readers_read disk k.id r.loaded.h.last.tables (opened home).shape.tables lists (its_readers (seen disk) k.id home r) have;
           } in
           subst (λ (n : ℕ). IsOpenedOn disk c (record { id = n; shape = (opened home).shape })) (sym own) is
-
-  module _ (damaged : List ℕ) (versions : Versions) (have : HaveVersionsBut damaged c.homes versions) where
-    abbrev entries_in : ℕ → List (List Entry)
-    entries_in id = lists_at (list_any (λ other. other == id) damaged) (get c.homes id) (get versions id) (have id)
-
-    all_stored : (trees : Forest) → All (λ k. (stored_in c.homes versions k.id).versions ≡ flat (entries_in k.id)) trees
-    all_stored trees i d lt = let id = (get_or trees i d).id in lists_all (list_any (λ other. other == id) damaged) (get c.homes id) (get versions id) (have id)
-
-    all_read : All (λ k. list_any (λ other. other == k.id) damaged ≡ false → AreRead disk k.shape.tables (entries_in k.id)) (map opened homes)
-    all_read =
-        All-map (λ (k : Planted). list_any (λ other. other == k.id) damaged ≡ false → AreRead disk k.shape.tables (entries_in k.id)) opened homes
-        (each_read (seen disk) c.keyspaces.living (λ home. list_any (λ other. other == home.id) damaged ≡ false → AreRead disk (opened home).shape.tables (entries_in home.id)) one
-        c.keyspaces.living homes (each_lives c.keyspaces.living) read)
-      where
-        one : (k : LivingKeyspace) (home : LoadedHome) → is_some (keyspace_at k.id c.keyspaces.living) ≡ true → IsRead (seen disk) k.id home
-            → list_any (λ other. other == home.id) damaged ≡ false → AreRead disk (opened home).shape.tables (entries_in home.id)
-        one k home lives r =
-            let h = r.loaded.h in
-            let at = home_at (seen disk) c.keyspaces.living c.homes openable.homes k lives home r in
-            let so : list_any (λ other. other == k.id) damaged ≡ false → AreRead disk (opened home).shape.tables (entries_in k.id) = λ whole.
-            readers_read disk k.id h.last.tables (opened home).shape.tables (entries_in k.id) (its_readers (seen disk) k.id home r)
-            (right_but (seen disk) k.id h.last.tables h.texts (entries_in k.id) r.loaded.openable.files.tables
-            (lists_right (list_any (λ other. other == k.id) damaged) (get c.homes k.id) (get versions k.id) (have k.id) h whole at)) in
-            subst (λ (n : ℕ). list_any (λ other. other == n) damaged ≡ false → AreRead disk (opened home).shape.tables (entries_in n)) (sym r.loaded.named) so
-
-    all_low : All (λ k. AreBelow (floor_of k.shape.memory) (flat (entries_in k.id))) (map opened homes)
-    all_low =
-        All-map (λ (k : Planted). AreBelow (floor_of k.shape.memory) (flat (entries_in k.id))) opened homes
-        (each_read (seen disk) c.keyspaces.living (λ home. AreBelow (past home.record.persisted) (flat (entries_in home.id))) one c.keyspaces.living homes (each_lives c.keyspaces.living) read)
-      where
-        one : (k : LivingKeyspace) (home : LoadedHome) → is_some (keyspace_at k.id c.keyspaces.living) ≡ true → IsRead (seen disk) k.id home
-            → AreBelow (past home.record.persisted) (flat (entries_in home.id))
-        one k home lives r =
-            let h = r.loaded.h in
-            let at = home_at (seen disk) c.keyspaces.living c.homes openable.homes k lives home r in
-            let low = lists_low (list_any (λ other. other == k.id) damaged) (get c.homes k.id) (get versions k.id) (have k.id) h at in
-            subst (λ (n : ℕ). AreBelow (past home.record.persisted) (flat (entries_in n))) (sym r.loaded.named)
-            (subst (λ (p : Option ℕ). AreBelow (past p) (flat (entries_in k.id))) (sym (ap (λ (f : Fields). f.persisted) r.loaded.record_is)) low)
-
-    all_shown : AllPairs (λ j k. j.id < k.id) c.keyspaces.living → AreReplayedWith entries_in c.keyspaces (stored_in c.homes versions) [] (map opened homes)
-    all_shown up = λ i d lt.
-        let k : LivingKeyspace = get_or c.keyspaces.living i d in
-        let one = trees_found (seen disk) c.keyspaces.living homes up read i d lt in
-        let h = one.read.loaded.h in
-        let at = home_at (seen disk) c.keyspaces.living c.homes openable.homes k (each_lives c.keyspaces.living i d lt) one.home one.read in
-        let tree = read_tree (seen disk) k.id one.home one.read in
-        let shows = one_shows c.keyspaces k.id (list_any (λ other. other == k.id) damaged) (get c.homes k.id) (get versions k.id) (have k.id) h at tree.readers in (
-          (opened one.home).shape,
-          one.at,
-          subst (λ (shape : Shape). ShowsWith (entries_in k.id) (clears_held c.keyspaces (stored_in c.homes versions k.id) k.id [])
-              (versions_held c.keyspaces (stored_in c.homes versions k.id) k.id []) shape) (sym tree.is) shows,
-        )
-
-    pub shows_stored : AllPairs (λ j k. j.id < k.id) c.keyspaces.living → ShowsStored disk c damaged versions (map opened homes)
-    shows_stored up = record {
-      entries = entries_in;
-      all = all_stored (map opened homes);
-      read = all_read;
-      shown = all_shown up;
-      on = λ none once i d lt. record {
-        tables = all_read i d lt (ap (list_any (λ other. other == (get_or (map opened homes) i d).id)) none);
-        below = all_low i d lt;
-        once = once i d lt;
-      };
-    }
 
   module _ (entries : ℕ → List (List Entry)) (have : HaveEntries disk c entries) where
     entries_read : All (λ k. AreRead disk k.shape.tables (entries k.id)) (map opened homes)
@@ -257,7 +206,40 @@ module _ (disk : Meaning) (c : Contents) (openable : IsOpenable (seen disk) c) (
 
     pub shows_entries : AllPairs (λ j k. j.id < k.id) c.keyspaces.living → ShowsEntries disk c entries (map opened homes)
     shows_entries up = record {
-      read = entries_read;
+      on = λ i d lt. let one = all_opened i d lt in record { tables = entries_read i d lt; below = entries_below i d lt; once = (have (get_or (map opened homes) i d).id one.h one.home).2 };
       shown = entries_shown up;
-      on = λ once i d lt. record { tables = entries_read i d lt; below = entries_below i d lt; once = once i d lt };
     }
+
+  module _ (versions : Versions) (have : HaveVersions c.homes versions) where
+    abbrev entries_in : ℕ → List (List Entry)
+    entries_in id = lists_at (get c.homes id) (get versions id) (have id)
+
+    entries_are : AreTablesOf disk c versions entries_in
+    entries_are = record {
+      have = λ id h at.
+          let lists = lists_are (get c.homes id) (get versions id) (have id) h at in
+          let home = housed_as (seen disk) c.keyspaces.living c.homes openable.homes id h at in
+          (right_but (seen disk) id h.last.tables h.texts (entries_in id) home.1.home.files.tables lists.right, lists.within, lists.once);
+      stored = λ id. lists_stored (get c.homes id) (get versions id) (have id);
+      none = λ id none. lists_none (get c.homes id) (get versions id) (have id) none;
+    }
+
+    none_is_wrong : All (λ k. SomeTableIsWrong disk k.shape.tables → ⊥) (map opened homes)
+    none_is_wrong i d lt (at, r, has, wrong) =
+        let k = get_or (map opened homes) i d in
+        let one = all_opened i d lt in
+        let lists = lists_are (get c.homes k.id) (get versions k.id) (have k.id) one.h one.home in
+        let home = housed_as (seen disk) c.keyspaces.living c.homes openable.homes k.id one.h one.home in
+        let there : slice_get one.tree.readers at ≡ Some r = ap (λ (s : Shape). slice_get s.tables at) (sym one.tree.is) ∙ has in
+        none_wrong (seen disk) k.id one.h.last.tables one.h.texts (entries_in k.id) one.tree.readers home.1.home.files.tables lists.right one.tree.tables at r there wrong
+
+    pub shows_stored : AllPairs (λ j k. j.id < k.id) c.keyspaces.living → ShowsStored disk c versions (map opened homes)
+    shows_stored up =
+        let shown = shows_entries entries_in entries_are.have up in
+        record {
+          entries = entries_in;
+          are = entries_are;
+          on = shown.on;
+          right = none_is_wrong;
+          shown = subst (λ (stored : ℕ → Stored). AreReplayedWith entries_in c.keyspaces stored [] (map opened homes)) (λ i id. entries_are.stored id i) shown.shown;
+        }

@@ -35,7 +35,7 @@ use Rattle.fjall_trees.specs.Forests.{AreBefore, Forest, Planted}
 use Rattle.fjall_versions.specs.Replays.{persisted_at}
 use Rattle.fjall_versions.specs.declared.recovery.Persisted.{Persisted}
 use Rattle.fjall_loading.specs.Opening.{AreReadersOf, HaveEntriesBut, IsOpenedTree, IsReaderOf, MayOpen, MayOpenAll, opened, reader_of, told_by, tree_of}
-use Rattle.fjall_loading.proofs.Loadings.{same_bytes}
+use Rattle.fjall_loading.proofs.Turns.{same_bytes}
 
 -- ---- readers of a home's tables
 

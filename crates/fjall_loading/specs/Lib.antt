@@ -1,3 +1,1 @@
-pub mod Filled
-pub mod Loading
 pub mod Opening

@@ -1,10 +1,9 @@
 -- Trees over tables that stay on the disk, as an opening plants them: no block of a table is read.
-use Rattle.std.specs.Prelude.{◌≡◌, false, ℕ, ◌<◌, ◌^◌, ◌==◌, List, [], ◌∷◌, map, All, IfSome, Option, None, Some}
+use Rattle.std.specs.Prelude.{◌≡◌, ℕ, ◌<◌, ◌^◌, List, [], ◌∷◌, map, All, IfSome, Option, None, Some}
 use Rattle.std.specs.FinMap.{get}
-use Rattle.std.specs.List.{list_any}
 use Rattle.std.specs.List.Sorted.{IsStrictlyIncreasing}
 use Rattle.fjall_base.specs.Disk.{Image, Meaning}
-use Rattle.fjall_blocks.specs.Readers.{AreRead, IsTableBut, Reader, unread}
+use Rattle.fjall_blocks.specs.Readers.{AreRead, IsTableBut, Reader, SomeTableIsWrong, unread}
 use Rattle.fjall_contents.specs.Contents.{IsWithin, Stored, nothing_stored}
 use Rattle.fjall_files.specs.Calls.{seen}
 use Rattle.fjall_files.specs.Names.{table_name}
@@ -114,26 +113,30 @@ stored_entries (Some h) entries = stored_of h (flat entries)
 abbrev pub stored_with : Homes → (ℕ → List (List Entry)) → ℕ → Stored
 stored_with homes entries id = stored_entries (get homes id) (entries id)
 
--- The tables of each home have these entries, but for wrong blocks, and nothing that it holds so is beyond the persisted number.
+-- The tables of each home have these entries, but for wrong blocks, nothing that it holds so is beyond the persisted number, and no
+-- key has two versions of one number.
 abbrev pub HaveEntries : Meaning → Contents → (ℕ → List (List Entry)) → Type 0
 HaveEntries disk c entries =
-    (id : ℕ) (h : Home) → get c.homes id ≡ Some h → HaveEntriesBut (seen disk) id h.last.tables (entries id) × IsWithin (stored_of h (flat (entries id)))
+    (id : ℕ) (h : Home) → get c.homes id ≡ Some h → HaveEntriesBut (seen disk) id h.last.tables (entries id) × IsWithin (stored_of h (flat (entries id))) × OnceEach (flat (entries id))
 
 -- What the trees show where the tables have these entries, but for wrong blocks: all tables are read as such on the disk, and each
 -- tree shows what is stored with them.
 pub record ShowsEntries (disk : Meaning) (c : Contents) (entries : ℕ → List (List Entry)) (trees : Forest) : Type 0 where
-  pub read : All (λ k. AreRead disk k.shape.tables (entries k.id)) trees
+  pub on : AreReadOn disk trees entries
   pub shown : AreReplayedWith entries c.keyspaces (stored_with c.homes entries) [] trees
-  -- no key of a keyspace has two versions of one number
-  pub on : All (λ k. OnceEach (flat (entries k.id))) trees → AreReadOn disk trees entries
 
--- What the trees show where these homes have these versions, but for those of these ids, which are damaged: the entries of each
--- keyspace's tables are its versions, table by table; those of one that isn't damaged are read on the disk, and each tree shows
--- what is stored. Of a damaged one no version is stored.
-pub record ShowsStored (disk : Meaning) (c : Contents) (damaged : List ℕ) (versions : Versions) (trees : Forest) : Type 0 where
+-- Of a sound folder these are the entries of all tables, which have no wrong block: with them each keyspace has its versions, and one
+-- without a home has none.
+pub record AreTablesOf (disk : Meaning) (c : Contents) (versions : Versions) (entries : ℕ → List (List Entry)) : Type 0 where
+  pub have : HaveEntries disk c entries
+  pub stored : (id : ℕ) → stored_with c.homes entries id ≡ stored_in c.homes versions id
+  pub none : (id : ℕ) → get c.homes id ≡ None → entries id ≡ []
+
+-- What the trees show of a sound folder whose homes have these versions: all tables are read as what they are, none has a wrong
+-- block, and each tree shows what is stored.
+pub record ShowsStored (disk : Meaning) (c : Contents) (versions : Versions) (trees : Forest) : Type 0 where
   pub entries : ℕ → List (List Entry)
-  pub all : All (λ k. (stored_in c.homes versions k.id).versions ≡ flat (entries k.id)) trees
-  pub read : All (λ k. list_any (λ other. other == k.id) damaged ≡ false → AreRead disk k.shape.tables (entries k.id)) trees
+  pub are : AreTablesOf disk c versions entries
+  pub on : AreReadOn disk trees entries
+  pub right : All (λ k. SomeTableIsWrong disk k.shape.tables → ⊥) trees
   pub shown : AreReplayedWith entries c.keyspaces (stored_in c.homes versions) [] trees
-  -- and all tables are read where none is damaged, and no key of a keyspace has two versions of one number
-  pub on : damaged ≡ [] → All (λ k. OnceEach (flat (entries k.id))) trees → AreReadOn disk trees entries

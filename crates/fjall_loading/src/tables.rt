@@ -8,7 +8,7 @@ ghost use Rattle.fjall_base.specs.Disk.{Image, Meaning};
 ghost use Rattle.fjall_files.specs.Calls.{seen};
 ghost use Rattle.fjall_loading.specs.Opening.{HaveEntries, IsOpenedOn, MayOpen, MayOpenAll, ShowsEntries, ShowsStored, opened, reader_of, told_by};
 ghost use Rattle.fjall_recovery.specs.Folders.{Contents, IsOpenable};
-ghost use Rattle.fjall_recovery.specs.Homes.{AreHomesRead, ClearsAreWithin, HaveVersionsBut, Versions};
+ghost use Rattle.fjall_recovery.specs.Homes.{AreHomesRead, ClearsAreWithin, HaveVersions, Versions};
 ghost use Rattle.fjall_replay.specs.Beside.{AreEndedBy};
 ghost use Rattle.fjall_replay.specs.Replayed.{ids_of, past};
 ghost use Rattle.fjall_table.specs.Blocks.{Entry};
@@ -132,9 +132,9 @@ pub fn open_homes(alloc: Global, keyspaces: &MetaKeyspace, homes: Vec<LoadedHome
     // Where the tables have some entries, but for wrong blocks, they are read there as tables of these.
     ensures reads { (disk : Meaning) (c : Contents) → IsOpenable (seen disk) c → c.keyspaces ≡ keyspaces.now → AreHomesRead (seen disk) keyspaces.now.living homes.items
         → (entries : ℕ → List (List Entry)) → HaveEntries disk c entries → IfOk result (λ trees. ShowsEntries disk c entries (forest_of trees)) }
-    // Where the blocks are right, but for those of damaged keyspaces, the tables are read there, and the trees show what is stored.
-    ensures shows { (disk : Meaning) (c : Contents) → IsOpenable (seen disk) c → c.keyspaces ≡ keyspaces.now → AreHomesRead (seen disk) keyspaces.now.living homes.items
-        → (damaged : List ℕ) (versions : Versions) → HaveVersionsBut damaged c.homes versions → IfOk result (λ trees. ShowsStored disk c damaged versions (forest_of trees)) }
+    // Where the folder is sound, the tables are read there as what they are, and the trees show what is stored.
+    ensures sound { (disk : Meaning) (c : Contents) → IsOpenable (seen disk) c → c.keyspaces ≡ keyspaces.now → AreHomesRead (seen disk) keyspaces.now.living homes.items
+        → (versions : Versions) → HaveVersions c.homes versions → IfOk result (λ trees. ShowsStored disk c versions (forest_of trees)) }
     ensures cause { IfErr result (λ e. (e ≡ Error.OutOfMemory) ⊎ ((e ≡ Storage RecordDamaged) × (MayOpenAll (map (λ k. k.id) keyspaces.now.living) homes.items → ⊥))) }
     ensures only { (image : Image) → AreHomesRead image keyspaces.now.living homes.items → IsOkUnless result Error.OutOfMemory }
 {

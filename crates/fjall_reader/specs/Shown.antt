@@ -1,35 +1,42 @@
 -- What a reader of a core shows, and why its reads are refused.
-use Rattle.std.specs.Prelude.{◌≡◌, ◌⊎◌, ℕ, IfSome, Option, None, Some}
+use Rattle.std.specs.Prelude.{Bool, ◌≡◌, ◌⊎◌, ⊤, ℕ, [], IfSome, IsTrue, Option}
 use Rattle.std.specs.Borrow.{MutBor}
-use Rattle.std.proofs.Common.{◌∙◌, subst}
 use Rattle.fjall_base.specs.Pairs.{Pairs}
+use Rattle.fjall_base.specs.Store.{map_at}
 use Rattle.fjall_base.specs.declared.error.Error.{Error}
 use Rattle.fjall_base.specs.declared.error.Error.TheVariants.{OutOfMemory}
 use Rattle.fjall_history.specs.declared.ticket.View.{View}
 use Rattle.fjall_maps.specs.Maps.{pairs_in}
-use Rattle.fjall_state.specs.Machine.{first_due, view_refusals}
+use Rattle.fjall_state.specs.Machine.{State, first_due, maps_in, view_refusals}
+use Rattle.fjall_state.specs.Reads as reads
 use Rattle.fjall_state.specs.Remembered.{facts_of, instant_in}
 use Rattle.fjall_core.specs.Holding.{Held}
+use Rattle.fjall_core.specs.Standing.{Looks, ReadsOn, StandsFor, tables_of}
 
--- the map of a keyspace that a core has in a view
-abbrev pub shown : Held → View → ℕ → Pairs
-shown core view id = pairs_in id (instant_in core.memory view) core.memory.trees
+-- A core shows this map of a keyspace in a view. Of a keyspace without tables it is the one that stands in memory; over a disk that
+-- returns what it holds, it is the one of each state that the core stands for and whose tables its disk has.
+abbrev pub Shows : Bool → Held → View → ℕ → Pairs → Type 0
+Shows honest core view id map =
+    ((tables_of core id ≡ []) × (map ≡ pairs_in id (instant_in core.memory view) core.memory.trees))
+    ⊎ (IsTrue honest × ((s : State) × StandsFor core s × ReadsOn core s × (map ≡ map_at (maps_in s view) id)))
 
 -- the refusal that is due for a read of a keyspace in a view of a core
 abbrev pub read_due : Held → View → ℕ → Option Error
 read_due core view id = first_due (view_refusals (facts_of core.memory core.catalog.next_table_id) view id)
 
--- a read in the view is refused: such a refusal is due for some keyspace, or memory is used up
-abbrev pub IsReadRefusal : Held → View → Error → Type 0
-IsReadRefusal core view error = (error ≡ OutOfMemory) ⊎ ((id : ℕ) × (read_due core view id ≡ Some error))
+-- A read of a keyspace in the view is refused so, and leaves this: by the refusal that is due; and where none is, for want of memory,
+-- and where the keyspace has a table for a fault of the disk or a wrong block.
+abbrev pub IsRefusedFor : Held → View → ℕ → Held → Error → Type 0
+IsRefusedFor old view id new error = reads.IsReadRefusal (read_due old view id) ⊤ (tables_of old id) old.disk new.disk error
 
--- Reads leave the core, which stays lent, and the view as they were, and the error that they met, where they met one, is such a
--- refusal.
-abbrev pub Reads : MutBor Held → View → Option Error → MutBor Held → View → Type 0
-Reads old from error new to = (new.now ≡ old.now) × (new.ghost_name ≡ old.ghost_name) × (to ≡ from) × IfSome error (IsReadRefusal old.now from)
+-- so is a read of some keyspace, or memory is used up
+abbrev pub IsReadRefusal : Held → View → Held → Error → Type 0
+IsReadRefusal old view new error = (error ≡ OutOfMemory) ⊎ ((id : ℕ) × IsRefusedFor old view id new error)
 
--- reads go on from what those before left
-pub reads_go_on : (old mid new : MutBor Held) (from amid to : View) (error : Option Error) → Reads old from None mid amid → Reads mid amid error new to → Reads old from error new to
-reads_go_on old mid new from amid to error first then =
-    let cause = subst (λ (core : Held). IfSome error (IsReadRefusal core amid)) first.0 then.3 in
-    (then.0 ∙ first.0, then.1 ∙ first.1, then.2 ∙ first.2, subst (λ (view : View). IfSome error (IsReadRefusal old.now view)) first.2 cause)
+-- Reads leave the core, which stays lent, as it was but for what is kept of its tables, and the view as it was; and the error that
+-- they met, where they met one, is such a refusal.
+pub record Reads (old : MutBor Held) (from : View) (error : Option Error) (new : MutBor Held) (to : View) : Type 0 where
+  pub looks : Looks old.now new.now
+  pub lent : new.ghost_name ≡ old.ghost_name
+  pub same : to ≡ from
+  pub cause : IfSome error (IsReadRefusal old.now from new.now)

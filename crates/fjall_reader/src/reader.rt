@@ -1,11 +1,13 @@
 //! A core, read at a view.
 
-ghost use Rattle.std.specs.Prelude.{◌≡◌, ℕ, None, IfOk, IfErr, OnOk};
+ghost use Rattle.std.specs.Prelude.{◌≡◌, ℕ, None, IsTrue, IfOk, IfErr, OnOk};
 ghost use Rattle.std.specs.Result.{result_err};
-ghost use Rattle.std.proofs.Common.{inl, refl};
-ghost use Rattle.fjall_base.specs.Pairs.{lookup, page, pairs_between};
-ghost use Rattle.fjall_history.specs.Tickets.{IsDueOrMemory};
-ghost use Rattle.fjall_reader.specs.Shown.{Reads, read_due, reads_go_on, shown};
+ghost use Rattle.fjall_base.specs.Pairs.{Pairs, lookup, page, pairs_between};
+ghost use Rattle.fjall_history.specs.Queries.{Get, Page};
+ghost use Rattle.fjall_state.specs.Shapes.{OfRead};
+ghost use Rattle.fjall_core.specs.Standing.{Owes, Serves, pairs_reply, value_reply};
+ghost use Rattle.fjall_reader.specs.Shown.{IsRefusedFor, Reads, Shows, read_due};
+ghost use Rattle.fjall_reader.specs.Going.{reads_go_on, reads_none, reads_short};
 
 use fjall_base::{Disk, KvPair, Result, UserValue};
 use fjall_core::{Core, View};
@@ -14,8 +16,9 @@ use std::alloc::Global;
 
 /// A core, read at a view: at its present, or at a snapshot.
 ///
-/// Refusals of each read: `SnapshotClosed`, `UnknownKeyspace`, `KeyspaceDeleted`, `Storage(TableDamaged)` where a block of one
-/// of the keyspace's tables is wrong, `OutOfMemory`. No read changes the core.
+/// Refusals of each read: `SnapshotClosed`, `UnknownKeyspace`, `KeyspaceDeleted`, `Io` where the disk fails, which poisons
+/// nothing, `Storage(TableDamaged)` where a block of one of the keyspace's tables is wrong that the read wants, `OutOfMemory`. No
+/// read changes the core but for which blocks of tables are kept.
 #[derive(Drop)]
 pub struct Reader<'a, D: Disk> {
     alloc: Global,
@@ -55,7 +58,7 @@ impl<'a, D: Disk> Reader<'a, D> {
 }
 
 impl<'a, D: Disk> Pages for Reader<'a, D> {
-    ghost shows = { λ reader. shown reader.core.now reader.view };
+    ghost shows = { λ reader id map. Shows D.honest reader.core.now reader.view id map };
 
     ghost reads = { λ old error new. Reads old.core old.view error new.core new.view };
 
@@ -64,29 +67,34 @@ impl<'a, D: Disk> Pages for Reader<'a, D> {
     }
 
     fn page(&mut self, id: u64, range: &KeyRange, back: bool, max: usize) -> Result<Vec<KvPair>>
-        ensures ok { IfOk result (λ found. found.items ≡ page back max (pairs_between range.now (shown self.old.core.now self.old.view id))) }
-        ensures same { (i : ℕ) → shown self.new.core.now self.new.view i ≡ shown self.old.core.now self.old.view i }
+        ensures ok { (map : Pairs) → Shows D.honest self.old.core.now self.old.view id map → IfOk result (λ found. found.items ≡ page back max (pairs_between range.now map)) }
+        ensures same { (i : ℕ) (map : Pairs) → Shows D.honest self.old.core.now self.old.view i map → Shows D.honest self.new.core.now self.new.view i map }
         ensures reads { Reads self.old.core self.old.view (result_err result) self.new.core self.new.view }
         ensures due { OnOk result (read_due self.old.core.now self.old.view id ≡ None) }
-        ensures cause { IfErr result (IsDueOrMemory (read_due self.old.core.now self.old.view id)) }
+        ensures cause { IfErr result (IsRefusedFor self.old.core.now self.old.view id self.new.core.now) }
+        // It is the call of the core, over any disk and over one that returns what it holds.
+        ensures owes { Owes self.old.core.now (OfRead self.old.view id (Page range.now back max)) (pairs_reply result) self.new.core.now }
+        ensures serves { IsTrue D.honest → Serves self.old.core.now (OfRead self.old.view id (Page range.now back max)) (pairs_reply result) self.new.core.now }
     {
         self.core.page_at(self.view, id, range, back, max)
     }
 
-    ghost reads_none = { λ pages. (refl, refl, refl, tt) };
+    ghost reads_none = { λ pages. reads_none pages.core pages.view };
 
     ghost reads_on = { λ old mid new error. reads_go_on old.core mid.core new.core old.view mid.view new.view error };
 
-    ghost reads_short = { λ old new reads. (reads.0, reads.1, reads.2, inl refl) };
+    ghost reads_short = { λ old new. reads_short old.core new.core old.view new.view };
 }
 
 impl<'a, D: Disk> Readable for Reader<'a, D> {
     fn get<K: Identified>(&mut self, keyspace: &K, key: &[u8]) -> Result<Option<UserValue>>
-        ensures ok { IfOk result (λ found. found ≡ lookup (shown self.old.core.now self.old.view (K.identity keyspace.now)) key.now) }
-        ensures same { (i : ℕ) → shown self.new.core.now self.new.view i ≡ shown self.old.core.now self.old.view i }
+        ensures ok { (map : Pairs) → Shows D.honest self.old.core.now self.old.view (K.identity keyspace.now) map → IfOk result (λ found. found ≡ lookup map key.now) }
+        ensures same { (i : ℕ) (map : Pairs) → Shows D.honest self.old.core.now self.old.view i map → Shows D.honest self.new.core.now self.new.view i map }
         ensures reads { Reads self.old.core self.old.view (result_err result) self.new.core self.new.view }
         ensures due { OnOk result (read_due self.old.core.now self.old.view (K.identity keyspace.now) ≡ None) }
-        ensures cause { IfErr result (IsDueOrMemory (read_due self.old.core.now self.old.view (K.identity keyspace.now))) }
+        ensures cause { IfErr result (IsRefusedFor self.old.core.now self.old.view (K.identity keyspace.now) self.new.core.now) }
+        ensures owes { Owes self.old.core.now (OfRead self.old.view (K.identity keyspace.now) (Get key.now)) (value_reply result) self.new.core.now }
+        ensures serves { IsTrue D.honest → Serves self.old.core.now (OfRead self.old.view (K.identity keyspace.now) (Get key.now)) (value_reply result) self.new.core.now }
     {
         self.core.get_at(self.view, keyspace.id(), key)
     }

@@ -73,9 +73,9 @@ impl Cursor {
     // Fetches a page from the front, where none of the last one is left.
     fn fetch<P: Pages>(&mut self, pages: &mut P) -> Result<()>
         requires { self.old.front.items ≡ [] }
-        ensures left { OnOk result (left self.new (P.shows pages.old self.old.id) ≡ left self.old (P.shows pages.old self.old.id)) }
+        ensures left { (map : Pairs) → P.shows pages.old self.old.id map → OnOk result (left self.new map ≡ left self.old map) }
         ensures fetched { OnOk result (self.new.front.items ≡ [] → self.new.middle ≡ None) }
-        ensures same { (i : ℕ) → P.shows pages.new i ≡ P.shows pages.old i }
+        ensures same { (i : ℕ) (map : Pairs) → P.shows pages.old i map → P.shows pages.new i map }
         ensures reads { P.reads pages.old (result_err result) pages.new }
         ensures id { self.new.id ≡ self.old.id }
     {
@@ -114,8 +114,8 @@ impl Cursor {
 
     /// The first pair that is left. After the last one, and after a fault, there is none.
     pub fn next<P: Pages>(&mut self, pages: &mut P) -> Option<Result<KvPair>>
-        ensures taken { TakesFirst (left self.old (P.shows pages.old self.old.id)) result (left self.new (P.shows pages.old self.old.id)) }
-        ensures same { (i : ℕ) → P.shows pages.new i ≡ P.shows pages.old i }
+        ensures taken { (map : Pairs) → P.shows pages.old self.old.id map → TakesFirst (left self.old map) result (left self.new map) }
+        ensures same { (i : ℕ) (map : Pairs) → P.shows pages.old i map → P.shows pages.new i map }
         ensures reads { P.reads pages.old (error_in result) pages.new }
         ensures id { self.new.id ≡ self.old.id }
     {
@@ -137,9 +137,9 @@ impl Cursor {
     // Fetches a page from the back, where none of the last one is left.
     fn fetch_back<P: Pages>(&mut self, pages: &mut P) -> Result<()>
         requires { self.old.back.items ≡ [] }
-        ensures left { OnOk result (left self.new (P.shows pages.old self.old.id) ≡ left self.old (P.shows pages.old self.old.id)) }
+        ensures left { (map : Pairs) → P.shows pages.old self.old.id map → OnOk result (left self.new map ≡ left self.old map) }
         ensures fetched { OnOk result (self.new.back.items ≡ [] → self.new.middle ≡ None) }
-        ensures same { (i : ℕ) → P.shows pages.new i ≡ P.shows pages.old i }
+        ensures same { (i : ℕ) (map : Pairs) → P.shows pages.old i map → P.shows pages.new i map }
         ensures reads { P.reads pages.old (result_err result) pages.new }
         ensures id { self.new.id ≡ self.old.id }
     {
@@ -177,8 +177,8 @@ impl Cursor {
 
     /// The last pair that is left. After the first one, and after a fault, there is none.
     pub fn next_back<P: Pages>(&mut self, pages: &mut P) -> Option<Result<KvPair>>
-        ensures taken { TakesLast (left self.old (P.shows pages.old self.old.id)) result (left self.new (P.shows pages.old self.old.id)) }
-        ensures same { (i : ℕ) → P.shows pages.new i ≡ P.shows pages.old i }
+        ensures taken { (map : Pairs) → P.shows pages.old self.old.id map → TakesLast (left self.old map) result (left self.new map) }
+        ensures same { (i : ℕ) (map : Pairs) → P.shows pages.old i map → P.shows pages.new i map }
         ensures reads { P.reads pages.old (error_in result) pages.new }
         ensures id { self.new.id ≡ self.old.id }
     {

@@ -16,10 +16,11 @@ pub type KeyRange = (Bound<UserKey>, Bound<UserKey>);
 /// How many pairs a page has that is fetched ahead.
 pub(crate) const PAGE: usize = 128;
 
-/// What shows one map for each keyspace, and gives the pairs of it page by page.
+/// What shows a map of each keyspace, and gives the pairs of it page by page.
 pub trait Pages {
-    /// The map of a keyspace that it shows.
-    ghost shows: { Self → ℕ → Pairs };
+    /// Whether it shows this map of a keyspace: then all that it gives of the keyspace is of the map. One that may give anything
+    /// shows none.
+    ghost shows: { Self → ℕ → Pairs → Type 0 };
 
     /// How reads go: what it was, the error that they met where they met one, and what it is then.
     ghost reads: { Self → Option Error → Self → Type 0 };
@@ -30,8 +31,8 @@ pub trait Pages {
     /// The first pairs of a keyspace between the bounds or, where `back` holds, the last ones; at most `max`, in the
     /// order of their keys in both cases. What it shows stays as it was, also after an `Err`.
     fn page(&mut self, id: u64, range: &KeyRange, back: bool, max: usize) -> Result<Vec<KvPair>>
-        ensures ok { IfOk result (λ found. found.items ≡ page back max (pairs_between range.now (shows self.old id))) }
-        ensures same { (i : ℕ) → shows self.new i ≡ shows self.old i }
+        ensures ok { (map : Pairs) → shows self.old id map → IfOk result (λ found. found.items ≡ page back max (pairs_between range.now map)) }
+        ensures same { (i : ℕ) (map : Pairs) → shows self.old i map → shows self.new i map }
         ensures reads { reads self.old (result_err result) self.new };
 
     /// No read changes nothing.

@@ -1,10 +1,10 @@
 //! The pairs of a range, read from both ends.
 
 ghost use Rattle.std.specs.Prelude.{◌≡◌, ℕ, Some, Err, true, false};
-ghost use Rattle.fjall_base.specs.Pairs.{pairs_between};
+ghost use Rattle.fjall_base.specs.Pairs.{Pairs, pairs_between};
 ghost use Rattle.fjall_base.specs.declared.error.Error.TheVariants.{OutOfMemory};
 ghost use Rattle.fjall_reading.specs.Rests.{TakesFirst, TakesLast, error_in};
-ghost use Rattle.fjall_reading.specs.ReadIters.{left_of};
+ghost use Rattle.fjall_reading.specs.ReadIters.{IsShown, left_of};
 
 use crate::cursor::Cursor;
 use crate::guard::Guard;
@@ -25,7 +25,7 @@ pub struct ReadIter<'a, R> {
 impl<'a, R: Pages> ReadIter<'a, R> {
     /// The pairs of a keyspace in a range.
     pub fn new(reader: &'a mut R, id: u64, range: KeyRange) -> ReadIter<'a, R>
-        ensures left { left_of R.shows result ≡ pairs_between range (R.shows reader.old id) }
+        ensures left { (map : Pairs) → R.shows reader.old id map → IsShown R.shows result map × (left_of map result ≡ pairs_between range map) }
         ensures short { result.short ≡ false }
         ensures reader { result.reader.now ≡ reader.old }
         ensures same_reader { result.reader.ghost_name ≡ reader.entry.ghost_name }
@@ -54,10 +54,11 @@ impl<'a, R: Pages> ReadIter<'a, R> {
 
     /// The first pair that is left, or a fault. After the last pair, and after a fault, there is none.
     pub fn next(&mut self) -> Option<Guard>
-        ensures taken { TakesFirst (left_of R.shows self.old) result (left_of R.shows self.new) }
+        ensures taken { (map : Pairs) → IsShown R.shows self.old map → TakesFirst (left_of map self.old) result (left_of map self.new) }
         ensures short { self.old.short ≡ true → result ≡ Some (Err OutOfMemory) }
         ensures told { self.new.short ≡ false }
-        ensures same { (i : ℕ) → R.shows self.new.reader.now i ≡ R.shows self.old.reader.now i }
+        ensures same { (i : ℕ) (map : Pairs) → R.shows self.old.reader.now i map → R.shows self.new.reader.now i map }
+        ensures shown { (map : Pairs) → IsShown R.shows self.old map → IsShown R.shows self.new map }
         ensures reads { R.reads self.old.reader.now (error_in result) self.new.reader.now }
         ensures same_reader { self.new.reader.ghost_name ≡ self.old.reader.ghost_name }
     {
@@ -73,10 +74,11 @@ impl<'a, R: Pages> ReadIter<'a, R> {
 
     /// The last pair that is left, or a fault. After the first pair, and after a fault, there is none.
     pub fn next_back(&mut self) -> Option<Guard>
-        ensures taken { TakesLast (left_of R.shows self.old) result (left_of R.shows self.new) }
+        ensures taken { (map : Pairs) → IsShown R.shows self.old map → TakesLast (left_of map self.old) result (left_of map self.new) }
         ensures short { self.old.short ≡ true → result ≡ Some (Err OutOfMemory) }
         ensures told { self.new.short ≡ false }
-        ensures same { (i : ℕ) → R.shows self.new.reader.now i ≡ R.shows self.old.reader.now i }
+        ensures same { (i : ℕ) (map : Pairs) → R.shows self.old.reader.now i map → R.shows self.new.reader.now i map }
+        ensures shown { (map : Pairs) → IsShown R.shows self.old map → IsShown R.shows self.new map }
         ensures reads { R.reads self.old.reader.now (error_in result) self.new.reader.now }
         ensures same_reader { self.new.reader.ghost_name ≡ self.old.reader.ghost_name }
     {

@@ -3,10 +3,10 @@
 ghost use Rattle.std.specs.Prelude.{◌≡◌, ℕ, None, false, length, IfOk, is_some};
 ghost use Rattle.std.specs.Option.{option_map};
 ghost use Rattle.std.specs.Result.{result_err};
-ghost use Rattle.fjall_base.specs.Pairs.{key_range, lookup, pairs_between};
+ghost use Rattle.fjall_base.specs.Pairs.{Pairs, key_range, lookup, pairs_between};
 ghost use Rattle.fjall_reading.specs.Guards.{size_of};
 ghost use Rattle.fjall_reading.specs.Prefixes.{prefix_range};
-ghost use Rattle.fjall_reading.specs.ReadIters.{left_of};
+ghost use Rattle.fjall_reading.specs.ReadIters.{IsShown, left_of};
 ghost use Rattle.fjall_reading.specs.Readers.{FindsOf, all_of, count_of, first_of, is_none_of, last_of};
 ghost use Rattle.fjall_reading.specs.Rests.{error_in};
 
@@ -26,14 +26,14 @@ use std::ops::Bound;
 pub trait Readable: Pages {
     /// The value of a key, where it has one.
     fn get<K: Identified>(&mut self, keyspace: &K, key: &[u8]) -> Result<Option<UserValue>>
-        ensures ok { IfOk result (λ found. found ≡ lookup (Self.shows self.old (K.identity keyspace.now)) key.now) }
-        ensures same { (i : ℕ) → Self.shows self.new i ≡ Self.shows self.old i }
+        ensures ok { (map : Pairs) → Self.shows self.old (K.identity keyspace.now) map → IfOk result (λ found. found ≡ lookup map key.now) }
+        ensures same { (i : ℕ) (map : Pairs) → Self.shows self.old i map → Self.shows self.new i map }
         ensures reads { Self.reads self.old (result_err result) self.new };
 
     /// Whether a key has a value.
     fn contains_key<K: Identified>(&mut self, keyspace: &K, key: &[u8]) -> Result<bool>
-        ensures ok { IfOk result (λ found. found ≡ is_some (lookup (Self.shows self.old (K.identity keyspace.now)) key.now)) }
-        ensures same { (i : ℕ) → Self.shows self.new i ≡ Self.shows self.old i }
+        ensures ok { (map : Pairs) → Self.shows self.old (K.identity keyspace.now) map → IfOk result (λ found. found ≡ is_some (lookup map key.now)) }
+        ensures same { (i : ℕ) (map : Pairs) → Self.shows self.old i map → Self.shows self.new i map }
         ensures reads { Self.reads self.old (result_err result) self.new }
     {
         Ok(self.get(keyspace, key)?.is_some())
@@ -42,8 +42,8 @@ pub trait Readable: Pages {
     /// How many bytes the value of a key has, where it has one. No keyspace has a value of more than 4,294,967,295 bytes;
     /// any longer one counts as one of these.
     fn size_of<K: Identified>(&mut self, keyspace: &K, key: &[u8]) -> Result<Option<u32>>
-        ensures ok { IfOk result (λ found. found ≡ option_map size_of (lookup (Self.shows self.old (K.identity keyspace.now)) key.now)) }
-        ensures same { (i : ℕ) → Self.shows self.new i ≡ Self.shows self.old i }
+        ensures ok { (map : Pairs) → Self.shows self.old (K.identity keyspace.now) map → IfOk result (λ found. found ≡ option_map size_of (lookup map key.now)) }
+        ensures same { (i : ℕ) (map : Pairs) → Self.shows self.old i map → Self.shows self.new i map }
         ensures reads { Self.reads self.old (result_err result) self.new }
     {
         match self.get(keyspace, key)? {
@@ -54,8 +54,8 @@ pub trait Readable: Pages {
 
     /// The pair with the first key, or the fault that the read met; nothing where the keyspace has no pair.
     fn first_key_value<K: Identified>(&mut self, keyspace: &K) -> Option<Guard>
-        ensures found { FindsOf (first_of (all_of (Self.shows self.old (K.identity keyspace.now)))) result }
-        ensures same { (i : ℕ) → Self.shows self.new i ≡ Self.shows self.old i }
+        ensures found { (map : Pairs) → Self.shows self.old (K.identity keyspace.now) map → FindsOf (first_of (all_of map)) result }
+        ensures same { (i : ℕ) (map : Pairs) → Self.shows self.old i map → Self.shows self.new i map }
         ensures reads { Self.reads self.old (error_in result) self.new }
     {
         first_pair(self, keyspace.id())
@@ -63,8 +63,8 @@ pub trait Readable: Pages {
 
     /// The pair with the last key, or the fault that the read met; nothing where the keyspace has no pair.
     fn last_key_value<K: Identified>(&mut self, keyspace: &K) -> Option<Guard>
-        ensures found { FindsOf (last_of (all_of (Self.shows self.old (K.identity keyspace.now)))) result }
-        ensures same { (i : ℕ) → Self.shows self.new i ≡ Self.shows self.old i }
+        ensures found { (map : Pairs) → Self.shows self.old (K.identity keyspace.now) map → FindsOf (last_of (all_of map)) result }
+        ensures same { (i : ℕ) (map : Pairs) → Self.shows self.old i map → Self.shows self.new i map }
         ensures reads { Self.reads self.old (error_in result) self.new }
     {
         last_pair(self, keyspace.id())
@@ -73,8 +73,8 @@ pub trait Readable: Pages {
     /// How many pairs the keyspace has. It reads all of them, and has one page of them in memory at a time. More than
     /// `usize::MAX` pairs count as so many.
     fn len<K: Identified>(&mut self, keyspace: &K) -> Result<usize>
-        ensures ok { IfOk result (λ count. count ≡ count_of (Self.shows self.old (K.identity keyspace.now))) }
-        ensures same { (i : ℕ) → Self.shows self.new i ≡ Self.shows self.old i }
+        ensures ok { (map : Pairs) → Self.shows self.old (K.identity keyspace.now) map → IfOk result (λ count. count ≡ count_of map) }
+        ensures same { (i : ℕ) (map : Pairs) → Self.shows self.old i map → Self.shows self.new i map }
         ensures reads { Self.reads self.old (result_err result) self.new }
     {
         pair_count(self, keyspace.id())
@@ -82,8 +82,8 @@ pub trait Readable: Pages {
 
     /// Whether the keyspace has no pair.
     fn is_empty<K: Identified>(&mut self, keyspace: &K) -> Result<bool>
-        ensures ok { IfOk result (λ empty. empty ≡ is_none_of (all_of (Self.shows self.old (K.identity keyspace.now)))) }
-        ensures same { (i : ℕ) → Self.shows self.new i ≡ Self.shows self.old i }
+        ensures ok { (map : Pairs) → Self.shows self.old (K.identity keyspace.now) map → IfOk result (λ empty. empty ≡ is_none_of (all_of map)) }
+        ensures same { (i : ℕ) (map : Pairs) → Self.shows self.old i map → Self.shows self.new i map }
         ensures reads { Self.reads self.old (result_err result) self.new }
     {
         has_no_pair(self, keyspace.id())
@@ -91,10 +91,10 @@ pub trait Readable: Pages {
 
     /// All pairs of the keyspace, in the order of their keys.
     fn iter<K: Identified>(&mut self, keyspace: &K) -> ReadIter<'_, Self>
-        ensures left { left_of Self.shows result ≡ all_of (Self.shows self.old (K.identity keyspace.now)) }
+        ensures left { (map : Pairs) → Self.shows self.old (K.identity keyspace.now) map → IsShown Self.shows result map × (left_of map result ≡ all_of map) }
         // It takes no memory, so that its first call is told of no want of it.
         ensures whole { result.short ≡ false }
-        ensures same { (i : ℕ) → Self.shows result.reader.now i ≡ Self.shows self.old i }
+        ensures same { (i : ℕ) (map : Pairs) → Self.shows self.old i map → Self.shows result.reader.now i map }
         ensures reads { Self.reads self.old None result.reader.now }
         ensures same_reader { result.reader.ghost_name ≡ self.entry.ghost_name }
     {
@@ -104,8 +104,9 @@ pub trait Readable: Pages {
     /// The pairs of the keyspace whose keys lie between the bounds, in the order of their keys. Between reversed bounds lies
     /// none. Where memory is used up, its first call answers that.
     fn range<K: Identified>(&mut self, keyspace: &K, range: KeyBounds<'_>) -> ReadIter<'_, Self>
-        ensures left { result.short ≡ false → left_of Self.shows result ≡ pairs_between (key_range range.entry) (Self.shows self.old (K.identity keyspace.now)) }
-        ensures same { (i : ℕ) → Self.shows result.reader.now i ≡ Self.shows self.old i }
+        ensures left { result.short ≡ false → (map : Pairs) → Self.shows self.old (K.identity keyspace.now) map
+            → IsShown Self.shows result map × (left_of map result ≡ pairs_between (key_range range.entry) map) }
+        ensures same { (i : ℕ) (map : Pairs) → Self.shows self.old i map → Self.shows result.reader.now i map }
         ensures reads { Self.reads self.old None result.reader.now }
         ensures same_reader { result.reader.ghost_name ≡ self.entry.ghost_name }
     {
@@ -118,8 +119,9 @@ pub trait Readable: Pages {
     /// The pairs of the keyspace whose keys begin with the prefix, in the order of their keys. Where memory is used up, its
     /// first call answers that.
     fn prefix<K: Identified>(&mut self, keyspace: &K, prefix: &[u8]) -> ReadIter<'_, Self>
-        ensures left { result.short ≡ false → left_of Self.shows result ≡ pairs_between (prefix_range prefix.now) (Self.shows self.old (K.identity keyspace.now)) }
-        ensures same { (i : ℕ) → Self.shows result.reader.now i ≡ Self.shows self.old i }
+        ensures left { result.short ≡ false → (map : Pairs) → Self.shows self.old (K.identity keyspace.now) map
+            → IsShown Self.shows result map × (left_of map result ≡ pairs_between (prefix_range prefix.now) map) }
+        ensures same { (i : ℕ) (map : Pairs) → Self.shows self.old i map → Self.shows result.reader.now i map }
         ensures reads { Self.reads self.old None result.reader.now }
         ensures same_reader { result.reader.ghost_name ≡ self.entry.ghost_name }
     {

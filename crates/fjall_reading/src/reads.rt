@@ -2,6 +2,7 @@
 
 ghost use Rattle.std.specs.Prelude.{◌≡◌, ℕ, IfOk};
 ghost use Rattle.std.specs.Result.{result_err};
+ghost use Rattle.fjall_base.specs.Pairs.{Pairs};
 ghost use Rattle.fjall_reading.specs.Rests.{error_in};
 ghost use Rattle.fjall_reading.specs.Readers.{FindsOf, all_of, count_of, first_of, is_none_of, last_of};
 
@@ -13,8 +14,8 @@ use std::ops::Bound;
 
 /// The first pair of a keyspace, or the fault that the read met; nothing where the keyspace has no pair.
 pub fn first_pair<P: Pages>(pages: &mut P, id: u64) -> Option<Guard>
-    ensures found { FindsOf (first_of (all_of (P.shows pages.old id))) result }
-    ensures same { (i : ℕ) → P.shows pages.new i ≡ P.shows pages.old i }
+    ensures found { (map : Pairs) → P.shows pages.old id map → FindsOf (first_of (all_of map)) result }
+    ensures same { (i : ℕ) (map : Pairs) → P.shows pages.old i map → P.shows pages.new i map }
     ensures reads { P.reads pages.old (error_in result) pages.new }
 {
     match pages.page(id, &(Bound::Unbounded, Bound::Unbounded), false, 1) {
@@ -25,8 +26,8 @@ pub fn first_pair<P: Pages>(pages: &mut P, id: u64) -> Option<Guard>
 
 /// The last pair of a keyspace, or the fault that the read met; nothing where the keyspace has no pair.
 pub fn last_pair<P: Pages>(pages: &mut P, id: u64) -> Option<Guard>
-    ensures found { FindsOf (last_of (all_of (P.shows pages.old id))) result }
-    ensures same { (i : ℕ) → P.shows pages.new i ≡ P.shows pages.old i }
+    ensures found { (map : Pairs) → P.shows pages.old id map → FindsOf (last_of (all_of map)) result }
+    ensures same { (i : ℕ) (map : Pairs) → P.shows pages.old i map → P.shows pages.new i map }
     ensures reads { P.reads pages.old (error_in result) pages.new }
 {
     match pages.page(id, &(Bound::Unbounded, Bound::Unbounded), true, 1) {
@@ -37,8 +38,8 @@ pub fn last_pair<P: Pages>(pages: &mut P, id: u64) -> Option<Guard>
 
 /// Whether a keyspace has no pair.
 pub fn has_no_pair<P: Pages>(pages: &mut P, id: u64) -> Result<bool>
-    ensures ok { IfOk result (λ empty. empty ≡ is_none_of (all_of (P.shows pages.old id))) }
-    ensures same { (i : ℕ) → P.shows pages.new i ≡ P.shows pages.old i }
+    ensures ok { (map : Pairs) → P.shows pages.old id map → IfOk result (λ empty. empty ≡ is_none_of (all_of map)) }
+    ensures same { (i : ℕ) (map : Pairs) → P.shows pages.old i map → P.shows pages.new i map }
     ensures reads { P.reads pages.old (result_err result) pages.new }
 {
     let found = pages.page(id, &(Bound::Unbounded, Bound::Unbounded), false, 1)?;
@@ -48,13 +49,16 @@ pub fn has_no_pair<P: Pages>(pages: &mut P, id: u64) -> Result<bool>
 /// How many pairs a keyspace has. It reads all of them, and has one page of them in memory at a time. More than `usize::MAX`
 /// pairs count as so many.
 pub fn pair_count<P: Pages>(pages: &mut P, id: u64) -> Result<usize>
-    ensures ok { IfOk result (λ count. count ≡ count_of (P.shows pages.old id)) }
-    ensures same { (i : ℕ) → P.shows pages.new i ≡ P.shows pages.old i }
+    ensures ok { (map : Pairs) → P.shows pages.old id map → IfOk result (λ count. count ≡ count_of map) }
+    ensures same { (i : ℕ) (map : Pairs) → P.shows pages.old i map → P.shows pages.new i map }
     ensures reads { P.reads pages.old (result_err result) pages.new }
 {
     let mut count: usize = 0;
     let mut rest = Some((Bound::Unbounded, Bound::Unbounded));
     while let Some(range) = rest {
+        if count == usize::MAX {
+            return Ok(count);
+        }
         let found = pages.page(id, &range, false, PAGE)?;
         count = count.saturating_add(found.len());
         rest = behind_page(&found, range)?;

@@ -11,7 +11,7 @@ pub mod Numbers
 pub mod Causes
 pub mod Housing
 pub mod Storing
-pub mod Damage
+pub mod Shown
 pub mod Composing
 pub mod Named
 pub mod Seen

@@ -146,6 +146,7 @@ plain_versions last none clears = record {
   right = subst (λ (tables : List TableInfo). AreRight tables [] []) (sym none) tt;
   all = refl;
   within = (All-nil (λ (v : Entry). is_beyond last.persisted v.number ≡ false), clears);
+  once = tt;
 }
 
 -- ---- one list of versions

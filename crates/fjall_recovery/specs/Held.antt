@@ -5,7 +5,6 @@ use Rattle.fjall_base.specs.Disk.{State, Image, IsImage, standing}
 use Rattle.fjall_meta.specs.Keyspaces.{no_keyspaces}
 use Rattle.fjall_versions.specs.Replays.{bare}
 use Rattle.fjall_recovery.specs.Folders.{Contents, IsOpenable, IsSound, IsUnfinished, number_of, store_of}
-use Rattle.fjall_recovery.specs.Homes.{HaveVersionsBut}
 
 -- The image is a sound folder with these contents, or, where none are given, one whose making was cut short.
 abbrev pub IsFolder : Image → Option Contents → Type 0
@@ -16,11 +15,6 @@ IsFolder image (Some c) = IsSound image c
 abbrev pub IsOpenFolder : Image → Option Contents → Type 0
 IsOpenFolder image None = IsUnfinished image
 IsOpenFolder image (Some c) = IsOpenable image c
-
--- The same where the keyspaces of these ids are damaged: a block of each is wrong, and none of their versions counts.
-abbrev pub IsFolderBut : Image → Option Contents → List ℕ → Type 0
-IsFolderBut image None damaged = IsUnfinished image × (damaged ≡ [])
-IsFolderBut image (Some c) damaged = IsOpenable image c × HaveVersionsBut damaged c.homes c.versions
 
 -- What stands on the disk is such a folder, and so is whatever a crash leaves of it.
 pub record Holds (state : State) (folder : Option Contents) : Type 0 where

@@ -1,11 +1,12 @@
 -- The homes of keyspaces: the folder of each, with its records.
-use Rattle.std.specs.Prelude.{◌≡◌, ℕ, false, ◌==◌, List, [], ◌∷◌, map, All, MatchBool, Option, Some, None}
-use Rattle.std.specs.List.{flat_map, list_any}
+use Rattle.std.specs.Prelude.{◌≡◌, ℕ, false, List, [], ◌∷◌, map, All, Option, Some, None}
+use Rattle.std.specs.List.{flat_map}
 use Rattle.std.specs.Ordering.{nat_cmp}
 use Rattle.std.specs.FinMap.{FinMap, get}
 use Rattle.fjall_base.specs.Disk.{Folder, Image}
 use Rattle.fjall_files.specs.Names.{keyspace_folder}
 use Rattle.fjall_table.specs.Blocks.{Entry}
+use Rattle.fjall_views.specs.Jobs.{OnceEach}
 use Rattle.fjall_table.specs.Tables.{Handle}
 use Rattle.fjall_tree.specs.Records.{Fields, view}
 use Rattle.fjall_home.specs.declared.reading.LoadedHome.{LoadedHome}
@@ -69,13 +70,14 @@ Versions = FinMap nat_cmp (List Entry)
 abbrev pub stored_of : Home → List Entry → Stored
 stored_of h versions = record { persisted = h.last.persisted; versions = versions; clears = h.last.clears }
 
--- Every block of a home's tables is right, these are the versions in them, one table after another, and nothing that it holds
--- is beyond the persisted number.
+-- Every block of a home's tables is right, these are the versions in them, one table after another, nothing that it holds is
+-- beyond the persisted number, and no key has two versions of one number.
 pub record HasVersions (h : Home) (versions : List Entry) : Type 0 where
   pub lists : List (List Entry)
   pub right : AreRight h.last.tables h.texts lists
   pub all : versions ≡ flat_map (λ entries. entries) lists
   pub within : IsWithin (stored_of h versions)
+  pub once : OnceEach versions
 
 -- a home has its versions, and where none is there are none
 abbrev pub HasVersionsAt : Option Home → Option (List Entry) → Type 0
@@ -86,22 +88,6 @@ HasVersionsAt h versions = ⊥
 -- these homes have these versions
 abbrev pub HaveVersions : Homes → Versions → Type 0
 HaveVersions homes versions = (id : ℕ) → HasVersionsAt (get homes id) (get versions id)
-
--- ---- damage
-
--- some block of the home's tables is wrong, or has a version beyond the persisted number: no versions are in them
-abbrev pub IsDamaged : Home → Type 0
-IsDamaged h = (versions : List Entry) → HasVersions h versions → ⊥
-
--- a damaged home counts as one without versions
-abbrev pub LacksVersionsAt : Option Home → Option (List Entry) → Type 0
-LacksVersionsAt (Some h) (Some versions) = IsDamaged h × (versions ≡ [])
-LacksVersionsAt h versions = ⊥
-
--- these homes have these versions, but for those of these ids, which are damaged
-abbrev pub HaveVersionsBut : List ℕ → Homes → Versions → Type 0
-HaveVersionsBut damaged homes versions =
-    (id : ℕ) → MatchBool (list_any (λ other. other == id) damaged) (LacksVersionsAt (get homes id) (get versions id)) (HasVersionsAt (get homes id) (get versions id))
 
 -- ---- what is stored
 

@@ -41,6 +41,7 @@ pub mod Apart
 pub mod Removals
 pub mod Spared
 pub mod Planned
+pub mod Keeping
 pub mod Tables
 pub mod Listings
 pub mod Rooted
@@ -49,6 +50,7 @@ pub mod Repairing
 pub mod Numbering
 pub mod Fitting
 pub mod Replayed
+pub mod OpenedTrees
 pub mod Openings
 pub mod Amid
 pub mod SweepServed

@@ -2,7 +2,7 @@
 use Rattle.std.proofs.Common.{◌≡◌, inl, inr, ℕ, zero, suc, ◌<◌, ◌≤◌, ◌^◌, ◌==◌, Bool, true, false, if◌then◌else◌, max, List, [], ◌∷◌, length, get_or, map, All, Option, None, Some, Result, Ok, Err, refl, sym, ◌∙◌, ap, subst, arith}
 use Rattle.std.specs.List.{AllByRecursion}
 use Rattle.std.proofs.lemmas.List.{get_or-map, length-map}
-use Rattle.std.proofs.lemmas.List.Elements.{All-from_recursion}
+use Rattle.std.proofs.lemmas.List.Elements.{All-from_recursion, All-nil}
 use Rattle.std.specs.Prelude.{IfOk, IfErr, IfSome}
 use Rattle.fjall_base.specs.Disk.{Name, State, Image, Survives, LeavesBy, LeavesOnly, Meaning, Took, standing, state_in}
 use Rattle.fjall_base.specs.declared.error.Error.{Error}
@@ -12,14 +12,18 @@ use Rattle.fjall_files.proofs.Made.{took_both}
 use Rattle.fjall_journal.specs.Batches.{Shown, Written, shown, view}
 use Rattle.fjall_meta.specs.Keyspaces.{Keyspaces, no_keyspaces}
 use Rattle.fjall_journal.specs.Writer.{Journal}
-use Rattle.fjall_files.specs.Names.{journal_name}
+use Rattle.fjall_files.specs.Names.{journal_name, keyspace_folder}
 use Rattle.fjall_versions.specs.declared.recovery.Persisted.{Persisted}
-use Rattle.fjall_maps.specs.Maps.{store_of as store_behind}
-use Rattle.fjall_versions.specs.Replays.{bare, first_fault, least_after}
-use Rattle.fjall_contents.specs.Contents.{AreWithin, Stored, store_held as store_with}
-use Rattle.fjall_replay.specs.Replayed.{AreLoaded, AreReplayed, AreTold}
-use Rattle.fjall_replay.proofs.Storing.{replayed_store}
-use Rattle.fjall_trees.specs.Forests.{Forest}
+use Rattle.fjall_versions.specs.Replays.{first_fault, least_after}
+use Rattle.fjall_contents.specs.Contents.{store_held as store_beyond}
+use Rattle.fjall_maps.specs.Tables.{store_with}
+use Rattle.fjall_table.specs.Blocks.{Entry}
+use Rattle.fjall_files.specs.Regions.{is_under}
+use Rattle.fjall_lsm.specs.Trees.{ReadsAll}
+use Rattle.fjall_loading.specs.Opening.{HaveEntriesBut}
+use Rattle.fjall_trees.specs.Forests.{Forest, Planted}
+use Rattle.fjall_trees.specs.Tables.{AreReadOn}
+use Rattle.fjall_repair.proofs.OpenedTrees.{ShowStore}
 use Rattle.fjall_trees.specs.Views.{forest_of}
 use Rattle.fjall_recovery.specs.Places.{texts_of, contents_with}
 use Rattle.fjall_table.specs.declared.table_info.TableInfo.{TableInfo}
@@ -27,12 +31,12 @@ use Rattle.fjall_tree.specs.Records.{Fields, IsRecord}
 use Rattle.fjall_base.specs.Lists.{last_of}
 use Rattle.fjall_tree.specs.Records as records
 use Rattle.fjall_meta.specs.declared.living.LivingKeyspace.{LivingKeyspace}
-use Rattle.fjall_catalog.specs.Catalog.{fields, first_catalog, listed}
+use Rattle.fjall_catalog.specs.Catalog.{fields, listed}
 use Rattle.fjall_home.proofs.Resting.{last_has}
-use Rattle.fjall_recovery.specs.Folders.{Contents, IsFinished, IsOpenable, IsSound, IsUnfinished, Shows, StandsFor, number_of, past, past_record, past_records, store_of, with_versions}
+use Rattle.fjall_recovery.specs.Folders.{Contents, IsFinished, IsOpenable, IsSound, IsUnfinished, Shows, StandsFor, number_of, past, past_record, past_records, store_of}
 use Rattle.fjall_recovery.specs.declared.folder.RecoveredFolder.{RecoveredFolder}
 use Rattle.fjall_home.specs.declared.reading.LoadedHome.{LoadedHome}
-use Rattle.fjall_recovery.specs.Homes.{AreHomesRead, HaveVersionsBut, Versions, lasts, stored_in}
+use Rattle.fjall_recovery.specs.Homes.{AreHomesRead, lasts, stored_in}
 use Rattle.fjall_recovery.specs.Refusals.{FolderRefuses, HasRisen, IsDue}
 use Rattle.fjall_journal.proofs.Writing.{took_none}
 use Rattle.fjall_files.specs.declared.marker.Marker.TheVariants.{Whole, Unfinished}
@@ -43,17 +47,15 @@ use Rattle.fjall_repair.proofs.Counting.{active_lying, tell_lying}
 use Rattle.fjall_repair.proofs.MendOpened.{ids_of}
 use Rattle.fjall_recovery.specs.Held.{Holds, IsFolder, number_held, store_held}
 use Rattle.fjall_recovery.proofs.Holding.{folder_stands, tree_of}
-use Rattle.fjall_recovery.proofs.Damage.{none_damaged, within_but}
 use Rattle.fjall_repair.proofs.Begun as Beginning
 use Rattle.fjall_repair.proofs.Agreeing.{homes_are}
-use Rattle.fjall_repair.proofs.Replayed.{told}
 use Rattle.fjall_repair.proofs.Fitting.{least_small, records_small}
 use Rattle.fjall_contents.proofs.Following.{before_least}
-use Rattle.fjall_repair.specs.Readings.{TakesRead, names_read, persisted_of}
+use Rattle.fjall_repair.specs.Readings.{names_read}
 use Rattle.fjall_repair.specs.declared.opened.Opened.{Opened}
 use Rattle.fjall_repair.specs.Sweeps.{AreHomesOf, IsSwept, names_of, no_names}
 use Rattle.fjall_manager.specs.Places.{told as told_in}
-use Rattle.fjall_repair.specs.Opened.{ComesBack, HasNumbers, IsHeldUp, IsOpenedFrom, IsRepaired, IsUnopened, IsSomeFolder, Opens, Takes, TellsBelow, records_of}
+use Rattle.fjall_repair.specs.Opened.{AreAtHome, ComesBack, HasNumbers, HaveEntriesIn, IsHeldUp, IsOpenedFrom, IsRepaired, IsUnopened, IsSomeFolder, Opens, ReadsFrom, Takes, TellsBelow, records_of}
 
 -- ---- before the first change
 
@@ -75,59 +77,9 @@ stands_now old folder holds = started old (λ image. StandsFor image (store_held
 
 -- ---- what was opened
 
--- trees that show what files hold and what the batches make beyond that, where those that were loaded show what files hold
-abbrev Replays : Keyspaces → List Persisted → Forest → List Shown → Forest → Type 0
-Replays s persisted loaded batches trees =
-    (stored : ℕ → Stored) → AreTold s stored persisted → AreWithin s stored → AreLoaded s stored loaded
-    → (least : ℕ) → first_fault least batches ≡ None → AreReplayed s stored batches trees
-
--- what was read is what the folder holds
-pub takes_contents : (found : RecoveredFolder) (contents : Contents) (o : Opened) (active : Name) (loaded : Forest) → Shows found contents
-    → Takes o active found.journals.end found.catalog.catalog found.catalog.keyspaces (persisted_of found) loaded (map view found.journals.batches.items)
-    → Takes o active found.journals.end contents.last contents.keyspaces (persisted_of found) loaded (map shown (batches_in contents.journals))
-takes_contents found contents o active loaded shows takes = record {
-  journal = takes.journal;
-  last_is = takes.last_is ∙ shows.last;
-  keyspaces = takes.keyspaces ∙ shows.keyspaces;
-  trees = subst (λ (batches : List Shown). Replays contents.keyspaces (persisted_of found) loaded batches (forest_of o.trees)) shows.batches
-      (subst (λ (s : Keyspaces). Replays s (persisted_of found) loaded (map view found.journals.batches.items) (forest_of o.trees)) shows.keyspaces takes.trees);
-}
-
--- of a folder in which nothing is wrong for an opening it stands for the store, but for the tables of damaged keyspaces
-pub makes_store : (image : Image) (found : RecoveredFolder) (contents : Contents) (active : Name) (o : Opened) → IsFinished image found → Shows found contents → IsOpenable image contents
-    → TakesRead image o active found
-    → (versions : Versions) × HaveVersionsBut o.damaged.items contents.homes versions × (store_behind o.keyspaces (forest_of o.trees) ≡ store_of (with_versions versions contents))
-makes_store image found contents active o read shows is takes =
-    let loads = takes.loads contents is shows in
-    let s = contents.keyspaces in
-    let stored = stored_in contents.homes loads.versions in
-    let batches = map shown (batches_in contents.journals) in
-    let own = takes_contents found contents o active takes.loaded shows takes.takes in (
-      loads.versions,
-      loads.have,
-      (
-          ap (λ (k : Keyspaces). store_behind k (forest_of o.trees)) own.keyspaces
-          ∙ replayed_store s stored batches (forest_of o.trees)
-          (own.trees stored (told image found contents o.damaged.items loads.versions read shows loads.have)
-          (within_but o.damaged.items contents.homes loads.versions s.living image is.homes loads.have s refl) loads.are 0 is.journals.sound)
-          ),
-    )
-
--- of a sound one nothing is damaged, and it stands for its store
-pub makes_sound : (image : Image) (found : RecoveredFolder) (contents : Contents) (active : Name) (o : Opened) → IsFinished image found → Shows found contents → IsSound image contents
-    → TakesRead image o active found → (o.damaged.items ≡ []) × (store_behind o.keyspaces (forest_of o.trees) ≡ store_of contents)
-makes_sound image found contents active o read shows sound takes =
-    let made = makes_store image found contents active o read shows sound.openable takes in
-    let none = none_damaged o.damaged.items contents.homes made.0 contents.versions made.1 sound.versions in
-    (none.0, made.2 ∙ ap (λ (v : Versions). store_of (with_versions v contents)) none.1)
-
--- a database without keyspaces stands for the store that holds nothing
-pub makes_nothing : (active : Name) (o : Opened) → Takes o active 0 first_catalog no_keyspaces [] [] [] → store_behind o.keyspaces (forest_of o.trees) ≡ bare no_keyspaces
-makes_nothing active o takes = ap (λ (s : Keyspaces). store_behind s (forest_of o.trees)) takes.keyspaces
-
-module _ (state : State) (contents : Contents) (journals : List FoundJournal) (active : Name) (end : ℕ) (is : IsRepaired state contents journals active end) where
+module _ (disk : Meaning) (contents : Contents) (journals : List FoundJournal) (active : Name) (end : ℕ) (is : IsRepaired (state_in disk) contents journals active end) where
   same_store : store_of (contents_with is.j (tree_of contents) []) ≡ store_of contents
-  same_store = ap (λ (b : List Written). store_with contents.keyspaces (stored_in contents.homes contents.versions) (map shown b)) is.batches
+  same_store = ap (λ (b : List Written). store_beyond contents.keyspaces (stored_in contents.homes contents.versions) (map shown b)) is.batches
 
   same_number : number_of (contents_with is.j (tree_of contents) []) ≡ number_of contents
   same_number = ap (λ (b : List Written). max (least_after 0 (map shown b)) (past_records (fields contents.last ∷ lasts contents.keyspaces.living contents.homes))) is.batches
@@ -139,9 +91,8 @@ module _ (state : State) (contents : Contents) (journals : List FoundJournal) (a
 
   pub opens_of : (folder : Option Contents) (persisted : List Persisted) (loaded : Forest) (o : Opened)
       → Takes o active end contents.last contents.keyspaces persisted loaded (map shown (batches_in contents.journals)) → TellOf journals o.sealed (told_in o.watermarks) → o.active ≡ active_of (ids_of journals)
-      → o.damaged.items ≡ [] → store_behind o.keyspaces (forest_of o.trees) ≡ store_of contents
-      → store_of contents ≡ store_held folder → o.number ≡ number_of contents → number_of contents ≡ number_held folder → Opens state folder o
-  opens_of folder persisted loaded o takes tell active_told whole made store number held = record {
+      → ShowStore disk o (store_of contents) → store_of contents ≡ store_held folder → o.number ≡ number_of contents → number_of contents ≡ number_held folder → Opens disk folder o
+  opens_of folder persisted loaded o takes tell active_told shows store number held = record {
     j = is.j;
     records = is.records;
     t = tree_of contents;
@@ -154,8 +105,12 @@ module _ (state : State) (contents : Contents) (journals : List FoundJournal) (a
     marks = (tell_lying is.j journals is.journals_are o.sealed (told_in o.watermarks) tell).1;
     last = sym takes.last_is;
     keyspaces = sym takes.keyspaces;
-    whole = whole;
-    made = made ∙ sym same_store;
+    entries = shows.entries;
+    on = shows.on;
+    named = shows.named;
+    right = shows.right;
+    unused = shows.unused;
+    made = shows.made ∙ sym same_store;
     store = same_store ∙ store;
     number = number ∙ sym same_number;
     same = number ∙ held;
@@ -253,23 +208,10 @@ module _ (image : Image) (found : RecoveredFolder) (read : IsFinished image foun
   pub number_is : (contents : Contents) (number : ℕ) → Shows found contents → number ≡ max found.journals.least (past_records (records_of found)) → number ≡ number_of contents
   number_is contents number shows is =
       is ∙ ap (λ n. max n (past_records (records_of found))) shows.least
-      ∙ ap (λ n. max (least_after 0 (map shown (batches_in contents.journals))) n) (ap (λ last. past_records (fields last ∷ map (λ h. records.view h.record) found.homes.items)) shows.last ∙ ap (λ homes. past_records (fields contents.last ∷ homes)) shows.homes)
+      ∙ ap (λ n. max (least_after 0 (map shown (batches_in contents.journals))) n) (ap (λ last. past_records (fields last ∷ map (λ h. records.view h.record) found.homes.items)) shows.last ∙ ap
+      (λ homes. past_records (fields contents.last ∷ homes)) shows.homes)
 
 -- ---- which folder it is
-
--- nothing is said of the versions
-open_with : (image : Image) (c : Contents) (versions : Versions) → IsOpenable image c → IsOpenable image (with_versions versions c)
-open_with image c versions is = record {
-  marker = is.marker;
-  journals_named = is.journals_named;
-  journals = is.journals;
-  keyspaces_named = is.keyspaces_named;
-  folder = is.folder;
-  records = is.records;
-  catalog = is.catalog;
-  made = is.made;
-  homes = is.homes;
-}
 
 -- it is finished where it was read as such
 pub finished_is : (image : Image) (contents : Contents) (folder : Option Contents) → IsOpenable image contents → IsFolder image folder
@@ -281,16 +223,40 @@ pub unfinished_is : (image : Image) (folder : Option Contents) → IsUnfinished 
 unfinished_is image None begun is = refl
 unfinished_is image (Some contents) begun is = let no : Ok Whole ≡ Ok Unfinished = sym is.openable.marker ∙ begun.marker in absurd (let bad : ⊥ = cc in bad)
 
-pub opened_from : (image : Image) (c : Contents) (result : Result Opened Error) → IsOpenable image c
-    → IfOk result (λ o. (versions : Versions) × HaveVersionsBut o.damaged.items c.homes versions × (store_behind o.keyspaces (forest_of o.trees) ≡ store_of (with_versions versions c)))
-    → IfOk result (λ o. o.number ≡ number_of c) → IfOk result (IsOpenedFrom image)
-opened_from image c (Ok o) is (versions, have, store) number = (Some (with_versions versions c), (open_with image c versions is, have), store, number)
-opened_from image c (Err e) is store number = tt
+-- tables have the same entries on a disk that holds the same
+have_on : (old mid : Meaning) (c : Contents) (entries : ℕ → List (List Entry)) → state_in mid ≡ state_in old → HaveEntriesIn old (Some c) entries → HaveEntriesIn mid (Some c) entries
+have_on old mid c entries same have = (
+  λ id h at.
+      let here = have.0 id h at in
+      (subst (λ (s : State). HaveEntriesBut (standing s) id h.last.tables (entries id)) (sym same) here.0, here.1, here.2),
+  have.1,
+)
 
-pub begun_from : (image : Image) (result : Result Opened Error) → IsUnfinished image → IfOk result (λ o. o.damaged.items ≡ []) → IfOk result (λ o. store_behind o.keyspaces (forest_of o.trees) ≡ bare no_keyspaces)
-    → IfOk result (λ o. o.number ≡ 0) → IfOk result (IsOpenedFrom image)
-begun_from image (Ok o) is whole store number = (None, (is, whole), store, number)
-begun_from image (Err e) is whole store number = tt
+pub opened_from : (old mid new : Meaning) (c : Contents) (result : Result Opened Error) → state_in mid ≡ state_in old → IsOpenable (standing (state_in old)) c → IfOk result (ReadsFrom mid new c)
+    → IfOk result (λ o. o.number ≡ number_of c) → IfOk result (IsOpenedFrom old new)
+opened_from old mid new c (Ok o) same is from number = record {
+  folder = Some c;
+  is = is;
+  number = number;
+  named = from.named;
+  reads = λ entries have. from.reads entries (have_on old mid c entries same have);
+}
+opened_from old mid new c (Err e) same is from number = tt
+
+pub begun_from : (old new : Meaning) (result : Result Opened Error) → IsUnfinished (standing (state_in old)) → IfOk result (λ o. o.keyspaces ≡ no_keyspaces) → IfOk result (λ o. forest_of o.trees ≡ [])
+    → IfOk result (λ o. o.number ≡ 0) → IfOk result (IsOpenedFrom old new)
+begun_from old new (Ok o) is keyspaces trees number = record {
+  folder = None;
+  is = is;
+  number = number;
+  named = subst AreAtHome (sym trees) (All-nil (λ (k : Planted). All (λ t. is_under (keyspace_folder k.id) t.name ≡ true) k.shape.tables));
+  reads = λ entries none. record {
+    on = subst (λ (f : Forest). AreReadOn new f entries) (sym trees) (All-nil (λ (k : Planted). ReadsAll new k.shape (entries k.id)));
+    store = ap (λ (s : Keyspaces). store_with entries s (forest_of o.trees)) keyspaces;
+    unused = λ id le. none id;
+  };
+}
+begun_from old new (Err e) is keyspaces trees number = tt
 
 -- what is swept after a step that changed nothing
 pub swept_on : (old mid new : State) (result : Result Opened Error) → mid ≡ old → IfOk result (λ o. IsSwept mid new o.catalog o.keyspaces.living) → IfOk result (λ o. IsSwept old new o.catalog o.keyspaces.living)

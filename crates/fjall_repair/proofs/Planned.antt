@@ -60,13 +60,20 @@ zero_test id some = elim (bool_cases (id == 0)) [
 ]
 
 -- a keyspace that is found by its id lives
-found_lives : (living : List LivingKeyspace) (id : ℕ) (k : LivingKeyspace) → keyspace_at id living ≡ Some k → Lives living id
+pub found_lives : (living : List LivingKeyspace) (id : ℕ) (k : LivingKeyspace) → keyspace_at id living ≡ Some k → Lives living id
 found_lives living id k e = living_has (Lives living) living id k e (λ i d lt. contains_map (λ (j : LivingKeyspace). j.id) living i d lt)
 
 -- what holds of each id of these tables
 each_given : (P : ℕ → Type 0) (next : ℕ) (tables : List TableInfo) → AllByRecursion (IsGiven next) tables → ((n : ℕ) → n < 2 ^ 64 → Contains (map (λ i. i.id) tables) n → P n) → AllByRecursion (λ i. P i.id) tables
 each_given P next tables given to =
     recursion_from_All (λ (i : TableInfo). P i.id) tables (λ k d lt. to (get_or tables k d).id (All-from_recursion (IsGiven next) tables given k d lt).0 (contains_map (λ (i : TableInfo). i.id) tables k d lt))
+
+-- what a home's last record names
+pub names_home : (t : Tree) → AreKeyspaces t.keyspaces → (id : ℕ) (h : Home) → get t.homes id ≡ Some h → Lives t.keyspaces.living id → names_in t id ≡ map (λ i. i.id) h.last.tables
+names_home t are id h is lives =
+    let some : id ≢ 0 = lives_some t.keyspaces are id lives in
+    ap (λ (b : Bool). map (λ (i : TableInfo). i.id) (if b then listed t.last.table else (last_in (get t.homes id)).tables)) (zero_test id some)
+    ∙ ap (λ (o : Option Home). map (λ (i : TableInfo). i.id) (last_in o).tables) is
 
 module _ (state : State) (records : List Fields) (t : Tree) (rests : RestsInTree state records t) where
   -- the ids of the tables that tree 0's last record names have their place, and were given out
@@ -86,12 +93,6 @@ module _ (state : State) (records : List Fields) (t : Tree) (rests : RestsInTree
       of (Some k) e None is safe = absurd safe
       of None e None is safe = let no : None ≡ Some h = is in cc
 
-  names_home : (id : ℕ) (h : Home) → get t.homes id ≡ Some h → Lives t.keyspaces.living id → names_in t id ≡ map (λ i. i.id) h.last.tables
-  names_home id h is lives =
-      let some : id ≢ 0 = lives_some t.keyspaces rests.catalog.are id lives in
-      ap (λ (b : Bool). map (λ (i : TableInfo). i.id) (if b then listed t.last.table else (last_in (get t.homes id)).tables)) (zero_test id some)
-      ∙ ap (λ (o : Option Home). map (λ (i : TableInfo). i.id) (last_in o).tables) is
-
   -- what holds of each keyspace that lives, and of each table that its record names, holds of each home
   at_homes : (P : Name → Type 0) → P (codes "keyspaces") → ((id : ℕ) → Lives t.keyspaces.living id → id < 2 ^ 64 → P (keyspace_folder id) × P (current_name id))
       → ((id n : ℕ) → Lives t.keyspaces.living id → id < 2 ^ 64 → n < 2 ^ 64 → Contains (names_in t id) n → P (table_name id n)) → (id : ℕ) (h : Home) → get t.homes id ≡ Some h → At id h.last.tables P
@@ -99,7 +100,7 @@ module _ (state : State) (records : List Fields) (t : Tree) (rests : RestsInTree
       let here = home_given id h is in
       let small = lives_small t.keyspaces rests.catalog.are id here.0 in
       let both = to id here.0 small in
-      let names = names_home id h is here.0 in
+      let names = names_home t rests.catalog.are id h is here.0 in
       record {
         keyspaces_folder = all;
         folder = both.0;

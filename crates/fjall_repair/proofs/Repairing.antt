@@ -26,7 +26,7 @@ use Rattle.fjall_recovery.specs.Folders.{Contents, IsFinished, IsSound, IsOpenab
 use Rattle.fjall_recovery.specs.Journals.{Journal, batches_in}
 use Rattle.fjall_recovery.specs.Places.{Journaling, LiesInRoot, LiesInTree, RestsInTree, journals_with, texts_of}
 use Rattle.fjall_recovery.proofs.Amidst.{told_twice}
-use Rattle.fjall_recovery.proofs.Damage.{shows_alike}
+use Rattle.fjall_recovery.proofs.Shown.{shows_alike}
 use Rattle.fjall_recovery.proofs.Holding.{tree_of}
 use Rattle.fjall_recovery.proofs.Roots.{batches_are}
 use Rattle.fjall_repair.specs.declared.plan.SweepPlan.{SweepPlan}

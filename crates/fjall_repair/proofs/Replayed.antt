@@ -20,8 +20,13 @@ use Rattle.fjall_trees.specs.Forests.{Forest, Planted, tree_at}
 use Rattle.fjall_recovery.specs.declared.folder.RecoveredFolder.{RecoveredFolder}
 use Rattle.fjall_home.specs.declared.reading.LoadedHome.{LoadedHome}
 use Rattle.fjall_recovery.specs.Folders.{Contents, IsFinished, Shows}
-use Rattle.fjall_recovery.specs.Homes.{AreHomesRead, HaveVersionsBut, Homes, Versions, last_in, lasts, stored_in}
-use Rattle.fjall_recovery.proofs.Damage.{persisted_but}
+use Rattle.fjall_recovery.specs.Homes.{AreHomesRead, HaveVersions, Homes, Versions, last_in, lasts, stored_in}
+use Rattle.fjall_recovery.proofs.Shown.{persisted_told}
+use Rattle.fjall_home.specs.Homes.{Home}
+use Rattle.fjall_table.specs.Blocks.{Entry}
+use Rattle.fjall_loading.specs.Opening.{stored_entries, stored_with}
+use Rattle.fjall_blocks.specs.Readers.{Reader}
+use Rattle.fjall_replay.specs.Beside.{all_at_rest, at_rest}
 use Rattle.fjall_repair.specs.Readings.{persisted_in, persisted_of}
 
 -- ---- the trees of the keyspaces that live
@@ -61,6 +66,22 @@ module _ (s : Keyspaces) (trees : Forest) (ids : ids_of trees ≡ map (λ (k : L
       unmapped (λ (id : ℕ). id < s.next) (λ (k : Planted). k.id) trees
       (subst (All (λ (id : ℕ). id < s.next)) (sym ids) (All-map (λ (id : ℕ). id < s.next) (λ (k : LivingKeyspace). k.id) s.living are.given))
 
+  -- each has an id
+  pub all_positive : AreKeyspaces s → All (λ k. 0 < k.id) trees
+  all_positive are =
+      unmapped (λ (id : ℕ). 0 < id) (λ (k : Planted). k.id) trees
+      (subst (All (λ (id : ℕ). 0 < id)) (sym ids) (All-map (λ (id : ℕ). 0 < id) (λ (k : LivingKeyspace). k.id) s.living are.ids))
+
+-- a tree with nothing in its active memtable
+abbrev resting : Planted → Planted
+resting k = record { id = k.id; shape = at_rest k.shape }
+
+-- trees that differ in their active memtables alone have the same tables
+pub rest_tables : (Q : ℕ → List Reader → Type 0) (old new : Forest) → all_at_rest new ≡ all_at_rest old → All (λ k. Q k.id k.shape.tables) old → All (λ k. Q k.id k.shape.tables) new
+rest_tables Q old new same all =
+    unmapped (λ (k : Planted). Q k.id k.shape.tables) resting new
+    (subst (All (λ (k : Planted). Q k.id k.shape.tables)) (sym same) (All-map (λ (k : Planted). Q k.id k.shape.tables) resting old all))
+
 -- ---- the persisted numbers that were read
 
 -- the number of an id is that of the first home of it
@@ -90,9 +111,25 @@ told_at homes image (k ∷ living) (h ∷ read) are same (suc i) d lt =
     (λ is. ap (λ (f : Fields). f.persisted) here ∙ ap (λ n. (last_in (get homes n)).persisted) (sym named ∙ same_id h.id id is))
     (told_at homes image living read are.1 rest i d (omega (arith, lt)))
 
--- of each keyspace that lives its record tells the number
-pub told : (image : Image) (found : RecoveredFolder) (c : Contents) (damaged : List ℕ) (versions : Versions) → IsFinished image found → Shows found c → HaveVersionsBut damaged c.homes versions
-    → AreTold c.keyspaces (stored_in c.homes versions) (persisted_of found)
-told image found c damaged versions read shows have i d lt =
+-- of each keyspace that lives its last record tells the number
+told_last : (image : Image) (found : RecoveredFolder) (c : Contents) → IsFinished image found → Shows found c → (i : ℕ) (d : LivingKeyspace) → i < length c.keyspaces.living
+    → persisted_at (get_or c.keyspaces.living i d).id (persisted_of found) ≡ (last_in (get c.homes (get_or c.keyspaces.living i d).id)).persisted
+told_last image found c read shows i d lt =
     told_at c.homes image c.keyspaces.living found.homes.items (subst (λ (s : Keyspaces). AreHomesRead image s.living found.homes.items) shows.keyspaces read.homes) shows.homes i d lt
-    ∙ sym (persisted_but damaged c.homes versions have (get_or c.keyspaces.living i d).id)
+
+persisted_entries : (h : Option Home) (lists : List (List Entry)) → (stored_entries h lists).persisted ≡ (last_in h).persisted
+persisted_entries None lists = refl
+persisted_entries (Some h) lists = refl
+
+-- it is told of whatever entries the tables have
+pub told_with : (image : Image) (found : RecoveredFolder) (c : Contents) (entries : ℕ → List (List Entry)) → IsFinished image found → Shows found c
+    → AreTold c.keyspaces (stored_with c.homes entries) (persisted_of found)
+told_with image found c entries read shows i d lt =
+    let id = (get_or c.keyspaces.living i d).id in
+    told_last image found c read shows i d lt ∙ sym (persisted_entries (get c.homes id) (entries id))
+
+-- and of the versions of a sound folder
+pub told_sound : (image : Image) (found : RecoveredFolder) (c : Contents) (versions : Versions) → IsFinished image found → Shows found c → HaveVersions c.homes versions
+    → AreTold c.keyspaces (stored_in c.homes versions) (persisted_of found)
+told_sound image found c versions read shows have i d lt =
+    told_last image found c read shows i d lt ∙ sym (persisted_told c.homes versions have (get_or c.keyspaces.living i d).id)

@@ -2,11 +2,14 @@
 use Rattle.std.specs.Prelude.{◌≡◌, ◌⊎◌, ℕ, ◌<◌, ◌≤◌, ◌^◌, All, IfSome, List, [], ◌∷◌, ◌++◌, is_some, length, map, true, Option, None, Some}
 use Rattle.std.specs.List.{AllZip}
 use Rattle.std.specs.List.Sorted.{IsStrictlyIncreasing}
-use Rattle.std.specs.FinMap.{empty}
+use Rattle.std.specs.FinMap.{empty, get}
 use Rattle.fjall_base.specs.Disk.{Image, IsFile, Meaning, Name, State, Took, standing, state_in}
 use Rattle.fjall_base.specs.declared.error.Error.{Error}
 use Rattle.fjall_base.specs.declared.error.Error.TheVariants.{Io, OutOfMemory}
-use Rattle.fjall_files.specs.Names.{journal_name}
+use Rattle.fjall_base.specs.Store.{Store}
+use Rattle.fjall_files.specs.Calls.{seen}
+use Rattle.fjall_files.specs.Names.{journal_name, keyspace_folder, table_name}
+use Rattle.fjall_files.specs.Regions.{is_under}
 use Rattle.fjall_journal.specs.declared.batch.Batch.{Batch}
 use Rattle.fjall_journal.specs.declared.batch.ReadBatchItem.{ReadBatchItem}
 use Rattle.fjall_journal.specs.Batches.{Shown, shown}
@@ -18,13 +21,19 @@ use Rattle.fjall_tree.specs.Records as records
 use Rattle.fjall_meta.specs.Keyspaces.{AreKeyspaces, Keyspaces, no_keyspaces}
 use Rattle.fjall_catalog.specs.declared.catalog.Catalog.{Catalog}
 use Rattle.fjall_catalog.specs.Catalog.{fields, first_catalog}
-use Rattle.fjall_contents.specs.Contents.{AreWithin, Stored}
-use Rattle.fjall_maps.specs.Maps.{store_of as store_behind}
-use Rattle.fjall_replay.specs.Replayed.{AreLoaded, AreReplayed, AreTold}
+use Rattle.fjall_table.specs.Blocks.{Entry}
+use Rattle.fjall_table.specs.Files.{entry_at}
+use Rattle.fjall_blocks.specs.Readers.{SomeTableIsWrong}
+use Rattle.fjall_home.specs.Homes.{Home}
+use Rattle.fjall_contents.specs.Contents.{AreWithin, Stored, store_held as store_beyond}
+use Rattle.fjall_maps.specs.Tables.{store_with}
+use Rattle.fjall_replay.specs.Beside.{AreReplayedWith, all_at_rest}
+use Rattle.fjall_replay.specs.Replayed.{AreTold}
+use Rattle.fjall_loading.specs.Opening.{HaveEntries, stored_with}
 use Rattle.fjall_trees.specs.Forests.{AreBefore, Forest, IsForest, tree_at}
 use Rattle.fjall_trees.specs.Views.{forest_of}
-use Rattle.fjall_trees.specs.Writes.{AreBare}
-use Rattle.fjall_versions.specs.Replays.{first_fault}
+use Rattle.fjall_trees.specs.Tables.{AreReadOn}
+use Rattle.fjall_versions.specs.Replays.{bare}
 use Rattle.fjall_versions.specs.declared.recovery.Persisted.{Persisted}
 use Rattle.fjall_recovery.specs.declared.folder.RecoveredFolder.{RecoveredFolder}
 use Rattle.fjall_recovery.specs.Folders.{Contents, number_of, store_of}
@@ -32,7 +41,8 @@ use Rattle.fjall_recovery.specs.Journals.{Journal, batches_in}
 use Rattle.fjall_recovery.specs.Told.{TellsOf}
 use Rattle.fjall_recovery.specs.Refusals.{FolderRefuses, IsDue}
 use Rattle.fjall_recovery.specs.Halves.{Tree}
-use Rattle.fjall_recovery.specs.Held.{IsFolderBut, IsOpenFolder, number_held, store_held}
+use Rattle.fjall_recovery.specs.Homes.{Homes}
+use Rattle.fjall_recovery.specs.Held.{IsOpenFolder, number_held, store_held}
 use Rattle.fjall_recovery.specs.Places.{Journaling, LiesInRoot, LiesInTree, contents_with, journals_with, texts_of}
 use Rattle.fjall_repair.specs.Making.{ComesBackUnfinished}
 use Rattle.fjall_manager.specs.Places.{told}
@@ -40,13 +50,18 @@ use Rattle.fjall_repair.specs.declared.opened.Opened.{Opened}
 
 -- ---- what was opened
 
--- The database lies on the disk, all of it synced, and is what was opened; it stands for the store that the folder stood for.
-pub record Opens (state : State) (folder : Option Contents) (o : Opened) : Type 0 where
+-- each tree is a keyspace's, and its tables lie in the keyspace's folder
+abbrev pub AreAtHome : Forest → Type 0
+AreAtHome trees = All (λ k. All (λ t. is_under (keyspace_folder k.id) t.name ≡ true) k.shape.tables) trees
+
+-- The database lies on the disk, all of it synced, and is what was opened; it stands for the store that the folder stood for. The
+-- tables of its trees lie in their keyspaces' folders, have these entries on the disk, and no wrong block.
+pub record Opens (disk : Meaning) (folder : Option Contents) (o : Opened) : Type 0 where
   pub j : Journaling
   pub records : List Fields
   pub t : Tree
-  pub root : LiesInRoot state j
-  pub tree : LiesInTree state records t
+  pub root : LiesInRoot (state_in disk) j
+  pub tree : LiesInTree (state_in disk) records t
   pub later : j.later ≡ []
   pub journal : o.journal ≡ record { name = journal_name j.active; buffer = []; len = length (texts_of j.whole) }
   pub sealed : AllZip TellsOf j.sealed o.sealed
@@ -54,34 +69,41 @@ pub record Opens (state : State) (folder : Option Contents) (o : Opened) : Type 
   pub marks : AreMarksOf (map shown j.whole) (told o.watermarks)
   pub last : t.last ≡ o.catalog
   pub keyspaces : t.keyspaces ≡ o.keyspaces
-  pub whole : o.damaged.items ≡ []
-  pub made : store_behind o.keyspaces (forest_of o.trees) ≡ store_of (contents_with j t [])
+  pub entries : ℕ → List (List Entry)
+  pub on : AreReadOn disk (forest_of o.trees) entries
+  pub named : AreAtHome (forest_of o.trees)
+  pub right : All (λ k. SomeTableIsWrong disk k.shape.tables → ⊥) (forest_of o.trees)
+  pub unused : (id : ℕ) → o.keyspaces.next ≤ id → entries id ≡ []
+  pub made : store_with entries o.keyspaces (forest_of o.trees) ≡ store_of (contents_with j t [])
   pub store : store_of (contents_with j t []) ≡ store_held folder
   pub number : o.number ≡ number_of (contents_with j t [])
   pub same : o.number ≡ number_held folder
 
 -- Keyspaces were made, and all in memory was changed, under lesser numbers than the next one, which is at most 2^63. The trees are
--- of ids that were given out and have no table, and each keyspace that lives has one. The numbers of the sealed journals ascend,
--- and the active one's is greater.
+-- of ids that were given out, and each keyspace that lives has one. The numbers of the sealed journals ascend, and the active one's
+-- is greater.
 pub record IsLawful (o : Opened) : Type 0 where
   pub keyspaces : AreKeyspaces o.keyspaces
   pub made : All (λ k. k.number < o.number) o.keyspaces.living
   pub forest : IsForest (forest_of o.trees)
   pub planted : All (λ k. is_some (tree_at k.id (forest_of o.trees)) ≡ true) o.keyspaces.living
+  pub positive : All (λ k. 0 < k.id) (forest_of o.trees)
   pub given : All (λ k. k.id < o.keyspaces.next) (forest_of o.trees)
   pub below : AreBefore o.number (forest_of o.trees)
-  pub bare : AreBare (forest_of o.trees)
   pub small : o.number ≤ 2 ^ 63
   pub numbered : IsStrictlyIncreasing (map (λ journal. journal.id) o.sealed ++ o.active ∷ [])
 
 -- This is opened: a writer at the end of the active journal, what the last record of tree 0 says, the keyspaces that live, and
--- trees that show what files hold and what the batches make beyond that, where those that were loaded show what files hold.
+-- trees over the tables of those that were loaded, into whose memory the batches were replayed: they show what files hold and what
+-- the batches make beyond that, where those that were loaded show what files hold.
 pub record Takes (o : Opened) (active : Name) (end : ℕ) (last : Catalog) (s : Keyspaces) (persisted : List Persisted) (loaded : Forest) (batches : List Shown) : Type 0 where
   pub journal : o.journal ≡ record { name = active; buffer = []; len = end }
   pub last_is : o.catalog ≡ last
   pub keyspaces : o.keyspaces ≡ s
-  pub trees : (stored : ℕ → Stored) → AreTold s stored persisted → AreWithin s stored → AreLoaded s stored loaded
-      → (least : ℕ) → first_fault least batches ≡ None → AreReplayed s stored batches (forest_of o.trees)
+  pub trees : (entries : ℕ → List (List Entry)) (stored : ℕ → Stored) → AreTold s stored persisted → AreWithin s stored → AreReplayedWith entries s stored [] loaded
+      → AreReplayedWith entries s stored batches (forest_of o.trees)
+  pub reads : (disk : Meaning) (entries : ℕ → List (List Entry)) → AreReadOn disk loaded entries → AreReadOn disk (forest_of o.trees) entries
+  pub rest : all_at_rest (forest_of o.trees) ≡ all_at_rest loaded
 
 -- these are its sealed journals, the number of its active one, and the watermarks of that
 pub record HasJournals (o : Opened) (sealed : List Sealed) (active : ℕ) (marks : Marks) : Type 0 where
@@ -89,11 +111,43 @@ pub record HasJournals (o : Opened) (sealed : List Sealed) (active : ℕ) (marks
   pub active_is : o.active ≡ active
   pub marks_are : told o.watermarks ≡ marks
 
--- What was opened is what the image holds, but for the tables of the damaged keyspaces: its store, and one past the greatest
--- number in it.
-abbrev pub IsOpenedFrom : Image → Opened → Type 0
-IsOpenedFrom image o =
-    (folder : Option Contents) × IsFolderBut image folder o.damaged.items × (store_behind o.keyspaces (forest_of o.trees) ≡ store_held folder) × (o.number ≡ number_held folder)
+-- The tables of a folder's keyspaces have these entries on the disk, but for wrong blocks, and an id without a home has none.
+abbrev pub HaveEntriesIn : Meaning → Option Contents → (ℕ → List (List Entry)) → Type 0
+HaveEntriesIn disk None entries = (id : ℕ) → entries id ≡ []
+HaveEntriesIn disk (Some c) entries = HaveEntries disk c entries × ((id : ℕ) → get c.homes id ≡ None → entries id ≡ [])
+
+-- the store of a folder whose tables have these entries
+abbrev pub store_entries : (ℕ → List (List Entry)) → Option Contents → Store
+store_entries entries None = bare no_keyspaces
+store_entries entries (Some c) = store_beyond c.keyspaces (stored_with c.homes entries) (map shown (batches_in c.journals))
+
+-- its writer goes on in a journal's file
+abbrev pub WritesJournal : Opened → Type 0
+WritesJournal o = (id : ℕ) × (id < 2 ^ 64) × (o.journal.name ≡ journal_name id)
+
+-- The opened trees read these entries on the disk, but for wrong blocks, and show the store with them.
+pub record ReadsEntries (disk : Meaning) (folder : Option Contents) (entries : ℕ → List (List Entry)) (o : Opened) : Type 0 where
+  pub on : AreReadOn disk (forest_of o.trees) entries
+  pub store : store_with entries o.keyspaces (forest_of o.trees) ≡ store_entries entries folder
+  pub unused : (id : ℕ) → o.keyspaces.next ≤ id → entries id ≡ []
+
+-- So it is of a folder with these contents, where the disk held it and is now another.
+pub record ReadsFrom (old new : Meaning) (c : Contents) (o : Opened) : Type 0 where
+  pub named : AreAtHome (forest_of o.trees)
+  pub reads : (entries : ℕ → List (List Entry)) → HaveEntriesIn old (Some c) entries → ReadsEntries new (Some c) entries o
+
+-- What was opened is what the disk held, a folder that opens: one past the greatest number in it, and with whatever entries its
+-- tables have, but for wrong blocks, trees that read them on the disk as it is now and show the store.
+pub record IsOpenedFrom (old new : Meaning) (o : Opened) : Type 0 where
+  pub folder : Option Contents
+  pub is : IsOpenFolder (seen old) folder
+  pub number : o.number ≡ number_held folder
+  pub named : AreAtHome (forest_of o.trees)
+  pub reads : (entries : ℕ → List (List Entry)) → HaveEntriesIn old folder entries → ReadsEntries new folder entries o
+
+-- the tables that the homes' last records name stand in sight as they did
+abbrev pub KeepsNamed : Meaning → Meaning → Homes → Type 0
+KeepsNamed old new homes = (id : ℕ) (h : Home) → get homes id ≡ Some h → All (λ t. entry_at new (table_name id t.id) ≡ entry_at old (table_name id t.id)) h.last.tables
 
 -- no journal stands there
 abbrev pub HasNoJournal : Image → Type 0

@@ -1,6 +1,6 @@
 -- What is so of a folder as it was read, and of the plans that were made of it.
-use Rattle.std.specs.Prelude.{List, map, string_bytes}
-use Rattle.fjall_base.specs.Disk.{Image, Meaning, Name, State}
+use Rattle.std.specs.Prelude.{All, ℕ, List, map, string_bytes}
+use Rattle.fjall_base.specs.Disk.{Meaning, Name, State}
 use Rattle.fjall_files.specs.Calls.{seen}
 use Rattle.fjall_journal.specs.Batches.{view}
 use Rattle.fjall_home.specs.declared.reading.LoadedHome.{LoadedHome}
@@ -9,7 +9,9 @@ use Rattle.fjall_versions.specs.declared.recovery.Persisted.{Persisted}
 use Rattle.fjall_trees.specs.Forests.{Forest}
 use Rattle.fjall_recovery.specs.declared.folder.RecoveredFolder.{RecoveredFolder}
 use Rattle.fjall_recovery.specs.Folders.{Contents, IsFinished, IsOpenable, IsSound, Shows}
-use Rattle.fjall_loading.specs.Loading.{Loads}
+use Rattle.fjall_table.specs.Blocks.{Entry}
+use Rattle.fjall_recovery.specs.Homes.{HaveVersions, Versions}
+use Rattle.fjall_loading.specs.Opening.{HaveEntries, IsOpenedOn, ShowsEntries, ShowsStored}
 use Rattle.fjall_repair.specs.declared.opened.Opened.{Opened}
 use Rattle.fjall_repair.specs.declared.plan.SweepPlan.{SweepPlan}
 use Rattle.fjall_repair.specs.Opened.{HasJournals, Takes}
@@ -52,9 +54,11 @@ persisted_in home = record { id = home.id; number = home.record.persisted }
 abbrev pub persisted_of : RecoveredFolder → List Persisted
 persisted_of found = map persisted_in found.homes.items
 
--- This is opened of the folder that was read, with that active journal, and with what its tables hold.
-pub record TakesRead (image : Image) (o : Opened) (active : Name) (found : RecoveredFolder) : Type 0 where
+-- This is opened of the folder that was read from this disk, with that active journal, and over the tables there.
+pub record TakesRead (disk : Meaning) (o : Opened) (active : Name) (found : RecoveredFolder) : Type 0 where
   pub loaded : Forest
   pub takes : Takes o active found.journals.end found.catalog.catalog found.catalog.keyspaces (persisted_of found) loaded (map view found.journals.batches.items)
   pub journals : HasJournals o found.journals.sealed (active_of found.journal_ids.items) found.journals.watermarks
-  pub loads : (c : Contents) → IsOpenable image c → Shows found c → Loads c o.damaged.items loaded
+  pub opened : (c : Contents) → IsOpenable (seen disk) c → Shows found c → All (IsOpenedOn disk c) loaded
+  pub reads : (c : Contents) → IsOpenable (seen disk) c → Shows found c → (entries : ℕ → List (List Entry)) → HaveEntries disk c entries → ShowsEntries disk c entries loaded
+  pub sound : (c : Contents) → IsOpenable (seen disk) c → Shows found c → (versions : Versions) → HaveVersions c.homes versions → ShowsStored disk c versions loaded

@@ -9,11 +9,9 @@ use fjall_trees::Trees;
 /// A database that was opened. All that it holds is synced.
 #[derive(Drop)]
 pub struct Opened {
-    /// A tree of each keyspace that lives, which holds what its tables and the journals hold; that of a damaged one what
-    /// journals hold alone.
+    /// A tree of each keyspace that lives, over its tables, which stay on the disk, with what the journals hold beyond them in
+    /// memory.
     pub trees: Trees,
-    /// The keyspaces that have a table with a wrong block, by id ascending.
-    pub damaged: Vec<u64>,
     /// A writer that goes on at the end of the active journal.
     pub journal: Writer,
     /// The journals before the active one, the oldest first.

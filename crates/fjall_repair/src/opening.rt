@@ -5,18 +5,16 @@ ghost use Rattle.fjall_base.specs.declared.error.Error.{Error};
 ghost use Rattle.fjall_base.specs.Disk.{LeavesOnly, state_in};
 ghost use Rattle.fjall_files.specs.Calls.{seen, AllServed};
 ghost use Rattle.fjall_files.specs.Tidy.{IsTidy, StaysTidy};
-ghost use Rattle.fjall_maps.specs.Maps.{store_of as store_behind};
 ghost use Rattle.fjall_meta.specs.Keyspaces.{no_keyspaces};
 ghost use Rattle.fjall_trees.specs.Views.{forest_of};
 ghost use Rattle.fjall_versions.specs.Replays.{bare};
 ghost use Rattle.fjall_recovery.specs.Amid.{LeavesAmid, KeepsAmid, WhereAmid};
-ghost use Rattle.fjall_recovery.specs.Folders.{Contents, IsFinished, IsNumbered, IsUnfinished, StandsFor, number_of as number_in, store_of, with_versions};
-ghost use Rattle.fjall_recovery.specs.Homes.{HaveVersionsBut, Versions};
+ghost use Rattle.fjall_recovery.specs.Folders.{Contents, IsFinished, IsNumbered, IsUnfinished, StandsFor, number_of as number_in, store_of};
 ghost use Rattle.fjall_recovery.specs.Refusals.{AreOne, FolderRefuses, HasRisen, IsDue, IsOpeningRefusal};
 ghost use Rattle.fjall_recovery.specs.Held.{Holds, store_held, IsFolder};
 ghost use Rattle.fjall_repair.specs.Readings.{WhereOpenable, WhereRead, WhereSound};
 ghost use Rattle.fjall_repair.specs.Making.{ComesBackUnfinished};
-ghost use Rattle.fjall_repair.specs.Opened.{ComesBack, HasNoJournal, IsHeldUp, IsLawful, IsOpenedFrom, IsUnopened, Opens};
+ghost use Rattle.fjall_repair.specs.Opened.{ComesBack, HasNoJournal, IsHeldUp, IsLawful, IsOpenedFrom, IsUnopened, Opens, ReadsFrom, WritesJournal};
 ghost use Rattle.fjall_repair.specs.Sweeps.{IsSwept};
 
 use crate::opened::Opened;
@@ -28,11 +26,12 @@ use std::alloc::Global;
 
 /// Opens a folder in which no database was made to its end.
 fn open_unfinished<D: Disk>(alloc: Global, disk: &mut D) -> Result<Opened>
-    ensures opened { IsTrue D.honest → Holds (state_in (D.meaning disk.old)) None → IfOk result (Opens (state_in (D.meaning disk.new)) None) }
+    ensures opened { IsTrue D.honest → Holds (state_in (D.meaning disk.old)) None → IfOk result (Opens (D.meaning disk.new) None) }
     ensures swept { IsTrue D.honest → IfOk result (λ o. IsSwept (state_in (D.meaning disk.old)) (state_in (D.meaning disk.new)) o.catalog o.keyspaces.living) }
-    ensures store { IfOk result (λ o. store_behind o.keyspaces (forest_of o.trees) ≡ bare no_keyspaces) }
-    ensures whole { IfOk result (λ o. o.damaged.items ≡ []) }
+    ensures keyspaces { IfOk result (λ o. o.keyspaces ≡ no_keyspaces) }
+    ensures trees { IfOk result (λ o. forest_of o.trees ≡ []) }
     ensures number { IfOk result (λ o. o.number ≡ 0) }
+    ensures writes { IsTrue D.honest → IfOk result WritesJournal }
     ensures fresh { IsTrue D.honest → HasNoJournal (seen (D.meaning disk.old)) → IfOk result (λ o. o.sealed ≡ []) }
     ensures lawful { IfOk result IsLawful }
     ensures any_moment { IsTrue D.honest → Holds (state_in (D.meaning disk.old)) None → ComesBackUnfinished (state_in (D.meaning disk.old))
@@ -43,7 +42,7 @@ fn open_unfinished<D: Disk>(alloc: Global, disk: &mut D) -> Result<Opened>
     ensures listed { IfErr result IsOpeningRefusal }
     // Where a crash of the disk leaves different stores, so does one of this call; what stands is opened.
     ensures amid { IsTrue D.honest → IsUnfinished (seen (D.meaning disk.old)) → LeavesAmid (D.meaning disk.old) (D.meaning disk.new) }
-    ensures opens { IsTrue D.honest → IsUnfinished (seen (D.meaning disk.old)) → IfOk result (Opens (state_in (D.meaning disk.new)) None) }
+    ensures opens { IsTrue D.honest → IsUnfinished (seen (D.meaning disk.old)) → IfOk result (Opens (D.meaning disk.new) None) }
     ensures held { IsTrue D.honest → IsUnfinished (seen (D.meaning disk.old)) → KeepsAmid (D.meaning disk.old) (D.meaning disk.new) }
     ensures kinds { IsTrue D.honest → StaysTidy (D.meaning disk.old) (D.meaning disk.new) }
     ensures served { IsTrue D.honest → IsTidy (state_in (D.meaning disk.old)) → AllServed (D.meaning disk.old) (D.meaning disk.new) }
@@ -62,13 +61,13 @@ fn open_finished<D: Disk>(alloc: Global, disk: &mut D, found: RecoveredFolder) -
     requires { IsNumbered found }
     ensures opened { IsTrue D.honest
         → WhereRead (D.meaning disk.old) found (λ contents. Holds (state_in (D.meaning disk.old)) (Some contents)
-        → IfOk result (Opens (state_in (D.meaning disk.new)) (Some contents))) }
+        → IfOk result (Opens (D.meaning disk.new) (Some contents))) }
     ensures swept { IsTrue D.honest → IsFinished (seen (D.meaning disk.old)) found
         → IfOk result (λ o. IsSwept (state_in (D.meaning disk.old)) (state_in (D.meaning disk.new)) o.catalog o.keyspaces.living) }
-    ensures store { IsTrue D.honest
-        → WhereOpenable (D.meaning disk.old) found (λ contents. IfOk result (λ o. (versions : Versions) × HaveVersionsBut o.damaged.items contents.homes versions
-        × (store_behind o.keyspaces (forest_of o.trees) ≡ store_of (with_versions versions contents)))) }
+    ensures from { IsTrue D.honest
+        → WhereOpenable (D.meaning disk.old) found (λ contents. IfOk result (ReadsFrom (D.meaning disk.old) (D.meaning disk.new) contents)) }
     ensures number { IsTrue D.honest → WhereRead (D.meaning disk.old) found (λ contents. IfOk result (λ o. o.number ≡ number_in contents)) }
+    ensures writes { IsTrue D.honest → IsFinished (seen (D.meaning disk.old)) found → IfOk result WritesJournal }
     ensures fresh { IsTrue D.honest → IsFinished (seen (D.meaning disk.old)) found → HasNoJournal (seen (D.meaning disk.old)) → IfOk result (λ o. o.sealed ≡ []) }
     ensures lawful { IfOk result IsLawful }
     ensures any_moment { IsTrue D.honest → WhereRead (D.meaning disk.old) found (λ contents. Holds (state_in (D.meaning disk.old)) (Some contents)
@@ -81,7 +80,7 @@ fn open_finished<D: Disk>(alloc: Global, disk: &mut D, found: RecoveredFolder) -
     ensures amid { IsTrue D.honest → WhereOpenable (D.meaning disk.old) found (λ contents. LeavesAmid (D.meaning disk.old) (D.meaning disk.new)) }
     ensures opens { IsTrue D.honest
         → WhereSound (D.meaning disk.old) found (λ contents.
-        WhereAmid (D.meaning disk.old) (IfOk result (Opens (state_in (D.meaning disk.new)) (Some contents)))) }
+        WhereAmid (D.meaning disk.old) (IfOk result (Opens (D.meaning disk.new) (Some contents)))) }
     ensures held { IsTrue D.honest → WhereOpenable (D.meaning disk.old) found (λ contents. KeepsAmid (D.meaning disk.old) (D.meaning disk.new)) }
     ensures kinds { IsTrue D.honest → IsFinished (seen (D.meaning disk.old)) found → StaysTidy (D.meaning disk.old) (D.meaning disk.new) }
     ensures served { IsTrue D.honest → IsTidy (state_in (D.meaning disk.old))
@@ -102,8 +101,7 @@ fn open_finished<D: Disk>(alloc: Global, disk: &mut D, found: RecoveredFolder) -
 /// Such a folder goes only where all that stands in it are files with the engine's own names, `current` or a table's. One
 /// that holds anything else is left wholly as it stands, and the opening goes on: once that is gone, the next one removes it.
 ///
-/// A folder with a wrong block in a keyspace's table opens: the keyspace is among the damaged ones, and none of what its tables
-/// hold is taken into memory.
+/// No block of a keyspace's table is read: a folder with a wrong one opens, and that is met by the read that wants it.
 ///
 /// Where the folder is refused, or memory runs out, nothing of the disk has changed: the refusals are those of
 /// `read_folder`, and all memory is got before the first change. `Io` comes for a fault of the disk, and then a new open
@@ -111,10 +109,12 @@ fn open_finished<D: Disk>(alloc: Global, disk: &mut D, found: RecoveredFolder) -
 /// of the call stands for the store that the folder stood for.
 pub fn open_folder<D: Disk>(alloc: Global, disk: &mut D) -> Result<Opened>
     ensures opened { IsTrue D.honest → (folder : Option Contents) → Holds (state_in (D.meaning disk.old)) folder
-        → IfOk result (Opens (state_in (D.meaning disk.new)) folder) }
+        → IfOk result (Opens (D.meaning disk.new) folder) }
     // Nothing of the engine's own is left that no record names.
     ensures swept { IsTrue D.honest → IfOk result (λ o. IsSwept (state_in (D.meaning disk.old)) (state_in (D.meaning disk.new)) o.catalog o.keyspaces.living) }
-    ensures found { IsTrue D.honest → IfOk result (IsOpenedFrom (seen (D.meaning disk.old))) }
+    ensures found { IsTrue D.honest → IfOk result (IsOpenedFrom (D.meaning disk.old) (D.meaning disk.new)) }
+    // Its writer goes on in a journal's file, whatever blocks of tables are wrong.
+    ensures writes { IsTrue D.honest → IfOk result WritesJournal }
     // None is sealed where there was no journal.
     ensures fresh { IsTrue D.honest → HasNoJournal (seen (D.meaning disk.old)) → IfOk result (λ o. o.sealed ≡ []) }
     ensures lawful { IfOk result IsLawful }
@@ -133,7 +133,7 @@ pub fn open_folder<D: Disk>(alloc: Global, disk: &mut D) -> Result<Opened>
     // opened, and a crash at any moment leaves the base with a beginning of the pending commands.
     ensures amid { IsTrue D.honest → LeavesAmid (D.meaning disk.old) (D.meaning disk.new) }
     ensures opens { IsTrue D.honest → (folder : Option Contents) → IsFolder (seen (D.meaning disk.old)) folder
-        → WhereAmid (D.meaning disk.old) (IfOk result (Opens (state_in (D.meaning disk.new)) folder)) }
+        → WhereAmid (D.meaning disk.old) (IfOk result (Opens (D.meaning disk.new) folder)) }
     // Then the disk holds them still, so that an opening after one that failed finds what that one found.
     ensures held { IsTrue D.honest → KeepsAmid (D.meaning disk.old) (D.meaning disk.new) }
     // Nothing is put in the way of what the engine makes and removes.

@@ -1,19 +1,21 @@
 //! All that opening a folder takes, in memory before the disk is changed.
 
-ghost use Rattle.std.specs.Prelude.{◌≡◌, ◌<◌, ◌≤◌, [], ◌∷◌, ◌++◌, ℕ, List, All, IfErr, IfOk, IfSome, IsOkUnless, IsTrue, None, map, max, string_bytes};
+ghost use Rattle.std.specs.Prelude.{◌≡◌, ◌<◌, ◌≤◌, [], ◌∷◌, ◌++◌, ℕ, List, All, IfErr, IfOk, IsOkUnless, IsTrue, None, map, max, string_bytes};
 ghost use Rattle.std.specs.List.{AllZip};
 ghost use Rattle.std.specs.List.Sorted.{IsStrictlyIncreasing};
-ghost use Rattle.fjall_base.specs.Disk.{Image, Took, state_in};
+ghost use Rattle.fjall_base.specs.Disk.{Image, Meaning, Took, state_in};
 ghost use Rattle.fjall_journal.specs.Batches.{view};
 ghost use Rattle.fjall_meta.specs.Keyspaces.{AreKeyspaces, no_keyspaces};
 ghost use Rattle.fjall_catalog.specs.Catalog.{first_catalog, listed};
 ghost use Rattle.fjall_files.specs.Calls.{seen, AllServed};
 ghost use Rattle.fjall_files.specs.Names.{journal_name};
 ghost use Rattle.fjall_contents.specs.Contents.{AreWithin, Stored};
-ghost use Rattle.fjall_replay.specs.Replayed.{AreBegun, AreLoaded, AreReplayed, AreTold, MayReplay, ids_of};
+ghost use Rattle.fjall_replay.specs.Beside.{AreEndedBy, AreReplayedWith, all_at_rest};
+ghost use Rattle.fjall_replay.specs.Replayed.{AreTold, MayReplay, ids_of};
+ghost use Rattle.fjall_table.specs.Blocks.{Entry};
+ghost use Rattle.fjall_trees.specs.Tables.{AreReadOn};
 ghost use Rattle.fjall_trees.specs.Forests.{AreBefore};
 ghost use Rattle.fjall_trees.specs.Views.{forest_of};
-ghost use Rattle.fjall_trees.specs.Writes.{AreBare};
 ghost use Rattle.fjall_versions.specs.Replays.{first_fault};
 ghost use Rattle.fjall_recovery.specs.Folders.{IsFinished, IsNumbered, IsUnfinished, past_records};
 ghost use Rattle.fjall_recovery.specs.Places.{journals_with};
@@ -21,11 +23,10 @@ ghost use Rattle.fjall_manager.specs.Places.{told};
 ghost use Rattle.fjall_recovery.specs.Told.{TellOf, TellsOf};
 ghost use Rattle.fjall_recovery.specs.Naming.{AreFolderIds};
 ghost use Rattle.fjall_recovery.specs.Refusals.{HasRisen, IsDue, IsOpeningRefusal};
-ghost use Rattle.fjall_repair.specs.Readings.{IsSweepOf, FindsUnnamed, TakesRead, persisted_in, persisted_of};
+ghost use Rattle.fjall_repair.specs.Readings.{IsSweepOf, FindsUnnamed, TakesRead, persisted_in};
 ghost use Rattle.fjall_repair.specs.Plans.{IsPlan as IsMakingOf, empty_journal, empty_journals, journals_begun};
 ghost use Rattle.fjall_repair.specs.Mended.{IsMendingOf};
-ghost use Rattle.fjall_repair.specs.Steps.{active_of};
-ghost use Rattle.fjall_repair.specs.Opened.{HasJournals, HasNumbers, IsLawful, Takes, records_of};
+ghost use Rattle.fjall_repair.specs.Opened.{HasNumbers, IsLawful, Takes, records_of};
 ghost use Rattle.fjall_repair.specs.Sweeps.{FindsAll, IsPlan, no_names};
 
 use crate::mending::active_id;
@@ -39,13 +40,14 @@ use fjall_catalog::Catalog;
 use fjall_files::journal_name;
 use fjall_home::LoadedHome;
 use fjall_journal::{Batch, Writer};
-use fjall_loading::{Loaded, load_homes};
+use fjall_loading::open_homes;
 use fjall_manager::{ActiveWatermarks, JournalManager, SealedJournal, Watermarks};
 use fjall_meta::MetaKeyspace;
 use fjall_recovery::{RecoveredFolder, list_keyspaces};
-use fjall_replay::{Persisted, replay_beyond};
+use fjall_replay::{Persisted, replay_journal};
 use fjall_table::TableInfo;
 use fjall_trees::Trees;
+use fjall_versions::check_batches;
 use std::alloc::Global;
 
 /// What is opened once a database is begun.
@@ -90,7 +92,6 @@ fn new_database(alloc: Global, sealed: &[u64], active: u64) -> Result<Opened>
     ensures opened { IfOk result (λ o. Takes o (journal_name active) 0 first_catalog no_keyspaces [] [] []) }
     ensures journals { IfOk result (λ o. TellOf (journals_with (empty_journals sealed.now active) []) o.sealed (told o.watermarks)) }
     ensures active { IfOk result (λ o. o.active ≡ active) }
-    ensures whole { IfOk result (λ o. o.damaged.items ≡ []) }
     ensures number { IfOk result (λ o. o.number ≡ 0) }
     ensures lawful { IfOk result IsLawful }
     ensures only { IsOkUnless result Error.OutOfMemory }
@@ -98,7 +99,6 @@ fn new_database(alloc: Global, sealed: &[u64], active: u64) -> Result<Opened>
     let name = journal_name(alloc, active)?;
     Ok(Opened {
         trees: Trees::new(alloc),
-        damaged: Vec::new(alloc),
         journal: Writer::from_file(alloc, name.as_str(), 0)?,
         sealed: empty_journals(alloc, sealed)?,
         active,
@@ -118,7 +118,6 @@ pub(crate) fn ready_to_begin<D: Disk>(alloc: Global, disk: &mut D) -> Result<ToB
     ensures opened { IfOk result (λ r. Takes r.opened (journal_name r.making.active) 0 first_catalog no_keyspaces [] [] []) }
     ensures journals { IfOk result (λ r. TellOf (journals_begun r.making) r.opened.sealed (told r.opened.watermarks)) }
     ensures active { IfOk result (λ r. r.opened.active ≡ r.making.active) }
-    ensures whole { IfOk result (λ r. r.opened.damaged.items ≡ []) }
     ensures number { IfOk result (λ r. r.opened.number ≡ 0) }
     ensures lawful { IfOk result (λ r. IsLawful r.opened) }
     ensures same { IsTrue D.honest → Took (D.meaning disk.old) (D.meaning disk.new) [] }
@@ -171,43 +170,34 @@ fn replayed(
     keyspaces: &MetaKeyspace,
     persisted: &[Persisted],
     loaded: Trees,
-    batches: Vec<Batch>,
+    batches: &[Batch],
 ) -> Result<Trees>
-    requires fits { All (λ b. MayReplay (view b)) batches.items }
-    requires begun { AreBegun (forest_of loaded) }
-    ensures ok { (stored : ℕ → Stored) → AreTold keyspaces.now stored persisted.now → AreWithin keyspaces.now stored
-        → AreLoaded keyspaces.now stored (forest_of loaded) → (least : ℕ) → first_fault least (map view batches.items) ≡ None
-        → IfOk result (λ trees. AreReplayed keyspaces.now stored (map view batches.items) (forest_of trees)) }
+    requires fits { All (λ b. MayReplay (view b)) batches.now }
+    requires sound { first_fault 0 (map view batches.now) ≡ None }
+    requires ended { AreEndedBy persisted.now 0 (forest_of loaded) }
+    ensures ok { (entries : ℕ → List (List Entry)) (stored : ℕ → Stored) → AreTold keyspaces.now stored persisted.now → AreWithin keyspaces.now stored
+        → AreReplayedWith entries keyspaces.now stored [] (forest_of loaded)
+        → IfOk result (λ trees. AreReplayedWith entries keyspaces.now stored (map view batches.now) (forest_of trees)) }
+    ensures reads { (disk : Meaning) (entries : ℕ → List (List Entry)) → AreReadOn disk (forest_of loaded) entries
+        → IfOk result (λ trees. AreReadOn disk (forest_of trees) entries) }
+    ensures rest { IfOk result (λ trees. all_at_rest (forest_of trees) ≡ all_at_rest (forest_of loaded)) }
     ensures ids { IfOk result (λ trees. ids_of (forest_of trees) ≡ ids_of (forest_of loaded)) }
-    ensures bare { AreBare (forest_of loaded) → IfOk result (λ trees. AreBare (forest_of trees)) }
-    ensures below { (bound : ℕ) → AreBefore bound (forest_of loaded) → All (λ b. b.seqno < bound) batches.items
+    ensures below { (bound : ℕ) → AreBefore bound (forest_of loaded) → All (λ b. b.seqno < bound) batches.now
         → IfOk result (λ trees. AreBefore bound (forest_of trees)) }
     ensures lawful { AreKeyspaces keyspaces.now }
     ensures only { IsOkUnless result Error.OutOfMemory }
 {
     prove!(0 < keyspaces.next_id());
     let mut trees = loaded;
-    replay_beyond(keyspaces, persisted, batches, &mut trees)?;
+    replay_journal(keyspaces, persisted, batches, &mut trees)?;
     Ok(trees)
 }
 
-/// What a folder opens as that was read, of whose tables this was loaded, and whose journal goes on at the end of this file.
-fn database_of(
-    alloc: Global,
-    found: RecoveredFolder,
-    loaded: Loaded,
-    active: &str,
-) -> Result<Opened>
-    requires live { ids_of (forest_of loaded.trees) ≡ map (λ k. k.id) found.catalog.keyspaces.living }
-    requires below { (bound : ℕ) → All (λ h. IfSome h.record.persisted (λ n. n < bound)) found.homes.items
-        → AreBefore bound (forest_of loaded.trees) }
-    requires bare { AreBare (forest_of loaded.trees) }
-    requires begun { AreBegun (forest_of loaded.trees) }
+/// What a folder opens as that was read, and whose journal goes on at the end of this file: trees over the tables of its homes,
+/// into whose memory its journals are replayed.
+fn database_of(alloc: Global, found: RecoveredFolder, active: &str) -> Result<Opened>
     requires numbered { IsNumbered found }
-    ensures opened { IfOk result (λ o. Takes o active.now found.journals.end found.catalog.catalog found.catalog.keyspaces (persisted_of found) (forest_of loaded.trees)
-        (map view found.journals.batches.items)) }
-    ensures damaged { IfOk result (λ o. o.damaged.items ≡ loaded.damaged.items) }
-    ensures journals { IfOk result (λ o. HasJournals o found.journals.sealed (active_of found.journal_ids.items) found.journals.watermarks) }
+    ensures opened { (disk : Meaning) → IsFinished (seen disk) found → IfOk result (λ o. TakesRead disk o active.now found) }
     ensures number { All HasNumbers (records_of found) → IfOk result (λ o. o.number ≡ max found.journals.least (past_records (records_of found))) }
     ensures lawful { IfOk result IsLawful }
     ensures risen { (faults : ℕ) → IfErr result (HasRisen faults faults) }
@@ -219,6 +209,7 @@ fn database_of(
     check_made(found.catalog.keyspaces.living(), number)?;
     check_told(&found, number)?;
     check_sizes(&found.journals.batches)?;
+    check_batches(&found.journals.batches, 0)?;
     let journal = Writer::from_file(alloc, active, found.journals.end as u64)?;
     let id = active_id(&found.journal_ids);
     let watermarks = ActiveWatermarks::from_watermarks(alloc, &found.journals.watermarks)?;
@@ -229,15 +220,10 @@ fn database_of(
         ..
     } = found;
     let persisted = persisted_of(alloc, &homes)?;
-    let trees = replayed(
-        &catalog.keyspaces,
-        &persisted,
-        loaded.trees,
-        journals.batches,
-    )?;
+    let loaded = open_homes(alloc, &catalog.keyspaces, homes)?;
+    let trees = replayed(&catalog.keyspaces, &persisted, loaded, &journals.batches)?;
     Ok(Opened {
         trees,
-        damaged: loaded.damaged,
         journal,
         sealed: journals.sealed,
         active: id,
@@ -260,7 +246,7 @@ pub(crate) fn ready_to_mend<D: Disk>(
     ensures finds { IsTrue D.honest → (image : Image) → IsFinished image found
         → IfOk result (λ r. FindsUnnamed (state_in (D.meaning disk.old)) found r.sweep) }
     ensures opened { IsTrue D.honest → IsFinished (seen (D.meaning disk.old)) found
-        → IfOk result (λ r. TakesRead (seen (D.meaning disk.old)) r.opened (string_bytes r.mending.active) found) }
+        → IfOk result (λ r. TakesRead (D.meaning disk.old) r.opened (string_bytes r.mending.active) found) }
     ensures number { All HasNumbers (records_of found) → IfOk result (λ r. r.opened.number ≡ max found.journals.least (past_records (records_of found))) }
     ensures lawful { IfOk result (λ r. IsLawful r.opened) }
     ensures same { IsTrue D.honest → Took (D.meaning disk.old) (D.meaning disk.new) [] }
@@ -280,10 +266,9 @@ pub(crate) fn ready_to_mend<D: Disk>(
         keyspaces.living(),
         &found.folder_ids,
     )?;
-    let loaded = load_homes(alloc, disk, keyspaces, &found.homes)?;
     let mending = plan_mending(alloc, &found)?;
     Ok(ToMend {
-        opened: database_of(alloc, found, loaded, mending.active.as_str())?,
+        opened: database_of(alloc, found, mending.active.as_str())?,
         mending,
         sweep,
     })

@@ -15,7 +15,7 @@ ghost use Rattle.fjall_repair.specs.Readings.{WhereOpenable, WhereRead, WhereSou
 ghost use Rattle.fjall_repair.specs.Making.{ComesBackUnfinished};
 ghost use Rattle.fjall_repair.specs.Plans.{IsPlan as IsMakingOf, journals_begun};
 ghost use Rattle.fjall_repair.specs.Mended.{IsMendingOf};
-ghost use Rattle.fjall_repair.specs.Opened.{IsRepaired, nothing};
+ghost use Rattle.fjall_repair.specs.Opened.{IsRepaired, KeepsNamed, nothing};
 ghost use Rattle.fjall_repair.specs.Steps.{opened};
 ghost use Rattle.fjall_repair.specs.Sweeps.{AreGone, BringsNoTable, FindsTables, IsPlan, planned, no_names, HasAll};
 
@@ -40,6 +40,10 @@ pub(crate) fn mend_and_sweep<D: Disk>(
         → OnOk result (IsRepaired (state_in (D.meaning disk.new)) contents (opened contents.journals) (string_bytes mending.now.active) found.journals.end)) }
     ensures gone { IsTrue D.honest → OnOk result (AreGone (state_in (D.meaning disk.new)) (planned plan.now)) }
     ensures cause { OnlyFaults (D.meaning disk.old) (D.meaning disk.new) result }
+    // Each table that a record names stands as it did, also where the call fails.
+    ensures spared { IsTrue D.honest → (found : RecoveredFolder)
+        → WhereOpenable (D.meaning disk.old) found (λ contents. IsMendingOf (seen (D.meaning disk.old)) found mending.now → IsSweepOf found plan.now
+        → KeepsNamed (D.meaning disk.old) (D.meaning disk.new) contents.homes) }
     ensures tables { IsTrue D.honest → (found : RecoveredFolder) → IsMendingOf (seen (D.meaning disk.old)) found mending.now
         → BringsNoTable (state_in (D.meaning disk.old)) (state_in (D.meaning disk.new)) }
     // The same where a crash of the disk leaves different stores.

@@ -1,7 +1,8 @@
 -- Each line has an answer, and the one for bad lines is given to no command.
-use Rattle.std.proofs.Common.{◌≡◌, ℕ, ◌+◌, ◌<◌, ◌^◌, Bool, true, false, List, [], ◌∷◌, ◌++◌, length, drop, get_or, Option, Some, None, refl, sym, ap, ◌∙◌, append_assoc, codes, decimal, arith, lit<, subst, inl, inr, ◌⊎◌, Global, Vec}
+use Rattle.std.proofs.Common.{◌≡◌, ℕ, ◌+◌, ◌-◌, ◌<◌, ◌^◌, Bool, true, false, List, [], ◌∷◌, ◌++◌, length, drop, get_or, Option, Some, None, refl, sym, ap, ◌∙◌, append_assoc, codes, decimal, arith, lit<, subst, inl, inr, ◌⊎◌, Global, Vec}
 use Rattle.std.specs.Prelude.{All}
 use Rattle.std.specs.List.{AllZip}
+use Rattle.std.specs.declared.ops.Bound.TheVariants.{Unbounded}
 use Rattle.std.proofs.lemmas.Bool.{true≢false}
 use Rattle.std.proofs.lemmas.List.{append-nil}
 use Rattle.std.proofs.lemmas.List.Elements.{All-head, All-tail}
@@ -9,10 +10,15 @@ use Rattle.std.proofs.lemmas.Fmt.{first_decimal, decimal_nonempty}
 use Rattle.fjall_base.specs.declared.error.Error.{Error}
 use Rattle.fjall_base.specs.declared.error.Error.TheVariants.{Io}
 use Rattle.fjall_base.specs.Errors.{number_of, name_of}
+use Rattle.fjall_blocks.specs.Readers.{Reader}
+use Rattle.fjall_history.specs.declared.ticket.View.{View}
+use Rattle.fjall_history.specs.declared.ticket.View.TheVariants.{Present, At}
+use Rattle.fjall_history.specs.Queries as queries
+use Rattle.fjall_history.specs.Queries.{Query}
 use Rattle.fjall_history.specs.declared.reply.Reply.{Reply}
 use Rattle.fjall_history.specs.declared.reply.Reply.TheVariants.{Done, Value, Pairs, Number, Names, Flag, Opened, Refused}
 use Rattle.fjall_state.specs.declared.call.Call.{Call}
-use Rattle.fjall_state.specs.Places.{id_opened, resolved, resolved_behind}
+use Rattle.fjall_state.specs.Places.{id_opened, resolved, resolved_behind, view_at}
 use Rattle.fjall_state.specs.Shapes.{Shape, shape_of}
 use Rattle.fjall_lines.specs.declared.command.Command.{Command}
 use Rattle.fjall_lines.specs.declared.command.Command.TheVariants.{Ask, Crash, Reopen}
@@ -20,8 +26,8 @@ use Rattle.fjall_lines.specs.declared.command.Request.{Request}
 use Rattle.fjall_lines.specs.declared.command.Request.TheVariants.{Keyspace, Delete, Insert, Remove, RemoveWeak, Clear, Batch, Get, Len, Scan, Snapshot, GetAt, CloseSnapshot, Gc, Rotate, Persist}
 use Rattle.fjall_script.specs.Answers.{bad_line, ok_line, reply_text}
 use Rattle.fjall_core.specs.Holding.{Held}
-use Rattle.fjall_core.specs.Standing.{Gives, Owes, OwesAll}
-use Rattle.fjall_script.specs.Requests.{IsCallOf, asked_with, is_stop, requests_of, snapshots_before}
+use Rattle.fjall_core.specs.Standing.{Gives, GivesRead, IsOfKind, Owes, OwesAll, tables_of}
+use Rattle.fjall_script.specs.Requests.{IsCallOf, asked_with, is_stop, named, requests_of, snapshots_before}
 use Rattle.fjall_script.specs.Sessions.{answers_to, IsAnswer, IsReplyTo, Session, begun, run, restarted, Restarts}
 
 -- no refusal has the number 0
@@ -109,9 +115,19 @@ owed shape (Flag flag) old new owes = inr owes.1
 owed shape (Opened ticket) old new owes = inr owes.1
 owed shape (Refused error) old new owes = inl (error, refl)
 
+-- what a read gives is an answer to its query
+read_fits : (tables : List Reader) (view : View) (id : ℕ) (query : Query) (reply : Reply) (old : Held) → GivesRead tables old view id query reply → IsOfKind query reply
+read_fits [] view id (queries.Get key) reply old gives = (_, gives)
+read_fits [] view id (queries.Page range back max) reply old gives = (gives.0, gives.1)
+read_fits (t ∷ tables) view id query reply old gives = gives
+
 -- what the call of a request gives is a reply to it
 abbrev Given : List (Option ℕ) → Reply → Held → Held → Call → Type 0
 Given ids reply old new call = Gives old (shape_of (resolved ids call)) reply new
+
+-- the query for all pairs
+abbrev all : Query
+all = queries.Page (Unbounded, Unbounded) false (2 ^ 64 - 1)
 
 fits : (request : Request) (place : ℕ → ℕ) (ids : List (Option ℕ)) (call : Call) (reply : Reply) (old new : Held) → IsCallOf place request call → Given ids reply old new call → IsReplyTo request reply
 fits (Keyspace name) place ids call reply old new is gives = subst (IsReplyTo (Keyspace name)) (sym (subst (Given ids reply old new) is gives).1) tt
@@ -121,11 +137,13 @@ fits (Remove id key) place ids call reply old new is gives = subst (IsReplyTo (R
 fits (RemoveWeak id key) place ids call reply old new is gives = subst (IsReplyTo (RemoveWeak id key)) (sym (subst (Given ids reply old new) is gives).0) tt
 fits (Clear id) place ids call reply old new is gives = subst (IsReplyTo (Clear id)) (sym (subst (Given ids reply old new) is gives).0) tt
 fits (Batch writes) place ids call reply old new is gives = subst (IsReplyTo (Batch writes)) (sym (subst (Given ids reply old new) is.is gives).0) tt
-fits (Get id key) place ids call reply old new is gives = subst (IsReplyTo (Get id key)) (sym (subst (Given ids reply old new) is gives).0) tt
-fits (Len id) place ids call reply old new is gives = subst (IsReplyTo (Len id)) (sym (subst (Given ids reply old new) is gives).0.1) tt
-fits (Scan id) place ids call reply old new is gives = subst (IsReplyTo (Scan id)) (sym (subst (Given ids reply old new) is gives).0.1) tt
+fits (Get id key) place ids call reply old new is gives = subst (IsReplyTo (Get id key)) (sym (read_fits (tables_of old id) Present id (queries.Get key) reply old (subst (Given ids reply old new) is gives).0).1) tt
+fits (Len id) place ids call reply old new is gives = subst (IsReplyTo (Len id)) (sym (read_fits (tables_of old id) Present id all reply old (subst (Given ids reply old new) is gives).0).1) tt
+fits (Scan id) place ids call reply old new is gives = subst (IsReplyTo (Scan id)) (sym (read_fits (tables_of old id) Present id all reply old (subst (Given ids reply old new) is gives).0).1) tt
 fits Snapshot place ids call reply old new is gives = subst (IsReplyTo Snapshot) (sym (subst (Given ids reply old new) is gives).0.0) tt
-fits (GetAt number id key) place ids call reply old new is gives = subst (IsReplyTo (GetAt number id key)) (sym (subst (Given ids reply old new) is gives).0) tt
+fits (GetAt number id key) place ids call reply old new is gives =
+    let gives = (subst (Given ids reply old new) is gives).0 in
+    subst (IsReplyTo (GetAt number id key)) (sym (read_fits (tables_of old id) (view_at ids (At (named (place number)))) id (queries.Get key) reply old gives).1) tt
 fits (CloseSnapshot number) place ids call reply old new is gives = subst (IsReplyTo (CloseSnapshot number)) (sym (subst (Given ids reply old new) is gives).0.0) tt
 fits Gc place ids call reply old new is gives = subst (IsReplyTo Gc) (sym (subst (Given ids reply old new) is gives).0.0) tt
 fits (Rotate id) place ids call reply old new is gives = subst (IsReplyTo (Rotate id)) (sym (subst (Given ids reply old new) is gives).0) tt

@@ -212,7 +212,7 @@ start_holds = holds_store_amid (state_in new_disk) (bare no_keyspaces) bare_hold
 just_opened : (disk : Meaning) (core : Held) (base : Store) (pending : List store.Command) (opened : OpensAmid disk core base pending) → Served core (kept (fold base opened.front)) opened.opens [] [] core
 just_opened disk core base pending opened =
     let store = kept (fold base opened.front) in
-    no_run core (start_of core store opened.opens) (begun core store) opened.opens.state opened.opens.base
+    no_run core (start_of core store opened.opens) (begun core store) opened.opens.state opened.opens.reads opened.opens.base
 
 begins : (commands : List (Option Command)) (core : Held) → Begins true core → LivedSo commands commands false [] core
 begins commands core h =
@@ -336,7 +336,7 @@ reopened commands rest printed old new s (Ok _) closed closes disk same o =
 reopened commands rest printed old new s (Err error) closed closes disk same o =
     let last = a_last_sync s.first old (kept (fold s.base s.opened.front)) s.calls s.replies s.opened.opens s.run in
     let safely = closes.safe refl in
-    let after = (safely s.run.state s.run.durable s.run.stands s.run.on).after in
+    let after = (safely s.run.state s.run.durable s.run.stands s.run.reads s.run.on).after in
     again commands (Some Reopen) rest printed old new s refl last.0 (state_in closed) after.base after.pending (Unclosed last.0 error closed last.1 safely) disk (ap state_in same) o
 
 -- what a crash leaves

@@ -2,37 +2,40 @@
 -- in memory does, all is said that the core promises; over another one, as a folder, what needs no such premise.
 use Rattle.std.specs.Prelude.{◌≡◌, ℕ, Bool, false, IsTrue, [], List, Result, Ok, ◌⊎◌}
 use Rattle.fjall_base.specs.Crash.{crashed}
-use Rattle.fjall_base.specs.Disk.{Meaning, IsImage, disk_of, standing, state_in}
+use Rattle.fjall_base.specs.Disk.{Meaning, IsImage, disk_of, state_in}
 use Rattle.fjall_base.specs.Store.{Command, Store}
 use Rattle.fjall_base.specs.declared.error.Error.{Error}
 use Rattle.fjall_base.specs.declared.error.Error.TheVariants.{Io, Locked, OutOfMemory}
 use Rattle.fjall_meta.specs.Keyspaces.{no_keyspaces}
+use Rattle.fjall_table.specs.Blocks.{Entry}
 use Rattle.fjall_versions.specs.Replays.{bare}
 use Rattle.fjall_recovery.specs.Refusals.{HasRisen}
 use Rattle.fjall_recovery.specs.Amid.{HoldsAmid}
 use Rattle.fjall_state.specs.declared.call.Call.{Call}
+use Rattle.fjall_state.specs.Remembered.{AreBeside}
 use Rattle.fjall_history.specs.declared.reply.Reply.{Reply}
 use Rattle.fjall_core.specs.Holding.{Held}
 use Rattle.fjall_core.specs.Openings.{IsDueTo, KeepsStore, Opens, OpensAmid, OpensAs, OpensOn}
-use Rattle.fjall_core.specs.Standing.{ClosesDisk, ClosesSafely, HoldsStore, OwesAll, OwesClosing, Runs, RunsSafely}
+use Rattle.fjall_core.specs.Standing.{ClosesDisk, ClosesSafely, HoldsStore, OwesAll, OwesClosing, Runs, RunsSafely, store_with_tables}
 
--- The replies are those of a run of the engine, whichever state the core stood for and whatever the disk does, and each is
--- owed by what the core held; a crash at each moment leaves a beginning of the commands, with all that a sync made safe
--- before.
+-- The replies are those of a run of the engine, whichever state the core stood for whose tables its disk had; a crash at each
+-- moment leaves a beginning of the commands, with all that a sync made safe before. Whatever the disk does, each reply is owed by
+-- what the core held.
 pub record RunsCalls (honest : Bool) (old : Held) (calls : List Call) (replies : List Reply) (new : Held) : Type 0 where
-  pub runs : Runs old calls replies new
+  pub runs : IsTrue honest → Runs old calls replies new
   pub safe : IsTrue honest → RunsSafely old calls replies new
   pub owes : OwesAll old calls replies new
 
 -- A core that was opened on this disk: it stands for what stands there. Where the disk held a store, whatever a crash
 -- leaves of it, the core opened as that store, and a crash at each moment of the opening leaves it; where a crash of the
--- disk may leave different ones, as that which stands there.
+-- disk may leave different ones, as that which stands there. Over any disk at all it stands for what its trees show, whatever older
+-- entries their tables have.
 pub record OpenedOn (honest : Bool) (disk : Meaning) (core : Held) : Type 0 where
-  pub opened : IsTrue honest → OpensOn (standing (state_in disk)) core
+  pub opened : IsTrue honest → OpensOn disk core
   pub safe : IsTrue honest → (store : Store) → HoldsStore (state_in disk) store → OpensAs core store
   pub any_moment : IsTrue honest → KeepsStore disk core.disk
   pub amid : IsTrue honest → (base : Store) (pending : List Command) → HoldsAmid (state_in disk) base pending → OpensAmid disk core base pending
-  pub stands : (store : Store) × (damaged : List ℕ) × (next : ℕ) × Opens core store damaged next
+  pub stands : (entries : ℕ → List (List Entry)) → AreBeside core.memory entries → (damaged : List ℕ) → Opens core (store_with_tables entries core) entries damaged core.memory.next
 
 -- A core refused to be opened on this disk, for its cause: `Io` only where the count of faults rose. Whatever store the
 -- disk held, a crash at each moment of the opening leaves it.

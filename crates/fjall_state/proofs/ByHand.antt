@@ -12,6 +12,7 @@ use Rattle.fjall_versions.specs.Replays.{option_pairs}
 use Rattle.fjall_versions.proofs.Naming.{settings}
 use Rattle.fjall_trees.specs.Forests.{Forest}
 use Rattle.fjall_maps.specs.Maps.{store_of}
+use Rattle.fjall_maps.specs.Tables.{store_with}
 use Rattle.fjall_state.specs.Machine.{State, is_by_hand, persists_by_hand, present}
 use Rattle.fjall_state.specs.Remembered.{Remembered, StandsFor}
 use Rattle.fjall_state.proofs.Facts.{living_names}
@@ -54,6 +55,6 @@ kept_says s id =
     ap (λ (o : Option Options). p id && is_by_hand (unwrap_or o [])) (get-retain_keys s.options p id (λ x e. ap p (sym (nat_cmp-IsAntisymmetric id x e))))
     ∙ both_times (p id) (get s.options id)
 
--- the present says what is held
+-- the store of trees over tables has the options that the store of memory has
 pub options_agree : (m : Remembered) (table : ℕ) (s : State) → StandsFor m table s → (id : ℕ) → persists_by_hand (present s) id ≡ persists_by_hand (store_of m.keyspaces m.trees) id
-options_agree m table s stands id = sym (kept_says (present s) id) ∙ ap (λ (t : Store). persists_by_hand t id) stands.present ∙ kept_says (store_of m.keyspaces m.trees) id
+options_agree m table s stands id = sym (kept_says (present s) id) ∙ ap (λ (t : Store). persists_by_hand t id) stands.present ∙ kept_says (store_with s.parts.entries m.keyspaces m.trees) id

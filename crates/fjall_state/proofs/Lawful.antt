@@ -30,14 +30,17 @@ use Rattle.fjall_history.specs.Tickets.{Tickets, Tracked, closed, collected, lea
 use Rattle.fjall_history.proofs.Values.{all_inserted, all_removed, of_value}
 use Rattle.fjall_state.specs.Allowed.{FitsBatch}
 use Rattle.fjall_state.specs.Machine.{handles_of, is_living, one_less, without}
-use Rattle.fjall_state.specs.Remembered.{IsLawful, IsReadAt, Remembered, is_last, let_go, poisoned, released, retained, rotated, with_change, with_creation, with_deletion, with_tickets}
+use Rattle.fjall_state.specs.Remembered.{IsLawful, IsReadAt, Remembered, is_last, let_go, poisoned, released, retained, rotated, with_change, with_creation, with_deletion, with_tickets, with_trees}
 use Rattle.fjall_state.proofs.Facts.{living_names, some_there}
-use Rattle.fjall_maps.proofs.Emptied.{emptied_bare, emptied_before, emptied_forest, emptied_has, emptied_ids}
-use Rattle.fjall_maps.proofs.Pushed.{pushed_bare, pushed_before, pushed_forest, pushed_has, pushed_ids}
-use Rattle.fjall_maps.proofs.Planted.{planted_bare, planted_before, planted_forest, planted_has, planted_here}
+use Rattle.fjall_trees.specs.Tables.{AreSameTrees}
+use Rattle.fjall_state.proofs.SameTrees.{all_same}
+use Rattle.fjall_maps.proofs.Alike.{same_before, same_forest, same_has}
+use Rattle.fjall_maps.proofs.Emptied.{emptied_before, emptied_forest, emptied_has, emptied_ids}
+use Rattle.fjall_maps.proofs.Pushed.{pushed_before, pushed_forest, pushed_has, pushed_ids}
+use Rattle.fjall_maps.proofs.Planted.{planted_before, planted_forest, planted_has, planted_here}
 use Rattle.fjall_maps.proofs.Changed.{changed_has}
 use Rattle.fjall_maps.proofs.Dropped.{dropped_each, dropped_forest, dropped_has}
-use Rattle.fjall_maps.proofs.Rotated.{rotated_bare, rotated_before, rotated_forest, rotated_has}
+use Rattle.fjall_maps.proofs.Rotated.{rotated_before, rotated_forest, rotated_has}
 
 -- the same, with these keyspaces, trees, next number and tickets
 abbrev standing_as : Remembered → Remembered → Remembered
@@ -52,7 +55,6 @@ as_lawful a b is = record {
   planted = is.planted;
   given = is.given;
   below = is.below;
-  bare = is.bare;
   small = is.small;
   reached = is.reached;
   spared = is.spared;
@@ -62,7 +64,7 @@ pub alike : (a b : Remembered) → IsLawful a → b.keyspaces ≡ a.keyspaces �
 alike a b is keyspaces trees next tickets = subst IsLawful (sym same) (as_lawful a b is)
   where
     same : b ≡ standing_as a b
-    same = λ i. record { keyspaces = keyspaces i; trees = trees i; next = next i; poisoned = b.poisoned; handles = b.handles; lasting = b.lasting; damaged = b.damaged; tickets = tickets i; journals = b.journals }
+    same = λ i. record { keyspaces = keyspaces i; trees = trees i; next = next i; poisoned = b.poisoned; handles = b.handles; lasting = b.lasting; tickets = tickets i; journals = b.journals }
 
 module _ (m : Remembered) (is : IsLawful m) where
   later : All (λ k. k.number < m.next + 1) m.keyspaces.living
@@ -106,7 +108,6 @@ items_are_lawful items m is small fits =
       planted = All-weaker (λ k. is_some (tree_at k.id m.trees) ≡ true) (λ k. is_some (tree_at k.id (pushed m.next items m.trees)) ≡ true) (λ k h. pushed_has m.next items m.trees k.id ∙ h) m.keyspaces.living is.planted;
       given = pushed_ids (λ id. id < m.keyspaces.next) m.next items m.trees is.given;
       below = pushed_before m.next items m.trees may;
-      bare = pushed_bare m.next items m.trees is.bare;
       small = omega (arith, small);
       reached = reached_later m is;
       spared = spared_later m is;
@@ -122,7 +123,6 @@ clear_is_lawful id m is small = record {
       m.keyspaces.living is.planted;
   given = emptied_ids (λ other. other < m.keyspaces.next) m.next id m.trees is.given;
   below = emptied_before m.next id m.trees is.below;
-  bare = emptied_bare m.next id m.trees is.bare;
   small = omega (arith, small);
   reached = reached_later m is;
   spared = spared_later m is;
@@ -148,7 +148,6 @@ made_is_lawful name options m is small are =
           All-push (λ (j : Planted). j.id < m.keyspaces.next + 1) m.trees (record { id = id; shape = bare_tree m.next })
           (All-weaker (λ (j : Planted). j.id < m.keyspaces.next) (λ j. j.id < m.keyspaces.next + 1) (λ j h. omega arith) m.trees is.given) (omega arith);
       below = planted_before (m.next + 1) id m.next m.trees (below_later m is) (omega arith);
-      bare = planted_bare id m.next m.trees is.bare;
       small = omega (arith, small);
       reached = reached_later m is;
       spared = spared_later m is;
@@ -171,7 +170,6 @@ deletion_is_lawful id m is small = record {
   planted = All-filter (λ k. not (k.id == id)) (λ k. is_some (tree_at k.id m.trees) ≡ true) m.keyspaces.living is.planted;
   given = is.given;
   below = below_later m is;
-  bare = is.bare;
   small = omega (arith, small);
   reached = reached_later m is;
   spared = spared_later m is;
@@ -210,7 +208,6 @@ let_go_is_lawful id m is gone = record {
       m.keyspaces.living is.planted (others_live m.keyspaces.living id (gone_is_none m id gone));
   given = dropped_each (λ k. k.id < m.keyspaces.next) id m.trees is.given;
   below = dropped_each (λ k. k.shape.memory.active.until ≤ m.next) id m.trees is.below;
-  bare = dropped_each (λ k. k.shape.tables ≡ []) id m.trees is.bare;
   small = is.small;
   reached = is.reached;
   spared = is.spared;
@@ -251,7 +248,6 @@ tickets_are_lawful m tickets is times = record {
   planted = is.planted;
   given = is.given;
   below = is.below;
-  bare = is.bare;
   small = is.small;
   reached = times.reached;
   spared = times.spared;
@@ -318,7 +314,6 @@ rotated_is_lawful id m is =
           m.keyspaces.living is.planted;
       given = changed_has (λ k. k.id < m.keyspaces.next) (λ k shape. cond (k == id) (sealed_off shape) shape) m.trees is.given;
       below = rotated_before m.next id m.trees is.below;
-      bare = rotated_bare id m.trees is.bare;
       small = is.small;
       reached = times.reached;
       spared = times.spared;
@@ -361,3 +356,19 @@ either_release m id false = refl
 
 pub release_is : (m mid : Remembered) (id : ℕ) (last : Bool) → last ≡ is_last m id → mid ≡ (if last then let_go id m else m) → record mid { handles = one_less mid.handles id } ≡ released id m
 release_is m mid id last is held = ap (λ (k : Remembered). record k { handles = one_less k.handles id }) held ∙ either_release m id last ∙ ap (after_release m id) is
+
+-- ---- a read
+
+-- trees that are the same but for what is kept of their tables
+pub read_is_lawful : (trees : Forest) (m : Remembered) → AreSameTrees m.trees trees → IsLawful m → IsLawful (with_trees trees m)
+read_is_lawful trees m same is = record {
+  keyspaces = is.keyspaces;
+  made = is.made;
+  forest = same_forest m.trees trees same is.forest;
+  planted = All-weaker (λ k. is_some (tree_at k.id m.trees) ≡ true) (λ k. is_some (tree_at k.id trees) ≡ true) (λ k h. same_has k.id m.trees trees same ∙ h) m.keyspaces.living is.planted;
+  given = all_same (λ id tables. id < m.keyspaces.next) (λ id a b alike h. h) m.trees trees same is.given;
+  below = same_before m.next m.trees trees same is.below;
+  small = is.small;
+  reached = is.reached;
+  spared = is.spared;
+}

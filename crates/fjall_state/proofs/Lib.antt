@@ -4,6 +4,7 @@ pub mod Showing
 pub mod Writing
 pub mod Facts
 pub mod Viewing
+pub mod SameTrees
 pub mod Lawful
 pub mod Standing
 pub mod Dues

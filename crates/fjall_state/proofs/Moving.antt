@@ -4,7 +4,7 @@ use Rattle.std.proofs.lemmas.Option.{none-some}
 use Rattle.fjall_base.specs.Pairs.{Bytes}
 use Rattle.fjall_base.specs.Store.{Create, Delete}
 use Rattle.fjall_base.specs.declared.error.Error.{Error}
-use Rattle.fjall_base.specs.declared.error.Error.TheVariants.{Io, OutOfMemory, SnapshotClosed, ValueTooLong}
+use Rattle.fjall_base.specs.declared.error.Error.TheVariants.{Io, OutOfMemory, SnapshotClosed, Storage, ValueTooLong}
 use Rattle.fjall_journal.specs.Changes.{Emptied, Items, command_of}
 use Rattle.fjall_versions.specs.Replays.{option_pairs}
 use Rattle.fjall_history.specs.declared.reply.Reply.{Reply}
@@ -14,7 +14,7 @@ use Rattle.fjall_history.specs.Moves.{Accepts, Closes, Collects, Moves, MovesOn,
 use Rattle.fjall_history.specs.Tickets.{Tickets, closing_refusal, is_open}
 use Rattle.fjall_state.specs.declared.call.Call.{Call}
 use Rattle.fjall_state.specs.Shapes.{Clone, Close, Collect, OfChange, OfCount, OfCreation, OfDeletion, OfHandle, OfJournalRotation, OfPersist, OfRead, OfRotation, OfTickets, OneLess, OneMore, Open, Shape, TicketCall, shape_of}
-use Rattle.fjall_state.specs.Machine.{Answers, CreatesOrFinds, MayFail, Refuses, Run, State, Step, StepOf, TurnsTickets, deleted, due, is_living, present, rotated, rotates, ticket_refusal, times}
+use Rattle.fjall_state.specs.Machine.{Answers, CreatesOrFinds, MayFail, Refuses, Run, State, Step, StepOf, TurnsTickets, at_fault, deleted, due, is_living, present, rotated, rotates, ticket_refusal, times}
 
 still : (s t : State) → times t ≡ times s → Moves (times s) (times t)
 still s t same = Rests same
@@ -22,9 +22,25 @@ still s t same = Rests same
 as_it_was : (s t : State) → t ≡ s → Moves (times s) (times t)
 as_it_was s t same = Rests (ap times same)
 
+-- a fault leaves the history and the tickets
+fault_times : (s : State) (shape : Shape) → times (at_fault s shape) ≡ times s
+fault_times s (OfChange change how) = refl
+fault_times s (OfCreation name options) = refl
+fault_times s (OfDeletion id) = refl
+fault_times s (OfHandle OneMore id) = refl
+fault_times s (OfHandle OneLess id) = refl
+fault_times s (OfRotation id) = refl
+fault_times s OfJournalRotation = refl
+fault_times s (OfRead view id query) = refl
+fault_times s (OfTickets call) = refl
+fault_times s (OfPersist mode) = refl
+fault_times s (OfCount count) = refl
+
 failure_moves : (s t : State) (shape : Shape) (error : Error) → MayFail shape error s t → Moves (times s) (times t)
-failure_moves s t shape (Io kind) (changes, (fault, trees, sealed)) = still s t (ap times fault)
+failure_moves s t shape (Io kind) (inl (changes, fault)) = still s t (ap times fault.is ∙ fault_times s shape)
+failure_moves s t shape (Io kind) (inr (reads, same)) = as_it_was s t same
 failure_moves s t shape OutOfMemory (takes, same) = as_it_was s t same
+failure_moves s t shape (Storage told) (is, damaged, same) = as_it_was s t same
 failure_moves s t shape ValueTooLong (long, same) = as_it_was s t same
 failure_moves s t shape error none = absurd none
 

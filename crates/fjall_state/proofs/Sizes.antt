@@ -1,5 +1,5 @@
 -- Sizes of memtables, and the settings that they are held against.
-use Rattle.std.proofs.Common.{◌≡◌, ℕ, ◌+◌, ◌&&◌, nat_lt, Bool, true, false, cond, codes, List, [], ◌∷◌, map, Option, None, Some, unwrap_or, refl, sym, ap, ◌∙◌}
+use Rattle.std.proofs.Common.{◌≡◌, ◌↔◌, ℕ, ◌+◌, ◌==◌, ◌&&◌, not, nat_lt, length, Bool, true, false, cond, codes, List, [], ◌∷◌, map, Option, None, Some, unwrap_or, refl, sym, ap, ◌∙◌}
 use Rattle.std.specs.FinMap.{contains_key, entries, get, get-retain_keys, nat_cmp-IsAntisymmetric}
 use Rattle.std.specs.List.{fold, sum_by}
 use Rattle.std.specs.Option.{is_some, option_map}
@@ -13,12 +13,17 @@ use Rattle.fjall_options.specs.declared.options.stored_option.StoredOption.TheVa
 use Rattle.fjall_options.specs.Options.{effective_settings, value_at, value_of}
 use Rattle.fjall_versions.specs.Replays.{option_pairs}
 use Rattle.fjall_versions.proofs.Naming.{named_in_order, settings}
-use Rattle.fjall_trees.specs.Forests.{Forest}
-use Rattle.fjall_trees.specs.Tables.{shape_in}
+use Rattle.fjall_memtable.specs.Entries.{size_of}
+use Rattle.fjall_blocks.specs.Readers.{Reader}
+use Rattle.fjall_parts.specs.Parts.{Memory, holds_nothing, parts_of, versions_in}
+use Rattle.fjall_trees.specs.Forests.{Forest, tree_at}
+use Rattle.fjall_trees.specs.Tables.{AreSameTrees, shape_in}
 use Rattle.fjall_maps.specs.Maps.{store_of}
-use Rattle.fjall_state.specs.Machine.{State, active_size, buffer_size, max_memtable_size, memtable_size, present, wants_rotation}
+use Rattle.fjall_maps.specs.Tables.{store_with}
+use Rattle.fjall_state.specs.Machine.{HasTables, State, active_size, buffer_size, holds_some, is_living, max_memtable_size, memtable_size, present, rotates, version_count, wants_rotation}
 use Rattle.fjall_state.specs.Remembered.{Remembered, StandsFor}
 use Rattle.fjall_state.proofs.Facts.{living_names}
+use Rattle.fjall_state.proofs.SameTrees.{counts_same, memory_in, none_before, none_same, same_in}
 
 -- ---- all memtables
 
@@ -40,7 +45,7 @@ buffer_of_living s all trees others =
     ∙ sum_map (λ (e : ℕ × Bytes). counted (memtable_size (shape_in e.0 others))) (λ (k : LivingKeyspace). (k.id, k.name)) s.living
 
 pub buffers_agree : (m : Remembered) (table : ℕ) (s : State) → StandsFor m table s → buffer_size (present s) s.parts.trees ≡ buffer_size (store_of m.keyspaces m.trees) m.trees
-buffers_agree m table s stands = λ i. sum_by (λ e. counted (memtable_size (shape_in e.0 (stands.trees i)))) (entries ((stands.present i).names))
+buffers_agree m table s stands = λ i. sum_by (λ e. counted (sum_by size_of (versions_in (parts_of (sym (memory_in e.0 s.parts.trees m.trees stands.trees) i))))) (entries ((stands.present i).names))
 
 -- ---- the size of an active memtable
 
@@ -83,4 +88,42 @@ kept_wants s trees id =
 
 pub wants_agree : (m : Remembered) (table : ℕ) (s : State) → StandsFor m table s → (id : ℕ) → wants_rotation (present s) s.parts.trees id ≡ wants_rotation (store_of m.keyspaces m.trees) m.trees id
 wants_agree m table s stands id =
-    sym (kept_wants (present s) s.parts.trees id) ∙ (λ i. wants_rotation (stands.present i) (stands.trees i) id) ∙ kept_wants (store_of m.keyspaces m.trees) m.trees id
+    let b = store_with s.parts.entries m.keyspaces m.trees in
+    sym (kept_wants (present s) s.parts.trees id)
+    ∙ (λ i. wants_rotation (stands.present i) s.parts.trees id)
+    ∙ kept_wants b s.parts.trees id
+    ∙ ap (λ (memory : Memory). is_living b id && nat_lt (max_memtable_size (unwrap_or (get b.options id) [])) (counted (sum_by size_of memory.active.versions))) (sym (memory_in id s.parts.trees m.trees stands.trees))
+
+-- ---- what else is counted
+
+pub versions_agree : (m : Remembered) (table : ℕ) (s : State) → StandsFor m table s → (id : ℕ) → version_count (shape_in id s.parts.trees) ≡ version_count (shape_in id m.trees)
+versions_agree m table s stands id =
+    let same = same_in id s.parts.trees m.trees stands.trees in
+    let sums = sum_map (λ (n : ℕ). n) (λ (t : Reader). t.info.entry_count) (shape_in id s.parts.trees).tables in
+    let others = sum_map (λ (n : ℕ). n) (λ (t : Reader). t.info.entry_count) (shape_in id m.trees).tables in
+    let counts = ap (sum_by (λ (n : ℕ). n)) (counts_same (shape_in id s.parts.trees).tables (shape_in id m.trees).tables same.tables) in
+    λ i. (sym sums ∙ sym counts ∙ others) i + length (versions_in (parts_of (sym same.memory i)))
+
+pub sealed_agree : (m : Remembered) (table : ℕ) (s : State) → StandsFor m table s → (id : ℕ) → length (shape_in id s.parts.trees).memory.sealed ≡ length (shape_in id m.trees).memory.sealed
+sealed_agree m table s stands id = ap (λ (memory : Memory). length memory.sealed) (sym (memory_in id s.parts.trees m.trees stands.trees))
+
+pub tables_agree : (m : Remembered) (table : ℕ) (s : State) → StandsFor m table s → (id : ℕ) → HasTables id s.parts.trees ↔ HasTables id m.trees
+tables_agree m table s stands id =
+    let same = (same_in id s.parts.trees m.trees stands.trees).tables in
+    (λ some none. some (none_before (shape_in id s.parts.trees).tables (shape_in id m.trees).tables same none), λ some none. some (none_same (shape_in id s.parts.trees).tables (shape_in id m.trees).tables same none))
+
+-- a rotation seals something where the state's does
+rotates_by : (old new : Forest) (id : ℕ) → AreSameTrees old new → rotates old id ≡ rotates new id
+rotates_by [] [] id same = refl
+rotates_by [] (k ∷ new) id same = absurd same
+rotates_by (j ∷ old) [] id same = absurd same
+rotates_by (j ∷ old) (k ∷ new) id same = by (j.id == id) (k.id == id) (ap (λ (n : ℕ). n == id) same.0) (rotates_by old new id same.2)
+  where
+    by : (x y : Bool) → y ≡ x → rotates old id ≡ rotates new id → holds_some (cond x (Some j.shape) (tree_at id old)) ≡ holds_some (cond y (Some k.shape) (tree_at id new))
+    by true true e rest = ap (λ (memory : Memory). not (holds_nothing memory.active)) (sym same.1.memory)
+    by false false e rest = rest
+    by true false e rest = let bad : ⊥ = cc in absurd bad
+    by false true e rest = let bad : ⊥ = cc in absurd bad
+
+pub rotations_agree : (m : Remembered) (table : ℕ) (s : State) → StandsFor m table s → (id : ℕ) → rotates s.parts.trees id ≡ rotates m.trees id
+rotations_agree m table s stands id = rotates_by s.parts.trees m.trees id stands.trees

@@ -1,7 +1,7 @@
 -- What calls make of what is held stands for what they make of states.
 use Rattle.std.proofs.Common.{◌≡◌, ◌≢◌, ◌⊎◌, ⊎_elim, inl, inr, ℕ, ◌+◌, ◌-◌, ◌<◌, ◌≤◌, ◌^◌, ◌==◌, ◌||◌, ◌&&◌, ◌↔◌, not, nat_le, Bool, true, false, cond, if◌then◌else◌, List, [], ◌∷◌, ◌++◌, length, map, All, Option, None, Some, unwrap_or, refl, sym, ap, subst, ◌∙◌, arith}
 use Rattle.std.proofs.lemmas.Bool.{true≢false, false_from_ne_true}
-use Rattle.std.proofs.lemmas.List.Elements.{All-weaker}
+use Rattle.std.proofs.lemmas.List.Elements.{All-push, All-weaker}
 use Rattle.std.proofs.lemmas.Option.{none-some}
 use Rattle.std.specs.FinMap.{FinMap, contains_key, empty, get, get-empty, insert, len, values}
 use Rattle.std.specs.Ordering.{nat_cmp}
@@ -9,8 +9,7 @@ use Rattle.std.specs.Option.{is_some, option_map}
 use Rattle.fjall_base.specs.Pairs.{Bytes, Pairs}
 use Rattle.fjall_base.specs.Store.{Command, Create, Delete, Store, apply, kept, map_at}
 use Rattle.fjall_base.specs.declared.error.Error.{Error}
-use Rattle.fjall_base.specs.declared.error.Error.TheVariants.{KeyspaceDeleted, SnapshotClosed, Storage, UnknownKeyspace}
-use Rattle.fjall_base.specs.declared.error.StorageError.TheVariants.{TableDamaged}
+use Rattle.fjall_base.specs.declared.error.Error.TheVariants.{KeyspaceDeleted, SnapshotClosed, UnknownKeyspace}
 use Rattle.fjall_journal.specs.Changes.{Change, Emptied, Items, command_of}
 use Rattle.fjall_journal.specs.Ops.{BatchItem, write_of}
 use Rattle.fjall_meta.specs.declared.living.LivingKeyspace.{LivingKeyspace}
@@ -24,8 +23,13 @@ use Rattle.fjall_versions.proofs.Slots.{get_put, same_id}
 use Rattle.fjall_trees.specs.Forests.{Forest, Planted}
 use Rattle.fjall_trees.specs.Forests as forests
 use Rattle.fjall_trees.specs.Writes.{MayPush, with_tree}
-use Rattle.fjall_lsm.specs.Trees.{sealed_off}
+use Rattle.fjall_table.specs.Blocks.{Entry}
+use Rattle.fjall_lsm.specs.Puts.{bare_tree}
+use Rattle.fjall_lsm.specs.Trees.{emptied, sealed_off}
+use Rattle.fjall_trees.specs.Tables.{AreSameTrees, shape_in}
+use Rattle.fjall_trees.proofs.Same.{same_trees}
 use Rattle.fjall_maps.specs.Maps.{pairs_in, store_of}
+use Rattle.fjall_maps.specs.Tables.{AreOlder, pairs_with, store_with}
 use Rattle.fjall_history.specs.declared.ticket.View.{View}
 use Rattle.fjall_history.specs.declared.ticket.View.TheVariants.{Present, At}
 use Rattle.fjall_history.specs.Histories.{grown, latest, number, plain, view}
@@ -35,51 +39,68 @@ use Rattle.fjall_state.specs.Allowed.{FitsBatch, IsOfLiving}
 use Rattle.fjall_journal.specs.Writer.{counted}
 use Rattle.fjall_manager.specs.Journals.{next_journal}
 use Rattle.fjall_state.specs.Machine as machine
-use Rattle.fjall_state.specs.Machine.{Facts, IsPoisoned, Parts, State, accepted, changed, created, deleted, due, due_in, facts, first_due, handles_of, has_name, instant_of, is_among, is_deleted, is_living, is_read, is_unknown, maps_in, one_less, one_more, opened_state, present, read_refusals, rotates, view_refusals, with_marks, without}
-use Rattle.fjall_state.specs.Remembered.{IsLawful, IsReadAt, Remembered, StandsFor, facts_of, instant_in, is_held, is_last, journal_rotated, poisoned, released, retained, rotated, with_change, with_creation, with_deletion, with_tickets}
+use Rattle.fjall_state.specs.Machine.{Facts, IsPoisoned, Parts, State, accepted, changed, created, deleted, HasLongOption, due, due_in, facts, first_due, handles_of, has_name, instant_of, is_among, is_deleted, is_living, is_read, is_unknown, maps_in, one_less, one_more, opened_state, present, read_refusals, rotates, view_refusals, with_marks, without}
+use Rattle.fjall_state.specs.Remembered.{AreBeside, IsLawful, IsReadAt, Remembered, StandsFor, facts_of, instant_in, is_held, is_last, journal_rotated, poisoned, released, retained, rotated, with_change, with_creation, with_deletion, with_tickets, with_trees}
 use Rattle.fjall_state.proofs.Facts.{counted_is, living_names, named_is, names_are, none_named, some_there}
-use Rattle.fjall_state.proofs.Lawful.{after_release, alike, change_is_lawful, creation_is_lawful, deletion_is_lawful, gone_is_none, itself, last_gone, may_push, poisoned_is_lawful, released_is_lawful, retained_is_lawful, rotated_is_lawful, tickets_are_lawful, IsTime, time_closed, time_collected, time_opened, tree_there}
-use Rattle.fjall_maps.proofs.Reading.{a_keyspace_reads, pairs_above, read_nothing, store_is_kept}
-use Rattle.fjall_maps.proofs.Emptied.{emptied_early, emptied_late, emptied_store}
-use Rattle.fjall_maps.proofs.Pushed.{pushed_early, pushed_late, pushed_store}
-use Rattle.fjall_maps.proofs.Planted.{creation_of_trees, deletion_of_trees, no_tree, planted_pairs}
-use Rattle.fjall_maps.proofs.Dropped.{dropped_each, dropped_pairs, dropped_store}
-use Rattle.fjall_maps.proofs.Rotated.{rotated_pairs, rotated_store}
-use Rattle.fjall_maps.proofs.Stores.{held_at}
+use Rattle.fjall_state.proofs.Lawful.{after_release, alike, change_is_lawful, creation_is_lawful, deletion_is_lawful, gone_is_none, itself, last_gone, may_push, poisoned_is_lawful, read_is_lawful, released_is_lawful, retained_is_lawful, rotated_is_lawful, tickets_are_lawful, IsTime, time_closed, time_collected, time_opened, tree_there}
+use Rattle.fjall_maps.proofs.Commands.{deleted_by}
+use Rattle.fjall_maps.proofs.Alike.{same_older, same_pairs, same_store_with}
+use Rattle.fjall_maps.proofs.Reading.{above_with, nothing_with}
+use Rattle.fjall_maps.proofs.Emptied.{clear_early, clear_late, clear_with}
+use Rattle.fjall_maps.proofs.Older.{dropped_older, emptied_older, planted_older, pushed_older, rotated_older}
+use Rattle.fjall_maps.proofs.Pushed.{early_with, late_with, write_with}
+use Rattle.fjall_maps.proofs.Planted.{creation_with, no_tree, planted_with}
+use Rattle.fjall_maps.proofs.Dropped.{dropped_each, dropped_store_with, dropped_with}
+use Rattle.fjall_maps.proofs.Rotated.{rotated_store_with, rotated_with}
+use Rattle.fjall_maps.proofs.Stores.{held_by as stored_by, kept_by, reads_by}
+use Rattle.fjall_state.proofs.SameTrees.{all_same, along, altered_tables, none_before, pushed_tables, same_changed, same_dropped, same_planted, same_rotated}
+use Rattle.fjall_state.proofs.Showing.{bare_pairs}
 use Rattle.fjall_state.proofs.Viewing.{GoesOn, among-append, among_without, Ways, held_by, it_lasts, it_lives, it_waits, latest_grown, number_grown, present_map, view_latest, views_go_on, ways}
 
 -- ---- what refusals look at
 
--- they look at nothing that isn't kept
-kept_due : (f : Facts) (shape : Shape) → due_in f shape ≡ due_in (record f { store = kept f.store }) shape
-kept_due f (OfChange (Items []) how) = refl
-kept_due f (OfChange (Items (item ∷ items)) how) = refl
-kept_due f (OfChange (Emptied id) how) = refl
-kept_due f (OfCreation name options) = refl
-kept_due f (OfDeletion id) = refl
-kept_due f (OfHandle OneMore id) = refl
-kept_due f (OfHandle OneLess id) = refl
-kept_due f (OfRotation id) = refl
-kept_due f OfJournalRotation = refl
-kept_due f (OfRead Present id query) = refl
-kept_due f (OfRead (At ticket) id query) = refl
-kept_due f (OfTickets call) = refl
-kept_due f (OfPersist mode) = refl
-kept_due f (OfCount count) = refl
+-- of the store they look at names and at the next id
+abbrev names_alone : Facts → Facts
+names_alone f = record f { store = record f.store { maps = empty; options = empty } }
+
+names_due : (f : Facts) (shape : Shape) → due_in f shape ≡ due_in (names_alone f) shape
+names_due f (OfChange (Items []) how) = refl
+names_due f (OfChange (Items (item ∷ items)) how) = refl
+names_due f (OfChange (Emptied id) how) = refl
+names_due f (OfCreation name options) = refl
+names_due f (OfDeletion id) = refl
+names_due f (OfHandle OneMore id) = refl
+names_due f (OfHandle OneLess id) = refl
+names_due f (OfRotation id) = refl
+names_due f OfJournalRotation = refl
+names_due f (OfRead Present id query) = refl
+names_due f (OfRead (At ticket) id query) = refl
+names_due f (OfTickets call) = refl
+names_due f (OfPersist mode) = refl
+names_due f (OfCount count) = refl
 
 pub facts_agree : (m : Remembered) (table : ℕ) (s : State) → StandsFor m table s → (shape : Shape) → due s shape ≡ due_in (facts_of m table) shape
 facts_agree m table s stands shape =
-    kept_due (facts s) shape
-    ∙ (λ i. due_in (record { store = stands.present i; next = stands.number i; poisoned = stands.poisoned i; lasting = stands.lasting i; damaged = stands.damaged i; handles = stands.handles i; tickets = stands.tickets i; table = stands.next_table i; active = (stands.journals i).active }) shape)
-    ∙ sym (kept_due (facts_of m table) shape)
+    names_due (facts s) shape
+    ∙ (λ i. due_in (record {
+      store = record { names = (stands.present i).names; maps = empty; options = empty; next = (stands.present i).next };
+      next = stands.number i;
+      poisoned = stands.poisoned i;
+      lasting = stands.lasting i;
+      handles = stands.handles i;
+      tickets = stands.tickets i;
+      table = stands.next_table i;
+      active = (stands.journals i).active;
+    }) shape)
+    ∙ sym (names_due (facts_of m table) shape)
 
-same_names : (m : Remembered) (table : ℕ) (s : State) → StandsFor m table s → (present s).names ≡ (store_of m.keyspaces m.trees).names
+pub same_names : (m : Remembered) (table : ℕ) (s : State) → StandsFor m table s → (present s).names ≡ (store_of m.keyspaces m.trees).names
 same_names m table s stands = ap (λ (t : Store). t.names) stands.present
 
 -- ---- one command more
 
-kept_after : (m : Remembered) (table : ℕ) (s : State) → StandsFor m table s → (c : Command) → kept (latest (grown s.history (plain c))) ≡ kept (apply (store_of m.keyspaces m.trees) c)
-kept_after m table s stands c = ap kept (latest_grown s.history (plain c)) ∙ kept_along (present s) (store_of m.keyspaces m.trees) (c ∷ []) stands.present
+kept_after : (m : Remembered) (table : ℕ) (s : State) → StandsFor m table s → (c : Command) → kept (latest (grown s.history (plain c))) ≡ kept (apply (store_with s.parts.entries m.keyspaces m.trees) c)
+kept_after m table s stands c = ap kept (latest_grown s.history (plain c)) ∙ kept_along (present s) (store_with s.parts.entries m.keyspaces m.trees) (c ∷ []) stands.present
 
 one_number_more : (m : Remembered) (table : ℕ) (s : State) → StandsFor m table s → (c : Command) → number (grown s.history (plain c)) ≡ m.next + 1
 one_number_more m table s stands c = number_grown s.history (plain c) ∙ ap (λ n. n + 1) stands.number
@@ -87,32 +108,48 @@ one_number_more m table s stands c = number_grown s.history (plain c) ∙ ap (λ
 -- ---- a change
 
 -- what is above the last number shows what stands below it
-still_shown : (m : Remembered) → IsLawful m → (id : ℕ) → pairs_in id m.next m.trees ≡ pairs_in id (m.next + 1) m.trees
-still_shown m is id = sym (pairs_above m.next m.trees is.forest is.below id (m.next + 1) (omega arith))
+still_shown : (m : Remembered) (entries : ℕ → List (List Entry)) → IsLawful m → AreOlder m.trees entries → (id : ℕ) → pairs_with entries id m.next m.trees ≡ pairs_with entries id (m.next + 1) m.trees
+still_shown m entries is older id = sym (above_with entries m.next m.trees is.forest older is.below id (m.next + 1) (omega arith))
 
 -- a keyspace whose id was not given out yet has nothing
-waits_empty : (m : Remembered) (trees : Forest) → All (λ k. k.id < m.keyspaces.next) trees → (id instant : ℕ) → m.keyspaces.next ≤ id → pairs_in id instant trees ≡ empty
-waits_empty m trees given id instant le = read_nothing id instant trees (no_tree id trees (All-weaker (λ (k : Planted). k.id < m.keyspaces.next) (λ k. k.id < id) (λ k h. omega (arith, h, le)) trees given))
+waits_empty : (m : Remembered) (entries : ℕ → List (List Entry)) (trees : Forest) → All (λ k. k.id < m.keyspaces.next) trees → (id instant : ℕ) → m.keyspaces.next ≤ id → pairs_with entries id instant trees ≡ empty
+waits_empty m entries trees given id instant le = nothing_with entries id instant trees (no_tree id trees (All-weaker (λ (k : Planted). k.id < m.keyspaces.next) (λ k. k.id < id) (λ k h. omega (arith, h, le)) trees given))
+
+-- what tables hold stays beside memory under a change
+changed_beside : (m : Remembered) (entries : ℕ → List (List Entry)) (change : Change) → AreBeside m entries → AreBeside (with_change change m) entries
+changed_beside m entries (Items items) is = record {
+  older = pushed_older m.next items m.trees entries is.older;
+  none = pushed_tables (λ id tables. tables ≡ [] → entries id ≡ []) m.trees is.none m.next items;
+  unused = is.unused;
+}
+changed_beside m entries (Emptied id) is = record {
+  older = emptied_older m.next id m.trees entries is.older;
+  none = altered_tables (λ q tables. tables ≡ [] → entries q ≡ []) m.trees is.none id (emptied m.next) (λ shape. refl);
+  unused = is.unused;
+}
 
 -- a change that what is held goes on by is one of the state
 after_change : (m : Remembered) (table : ℕ) (s : State) (stands : StandsFor m table s) (change : Change) → GoesOn m (with_change change m) table s stands (command_of change)
-    → kept (apply (store_of m.keyspaces m.trees) (command_of change)) ≡ store_of m.keyspaces (changed m.next change m.trees) → IsLawful (with_change change m)
-    → (parts : Parts) → parts.table ≡ s.parts.table → parts.trees ≡ changed (number s.history) change s.parts.trees → parts.journals ≡ with_marks (number s.history) change s.parts.journals
-    → StandsFor (with_change change m) table (record s { history = grown s.history (plain (command_of change)); parts = parts })
-after_change m table s stands change on store is parts same trees journals = record {
-  present = kept_after m table s stands (command_of change) ∙ store ∙ sym (store_is_kept m.keyspaces (changed m.next change m.trees));
+    → kept (apply (store_with s.parts.entries m.keyspaces m.trees) (command_of change)) ≡ store_with s.parts.entries m.keyspaces (changed m.next change m.trees) → IsLawful (with_change change m)
+    → (journal buffer : ℕ)
+    → StandsFor (with_change change m) table (record s {
+      history = grown s.history (plain (command_of change));
+      parts = record s.parts { journals = with_marks (number s.history) change s.parts.journals; journal = journal; buffer = buffer; trees = changed (number s.history) change s.parts.trees };
+    })
+after_change m table s stands change on store is journal buffer = record {
+  present = kept_after m table s stands (command_of change) ∙ store ∙ sym (kept_by (λ q. pairs_with s.parts.entries q (2 ^ 63) (changed m.next change m.trees)) m.keyspaces);
   views = views_go_on m (with_change change m) table s stands (command_of change) on;
   number = one_number_more m table s stands (command_of change);
   poisoned = stands.poisoned;
   handles = stands.handles;
   lasting = stands.lasting;
-  damaged = stands.damaged;
   tickets = stands.tickets;
   jobs = stands.jobs;
   next_job = stands.next_job;
-  next_table = same ∙ stands.next_table;
-  trees = trees ∙ (λ i. changed (stands.number i) change (stands.trees i));
-  journals = journals ∙ (λ i. with_marks (stands.number i) change (stands.journals i));
+  next_table = stands.next_table;
+  trees = subst (λ n. AreSameTrees (changed n change s.parts.trees) (changed m.next change m.trees)) (sym stands.number) (same_changed m.next change s.parts.trees m.trees stands.trees);
+  beside = changed_beside m s.parts.entries change stands.beside;
+  journals = λ i. with_marks (stands.number i) change (stands.journals i);
   lawful = is;
 }
 
@@ -132,8 +169,8 @@ module _ (m : Remembered) (table : ℕ) (s : State) (stands : StandsFor m table 
     next = refl;
     tickets = refl;
     held = λ id held. held;
-    early = λ instant id le held. pushed_early m.next items m.trees may id instant le;
-    late = λ id held. pushed_late m.next items m.trees may planted_items (present s) id (present_map m table s stands id held);
+    early = λ instant id le held. early_with s.parts.entries m.next items m.trees may id instant le;
+    late = λ id held. late_with s.parts.entries m.next items m.trees may stands.beside.older planted_items (present s) id (present_map m table s stands id held);
   }
 
 clear_goes_on : (m : Remembered) (table : ℕ) (s : State) (stands : StandsFor m table s) (id : ℕ) → GoesOn m (with_change (Emptied id) m) table s stands (command_of (Emptied id))
@@ -143,8 +180,8 @@ clear_goes_on m table s stands id =
       next = refl;
       tickets = refl;
       held = λ other held. held;
-      early = λ instant other le held. emptied_early m.next id m.trees is.forest is.below other instant le;
-      late = λ other held. emptied_late m.next id m.trees is.forest is.below (present s) other (present_map m table s stands other held);
+      early = λ instant other le held. clear_early s.parts.entries m.next id m.trees other instant le;
+      late = λ other held. clear_late s.parts.entries m.next id m.trees is.forest stands.beside.older is.below (present s) other (present_map m table s stands other held);
     }
 
 -- what a change makes of a state stands for what it makes of what is held
@@ -152,12 +189,12 @@ change_made : (m : Remembered) (table : ℕ) (s : State) → StandsFor m table s
     → StandsFor (with_change change m) table (machine.made s change how)
 change_made m table s stands (Items items) how living fits small =
     let may = may_push items m stands.lawful small fits in
-    let store = pushed_store m.next items m.trees may m.keyspaces stands.lawful.planted (living_items m table s stands items living may) in
-    after_change m table s stands (Items items) (items_go_on m table s stands items living may) store (change_is_lawful (Items items) m stands.lawful small fits) (machine.made s (Items items) how).parts refl refl refl
+    let store = write_with s.parts.entries m.next items m.trees may stands.beside.older m.keyspaces stands.lawful.planted (living_items m table s stands items living may) in
+    after_change m table s stands (Items items) (items_go_on m table s stands items living may) store (change_is_lawful (Items items) m stands.lawful small fits) (machine.made s (Items items) how).parts.journal (machine.made s (Items items) how).parts.buffer
 change_made m table s stands (Emptied id) how living fits small =
     let is = stands.lawful in
-    let store = emptied_store m.next id m.trees is.forest is.below small m.keyspaces (sym (living_names m.keyspaces m.trees id) ∙ living) in
-    after_change m table s stands (Emptied id) (clear_goes_on m table s stands id) store (change_is_lawful (Emptied id) m is small tt) (machine.made s (Emptied id) how).parts refl refl refl
+    let store = clear_with s.parts.entries m.next id m.trees is.forest stands.beside.older is.below small m.keyspaces in
+    after_change m table s stands (Emptied id) (clear_goes_on m table s stands id) store (change_is_lawful (Emptied id) m is small tt) (machine.made s (Emptied id) how).parts.journal (machine.made s (Emptied id) how).parts.buffer
 
 pub a_change_stands : (m : Remembered) (table : ℕ) (s : State) → StandsFor m table s → (change : Change) (how : Persistence) → change ≢ Items [] → IsOfLiving (store_of m.keyspaces m.trees) change
     → FitsBatch change → m.next < 2 ^ 63 → StandsFor (with_change change m) table (accepted s change how)
@@ -170,24 +207,25 @@ a_change_stands m table s stands (Emptied id) how some living fits small = chang
 -- what is shown stays, and the watermark is raised
 pub a_rotation_stands : (m : Remembered) (table : ℕ) (s : State) → StandsFor m table s → (id : ℕ) → StandsFor (rotated id m) table (machine.rotated s id)
 a_rotation_stands m table s stands id = record {
-  present = stands.present ∙ ap kept (sym (rotated_store id m.keyspaces m.trees));
-  views = λ instant at other held. stands.views instant at other held ∙ sym (rotated_pairs id other instant m.trees);
+  present = stands.present ∙ ap kept (sym (rotated_store_with s.parts.entries id m.keyspaces m.trees));
+  views = λ instant at other held. stands.views instant at other held ∙ sym (rotated_with s.parts.entries id other instant m.trees);
   number = stands.number;
   poisoned = stands.poisoned;
   handles = stands.handles;
   lasting = stands.lasting;
-  damaged = stands.damaged;
   tickets = λ i. collected (stands.number i) (stands.tickets i);
   jobs = stands.jobs;
   next_job = stands.next_job;
   next_table = stands.next_table;
-  trees = ap (forests.altered_at id sealed_off) stands.trees;
+  trees = same_rotated id s.parts.trees m.trees stands.trees;
+  beside = record {
+    older = rotated_older id m.trees s.parts.entries stands.beside.older;
+    none = altered_tables (λ q tables. tables ≡ [] → s.parts.entries q ≡ []) m.trees stands.beside.none id sealed_off (λ shape. refl);
+    unused = stands.beside.unused;
+  };
   journals = stands.journals;
   lawful = rotated_is_lawful id m stands.lawful;
 }
-
-pub rotations_agree : (m : Remembered) (table : ℕ) (s : State) → StandsFor m table s → (id : ℕ) → rotates s.parts.trees id ≡ rotates m.trees id
-rotations_agree m table s stands id = ap (λ trees. rotates trees id) stands.trees
 
 -- ---- a creation
 
@@ -220,36 +258,43 @@ module _ (m : Remembered) (table : ℕ) (s : State) (stands : StandsFor m table 
   created_goes_on =
       let is = stands.lawful in
       let next : (present s).next ≡ m.keyspaces.next = ap (λ (t : Store). t.next) stands.present in
-      let none = waits_empty m m.trees is.given m.keyspaces.next m.next (omega arith) in
+      let none = waits_empty m s.parts.entries m.trees is.given m.keyspaces.next m.next (omega arith) in
+      let unused = stands.beside.unused m.keyspaces.next (omega arith) in
       let held = λ (id : ℕ) (h : is_held (with_creation name options m) id ≡ true). held_by m id (created_ways id (ways (with_creation name options m) id h)) in
       record {
         next = refl;
         tickets = refl;
         held = held;
-        early = λ instant id le h. planted_pairs m.keyspaces.next m.next m.trees is.given id instant;
+        early = λ instant id le h. planted_with s.parts.entries m.keyspaces.next m.next m.trees unused id instant;
         late = λ id h. ap (λ n. map_at (insert (present s).maps n empty) id) next
-            ∙ created_map (present s).maps m.keyspaces.next (λ i. pairs_in i m.next m.trees) none id (present_map m table s stands id (held id h))
-            ∙ still_shown m is id ∙ sym (planted_pairs m.keyspaces.next m.next m.trees is.given id (m.next + 1));
+            ∙ created_map (present s).maps m.keyspaces.next (λ i. pairs_with s.parts.entries i m.next m.trees) none id (present_map m table s stands id (held id h))
+            ∙ still_shown m s.parts.entries is stands.beside.older id ∙ sym (planted_with s.parts.entries m.keyspaces.next m.next m.trees unused id (m.next + 1));
       }
 
   pub a_creation_stands : is_name name ≡ true → has_name (store_of m.keyspaces m.trees) name ≡ false → AreOptions options → m.keyspaces.next ≢ 2 ^ 64 - 1 → m.next < 2 ^ 63 → StandsFor (with_creation name options m) (table + 1) (created s name options)
   a_creation_stands named fresh are free small =
       let is = stands.lawful in
       let c = Create name (option_pairs options) in
+      let unused = stands.beside.unused m.keyspaces.next (omega arith) in
       record {
-        present = kept_after m table s stands c ∙ ap kept (sym (creation_of_trees name options m.next m.keyspaces is.keyspaces m.next m.trees is.given));
+        present = kept_after m table s stands c ∙ ap kept (sym (creation_with s.parts.entries name options m.next m.keyspaces is.keyspaces m.next m.trees is.given unused));
         views = views_go_on m (with_creation name options m) table s stands c created_goes_on;
         number = one_number_more m table s stands c;
         poisoned = stands.poisoned;
         handles = stands.handles;
         lasting = stands.lasting;
-        damaged = stands.damaged;
         tickets = stands.tickets;
         jobs = stands.jobs;
         next_job = stands.next_job;
         next_table = ap (λ n. n + 1) stands.next_table;
         journals = stands.journals;
-        trees = λ i. with_tree ((stands.present i).next) (stands.number i) (stands.trees i);
+        trees = subst (λ (at : ℕ × ℕ). AreSameTrees (with_tree at.0 at.1 s.parts.trees) (with_tree m.keyspaces.next m.next m.trees)) (sym (λ i. ((stands.present i).next, stands.number i)))
+            (same_planted m.keyspaces.next m.next s.parts.trees m.trees stands.trees);
+        beside = record {
+          older = planted_older m.keyspaces.next m.next m.trees s.parts.entries stands.beside.older unused;
+          none = All-push (λ (j : Planted). j.shape.tables ≡ [] → s.parts.entries j.id ≡ []) m.trees (record { id = m.keyspaces.next; shape = bare_tree m.next }) stands.beside.none (λ _. unused);
+          unused = λ id le. stands.beside.unused id (omega (arith, le));
+        };
         lawful = creation_is_lawful name options m is named (none_named m.keyspaces is.keyspaces m.trees name fresh) are free small;
       }
 
@@ -273,7 +318,7 @@ module _ (m : Remembered) (table : ℕ) (s : State) (stands : StandsFor m table 
         tickets = refl;
         held = held;
         early = λ instant q le h. refl;
-        late = λ q h. present_map m table s stands q (held q h) ∙ still_shown m stands.lawful q;
+        late = λ q h. present_map m table s stands q (held q h) ∙ still_shown m s.parts.entries stands.lawful stands.beside.older q;
       }
 
   pub a_deletion_stands : m.next < 2 ^ 63 → StandsFor (with_deletion id m) (if nat_le 2 (len (store_of m.keyspaces m.trees).names) then table + 1 else table) (deleted s id)
@@ -281,18 +326,18 @@ module _ (m : Remembered) (table : ℕ) (s : State) (stands : StandsFor m table 
       let c = Delete id in
       let names = same_names m table s stands in
       record {
-        present = kept_after m table s stands c ∙ sym (deletion_of_trees id m.keyspaces m.trees);
+        present = kept_after m table s stands c ∙ sym (deleted_by (λ q. pairs_with s.parts.entries q (2 ^ 63) m.trees) id m.keyspaces);
         views = views_go_on m (with_deletion id m) table s stands c deleted_goes_on;
         number = one_number_more m table s stands c;
         poisoned = stands.poisoned;
         handles = stands.handles;
         lasting = ap (λ l. l ++ id ∷ []) stands.lasting;
-        damaged = stands.damaged;
         tickets = stands.tickets;
         jobs = stands.jobs;
         next_job = stands.next_job;
         next_table = λ i. if nat_le 2 (len (names i)) then stands.next_table i + 1 else stands.next_table i;
         trees = stands.trees;
+        beside = record { older = stands.beside.older; none = stands.beside.none; unused = stands.beside.unused };
         journals = stands.journals;
         lawful = deletion_is_lawful id m stands.lawful small;
       }
@@ -307,12 +352,12 @@ a_retained_stands m table s stands id = record {
   poisoned = stands.poisoned;
   handles = ap (λ h. one_more h id) stands.handles;
   lasting = stands.lasting;
-  damaged = stands.damaged;
   tickets = stands.tickets;
   jobs = stands.jobs;
   next_job = stands.next_job;
   next_table = stands.next_table;
   trees = stands.trees;
+  beside = record { older = stands.beside.older; none = stands.beside.none; unused = stands.beside.unused };
   journals = stands.journals;
   lawful = retained_is_lawful id m stands.lawful;
 }
@@ -325,23 +370,35 @@ module _ (m : Remembered) (table : ℕ) (s : State) (stands : StandsFor m table 
   left_ways gone q (it_lasts e) = let rest = among_without m.lasting id q e in (held_by m q (it_lasts rest.0), inl rest.1)
   left_ways gone q (it_waits le) = (held_by m q (it_waits le), inr le)
 
-  same_left : (instant q : ℕ) → ((q == id) ≡ false) ⊎ (m.keyspaces.next ≤ q) → pairs_in q instant (forests.without id m.trees) ≡ pairs_in q instant m.trees
-  same_left instant q (inl other) = dropped_pairs id q m.trees (λ same. true≢false (sym (itself id) ∙ ap (λ i. i == id) (sym same) ∙ other)) instant
+  same_left : (instant q : ℕ) → ((q == id) ≡ false) ⊎ (m.keyspaces.next ≤ q) → pairs_with s.parts.entries q instant (forests.without id m.trees) ≡ pairs_with s.parts.entries q instant m.trees
+  same_left instant q (inl other) = dropped_with s.parts.entries id q m.trees (λ same. true≢false (sym (itself id) ∙ ap (λ i. i == id) (sym same) ∙ other)) instant
   same_left instant q (inr le) =
       let given = stands.lawful.given in
-      waits_empty m (forests.without id m.trees) (dropped_each (λ k. k.id < m.keyspaces.next) id m.trees given) q instant le ∙ sym (waits_empty m m.trees given q instant le)
+      waits_empty m s.parts.entries (forests.without id m.trees) (dropped_each (λ k. k.id < m.keyspaces.next) id m.trees given) q instant le ∙ sym (waits_empty m s.parts.entries m.trees given q instant le)
 
   views_left : (last : Bool) → (last ≡ true → is_living (store_of m.keyspaces m.trees) id ≡ false) → (instant : ℕ) → IsReadAt (after_release m id last) instant → (q : ℕ) → is_held (after_release m id last) q ≡ true
-      → map_at (view s.history instant).maps q ≡ pairs_in q instant (after_release m id last).trees
+      → map_at (view s.history instant).maps q ≡ pairs_with s.parts.entries q instant (after_release m id last).trees
   views_left false gone instant at q held = stands.views instant at q held
   views_left true gone instant at q held =
       let left = left_ways (gone refl) q (ways (after_release m id true) q held) in
       stands.views instant at q left.0 ∙ sym (same_left instant q left.1)
 
   -- without the tree of a deleted keyspace the same is kept
-  present_left : (last : Bool) → (last ≡ true → is_living (store_of m.keyspaces m.trees) id ≡ false) → kept (present s) ≡ kept (store_of m.keyspaces (if last then forests.without id m.trees else m.trees))
+  present_left : (last : Bool) → (last ≡ true → is_living (store_of m.keyspaces m.trees) id ≡ false) → kept (present s) ≡ kept (store_with s.parts.entries m.keyspaces (if last then forests.without id m.trees else m.trees))
   present_left false gone = stands.present
-  present_left true gone = stands.present ∙ ap kept (sym (dropped_store id m.keyspaces m.trees (gone_is_none m id (gone refl))))
+  present_left true gone = stands.present ∙ ap kept (sym (dropped_store_with s.parts.entries id m.keyspaces m.trees (gone_is_none m id (gone refl))))
+
+  trees_left : (last : Bool) → AreSameTrees (if last then forests.without id s.parts.trees else s.parts.trees) (if last then forests.without id m.trees else m.trees)
+  trees_left true = same_dropped id s.parts.trees m.trees stands.trees
+  trees_left false = stands.trees
+
+  beside_left : (last : Bool) → AreBeside (after_release m id last) s.parts.entries
+  beside_left true = record {
+    older = dropped_older id m.trees s.parts.entries stands.beside.older;
+    none = dropped_each (λ (j : Planted). j.shape.tables ≡ [] → s.parts.entries j.id ≡ []) id m.trees stands.beside.none;
+    unused = stands.beside.unused;
+  }
+  beside_left false = record { older = stands.beside.older; none = stands.beside.none; unused = stands.beside.unused }
 
   abbrev released_as : Bool → State
   released_as last = record s {
@@ -358,12 +415,12 @@ module _ (m : Remembered) (table : ℕ) (s : State) (stands : StandsFor m table 
     poisoned = stands.poisoned;
     handles = ap (λ h. one_less h id) stands.handles;
     lasting = ap (λ l. if last then without l id else l) stands.lasting;
-    damaged = stands.damaged;
     tickets = stands.tickets;
     jobs = stands.jobs;
     next_job = stands.next_job;
     next_table = stands.next_table;
-    trees = ap (λ (trees : Forest). if last then forests.without id trees else trees) stands.trees;
+    trees = trees_left last;
+    beside = beside_left last;
     journals = stands.journals;
     lawful = is;
   }
@@ -387,12 +444,12 @@ with_tickets_stands m table s stands tickets times = record {
   poisoned = stands.poisoned;
   handles = stands.handles;
   lasting = stands.lasting;
-  damaged = stands.damaged;
   tickets = refl;
   jobs = stands.jobs;
   next_job = stands.next_job;
   next_table = stands.next_table;
   trees = stands.trees;
+  beside = record { older = stands.beside.older; none = stands.beside.none; unused = stands.beside.unused };
   journals = stands.journals;
   lawful = tickets_are_lawful m tickets stands.lawful times;
 }
@@ -418,43 +475,78 @@ collected_stands m table s stands = on_state m table s (collected m.next) stands
 
 -- ---- faults, and the journal
 
-pub a_fault_stands : (m : Remembered) (table : ℕ) (s : State) → StandsFor m table s → (parts : Parts) → parts.trees ≡ m.trees → parts.journals ≡ m.journals → StandsFor (poisoned m) parts.table (record s { poisoned = true; parts = parts })
-a_fault_stands m table s stands parts trees journals = record {
-  present = stands.present;
-  views = stands.views;
-  number = stands.number;
-  poisoned = refl;
-  handles = stands.handles;
-  lasting = stands.lasting;
-  damaged = stands.damaged;
-  tickets = stands.tickets;
-  jobs = stands.jobs;
-  next_job = stands.next_job;
-  next_table = refl;
-  trees = trees;
-  journals = journals;
-  lawful = poisoned_is_lawful m stands.lawful;
-}
+-- parts that say the same of trees, of what tables hold and of journals
+abbrev with_said : Parts → Parts → Parts
+with_said said parts = record parts { trees = said.trees; entries = said.entries; journals = said.journals }
 
-pub a_fault_poisons : (s : State) (parts : Parts) → parts.trees ≡ s.parts.trees → parts.journals ≡ s.parts.journals → IsPoisoned s (record s { poisoned = true; parts = parts })
-a_fault_poisons s parts trees journals = (refl, trees, journals)
+said_same : (said parts : Parts) → parts.trees ≡ said.trees → parts.entries ≡ said.entries → parts.journals ≡ said.journals → parts ≡ with_said said parts
+said_same said parts trees entries journals = λ i. record { journals = journals i; journal = parts.journal; buffer = parts.buffer; table = parts.table; trees = trees i; entries = entries i }
 
-pub other_parts_stand : (m : Remembered) (table : ℕ) (s : State) → StandsFor m table s → (parts : Parts) → parts.table ≡ table → parts.trees ≡ m.trees → parts.journals ≡ m.journals → StandsFor m table (record s { parts = parts })
-other_parts_stand m table s stands parts is trees journals = record {
-  present = stands.present;
-  views = stands.views;
+pub a_fault_stands : (m : Remembered) (table : ℕ) (s : State) → StandsFor m table s → (parts : Parts) → parts.trees ≡ s.parts.trees → parts.entries ≡ s.parts.entries → parts.journals ≡ s.parts.journals
+    → StandsFor (poisoned m) parts.table (record s { poisoned = true; parts = parts })
+a_fault_stands m table s stands parts trees entries journals =
+    subst (λ p. StandsFor (poisoned m) parts.table (record s { poisoned = true; parts = p })) (sym (said_same s.parts parts trees entries journals)) (record {
+      present = stands.present;
+      views = stands.views;
+      number = stands.number;
+      poisoned = refl;
+      handles = stands.handles;
+      lasting = stands.lasting;
+      tickets = stands.tickets;
+      jobs = stands.jobs;
+      next_job = stands.next_job;
+      next_table = refl;
+      trees = stands.trees;
+      beside = record { older = stands.beside.older; none = stands.beside.none; unused = stands.beside.unused };
+      journals = stands.journals;
+      lawful = poisoned_is_lawful m stands.lawful;
+    })
+
+pub a_fault_poisons : (s : State) (parts : Parts) → parts.trees ≡ s.parts.trees → parts.entries ≡ s.parts.entries → parts.journals ≡ s.parts.journals → IsPoisoned s (record s { poisoned = true; parts = parts })
+a_fault_poisons s parts trees entries journals = record { is = refl; trees = trees; entries = entries; journals = journals }
+
+pub other_parts_stand : (m : Remembered) (table : ℕ) (s : State) → StandsFor m table s → (parts : Parts) → parts.table ≡ table → parts.trees ≡ s.parts.trees → parts.entries ≡ s.parts.entries → parts.journals ≡ s.parts.journals
+    → StandsFor m table (record s { parts = parts })
+other_parts_stand m table s stands parts is trees entries journals =
+    subst (λ p. StandsFor m table (record s { parts = p })) (sym (said_same s.parts parts trees entries journals)) (record {
+      present = stands.present;
+      views = stands.views;
+      number = stands.number;
+      poisoned = stands.poisoned;
+      handles = stands.handles;
+      lasting = stands.lasting;
+      tickets = stands.tickets;
+      jobs = stands.jobs;
+      next_job = stands.next_job;
+      next_table = is;
+      trees = stands.trees;
+      beside = record { older = stands.beside.older; none = stands.beside.none; unused = stands.beside.unused };
+      journals = stands.journals;
+      lawful = stands.lawful;
+    })
+
+-- ---- what a read keeps
+
+pub a_read_stands : (m : Remembered) (table : ℕ) (s : State) → StandsFor m table s → (trees : Forest) → AreSameTrees m.trees trees → StandsFor (with_trees trees m) table s
+a_read_stands m table s stands trees same = record {
+  present = stands.present ∙ ap kept (sym (same_store_with s.parts.entries m.keyspaces m.trees trees same));
+  views = λ instant at id held. stands.views instant at id held ∙ sym (same_pairs s.parts.entries id instant m.trees trees same);
   number = stands.number;
   poisoned = stands.poisoned;
   handles = stands.handles;
   lasting = stands.lasting;
-  damaged = stands.damaged;
   tickets = stands.tickets;
   jobs = stands.jobs;
   next_job = stands.next_job;
-  next_table = is;
-  trees = trees;
-  journals = journals;
-  lawful = stands.lawful;
+  next_table = stands.next_table;
+  trees = along s.parts.trees m.trees trees stands.trees same;
+  beside = record {
+    older = same_older s.parts.entries m.trees trees same stands.beside.older;
+    none = all_same (λ id tables. tables ≡ [] → s.parts.entries id ≡ []) (λ id a b alike is none. is (none_before a b alike none)) m.trees trees same stands.beside.none;
+    unused = stands.beside.unused;
+  };
+  journals = stands.journals;
+  lawful = read_is_lawful trees m same stands.lawful;
 }
 
 pub a_journal_rotation_stands : (m : Remembered) (table : ℕ) (s : State) → StandsFor m table s → (len : ℕ) → len ≡ counted (s.parts.journal + s.parts.buffer)
@@ -466,27 +558,27 @@ a_journal_rotation_stands m table s stands len is = record {
   poisoned = stands.poisoned;
   handles = stands.handles;
   lasting = stands.lasting;
-  damaged = stands.damaged;
   tickets = stands.tickets;
   jobs = stands.jobs;
   next_job = stands.next_job;
   next_table = stands.next_table;
   trees = stands.trees;
+  beside = record { older = stands.beside.older; none = stands.beside.none; unused = stands.beside.unused };
   journals = λ i. next_journal (sym is i) (stands.journals i);
   lawful = alike m (journal_rotated len m) stands.lawful refl refl refl refl;
 }
 
 -- ---- reads
 
-none_refused : (unknown among damaged : Bool) → first_due ((unknown, UnknownKeyspace) ∷ (not among, KeyspaceDeleted) ∷ (damaged, Storage TableDamaged) ∷ []) ≡ None → among ≡ true
-none_refused true among damaged none = absurd (true≢false (ap is_some none))
-none_refused false true damaged none = refl
-none_refused false false damaged none = absurd (true≢false (ap is_some none))
+none_refused : (unknown among : Bool) → first_due ((unknown, UnknownKeyspace) ∷ (not among, KeyspaceDeleted) ∷ []) ≡ None → among ≡ true
+none_refused true among none = absurd (true≢false (ap is_some none))
+none_refused false true none = refl
+none_refused false false none = absurd (true≢false (ap is_some none))
 
 -- what is read is held
 read_held : (m : Remembered) (table id : ℕ) → first_due (read_refusals (facts_of m table) id) ≡ None → is_held m id ≡ true
 read_held m table id none =
-    either (is_living (store_of m.keyspaces m.trees) id) refl (none_refused (is_unknown (store_of m.keyspaces m.trees) id) (is_read (facts_of m table) id) (is_among m.damaged id) none)
+    either (is_living (store_of m.keyspaces m.trees) id) refl (none_refused (is_unknown (store_of m.keyspaces m.trees) id) (is_read (facts_of m table) id) none)
   where
     either : (b : Bool) → is_living (store_of m.keyspaces m.trees) id ≡ b → (b || is_among m.lasting id) ≡ true → is_held m id ≡ true
     either true here found = held_by m id (it_lives (sym (living_names m.keyspaces m.trees id) ∙ here))
@@ -504,7 +596,7 @@ reads_there m id there = some (get m.tickets.instants id) there
     some (Some instant) e = refl
     some None e = absurd (true≢false (sym e))
 
-pub pairs_agree : (m : Remembered) (table : ℕ) (s : State) → StandsFor m table s → (view : View) (id : ℕ) → first_due (view_refusals (facts_of m table) view id) ≡ None → pairs_in id (instant_in m view) m.trees ≡ map_at (maps_in s view) id
+pub pairs_agree : (m : Remembered) (table : ℕ) (s : State) → StandsFor m table s → (view : View) (id : ℕ) → first_due (view_refusals (facts_of m table) view id) ≡ None → pairs_with s.parts.entries id (instant_in m view) m.trees ≡ map_at (maps_in s view) id
 pairs_agree m table s stands Present id none =
     let n = stands.number in
     sym (stands.views m.next (inl refl) id (read_held m table id none)) ∙ ap (λ (t : Store). map_at t.maps id) (view_latest s.history m.next (omega (arith, n)))
@@ -512,6 +604,11 @@ pairs_agree m table s stands (At ticket) id none =
     let two = open_then (is_open m.tickets ticket.id) (read_refusals (facts_of m table) id) none in
     sym (stands.views (instant_of m.tickets ticket.id) (inr (ticket.id, reads_there m ticket.id two.0)) id (read_held m table id two.1))
     ∙ ap (λ (t : Tickets). map_at (view s.history (instant_of t ticket.id)).maps id) (sym stands.tickets)
+
+-- where a keyspace has no table, memory alone tells
+pub bare_agree : (m : Remembered) (table : ℕ) (s : State) → StandsFor m table s → (view : View) (id : ℕ) → first_due (view_refusals (facts_of m table) view id) ≡ None → (shape_in id m.trees).tables ≡ []
+    → pairs_in id (instant_in m view) m.trees ≡ map_at (maps_in s view) id
+bare_agree m table s stands view id none bare = bare_pairs s.parts.entries id (instant_in m view) m.trees stands.beside.none bare ∙ pairs_agree m table s stands view id none
 
 -- ---- names
 
@@ -525,8 +622,11 @@ module _ (m : Remembered) (table : ℕ) (s : State) (stands : StandsFor m table 
   pub names_counted : len (present s).names ≡ length m.keyspaces.living
   names_counted = ap len names ∙ counted_is m.keyspaces stands.lawful.keyspaces m.trees
 
+  pub a_name_agrees : (name : Bytes) → has_name (present s) name ≡ has_name (store_of m.keyspaces m.trees) name
+  a_name_agrees name = λ i. has_name (stands.present i) name
+
   pub a_name_there : (name : Bytes) → has_name (present s) name ≡ is_some (id_of name m.keyspaces.living)
-  a_name_there name = (λ i. has_name (stands.present i) name) ∙ named_is m.keyspaces stands.lawful.keyspaces m.trees name
+  a_name_there name = a_name_agrees name ∙ named_is m.keyspaces stands.lawful.keyspaces m.trees name
 
   pub a_name_resolved : (id : ℕ) (name : Bytes) → (get (present s).names id ≡ Some name) ↔ (id_of name m.keyspaces.living ≡ Some id)
   a_name_resolved id name =
@@ -543,37 +643,49 @@ module _ (m : Remembered) (table : ℕ) (s : State) (stands : StandsFor m table 
 -- ---- an opening
 
 -- what is held at an opening lives, or was never made
-opened_map : (m : Remembered) → IsLawful m → m.lasting ≡ [] → (id : ℕ) → Ways m id → map_at (store_of m.keyspaces m.trees).maps id ≡ pairs_in id m.next m.trees
-opened_map m is lasting id (it_lives e) =
+opened_map : (m : Remembered) (entries : ℕ → List (List Entry)) → AreOlder m.trees entries → IsLawful m → m.lasting ≡ [] → (id : ℕ) → Ways m id → map_at (store_with entries m.keyspaces m.trees).maps id ≡ pairs_with entries id m.next m.trees
+opened_map m entries older is lasting id (it_lives e) =
     let there = some_there (keyspace_at id m.keyspaces.living) e in
-    a_keyspace_reads m.keyspaces m.trees id there.0 there.1 ∙ pairs_above m.next m.trees is.forest is.below id (2 ^ 63) is.small
-opened_map m is lasting id (it_lasts e) = absurd (true≢false (sym e ∙ ap (λ ids. is_among ids id) lasting))
-opened_map m is lasting id (it_waits le) =
+    reads_by (λ q. pairs_with entries q (2 ^ 63) m.trees) m.keyspaces id there.0 there.1 ∙ above_with entries m.next m.trees is.forest older is.below id (2 ^ 63) is.small
+opened_map m entries older is lasting id (it_lasts e) = absurd (true≢false (sym e ∙ ap (λ ids. is_among ids id) lasting))
+opened_map m entries older is lasting id (it_waits le) =
     let none = none_found m.keyspaces.living m.keyspaces.next id is.keyspaces.given le in
-    ap (λ slot. unwrap_or slot empty) (held_at m.keyspaces m.trees id ∙ ap (λ found. option_map (λ (k : LivingKeyspace). pairs_in id (2 ^ 63) m.trees) found) none)
-    ∙ sym (waits_empty m m.trees is.given id m.next le)
+    ap (λ slot. unwrap_or slot empty) (stored_by (λ q. pairs_with entries q (2 ^ 63) m.trees) m.keyspaces id ∙ ap (λ found. option_map (λ (k : LivingKeyspace). pairs_with entries id (2 ^ 63) m.trees) found) none)
+    ∙ sym (waits_empty m entries m.trees is.given id m.next le)
 
 pub an_opening_stands : (m : Remembered) → IsLawful m → m.handles ≡ empty → m.lasting ≡ [] → m.poisoned ≡ false → m.tickets ≡ no_tickets
-    → (table : ℕ) (parts : Parts) → parts.table ≡ table → parts.trees ≡ m.trees → parts.journals ≡ m.journals → StandsFor m table (opened_state (store_of m.keyspaces m.trees) m.damaged m.next parts)
-an_opening_stands m is handles lasting well tickets table parts at trees journals = record {
+    → (table : ℕ) (parts : Parts) → parts.table ≡ table → parts.trees ≡ m.trees → parts.journals ≡ m.journals → AreBeside m parts.entries → (damaged : List ℕ)
+    → StandsFor m table (opened_state (store_with parts.entries m.keyspaces m.trees) damaged m.next parts)
+an_opening_stands m is handles lasting well tickets table parts at trees journals beside damaged = record {
   present = refl;
   views = shown;
   number = omega arith;
   poisoned = sym well;
   handles = sym handles;
   lasting = sym lasting;
-  damaged = refl;
   tickets = sym tickets;
   jobs = refl;
   next_job = refl;
   next_table = at;
-  trees = trees;
+  trees = subst (λ t. AreSameTrees t m.trees) (sym trees) (same_trees m.trees);
+  beside = beside;
   journals = journals;
   lawful = is;
 }
   where
-    shown : (instant : ℕ) → IsReadAt m instant → (id : ℕ) → is_held m id ≡ true → map_at (view (opened_state (store_of m.keyspaces m.trees) m.damaged m.next parts).history instant).maps id ≡ pairs_in id instant m.trees
+    shown : (instant : ℕ) → IsReadAt m instant → (id : ℕ) → is_held m id ≡ true → map_at (view (opened_state (store_with parts.entries m.keyspaces m.trees) damaged m.next parts).history instant).maps id ≡ pairs_with parts.entries id instant m.trees
     shown instant (inl same) id held =
-        ap (λ (t : Store). map_at t.maps id) (view_latest (opened_state (store_of m.keyspaces m.trees) m.damaged m.next parts).history instant (omega (arith, same)))
-        ∙ opened_map m is lasting id (ways m id held) ∙ ap (λ i. pairs_in id i m.trees) (sym same)
+        ap (λ (t : Store). map_at t.maps id) (view_latest (opened_state (store_with parts.entries m.keyspaces m.trees) damaged m.next parts).history instant (omega (arith, same)))
+        ∙ opened_map m parts.entries beside.older is lasting id (ways m id held) ∙ ap (λ i. pairs_with parts.entries id i m.trees) (sym same)
     shown instant (inr (ticket, there)) id held = absurd (none-some instant (sym (get-empty nat_cmp ticket) ∙ ap (λ (t : Tickets). get t.instants ticket) (sym tickets) ∙ there))
+
+-- ---- options that are too long
+
+-- of a store they look at names and options alone
+pub long_creation : (m : Remembered) (table : ℕ) (s : State) → StandsFor m table s → (name : Bytes) (options : List Bytes)
+    → HasLongOption (kept (apply (store_of m.keyspaces m.trees) (Create name (option_pairs options)))) → HasLongOption (kept (apply (present s) (Create name (option_pairs options))))
+long_creation m table s stands name options long =
+    subst HasLongOption (kept_along (store_with s.parts.entries m.keyspaces m.trees) (present s) (Create name (option_pairs options) ∷ []) (sym stands.present)) long
+
+pub long_deletion : (m : Remembered) (table : ℕ) (s : State) → StandsFor m table s → (id : ℕ) → HasLongOption (kept (apply (store_of m.keyspaces m.trees) (Delete id))) → HasLongOption (kept (apply (present s) (Delete id)))
+long_deletion m table s stands id long = subst HasLongOption (kept_along (store_with s.parts.entries m.keyspaces m.trees) (present s) (Delete id ∷ []) (sym stands.present)) long

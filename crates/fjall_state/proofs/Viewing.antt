@@ -8,7 +8,7 @@ use Rattle.std.specs.Option.{is_some}
 use Rattle.fjall_base.specs.Store.{Command, Store, apply, fold, map_at}
 use Rattle.fjall_meta.specs.Keyspaces.{keyspace_at}
 use Rattle.fjall_versions.proofs.Slots.{fold-append, same_id}
-use Rattle.fjall_maps.specs.Maps.{pairs_in}
+use Rattle.fjall_maps.specs.Tables.{pairs_with}
 use Rattle.fjall_history.specs.Histories.{Accepted, History, command_of, commands_of, grown, latest, number, plain, view}
 use Rattle.fjall_history.proofs.Values.{of_value}
 use Rattle.fjall_state.specs.Machine.{State, is_among, present, without}
@@ -34,7 +34,7 @@ view_after h a instant is = view_latest (grown h a) instant (let more = number_g
 -- ---- what the present has
 
 -- the present has what the trees show below the next number of what is held
-pub present_map : (m : Remembered) (table : ℕ) (s : State) → StandsFor m table s → (id : ℕ) → is_held m id ≡ true → map_at (present s).maps id ≡ pairs_in id m.next m.trees
+pub present_map : (m : Remembered) (table : ℕ) (s : State) → StandsFor m table s → (id : ℕ) → is_held m id ≡ true → map_at (present s).maps id ≡ pairs_with s.parts.entries id m.next m.trees
 present_map m table s stands id held =
     ap (λ (t : Store). map_at t.maps id) (sym (view_latest s.history m.next (let n = stands.number in omega (arith, n)))) ∙ stands.views m.next (inl refl) id held
 
@@ -44,14 +44,14 @@ module _ (m k : Remembered) (table : ℕ) (s : State) (stands : StandsFor m tabl
     pub next : k.next ≡ m.next + 1
     pub tickets : k.tickets ≡ m.tickets
     pub held : (id : ℕ) → is_held k id ≡ true → is_held m id ≡ true
-    pub early : (instant id : ℕ) → instant ≤ m.next → is_held k id ≡ true → pairs_in id instant k.trees ≡ pairs_in id instant m.trees
-    pub late : (id : ℕ) → is_held k id ≡ true → map_at (apply (present s) c).maps id ≡ pairs_in id k.next k.trees
+    pub early : (instant id : ℕ) → instant ≤ m.next → is_held k id ≡ true → pairs_with s.parts.entries id instant k.trees ≡ pairs_with s.parts.entries id instant m.trees
+    pub late : (id : ℕ) → is_held k id ≡ true → map_at (apply (present s) c).maps id ≡ pairs_with s.parts.entries id k.next k.trees
 
-  pub views_go_on : GoesOn → (instant : ℕ) → IsReadAt k instant → (id : ℕ) → is_held k id ≡ true → map_at (view (grown s.history (plain c)) instant).maps id ≡ pairs_in id instant k.trees
+  pub views_go_on : GoesOn → (instant : ℕ) → IsReadAt k instant → (id : ℕ) → is_held k id ≡ true → map_at (view (grown s.history (plain c)) instant).maps id ≡ pairs_with s.parts.entries id instant k.trees
   views_go_on on instant (inl is) id held =
       let n = stands.number in
       let at : instant ≡ number s.history + 1 = (let e = on.next in omega (arith, is, e, n)) in
-      ap (λ (t : Store). map_at t.maps id) (view_after s.history (plain c) instant at) ∙ on.late id held ∙ ap (λ i. pairs_in id i k.trees) (sym is)
+      ap (λ (t : Store). map_at t.maps id) (view_after s.history (plain c) instant at) ∙ on.late id held ∙ ap (λ i. pairs_with s.parts.entries id i k.trees) (sym is)
   views_go_on on instant (inr (ticket, there)) id held =
       let was : get m.tickets.instants ticket ≡ Some instant = ap (λ t. get t.instants ticket) (sym on.tickets) ∙ there in
       let le : instant ≤ m.next = of_value (λ i. i ≤ m.next) m.tickets.instants ticket instant was stands.lawful.reached in

@@ -4,3 +4,4 @@ pub mod Machine
 pub mod Remembered
 pub mod Allowed
 pub mod Places
+pub mod Reads

@@ -1,5 +1,5 @@
 -- The engine as a machine: what each call may answer, and the state after it.
-use Rattle.std.specs.Prelude.{◌≡◌, ◌⊎◌, ℕ, ◌+◌, ◌-◌, ◌≤◌, Any, Bool, true, false, nat_le, nat_lt, not, ◌==◌, ◌||◌, ◌&&◌, ◌^◌, if◌then◌else◌, List, [], ◌∷◌, ◌++◌, codes, filter, length, Option, None, Some, is_none, unwrap_or, IsPermutation, IsSorted, Vec}
+use Rattle.std.specs.Prelude.{◌≡◌, ◌≢◌, ◌⊎◌, ℕ, ◌+◌, ◌-◌, ◌≤◌, Any, Bool, true, false, nat_le, nat_lt, not, ◌==◌, ◌||◌, ◌&&◌, ◌^◌, if◌then◌else◌, List, [], ◌∷◌, ◌++◌, codes, filter, length, Option, None, Some, is_none, unwrap_or, IsPermutation, IsSorted, Vec}
 use Rattle.std.specs.List.{list_any, sum_by}
 use Rattle.byteorder.specs.Endian.{little_number}
 use Rattle.std.specs.Str.{bytes_eq}
@@ -10,6 +10,7 @@ use Rattle.fjall_base.specs.Pairs.{Bytes, Pairs, byte_order}
 use Rattle.fjall_base.specs.Store.{Store, Options, Create, Delete, apply, kept, map_at}
 use Rattle.fjall_base.specs.declared.error.Error.{Error}
 use Rattle.fjall_base.specs.declared.error.Error.TheVariants.{Io, Storage, Poisoned, KeyspaceDeleted, KeyEmpty, KeyTooLong, ValueTooLong, InvalidName, OutOfMemory, NumbersUsedUp, UnknownKeyspace, SnapshotClosed, TooManyItems}
+use Rattle.fjall_base.specs.declared.error.StorageError.{StorageError}
 use Rattle.fjall_base.specs.declared.error.StorageError.TheVariants.{TableDamaged}
 use Rattle.fjall_journal.specs.declared.persist_mode.PersistMode.{PersistMode}
 use Rattle.fjall_journal.specs.declared.persist_mode.PersistMode.TheVariants.{Buffer}
@@ -18,6 +19,7 @@ use Rattle.fjall_journal.specs.Changes.{Change, Items, Emptied, change_text, com
 use Rattle.fjall_journal.specs.Ops.{BatchItem, are_too_many, some_key_empty, some_key_too_long, some_value_too_long}
 use Rattle.fjall_manager.specs.Journals.{Journals, bytes_of, next_journal}
 use Rattle.fjall_manager.specs.Places.{marked}
+use Rattle.fjall_table.specs.Blocks.{Entry}
 use Rattle.fjall_memtable.specs.Entries.{size_of}
 use Rattle.fjall_parts.specs.Parts.{holds_nothing, parts_of, versions_in}
 use Rattle.fjall_lsm.specs.Trees as lsm
@@ -44,18 +46,20 @@ use Rattle.fjall_state.specs.Jobs.{Job}
 
 -- The journals, the sealed ones and the active one: of each its number, up to which number each keyspace has changes in it, and
 -- of a sealed one how many bytes its file has. How many bytes the active journal's file has, how many wait in the buffer, the id
--- that tree 0's next table gets, and the trees of the keyspaces that are read: of each its memtables, sealed ones and an active one.
+-- that tree 0's next table gets, and the trees of the keyspaces that are read: of each its tables, and its memtables, sealed ones
+-- and an active one. By their ids, what the tables of keyspaces hold, table by table.
 pub record Parts : Type 0 where
   pub journals : Journals
   pub journal : ℕ
   pub buffer : ℕ
   pub table : ℕ
   pub trees : Forest
+  pub entries : ℕ → List (List Entry)
 
 -- The history, whether a fault of the disk has poisoned the engine, how many handles of each keyspace are counted, the
--- deleted keyspaces whose last maps are still read, the keyspaces that have a table with a wrong block, which are not
--- read, the tickets, the jobs that are out, in the order in which they began, with the next one's id, and the parts that its
--- counts speak of. No call changes which keyspaces are damaged: an id is never given anew.
+-- deleted keyspaces whose last maps are still read, the keyspaces that have a table with a wrong block, the tickets, the jobs that
+-- are out, in the order in which they began, with the next one's id, and the parts that its counts and reads speak of. No call
+-- changes which keyspaces are damaged: an id is never given anew.
 pub record State : Type 0 where
   pub history : History
   pub poisoned : Bool
@@ -156,22 +160,20 @@ persists_by_hand s id = is_living s id && is_by_hand (unwrap_or (get s.options i
 
 -- ---- what refuses a call
 
--- What refusals look at: the store, the next number, whether the engine is poisoned, the deleted keyspaces that are
--- still read, those that have a table with a wrong block, how many handles are counted, the tickets, the id of tree 0's next
--- table, and the number of the active journal.
+-- What refusals look at: the store, the next number, whether the engine is poisoned, the deleted keyspaces that are still read,
+-- how many handles are counted, the tickets, the id of tree 0's next table, and the number of the active journal.
 pub record Facts : Type 0 where
   pub store : Store
   pub next : ℕ
   pub poisoned : Bool
   pub lasting : List ℕ
-  pub damaged : List ℕ
   pub handles : FinMap nat_cmp ℕ
   pub tickets : Tickets
   pub table : ℕ
   pub active : ℕ
 
 abbrev pub facts : State → Facts
-facts s = record { store = present s; next = number s.history; poisoned = s.poisoned; lasting = s.lasting; damaged = s.damaged; handles = s.handles; tickets = s.tickets; table = s.parts.table; active = s.parts.journals.active }
+facts s = record { store = present s; next = number s.history; poisoned = s.poisoned; lasting = s.lasting; handles = s.handles; tickets = s.tickets; table = s.parts.table; active = s.parts.journals.active }
 
 -- the first refusal whose cause holds
 abbrev pub first_due : List (Bool × Error) → Option Error
@@ -222,7 +224,7 @@ is_read f id = is_living f.store id || is_among f.lasting id
 
 -- the refusals of a read of a keyspace
 abbrev pub read_refusals : Facts → ℕ → List (Bool × Error)
-read_refusals f id = (is_unknown f.store id, UnknownKeyspace) ∷ (not (is_read f id), KeyspaceDeleted) ∷ (is_among f.damaged id, Storage TableDamaged) ∷ []
+read_refusals f id = (is_unknown f.store id, UnknownKeyspace) ∷ (not (is_read f id), KeyspaceDeleted) ∷ []
 
 -- before these, that of a ticket that isn't open
 abbrev pub view_refusals : Facts → View → ℕ → List (Bool × Error)
@@ -343,10 +345,13 @@ ChangesDisk f waiting (OfTickets call) = ⊥
 ChangesDisk f waiting (OfPersist mode) = Unit {0}
 ChangesDisk f waiting (OfCount count) = ⊥
 
--- After a fault in a call that changes the disk the engine is poisoned, and of its parts the trees and what is known of the
--- journals are as before. How many bytes are in the active one's file, and how many wait, is not known.
-abbrev pub IsPoisoned : State → State → Type 0
-IsPoisoned old new = (new ≡ record old { poisoned = true; parts = new.parts }) × (new.parts.trees ≡ old.parts.trees) × (new.parts.journals ≡ old.parts.journals)
+-- The engine is poisoned, and of its parts the trees, what their tables hold and what is known of the journals are as before. How
+-- many bytes are in the active one's file, and how many wait, is not known.
+pub record IsPoisoned (old new : State) : Type 0 where
+  pub is : new ≡ record old { poisoned = true; parts = new.parts }
+  pub trees : new.parts.trees ≡ old.parts.trees
+  pub entries : new.parts.entries ≡ old.parts.entries
+  pub journals : new.parts.journals ≡ old.parts.journals
 
 -- the settings of some keyspace have a value of 2^32 bytes or more, for which no table has room
 abbrev pub HasLongOption : Store → Type 0
@@ -364,22 +369,6 @@ TooLong s (OfRead view id query) = ⊥
 TooLong s (OfTickets call) = ⊥
 TooLong s (OfPersist mode) = ⊥
 TooLong s (OfCount count) = ⊥
-
--- What a refused call leaves. None of these takes anything with it.
-abbrev pub let_go : State → Shape → State
-let_go s shape = s
-
--- where none is due, memory may run out, the disk fail, or an option's value be too long to be stored
-abbrev pub MayFail : Shape → Error → State → State → Type 0
-MayFail shape (Io kind) old new = ChangesDisk (facts old) old.parts.buffer shape × IsPoisoned (let_go old shape) new
-MayFail shape OutOfMemory old new = TakesMemory shape × (new ≡ let_go old shape)
-MayFail shape ValueTooLong old new = TooLong (present old) shape × (new ≡ let_go old shape)
-MayFail shape error old new = ⊥
-
--- a refusal is the one that is due, and changes nothing
-abbrev pub Refuses : Option Error → Shape → Error → State → State → Type 0
-Refuses (Some first) shape error old new = (error ≡ first) × (new ≡ let_go old shape)
-Refuses None shape error old new = MayFail shape error old new
 
 -- ---- what a call does
 
@@ -530,6 +519,74 @@ Answers old (OfRead view id query) reply new = Tells query (map_at (maps_in old 
 Answers old (OfTickets call) reply new = TurnsTickets (number old.history) old.tickets call reply new.tickets × (new ≡ record old { tickets = new.tickets })
 Answers old (OfPersist mode) reply new = (reply ≡ Done) × (new ≡ record old { parts = written_out old.parts 0 })
 Answers old (OfCount count) reply new = CountIs old count reply × (new ≡ old)
+
+-- ---- what may go wrong
+
+-- What a refused call leaves. None of these takes anything with it.
+abbrev pub let_go : State → Shape → State
+let_go s shape = s
+
+-- What a call leaves that meets a fault of the disk, but that it poisons the engine: a handle is counted less all the same, since
+-- what the keyspace held may be gone with its last one.
+abbrev pub at_fault : State → Shape → State
+at_fault s (OfChange change how) = s
+at_fault s (OfCreation name options) = s
+at_fault s (OfDeletion id) = s
+at_fault s (OfHandle OneMore id) = s
+at_fault s (OfHandle OneLess id) = released s id
+at_fault s (OfRotation id) = s
+at_fault s OfJournalRotation = s
+at_fault s (OfRead view id query) = s
+at_fault s (OfTickets call) = s
+at_fault s (OfPersist mode) = s
+at_fault s (OfCount count) = s
+
+-- the keyspace has a table
+abbrev pub HasTables : ℕ → Forest → Type 0
+HasTables id trees = (shape_in id trees).tables ≢ []
+
+-- a read of a keyspace that has a table: it may ask the disk
+abbrev pub ReadsTables : Forest → Shape → Type 0
+ReadsTables trees (OfChange change how) = ⊥
+ReadsTables trees (OfCreation name options) = ⊥
+ReadsTables trees (OfDeletion id) = ⊥
+ReadsTables trees (OfHandle call id) = ⊥
+ReadsTables trees (OfRotation id) = ⊥
+ReadsTables trees OfJournalRotation = ⊥
+ReadsTables trees (OfRead view id query) = HasTables id trees
+ReadsTables trees (OfTickets call) = ⊥
+ReadsTables trees (OfPersist mode) = ⊥
+ReadsTables trees (OfCount count) = ⊥
+
+-- a read of a keyspace one of whose tables has a wrong block
+abbrev pub ReadsDamaged : State → Shape → Type 0
+ReadsDamaged s (OfChange change how) = ⊥
+ReadsDamaged s (OfCreation name options) = ⊥
+ReadsDamaged s (OfDeletion id) = ⊥
+ReadsDamaged s (OfHandle call id) = ⊥
+ReadsDamaged s (OfRotation id) = ⊥
+ReadsDamaged s OfJournalRotation = ⊥
+ReadsDamaged s (OfRead view id query) = HasTables id s.parts.trees × (is_among s.damaged id ≡ true)
+ReadsDamaged s (OfTickets call) = ⊥
+ReadsDamaged s (OfPersist mode) = ⊥
+ReadsDamaged s (OfCount count) = ⊥
+
+-- Where none is due, the disk may fail, memory run out, a read meet a wrong block, or an option's value be too long to be stored. A
+-- fault in a call that changes the disk poisons the engine; one in a read changes nothing.
+abbrev pub MayFail : Shape → Error → State → State → Type 0
+MayFail shape (Io kind) old new =
+    (ChangesDisk (facts old) old.parts.buffer shape × IsPoisoned (at_fault old shape) new) ⊎ (ReadsTables old.parts.trees shape × (new ≡ let_go old shape))
+MayFail shape OutOfMemory old new = TakesMemory shape × (new ≡ let_go old shape)
+MayFail shape (Storage told) old new = (told ≡ TableDamaged) × ReadsDamaged old shape × (new ≡ let_go old shape)
+MayFail shape ValueTooLong old new = TooLong (present old) shape × (new ≡ let_go old shape)
+MayFail shape error old new = ⊥
+
+-- a refusal is the one that is due, and changes nothing
+abbrev pub Refuses : Option Error → Shape → Error → State → State → Type 0
+Refuses (Some first) shape error old new = (error ≡ first) × (new ≡ let_go old shape)
+Refuses None shape error old new = MayFail shape error old new
+
+-- ---- steps
 
 -- one step of a call of this shape
 abbrev pub StepOf : State → Shape → Reply → State → Type 0

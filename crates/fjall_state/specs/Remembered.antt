@@ -9,11 +9,14 @@ use Rattle.fjall_journal.specs.Changes.{Change}
 use Rattle.fjall_manager.specs.Journals.{Journals, Sealed, next_journal}
 use Rattle.fjall_manager.specs.Places.{Places, told}
 use Rattle.fjall_meta.specs.Keyspaces.{AreKeyspaces, Keyspaces, keyspace_at, with_keyspace, without_keyspace}
+use Rattle.fjall_table.specs.Blocks.{Entry}
 use Rattle.fjall_lsm.specs.Trees.{sealed_off}
 use Rattle.fjall_trees.specs.Forests.{AreBefore, Forest, IsForest, altered_at, tree_at}
 use Rattle.fjall_trees.specs.Forests as forests
-use Rattle.fjall_trees.specs.Writes.{AreBare, with_tree}
-use Rattle.fjall_maps.specs.Maps.{pairs_in, store_of}
+use Rattle.fjall_trees.specs.Tables.{AreSameTrees}
+use Rattle.fjall_trees.specs.Writes.{with_tree}
+use Rattle.fjall_maps.specs.Maps.{store_of}
+use Rattle.fjall_maps.specs.Tables.{AreOlder, pairs_with, store_with}
 use Rattle.fjall_history.specs.declared.ticket.View.{View}
 use Rattle.fjall_history.specs.declared.ticket.View.TheVariants.{Present, At}
 use Rattle.fjall_history.specs.Histories.{number, view}
@@ -22,8 +25,7 @@ pub use Rattle.fjall_history.specs.Tickets.{IsDueOrMemory}
 use Rattle.fjall_state.specs.Machine.{Facts, State, changed, handles_of, instant_of, is_among, is_deleted, one_less, one_more, present, with_marks, without}
 
 -- The keyspaces that live, the trees of keyspaces, the next number, whether a fault has poisoned the engine, how many
--- handles of each keyspace are counted, the deleted keyspaces whose last maps are still read, the keyspaces that have a
--- table with a wrong block, which are not read, the tickets, and the journals.
+-- handles of each keyspace are counted, the deleted keyspaces whose last maps are still read, the tickets, and the journals.
 pub record Remembered : Type 0 where
   pub keyspaces : Keyspaces
   pub trees : Forest
@@ -31,13 +33,11 @@ pub record Remembered : Type 0 where
   pub poisoned : Bool
   pub handles : FinMap nat_cmp ℕ
   pub lasting : List ℕ
-  pub damaged : List ℕ
   pub tickets : Tickets
   pub journals : Journals
 
 -- Keyspaces and what trees hold were made under lesser numbers than the next one, which is at most 2^63. Each keyspace that
--- lives has a tree, and trees are of ids that were given out; no tree has a table. Tickets read at numbers up to the next one,
--- above the watermark.
+-- lives has a tree, and trees are of ids that were given out. Tickets read at numbers up to the next one, above the watermark.
 pub record IsLawful (m : Remembered) : Type 0 where
   pub keyspaces : AreKeyspaces m.keyspaces
   pub made : All (λ k. k.number < m.next) m.keyspaces.living
@@ -45,7 +45,6 @@ pub record IsLawful (m : Remembered) : Type 0 where
   pub planted : All (λ k. is_some (tree_at k.id m.trees) ≡ true) m.keyspaces.living
   pub given : All (λ k. k.id < m.keyspaces.next) m.trees
   pub below : AreBefore m.next m.trees
-  pub bare : AreBare m.trees
   pub small : m.next ≤ 2 ^ 63
   pub reached : All (λ instant. instant ≤ m.next) (values m.tickets.instants)
   pub spared : 0 < m.tickets.watermark → m.tickets.watermark < m.next
@@ -58,9 +57,10 @@ handles_code = code coded_ℕ coded_ℕ
 abbrev pub journals_of : List Sealed → ℕ → Places → Journals
 journals_of sealed active places = record { sealed = sealed; active = active; watermarks = told places }
 
--- what refusals look at, the id of tree 0's next table being this one
+-- What refusals look at, the id of tree 0's next table being this one: of the store its names and options and the next id, so that
+-- what tables hold doesn't matter.
 abbrev pub facts_of : Remembered → ℕ → Facts
-facts_of m table = record { store = store_of m.keyspaces m.trees; next = m.next; poisoned = m.poisoned; lasting = m.lasting; damaged = m.damaged; handles = m.handles; tickets = m.tickets; table = table; active = m.journals.active }
+facts_of m table = record { store = store_of m.keyspaces m.trees; next = m.next; poisoned = m.poisoned; lasting = m.lasting; handles = m.handles; tickets = m.tickets; table = table; active = m.journals.active }
 
 -- the instant at which a view reads: the next number, or where its ticket does
 abbrev pub instant_in : Remembered → View → ℕ
@@ -75,35 +75,42 @@ IsReadAt m instant = (instant ≡ m.next) ⊎ ((ticket : ℕ) × (get m.tickets.
 abbrev pub is_held : Remembered → ℕ → Bool
 is_held m id = is_some (keyspace_at id m.keyspaces.living) || (is_among m.lasting id || nat_le m.keyspaces.next id)
 
--- The state is one that an engine may be in that holds this in memory: its present is what the trees show of the
--- keyspaces, but for deleted ones; at each instant at which something reads, the view's maps are what the trees show then;
--- and the tickets and what is known of the journals are the same.
+-- What tables hold is older than what is in memory; a keyspace without a table has nothing there, nor has an id that wasn't given out
+-- yet.
+pub record AreBeside (m : Remembered) (entries : ℕ → List (List Entry)) : Type 0 where
+  pub older : AreOlder m.trees entries
+  pub none : All (λ k. k.shape.tables ≡ [] → entries k.id ≡ []) m.trees
+  pub unused : (id : ℕ) → m.keyspaces.next ≤ id → entries id ≡ []
+
+-- The state is one that an engine may be in that holds this in memory, where tables hold what the state says: its present is what
+-- the trees and their tables show of the keyspaces, but for deleted ones; at each instant at which something reads, the view's
+-- maps are what they show then; and the tickets, what is known of the journals, and the trees are the same, whatever is kept of
+-- tables.
 pub record StandsFor (m : Remembered) (table : ℕ) (s : State) : Type 0 where
-  pub present : kept (present s) ≡ kept (store_of m.keyspaces m.trees)
-  pub views : (instant : ℕ) → IsReadAt m instant → (id : ℕ) → is_held m id ≡ true → map_at (view s.history instant).maps id ≡ pairs_in id instant m.trees
+  pub present : kept (present s) ≡ kept (store_with s.parts.entries m.keyspaces m.trees)
+  pub views : (instant : ℕ) → IsReadAt m instant → (id : ℕ) → is_held m id ≡ true → map_at (view s.history instant).maps id ≡ pairs_with s.parts.entries id instant m.trees
   pub number : number s.history ≡ m.next
   pub poisoned : s.poisoned ≡ m.poisoned
   pub handles : s.handles ≡ m.handles
   pub lasting : s.lasting ≡ m.lasting
-  pub damaged : s.damaged ≡ m.damaged
   pub tickets : s.tickets ≡ m.tickets
   pub jobs : s.jobs ≡ []
   pub next_job : s.next_job ≡ 0
   pub next_table : s.parts.table ≡ table
-  pub trees : s.parts.trees ≡ m.trees
+  pub trees : AreSameTrees s.parts.trees m.trees
+  pub beside : AreBeside m s.parts.entries
   pub journals : s.parts.journals ≡ m.journals
   pub lawful : IsLawful m
 
--- just opened, where these keyspaces have a table with a wrong block
-abbrev pub remembered : Keyspaces → Forest → List ℕ → ℕ → Journals → Remembered
-remembered keyspaces trees damaged next journals = record {
+-- just opened
+abbrev pub remembered : Keyspaces → Forest → ℕ → Journals → Remembered
+remembered keyspaces trees next journals = record {
   keyspaces = keyspaces;
   trees = trees;
   next = next;
   poisoned = false;
   handles = empty;
   lasting = [];
-  damaged = damaged;
   tickets = no_tickets;
   journals = journals;
 }
@@ -153,6 +160,10 @@ rotated id m = record m { trees = altered_at id sealed_off m.trees; tickets = co
 -- with the active journal, whose file has so many bytes, sealed, and an empty one of the next number
 abbrev pub journal_rotated : ℕ → Remembered → Remembered
 journal_rotated len m = record m { journals = next_journal len m.journals }
+
+-- with these trees, which a read may leave more of in memory
+abbrev pub with_trees : Forest → Remembered → Remembered
+with_trees trees m = record m { trees = trees }
 
 -- with these tickets
 abbrev pub with_tickets : Tickets → Remembered → Remembered

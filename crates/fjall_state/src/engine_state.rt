@@ -3,36 +3,32 @@
 
 ghost use Rattle.std.specs.Prelude.{◌≡◌, ◌≢◌, ◌<◌, ◌≤◌, ◌+◌, ◌-◌, ◌^◌, ◌++◌, ◌∷◌, [], List, All, None, is_some, not, true, false, length, map, IfOk, IfErr, OnOk, OnErr, IsOkUnless, IsPermutation, IsSorted};
 ghost use Rattle.std.specs.FinMap.{empty, from_entries, get, len, values};
-ghost use Rattle.fjall_base.specs.Pairs.{Bytes, byte_order, lookup, page, pairs_between};
+ghost use Rattle.fjall_base.specs.Pairs.{Bytes, byte_order};
 ghost use Rattle.fjall_base.specs.declared.error.Error.TheVariants.{KeyspaceDeleted, UnknownKeyspace};
 ghost use Rattle.fjall_manager.specs.Journals.{bytes_of};
 ghost use Rattle.fjall_meta.specs.Keyspaces.{id_of, is_name};
 ghost use Rattle.fjall_trees.specs.Forests.{AreBefore, tree_at};
 ghost use Rattle.fjall_trees.specs.Views.{forest_of};
-ghost use Rattle.fjall_trees.specs.Writes.{AreBare};
-ghost use Rattle.fjall_maps.specs.Maps.{pairs_in, store_of};
+ghost use Rattle.fjall_maps.specs.Maps.{store_of};
 ghost use Rattle.fjall_history.specs.Tickets.{closed, closing_refusal, cloning_refusal, collected, is_open as is_open_in, opened, opening_refusal};
-ghost use Rattle.fjall_state.specs.Machine.{first_due, handle_refusals, handles_of, has_name, is_among, is_living, is_read, is_unknown, one_less, persists_by_hand, read_refusals, view_refusals};
+ghost use Rattle.fjall_state.specs.Machine.{first_due, handle_refusals, handles_of, has_name, is_among, is_living, is_read, is_unknown, one_less, persists_by_hand, view_refusals};
 ghost use Rattle.fjall_state.specs.Shapes.{OneMore};
 ghost use Rattle.fjall_state.specs.Remembered.{IsDueOrMemory, IsLawful, Remembered, facts_of, instant_in, is_last, journals_of, let_go, poisoned, released, remembered, retained, with_creation, with_deletion, with_tickets};
 
-use fjall_base::{Error, KvPair, Result, Slice, StorageError, UserValue};
+use fjall_base::{Error, Result, Slice};
 use fjall_history::{Ticket, Tickets, View};
 use fjall_manager::{ActiveWatermarks, JournalManager};
 use fjall_meta::{LivingKeyspace, MetaKeyspace};
 use fjall_options::KeyspaceCreateOptions;
-use fjall_reading::bounds_of;
 use fjall_trees::Trees;
-use fjall_versions::KeyRange;
 use std::alloc::Global;
 use std::collections::BTreeMap;
 use std::marker::Model;
 
 /// What an engine holds in memory: the keyspaces that live, the trees of these and of the deleted ones that are still read,
 /// the tickets of snapshots with the next number, at which a new one reads, whether a fault has poisoned it, how many handles
-/// of each keyspace are counted, the deleted keyspaces that are still read, the keyspaces that aren't read since a block of one
-/// of their tables is wrong, and what is known of the journals: the sealed ones, and of the active one its number and up to which
-/// number each keyspace has changes in it.
+/// of each keyspace are counted, the deleted keyspaces that are still read, and what is known of the journals: the sealed ones, and
+/// of the active one its number and up to which number each keyspace has changes in it.
 #[derive(Drop)]
 pub struct EngineState {
     pub(crate) keyspaces: MetaKeyspace,
@@ -41,7 +37,6 @@ pub struct EngineState {
     poisoned: bool,
     handles: BTreeMap<u64, u64>,
     lasting: Vec<u64>,
-    damaged: Vec<u64>,
     pub(crate) sealed: JournalManager,
     pub(crate) active: u64,
     pub(crate) watermarks: ActiveWatermarks,
@@ -64,7 +59,6 @@ impl Model for EngineState {
       poisoned = m.poisoned;
       handles = from_entries m.handles.entries;
       lasting = m.lasting.items;
-      damaged = m.damaged.items;
       tickets = m.tickets.tickets;
       journals = journals_of m.sealed m.active m.watermarks;
     } };
@@ -76,7 +70,6 @@ impl Model for EngineState {
       poisoned = m.poisoned;
       handles = from_entries m.handles.entries;
       lasting = m.lasting.items;
-      damaged = m.damaged.items;
       tickets = m.tickets.tickets;
       journals = journals_of m.sealed m.active m.watermarks;
     }) };
@@ -103,13 +96,12 @@ fn count_less(handles: &mut BTreeMap<u64, u64>, id: u64)
 }
 
 impl EngineState {
-    /// These keyspaces, with these trees, whose next change takes this number. The damaged ones have a table with a wrong
-    /// block. Before the active journal, of this number and with these watermarks, there are these sealed ones.
+    /// These keyspaces, with these trees, whose next change takes this number. Before the active journal, of this number and with
+    /// these watermarks, there are these sealed ones.
     pub fn new(
         alloc: Global,
         keyspaces: MetaKeyspace,
         trees: Trees,
-        damaged: Vec<u64>,
         next: u64,
         sealed: JournalManager,
         active: u64,
@@ -119,9 +111,8 @@ impl EngineState {
         requires planted { All (λ k. is_some (tree_at k.id (forest_of trees)) ≡ true) keyspaces.living }
         requires given { All (λ k. k.id < keyspaces.next) (forest_of trees) }
         requires below { AreBefore next (forest_of trees) }
-        requires bare { AreBare (forest_of trees) }
         requires small { next ≤ 2 ^ 63 }
-        ensures { result ≡ remembered keyspaces (forest_of trees) damaged.items next (journals_of sealed active watermarks) }
+        ensures { result ≡ remembered keyspaces (forest_of trees) next (journals_of sealed active watermarks) }
     {
         EngineState {
             keyspaces,
@@ -130,7 +121,6 @@ impl EngineState {
             poisoned: false,
             handles: BTreeMap::new(alloc),
             lasting: Vec::new(alloc),
-            damaged,
             sealed,
             active,
             watermarks,
@@ -266,13 +256,6 @@ impl EngineState {
         self.is_living(id) || self.is_lasting(id)
     }
 
-    /// Whether a block of one of the tables of the keyspace of this id is wrong, so that it isn't read.
-    pub fn is_damaged(&self, id: u64) -> bool
-        ensures { result ≡ is_among self.now.damaged id }
-    {
-        self.damaged.iter().any(|other| *other == id)
-    }
-
     /// How many handles of a keyspace are counted.
     pub fn handle_count(&self, id: u64) -> u64
         ensures { result ≡ handles_of self.now.handles id }
@@ -288,7 +271,7 @@ impl EngineState {
     }
 }
 
-/// What refuses a handle of the keyspace of this id.
+/// What refuses a handle or a read of the keyspace of this id.
 fn handle_refusal(memory: &EngineState, id: u64) -> Option<Error>
     ensures { let f = facts_of memory.now 0 in
         result ≡ first_due ((is_unknown f.store id, UnknownKeyspace) ∷ (not (is_read f id), KeyspaceDeleted) ∷ []) }
@@ -302,22 +285,9 @@ fn handle_refusal(memory: &EngineState, id: u64) -> Option<Error>
     None
 }
 
-/// What refuses a read of the keyspace of this id.
-fn read_refusal(memory: &EngineState, id: u64) -> Option<Error>
-    ensures { result ≡ first_due (read_refusals (facts_of memory.now 0) id) }
-{
-    if let Some(error) = handle_refusal(memory, id) {
-        return Some(error);
-    }
-    if memory.is_damaged(id) {
-        return Some(Error::Storage(StorageError::TableDamaged));
-    }
-    None
-}
-
 impl EngineState {
     // The instant at which a view reads; 0 where its ticket isn't open.
-    fn instant_of(&self, view: View) -> u64
+    pub(crate) fn instant_of(&self, view: View) -> u64
         ensures { result ≡ instant_in self.now view }
     {
         match view {
@@ -327,7 +297,7 @@ impl EngineState {
     }
 
     // What refuses a read of the keyspace of this id in a view.
-    fn view_refusal(&self, view: View, id: u64) -> Option<Error>
+    pub(crate) fn view_refusal(&self, view: View, id: u64) -> Option<Error>
         ensures { result ≡ first_due (view_refusals (facts_of self.now 0) view id) }
     {
         if let View::At(ticket) = view
@@ -335,49 +305,7 @@ impl EngineState {
         {
             return Some(Error::SnapshotClosed);
         }
-        read_refusal(self, id)
-    }
-
-    /// The value that a key of a keyspace has in a view, where it has one. A deleted keyspace is read as long as handles
-    /// of it are counted.
-    ///
-    /// Refusals: `SnapshotClosed`, `UnknownKeyspace`, `KeyspaceDeleted`, `Storage(TableDamaged)` where a block of one of
-    /// its tables is wrong, `OutOfMemory`.
-    pub fn get(&self, view: View, id: u64, key: &[u8]) -> Result<Option<UserValue>>
-        ensures due { OnOk result (first_due (view_refusals (facts_of self.now 0) view id) ≡ None) }
-        ensures ok { IfOk result (λ found. found ≡ lookup (pairs_in id (instant_in self.now view) self.now.trees) key.now) }
-        ensures cause { IfErr result (IsDueOrMemory (first_due (view_refusals (facts_of self.now 0) view id))) }
-    {
-        match self.view_refusal(view, id) {
-            Some(error) => Err(error),
-            None => self.trees.get_in_memory(id, key, self.instant_of(view)),
-        }
-    }
-
-    /// The first or, from behind, the last pairs of a keyspace between the bounds in a view, at most `max`, in the keys'
-    /// order.
-    ///
-    /// Refusals: `SnapshotClosed`, `UnknownKeyspace`, `KeyspaceDeleted`, `Storage(TableDamaged)` where a block of one of
-    /// its tables is wrong, `OutOfMemory`.
-    pub fn page(
-        &self,
-        alloc: Global,
-        view: View,
-        id: u64,
-        range: &KeyRange,
-        back: bool,
-        max: usize,
-    ) -> Result<Vec<KvPair>>
-        ensures due { OnOk result (first_due (view_refusals (facts_of self.now 0) view id) ≡ None) }
-        ensures ok { IfOk result (λ found. found.items ≡ page back max (pairs_between range.now (pairs_in id (instant_in self.now view) self.now.trees))) }
-        ensures cause { IfErr result (IsDueOrMemory (first_due (view_refusals (facts_of self.now 0) view id))) }
-    {
-        if let Some(error) = self.view_refusal(view, id) {
-            return Err(error);
-        }
-        let instant = self.instant_of(view);
-        self.trees
-            .page_in_memory(alloc, id, bounds_of(range), instant, back, max)
+        handle_refusal(self, id)
     }
 }
 
@@ -506,7 +434,7 @@ impl EngineState {
         self.lasting = lasting;
     }
 
-    /// Counts one handle more of a keyspace, a damaged one too.
+    /// Counts one handle more of a keyspace.
     ///
     /// Refusals: `UnknownKeyspace`, `KeyspaceDeleted` where it isn't read any more, `NumbersUsedUp`, `OutOfMemory`.
     /// After each of them nothing has changed.

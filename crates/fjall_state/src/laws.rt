@@ -1,7 +1,8 @@
 //! What holds of the definitions.
 
-ghost use Rattle.std.specs.Prelude.{◌≡◌, ◌≢◌, ◌<◌, ◌+◌, ◌-◌, ◌^◌, ◌↔◌, [], true, false, nat_le, if◌then◌else◌, ℕ, List, None, Some, is_some, length, map};
+ghost use Rattle.std.specs.Prelude.{◌≡◌, ◌≢◌, ◌<◌, ◌≤◌, ◌+◌, ◌-◌, ◌^◌, ◌↔◌, [], true, false, nat_le, if◌then◌else◌, ℕ, List, None, Some, is_some, length, map};
 ghost use Rattle.std.specs.FinMap.{empty, get, len, values};
+ghost use Rattle.fjall_base.specs.Disk.{Meaning};
 ghost use Rattle.fjall_base.specs.Pairs.{Bytes};
 ghost use Rattle.fjall_base.specs.Store.{Store, map_at};
 ghost use Rattle.fjall_base.specs.declared.error.Error.{Error};
@@ -9,20 +10,25 @@ ghost use Rattle.fjall_journal.specs.Changes.{Change, Items};
 ghost use Rattle.fjall_journal.specs.Writer.{counted};
 ghost use Rattle.fjall_meta.specs.Keyspaces.{id_of, is_name};
 ghost use Rattle.fjall_options.specs.Options.{AreOptions};
+ghost use Rattle.fjall_trees.specs.Forests.{Forest};
+ghost use Rattle.fjall_trees.specs.Tables.{AreSameTrees, shape_in};
 ghost use Rattle.fjall_maps.specs.Maps.{pairs_in, store_of};
+ghost use Rattle.fjall_maps.specs.Tables.{pairs_with, store_with};
 ghost use Rattle.fjall_history.specs.declared.ticket.View.{View as Seen};
 ghost use Rattle.fjall_history.specs.declared.reply.Reply.{Reply as Told};
 ghost use Rattle.fjall_history.specs.declared.reply.Reply.TheVariants.{Refused};
 ghost use Rattle.fjall_history.specs.Histories.{view};
+ghost use Rattle.fjall_history.specs.Queries.{Query};
 ghost use Rattle.fjall_history.specs.Moves.{AreSound, Moves};
 ghost use Rattle.fjall_history.specs.Tickets.{closed, collected, no_tickets, opened};
 ghost use Rattle.fjall_state.specs.declared.call.Call.{Call as Asked};
 ghost use Rattle.fjall_state.specs.Allowed.{FitsBatch, IsOfLiving, MayChange, MayCreate, MayDelete};
-ghost use Rattle.fjall_state.specs.Shapes.{OneLess, Persistence, Shape};
+ghost use Rattle.fjall_state.specs.Shapes.{OfRead, OneLess, Persistence, Shape};
 ghost use Rattle.fjall_state.specs.Machine as machine;
-ghost use Rattle.fjall_state.specs.Machine.{Facts, IsPoisoned, Parts, Run, State, Step, StepOf, TakesMemory, accepted, change_refusals, created, creation_refusals, deleted, deletion_refusals};
-ghost use Rattle.fjall_state.specs.Machine.{due, due_in, first_due, handle_refusals, handles_of, has_name, is_living, journal_refusals, maps_in, one_more, opened_state, persists_by_hand, present, rotates, times, view_refusals};
-ghost use Rattle.fjall_state.specs.Remembered.{IsDueOrMemory, IsLawful, Remembered, StandsFor, facts_of, instant_in, journal_rotated, poisoned, released, retained, rotated, with_change, with_creation, with_deletion, with_tickets};
+ghost use Rattle.fjall_state.specs.Machine.{Facts, HasTables, IsPoisoned, Parts, Run, State, Step, StepOf, TakesMemory, accepted, change_refusals, created, creation_refusals, deleted, deletion_refusals};
+ghost use Rattle.fjall_state.specs.Machine.{buffer_size, due, due_in, first_due, handle_refusals, handles_of, has_name, is_among, is_living, journal_refusals, maps_in, one_more, opened_state, persists_by_hand, present, rotates, times, version_count, view_refusals, wants_rotation};
+ghost use Rattle.fjall_state.specs.Remembered.{AreBeside, IsDueOrMemory, IsLawful, Remembered, StandsFor, facts_of, instant_in, journal_rotated, poisoned, released, retained, rotated, with_change, with_creation, with_deletion, with_tickets, with_trees};
+ghost use Rattle.fjall_state.specs.Reads.{IsReadRefusal};
 
 /// What is held tells which refusal is due in each state that it stands for.
 pub fn facts_agree()
@@ -35,6 +41,10 @@ pub fn a_refusal_is_a_step()
         → StepOf s shape (Refused error) s }
     ensures memory { (m : Remembered) (table : ℕ) (s : State) → StandsFor m table s → (shape : Shape) (error : Error) → TakesMemory shape
         → IsDueOrMemory (due_in (facts_of m table) shape) error → StepOf s shape (Refused error) s }
+    // So is a read's, where the disk failed, or where a block is wrong of a table of a keyspace that is damaged.
+    ensures read { (m : Remembered) (table : ℕ) (s : State) → StandsFor m table s → (view : Seen) (id : ℕ) (query : Query) (old new : Meaning) (error : Error)
+        → IsReadRefusal (first_due (view_refusals (facts_of m table) view id)) (is_among s.damaged id ≡ true) (shape_in id m.trees).tables old new error
+        → StepOf s (OfRead view id query) (Refused error) s }
 {}
 
 /// A change more of keyspaces that live is an accepted one: a version of each item, or a clear.
@@ -79,24 +89,48 @@ pub fn a_release_stands()
     ensures { (m : Remembered) (table : ℕ) (s : State) → StandsFor m table s → (id : ℕ) → StandsFor (released id m) table (machine.released s id) }
 {}
 
-/// After a fault what is held stands for poisoned states, whatever their parts but the trees and what is known of the journals
-/// are.
+/// After a fault what is held stands for poisoned states, whatever their parts but the trees, what tables hold and what is known of
+/// the journals are.
 pub fn a_fault_stands()
     ensures stands { (m : Remembered) (table : ℕ) (s : State) → StandsFor m table s → (parts : Parts)
-        → parts.trees ≡ m.trees → parts.journals ≡ m.journals → StandsFor (poisoned m) parts.table (record s { poisoned = true; parts = parts }) }
-    ensures poisoned { (s : State) (parts : Parts) → parts.trees ≡ s.parts.trees → parts.journals ≡ s.parts.journals → IsPoisoned s (record s { poisoned = true; parts = parts }) }
+        → parts.trees ≡ s.parts.trees → parts.entries ≡ s.parts.entries → parts.journals ≡ s.parts.journals
+        → StandsFor (poisoned m) parts.table (record s { poisoned = true; parts = parts }) }
+    ensures poisoned { (s : State) (parts : Parts) → parts.trees ≡ s.parts.trees → parts.entries ≡ s.parts.entries → parts.journals ≡ s.parts.journals
+        → IsPoisoned s (record s { poisoned = true; parts = parts }) }
 {}
 
 /// How many bytes the journal has is nothing that memory tells of.
 pub fn other_parts_stand()
-    ensures { (m : Remembered) (table : ℕ) (s : State) → StandsFor m table s → (parts : Parts) → parts.table ≡ table → parts.trees ≡ m.trees → parts.journals ≡ m.journals
+    ensures { (m : Remembered) (table : ℕ) (s : State) → StandsFor m table s → (parts : Parts) → parts.table ≡ table
+        → parts.trees ≡ s.parts.trees → parts.entries ≡ s.parts.entries → parts.journals ≡ s.parts.journals
         → StandsFor m table (record s { parts = parts }) }
 {}
 
-/// Where no refusal of a read is due, trees tell what the view has.
+/// What a read keeps of tables is nothing that a state tells of.
+pub fn a_read_stands()
+    ensures { (m : Remembered) (table : ℕ) (s : State) → StandsFor m table s → (trees : Forest) → AreSameTrees m.trees trees → StandsFor (with_trees trees m) table s }
+{}
+
+/// What is counted of trees is so whatever is kept of their tables.
+pub fn counts_agree()
+    ensures versions { (m : Remembered) (table : ℕ) (s : State) → StandsFor m table s → (id : ℕ) → version_count (shape_in id s.parts.trees) ≡ version_count (shape_in id m.trees) }
+    ensures sealed { (m : Remembered) (table : ℕ) (s : State) → StandsFor m table s → (id : ℕ)
+        → length (shape_in id s.parts.trees).memory.sealed ≡ length (shape_in id m.trees).memory.sealed }
+    ensures buffer { (m : Remembered) (table : ℕ) (s : State) → StandsFor m table s
+        → buffer_size (present s) s.parts.trees ≡ buffer_size (store_of m.keyspaces m.trees) m.trees }
+    ensures wants { (m : Remembered) (table : ℕ) (s : State) → StandsFor m table s → (id : ℕ)
+        → wants_rotation (present s) s.parts.trees id ≡ wants_rotation (store_of m.keyspaces m.trees) m.trees id }
+    ensures rotates { (m : Remembered) (table : ℕ) (s : State) → StandsFor m table s → (id : ℕ) → rotates s.parts.trees id ≡ rotates m.trees id }
+    ensures tables { (m : Remembered) (table : ℕ) (s : State) → StandsFor m table s → (id : ℕ) → HasTables id s.parts.trees ↔ HasTables id m.trees }
+{}
+
+/// Where no refusal of a read is due, trees tell with their tables what the view has.
 pub fn reads_agree()
-    ensures { (m : Remembered) (table : ℕ) (s : State) → StandsFor m table s → (view : Seen) (id : ℕ) → first_due (view_refusals (facts_of m table) view id) ≡ None
-        → pairs_in id (instant_in m view) m.trees ≡ map_at (maps_in s view) id }
+    ensures shown { (m : Remembered) (table : ℕ) (s : State) → StandsFor m table s → (view : Seen) (id : ℕ) → first_due (view_refusals (facts_of m table) view id) ≡ None
+        → pairs_with s.parts.entries id (instant_in m view) m.trees ≡ map_at (maps_in s view) id }
+    // And where the keyspace has no table, memory alone does.
+    ensures bare { (m : Remembered) (table : ℕ) (s : State) → StandsFor m table s → (view : Seen) (id : ℕ) → first_due (view_refusals (facts_of m table) view id) ≡ None
+        → (shape_in id m.trees).tables ≡ [] → pairs_in id (instant_in m view) m.trees ≡ map_at (maps_in s view) id }
 {}
 
 /// Tickets that are opened, closed or collected are the state's: a new one reads at the next number, or where another one
@@ -127,11 +161,6 @@ pub fn a_snapshot_keeps_its_view()
     ensures opened { (store : Store) (damaged : List ℕ) (base : ℕ) (parts : Parts) → AreSound (times (opened_state store damaged base parts)) }
 {}
 
-/// A rotation seals something where the state's does.
-pub fn rotations_agree()
-    ensures { (m : Remembered) (table : ℕ) (s : State) → StandsFor m table s → (id : ℕ) → rotates s.parts.trees id ≡ rotates m.trees id }
-{}
-
 /// The present's keyspaces are those that are held.
 pub fn names_agree()
     ensures listed { (m : Remembered) (table : ℕ) (s : State) → StandsFor m table s → values (present s).names ≡ map (λ k. k.name) m.keyspaces.living }
@@ -151,11 +180,11 @@ pub fn options_agree()
         → persists_by_hand (present s) id ≡ persists_by_hand (store_of m.keyspaces m.trees) id }
 {}
 
-/// What was just opened stands for the state just opened, whichever keyspaces are damaged.
+/// What was just opened stands for the state just opened, whatever older entries tables hold, and whichever keyspaces are damaged.
 pub fn an_opening_stands()
     ensures { (m : Remembered) → IsLawful m → m.handles ≡ empty → m.lasting ≡ [] → m.poisoned ≡ false → m.tickets ≡ no_tickets
         → (table : ℕ) (parts : Parts) → parts.table ≡ table → parts.trees ≡ m.trees → parts.journals ≡ m.journals
-        → StandsFor m table (opened_state (store_of m.keyspaces m.trees) m.damaged m.next parts) }
+        → AreBeside m parts.entries → (damaged : List ℕ) → StandsFor m table (opened_state (store_with parts.entries m.keyspaces m.trees) damaged m.next parts) }
 {}
 
 /// Where nothing refuses a call, what it asks for is there.

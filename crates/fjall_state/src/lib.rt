@@ -8,6 +8,7 @@ mod journals;
 mod laws;
 mod memtables;
 mod places;
+mod reads;
 mod refusals;
 mod writes;
 
@@ -16,9 +17,9 @@ pub use engine_state::EngineState;
 pub use fjall_history::{Reply, Ticket, View};
 pub use laws::{
     a_change_stands, a_creation_stands, a_deletion_stands, a_fault_stands,
-    a_journal_rotation_stands, a_refusal_is_a_step, a_release_stands, a_retained_stands,
-    a_rotation_stands, a_snapshot_keeps_its_view, a_step_moves, an_opening_stands, facts_agree,
-    names_agree, nothing_refused, options_agree, other_parts_stand, reads_agree, rotations_agree,
-    tickets_stand,
+    a_journal_rotation_stands, a_read_stands, a_refusal_is_a_step, a_release_stands,
+    a_retained_stands, a_rotation_stands, a_snapshot_keeps_its_view, a_step_moves,
+    an_opening_stands, counts_agree, facts_agree, names_agree, nothing_refused, options_agree,
+    other_parts_stand, reads_agree, tickets_stand,
 };
 pub use places::id_opened;

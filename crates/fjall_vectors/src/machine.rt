@@ -1,6 +1,6 @@
 //! What an engine holds in memory: keyspaces made, written, deleted and read, and refusals in their order.
 
-use fjall_base::{Error, KvPair, Result, Slice, StorageError};
+use fjall_base::{Error, KvPair, Result, Slice};
 use fjall_journal::{BatchItem, Op, PersistMode, ValueType, Writer};
 use fjall_manager::{ActiveWatermarks, JournalManager};
 use fjall_memory::MemoryDisk;
@@ -124,26 +124,11 @@ fn empty(alloc: Global) -> EngineState {
         alloc,
         MetaKeyspace::new(alloc),
         Trees::new(alloc),
-        Vec::new(alloc),
         1,
         JournalManager::new(alloc),
         0,
         ActiveWatermarks::new(alloc),
     )
-}
-
-/// The same, where the keyspace that gets the id 1 is damaged.
-fn first_damaged(alloc: Global) -> Result<EngineState> {
-    Ok(EngineState::new(
-        alloc,
-        MetaKeyspace::new(alloc),
-        Trees::new(alloc),
-        Vec::from_slice(alloc, &[1])?,
-        1,
-        JournalManager::new(alloc),
-        0,
-        ActiveWatermarks::new(alloc),
-    ))
 }
 
 /// The keyspaces 1, "b", and 2, "a".
@@ -173,8 +158,6 @@ pub fn one_deleted(alloc: Global) -> Result<EngineState> {
 enum Step {
     /// A new run begins without keyspaces.
     New,
-    /// The same, where the first one will be damaged.
-    NewDamaged,
     Create(&'static [u8]),
     Write(&'static [Item]),
     Clear(u64),
@@ -209,7 +192,6 @@ fn take_ticket(memory: &mut EngineState, step: Step) -> Result<u64> {
 fn take(alloc: Global, memory: &mut EngineState, step: Step) -> Result<u64> {
     match step {
         Step::New => *memory = empty(alloc),
-        Step::NewDamaged => *memory = first_damaged(alloc)?,
         Step::Create(name) => return create(alloc, memory, name),
         Step::Write(items) => write(alloc, memory, items)?,
         Step::Clear(id) => clear(alloc, memory, id)?,
@@ -262,24 +244,26 @@ fn state_of(memory: &EngineState, id: u64) -> State {
     )
 }
 
-fn page_of(alloc: Global, memory: &EngineState, id: u64) -> Result<Vec<KvPair>> {
+fn page_of(
+    alloc: Global,
+    memory: &mut EngineState,
+    disk: &mut MemoryDisk,
+    id: u64,
+) -> Result<Vec<KvPair>> {
     let everywhere = (Bound::Unbounded, Bound::Unbounded);
-    memory.page(alloc, View::Present, id, &everywhere, false, 9)
-}
-
-fn value_of(memory: &EngineState, id: u64, key: &[u8]) -> Result<Option<Slice>> {
-    memory.get(View::Present, id, key)
+    memory.page(alloc, disk, View::Present, id, &everywhere, false, 9)
 }
 
 /// The value of a key, and how many keys its keyspace has.
 fn read(
     alloc: Global,
-    memory: &EngineState,
+    memory: &mut EngineState,
     id: u64,
     key: &[u8],
 ) -> Result<(Option<Slice>, usize)> {
-    let count = page_of(alloc, memory, id)?.len();
-    Ok((value_of(memory, id, key)?, count))
+    let mut disk = MemoryDisk::new(alloc);
+    let count = page_of(alloc, memory, &mut disk, id)?.len();
+    Ok((memory.get(&mut disk, View::Present, id, key)?, count))
 }
 
 type Bytes<'a> = Result<(Option<&'a [u8]>, usize)>;
@@ -293,7 +277,7 @@ fn bytes_of(found: &Result<(Option<Slice>, usize)>) -> Bytes<'_> {
 }
 
 /// Whether this is what is read in a keyspace at "k".
-fn is_read(alloc: Global, memory: &EngineState, id: u64, wanted: Bytes<'_>) -> bool {
+fn is_read(alloc: Global, memory: &mut EngineState, id: u64, wanted: Bytes<'_>) -> bool {
     let found = read(alloc, memory, id, b"k");
     bytes_of(&found) == wanted
 }
@@ -312,8 +296,6 @@ const BATCH: Step = Step::Write(&[
 ]);
 
 const UNKNOWN: Bytes<'static> = Err(Error::UnknownKeyspace);
-
-const DAMAGED: Bytes<'static> = Err(Error::Storage(StorageError::TableDamaged));
 
 const LIVES: State = (true, true, false, 0);
 
@@ -538,72 +520,6 @@ const ROWS: &[Row] = &[
         LIVES,
         Ok((None, 0)),
     ),
-    // A damaged keyspace is written, cleared, held and deleted, and never read.
-    (Step::NewDamaged, Ok(0), (0, 1, 1, 0), &[], 1, GONE, UNKNOWN),
-    (
-        Step::Create(b"b"),
-        Ok(1),
-        (1, 2, 2, 21),
-        &[(b"b", 1)],
-        1,
-        LIVES,
-        DAMAGED,
-    ),
-    (
-        Step::Create(b"a"),
-        Ok(2),
-        (2, 3, 3, 42),
-        BOTH,
-        2,
-        LIVES,
-        Ok((None, 0)),
-    ),
-    (PUT_V, Ok(0), (2, 3, 4, 42), BOTH, 1, LIVES, DAMAGED),
-    (
-        Step::Rotate(1),
-        Ok(1),
-        (2, 3, 4, 42),
-        BOTH,
-        1,
-        LIVES,
-        DAMAGED,
-    ),
-    (
-        Step::Clear(1),
-        Ok(0),
-        (2, 3, 5, 42),
-        BOTH,
-        1,
-        LIVES,
-        DAMAGED,
-    ),
-    (
-        Step::Retain(1),
-        Ok(0),
-        (2, 3, 5, 42),
-        BOTH,
-        1,
-        (true, true, false, 1),
-        DAMAGED,
-    ),
-    (
-        Step::Delete(1),
-        Ok(0),
-        (1, 3, 6, 21),
-        &[(b"a", 2)],
-        1,
-        (false, true, true, 1),
-        DAMAGED,
-    ),
-    (
-        Step::Release(1),
-        Ok(0),
-        (1, 3, 6, 21),
-        &[(b"a", 2)],
-        1,
-        GONE,
-        Err(Error::KeyspaceDeleted),
-    ),
 ];
 
 #[test]
@@ -617,7 +533,7 @@ fn a_memory_goes_by_its_steps(rt: HostRuntime) {
                 counts_of(&memory),
                 are_named(alloc, &memory, names),
                 state_of(&memory, id),
-                is_read(alloc, &memory, id, value)
+                is_read(alloc, &mut memory, id, value)
             ),
             (answer, counted, Ok(true), stands, true),
             "row {row}"
@@ -668,13 +584,19 @@ const VIEWS: &[(Step, Result<u64>, u64, u64, Result<Option<&[u8]>>)] = &[
 ];
 
 /// What is read by a ticket in keyspace 1 at "k".
-fn seen_by(memory: &EngineState, id: u64) -> Result<Option<Slice>> {
-    memory.get(View::At(Ticket::of_call(id)), 1, b"k")
+fn seen_by(alloc: Global, memory: &mut EngineState, id: u64) -> Result<Option<Slice>> {
+    let mut disk = MemoryDisk::new(alloc);
+    memory.get(&mut disk, View::At(Ticket::of_call(id)), 1, b"k")
 }
 
 /// Whether this is what is read by a ticket.
-fn is_seen(memory: &EngineState, id: u64, wanted: Result<Option<&[u8]>>) -> bool {
-    let found = seen_by(memory, id);
+fn is_seen(
+    alloc: Global,
+    memory: &mut EngineState,
+    id: u64,
+    wanted: Result<Option<&[u8]>>,
+) -> bool {
+    let found = seen_by(alloc, memory, id);
     match (&found, wanted) {
         (Ok(Some(value)), Ok(Some(bytes))) => value.as_slice() == bytes,
         (Ok(None), Ok(None)) => true,
@@ -691,7 +613,7 @@ fn tickets_keep_their_views(rt: HostRuntime) {
             (
                 take(rt.alloc(), &mut memory, step),
                 memory.open_snapshots(),
-                is_seen(&memory, id, value)
+                is_seen(rt.alloc(), &mut memory, id, value)
             ),
             (answer, count, true),
             "row {row}"

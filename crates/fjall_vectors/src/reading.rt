@@ -1,6 +1,6 @@
 //! Ranges of prefixes, and pairs from both ends of a range.
 
-ghost use Rattle.std.specs.Prelude.{◌-◌, ◌^◌, ⊤};
+ghost use Rattle.std.specs.Prelude.{◌≡◌, ◌-◌, ◌^◌, ⊤};
 ghost use Rattle.fjall_versions.specs.Versions.{before, pairs_in};
 
 use fjall_base::{KeyBounds, KvPair, Result, UserKey};
@@ -92,7 +92,7 @@ struct Kept {
 }
 
 impl Pages for Kept {
-    ghost shows = { λ kept id. pairs_in id (before (2 ^ 64 - 1) kept.versions.items) };
+    ghost shows = { λ kept id map. map ≡ pairs_in id (before (2 ^ 64 - 1) kept.versions.items) };
 
     ghost reads = { λ old error new. ⊤ };
 

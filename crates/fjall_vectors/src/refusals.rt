@@ -32,7 +32,6 @@ fn memory_of(alloc: Global, named: Given) -> Result<EngineState> {
             alloc,
             MetaKeyspace::new(alloc),
             Trees::new(alloc),
-            Vec::new(alloc),
             1 << 63,
             JournalManager::new(alloc),
             u64::MAX - 1,

@@ -1,4 +1,4 @@
-use Rattle.std.proofs.Common.{[], ◌∷◌, ◌∙◌, subst, inr, ap, sym}
+use Rattle.std.proofs.Common.{codes, [], ◌∷◌, ◌∙◌, subst, inr, ap, sym}
 use Rattle.fjall_base.specs.Disk.{File, Folder, Meaning, Name, SyncFolder, Took, state_in, IsNoFolder, folder_of}
 use Rattle.fjall_files.proofs.Fitting.{folder_of-current}
 use Rattle.fjall_files.proofs.Made.{within_both}
@@ -6,6 +6,7 @@ use Rattle.fjall_files.specs.Names.{keyspace_folder}
 use Rattle.fjall_recovery.proofs.Listed.{in_keyspaces}
 use Rattle.fjall_commit.proofs.ServableCreations.{can_make_home, keyspaces_there}
 use Rattle.fjall_home.proofs.Outside.{within_keyspaces}
+use Rattle.fjall_commit.proofs.KeptHomes.{settled_others, still_others, within_others}
 use Rattle.fjall_commit.proofs.UnnamedHomes as Building
 use Rattle.fjall_files.specs.Tidy.{FitsAt}
 use Rattle.fjall_files.proofs.Tidying.{stays_both, stays_by, stays_none, stays_settling}
@@ -138,3 +139,24 @@ returns-clause-kinds g c honest old s id number small is =
     (stays_both (m c.args.disk.now) (m c.write_home.new.disk) (m c.sync_folder.new.self) (c.in_ok-write_home.ensures.kinds honest folder file)
     (stays_by _ _ (SyncFolder c.as_str-folder.result.now ∷ []) (c.in_ok-sync_folder.ensures.ok honest) (tt, tt)))
     (stays_settling _ _ _ c.sync_folder-2.result (c.sync_folder-2.ensures.ok honest) (c.sync_folder-2.ensures.err honest))
+
+-- ---- all other homes
+
+pub returns-in_err-write_home-clause-others : goal.returns-in_err-write_home-clause-others
+returns-in_err-write_home-clause-others g c honest old s id number small is =
+    within_others id _ _ small (Building.within_as id c.as_str-folder.result.now c.as_str.result.now (c.as_str-folder.ensures.value ∙ is.folder) (c.as_str.ensures.value ∙ is.current) _ _ (c.in_err-write_home.ensures.within honest))
+
+pub returns-in_err-sync_folder-clause-others : goal.returns-in_err-sync_folder-clause-others
+returns-in_err-sync_folder-clause-others g c honest old s id number small is =
+    let run = Building.within_as id c.as_str-folder.result.now c.as_str.result.now (c.as_str-folder.ensures.value ∙ is.folder) (c.as_str.ensures.value ∙ is.current) _ _ (c.in_ok-write_home.ensures.within honest) in
+    let m : _ → Meaning = g.D.Disk.meaning in
+    still_others id (m c.args.disk.now) (m c.write_home.new.disk) (m c.sync_folder.new.self) (within_others id (m c.args.disk.now) (m c.write_home.new.disk) small run) (c.in_err-sync_folder.ensures.err honest)
+
+pub returns-clause-others : goal.returns-clause-others
+returns-clause-others g c honest old s id number small is =
+    let m : _ → Meaning = g.D.Disk.meaning in
+    let at = c.as_str-folder.ensures.value ∙ is.folder in
+    let run = Building.within_as id c.as_str-folder.result.now c.as_str.result.now at (c.as_str.ensures.value ∙ is.current) _ _ (c.in_ok-write_home.ensures.within honest) in
+    let synced = Building.synced_as id c.as_str-folder.result.now at _ _ (c.in_ok-sync_folder.ensures.ok honest) in
+    let both = within_both (keyspace_folder id) (m c.args.disk.now) (m c.write_home.new.disk) (m c.sync_folder.new.self) run synced in
+    settled_others id (codes "keyspaces") (m c.args.disk.now) (m c.sync_folder.new.self) (m c.sync_folder-2.new.self) c.sync_folder-2.result (within_others id _ _ small both) (c.sync_folder-2.ensures.ok honest) (c.sync_folder-2.ensures.err honest)

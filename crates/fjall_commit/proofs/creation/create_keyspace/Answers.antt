@@ -5,6 +5,7 @@ use Rattle.fjall_files.proofs.Made.{within_both}
 use Rattle.fjall_recovery.specs.Halves.{HasTree}
 use Rattle.fjall_commit.specs.Changes.{HasEither, with_home}
 use Rattle.fjall_home.proofs.Outside.{within_keyspaces}
+use Rattle.fjall_commit.proofs.KeptHomes.{others_both, tree_others}
 use Rattle.fjall_commit.proofs.NextKeyspaces.{next_unused, with_housed}
 use Rattle.fjall_files.proofs.Tidying.{stays_both}
 use Rattle.fjall_commit.proofs.creation.create_keyspace.Goals as goal
@@ -70,3 +71,12 @@ pub returns-clause-kinds : goal.returns-clause-kinds
 returns-clause-kinds g c honest old s id number small is =
     let m : _ → Meaning = g.D.Disk.meaning in
     stays_both (m c.args.disk.now) (m c.build_home.new.disk) (m c.change_tree.new.disk) (c.in_ok-build_home.ensures.kinds honest old s id number small is) (c.change_tree.ensures.kinds honest old s number is.update)
+
+pub returns-in_err-build_home-clause-others : goal.returns-in_err-build_home-clause-others
+returns-in_err-build_home-clause-others g c honest old s id number small is = c.in_err-build_home.ensures.others honest old s id number small is
+
+pub returns-clause-others : goal.returns-clause-others
+returns-clause-others g c honest old s id number small is =
+    let m : _ → Meaning = g.D.Disk.meaning in
+    others_both id (m c.args.disk.now) (m c.build_home.new.disk) (m c.change_tree.new.disk) (c.in_ok-build_home.ensures.others honest old s id number small is)
+    (tree_others id (m c.build_home.new.disk) (m c.change_tree.new.disk) (c.change_tree.ensures.within honest old s number is.update))

@@ -2,6 +2,7 @@ use Rattle.std.proofs.Common.{refl}
 use Rattle.fjall_base.specs.Disk.{Meaning, state_in}
 use Rattle.fjall_commit.specs.Changes.{without_home}
 use Rattle.fjall_home.proofs.Outside.{within_keyspaces}
+use Rattle.fjall_commit.proofs.KeptHomes.{tree_others}
 use Rattle.fjall_commit.proofs.NextKeyspaces.{without_housed}
 use Rattle.fjall_commit.proofs.deletion.delete_keyspace.Goals as goal
 
@@ -27,3 +28,6 @@ returns-clause-served g c honest records t id number lies update later =
 
 pub returns-clause-gone : goal.returns-clause-gone
 returns-clause-gone g c honest old s number update = c.change_tree.ensures.gone honest old s number update
+
+pub returns-clause-others : goal.returns-clause-others
+returns-clause-others g c honest old s number update = tree_others 0 _ _ (c.change_tree.ensures.within honest old s number update)

@@ -2,4 +2,4 @@ use Rattle.fjall_core.proofs.OwedSteps.{owes_step}
 use Rattle.fjall_core.proofs.laws.an_owed_call_steps.Goals as goal
 
 pub returns : goal.returns
-returns c = λ old new call reply owes s stands. owes_step old new call reply s owes stands
+returns c = λ old new call reply owes bare s stands. owes_step old new call reply s bare owes stands

@@ -24,6 +24,9 @@ returns-clause-number c j t id number items tables h versions behind rest may is
 pub returns-clause-numbers : goal.returns-clause-numbers
 returns-clause-numbers c = Numbers.both_numbers
 
+pub returns-clause-beyond : goal.returns-clause-beyond
+returns-clause-beyond c = Numbers.is_later
+
 pub returns-clause-pending : goal.returns-clause-pending
 returns-clause-pending c j t id number items tables h versions may = Storing.same_pending j t id number items tables h versions may.come may.persisted
 

@@ -1,6 +1,6 @@
 use Rattle.std.proofs.Common.{rules}
 use Rattle.fjall_loading.specs.Opening.{MayOpen}
-use Rattle.fjall_loading.proofs.Taking.{ascends}
+use Rattle.fjall_loading.proofs.Turns.{ascends}
 use Rattle.fjall_loading.proofs.tables.open_home.Goals as goal
 
 pub new-tree-requires-clause-ascend : goal.new-tree-requires-clause-ascend

@@ -16,7 +16,7 @@ use Rattle.fjall_replay.specs.Replayed.{ids_of}
 use Rattle.fjall_trees.specs.Forests.{AreBefore, Forest}
 use Rattle.fjall_trees.specs.Views.{forest_of}
 use Rattle.fjall_loading.specs.Opening.{IsOpenedOn, MayOpen, MayOpenAll, ShowsEntries, ShowsStored, opened, told_by}
-use Rattle.fjall_loading.proofs.LoadedHomes.{front_more, trees_below}
+use Rattle.fjall_loading.proofs.Turns.{front_more, trees_below}
 use Rattle.fjall_loading.proofs.Opening.{as_many_homes, ids_ascend, may_at, may_more, opened_before, opened_ended, opened_ids, opened_more, read_all, turn_at}
 use Rattle.fjall_loading.proofs.Opened.{all_opened, shows_entries, shows_stored}
 use Rattle.fjall_loading.proofs.tables.open_homes.Goals as goal
@@ -160,11 +160,11 @@ returns-clause-opened c disk contents openable same read =
     subst (All (IsOpenedOn disk contents)) (sym (whole c).are)
     (all_opened disk contents openable c.args.homes.items (subst (λ (s : Keyspaces). AreHomesRead (seen disk) s.living c.args.homes.items) (sym same) read))
 
-pub returns-clause-shows : goal.returns-clause-shows
-returns-clause-shows c disk contents openable same read damaged versions have =
+pub returns-clause-sound : goal.returns-clause-sound
+returns-clause-sound c disk contents openable same read versions have =
     let w = whole c in
-    subst (ShowsStored disk contents damaged versions) (sym w.are)
-    (shows_stored disk contents openable c.args.homes.items (subst (λ (s : Keyspaces). AreHomesRead (seen disk) s.living c.args.homes.items) (sym same) read) damaged versions have
+    subst (ShowsStored disk contents versions) (sym w.are)
+    (shows_stored disk contents openable c.args.homes.items (subst (λ (s : Keyspaces). AreHomesRead (seen disk) s.living c.args.homes.items) (sym same) read) versions have
     (subst (λ (s : Keyspaces). AllPairs (λ (j k : LivingKeyspace). j.id < k.id) s.living) (sym same) w.up))
 
 pub returns-clause-reads : goal.returns-clause-reads

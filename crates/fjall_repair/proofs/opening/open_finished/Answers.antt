@@ -1,4 +1,5 @@
-use Rattle.std.proofs.Common.{◌≡◌, Some, map, refl, sym, subst, All, ◌∙◌}
+use Rattle.std.proofs.Common.{◌≡◌, Some, map, refl, sym, subst, ap, All, ◌∙◌}
+use Rattle.fjall_journal.specs.Writer.{Journal}
 use Rattle.std.specs.Prelude.{string_bytes}
 use Rattle.std.proofs.lemmas.Result.{err_from_is_err_and}
 use Rattle.fjall_base.specs.Disk.{Image, Meaning, State, standing, state_in}
@@ -10,12 +11,14 @@ use Rattle.fjall_repair.specs.Mended.{IsMendingOf}
 use Rattle.fjall_repair.specs.Sweeps.{BringsNoTable, FindsTables, IsSwept, HasAll}
 use Rattle.fjall_repair.proofs.Agreeing.{home_named, tree_named}
 use Rattle.fjall_repair.proofs.Planned.{is_swept, lives_small}
-use Rattle.fjall_repair.proofs.Openings.{held_early, holds_on, makes_sound, makes_store, number_is, numbers, opens_of, run_on, stands_now, takes_contents}
+use Rattle.fjall_repair.proofs.Openings.{held_early, holds_on, number_is, numbers, opens_of, run_on, stands_now}
+use Rattle.fjall_repair.proofs.OpenedTrees.{kept_on, makes_sound, reads_from, takes_contents}
 use Rattle.fjall_files.specs.Tidy.{IsTidy}
 use Rattle.fjall_files.proofs.Tidying.{stays_both, stays_none as tidy_none}
 use Rattle.fjall_repair.proofs.Amid.{amid_now, amid_on}
 use Rattle.fjall_repair.specs.Readings.{names_read, persisted_of}
-use Rattle.fjall_repair.specs.Steps.{opened}
+use Rattle.fjall_repair.specs.Steps.{active_of, opened}
+use Rattle.fjall_repair.proofs.MendOpened.{active_small}
 use Rattle.fjall_repair.proofs.Counting.{active_contents, none_read, tell_as, told_contents}
 use Rattle.fjall_repair.proofs.opening.open_finished.Goals as goal
 
@@ -53,10 +56,15 @@ returns-clause-opened g c honest contents read shows holds =
     (subst (λ (s : State). IsMendingOf (standing s) found ready.mending) (sym same.state) (c.in_ok-opened.ensures.mending _ read)) (c.in_ok-opened.ensures.sweep honest _ read)
     (subst (λ (s : State). FindsTables s (names_read found) (map string_bytes ready.sweep.tables.items)) (sym same.state) (c.in_ok-opened.ensures.finds honest _ read).tables) in
     let takes = c.in_ok-opened.ensures.opened honest read in
-    let made = makes_sound image found contents (string_bytes ready.mending.active) ready.opened read shows holds.now takes in
+    let kept = kept_on (m c.args.disk.now) (m c.ready_to_mend.new.disk) (m c.mend_and_sweep.new.disk) contents.homes same.state
+    (c.in_ok-mend_and_sweep.ensures.spared honest found contents (subst (λ (s : State). IsFinished (standing s) found) (sym same.state) read) shows
+    (subst (λ (s : State). IsOpenable (standing s) contents) (sym same.state) holds.now.openable)
+    (subst (λ (s : State). IsMendingOf (standing s) found ready.mending) (sym same.state) (c.in_ok-opened.ensures.mending _ read)) (c.in_ok-opened.ensures.sweep honest _ read)) in
+    let made = makes_sound (m c.args.disk.now) (m c.mend_and_sweep.new.disk) found contents (string_bytes ready.mending.active) ready.opened read shows holds.now.openable takes kept holds.now.versions in
     let told = told_contents image found contents read shows holds.now.openable in
-    opens_of (state_in (m c.mend_and_sweep.new.disk)) contents (opened contents.journals) (string_bytes ready.mending.active) found.journals.end repaired (Some contents) (persisted_of found) takes.loaded ready.opened
-    (takes_contents found contents ready.opened (string_bytes ready.mending.active) takes.loaded shows takes.takes) (tell_as (opened contents.journals) found ready.opened takes.journals told) (takes.journals.active_is ∙ active_contents found contents shows) made.0 made.1 refl
+    opens_of (m c.mend_and_sweep.new.disk) contents (opened contents.journals) (string_bytes ready.mending.active) found.journals.end repaired (Some contents) (persisted_of found) takes.loaded ready.opened
+    (takes_contents found contents ready.opened (string_bytes ready.mending.active) takes.loaded shows takes.takes) (tell_as (opened contents.journals) found ready.opened takes.journals told)
+    (takes.journals.active_is ∙ active_contents found contents shows) made refl
     (number_is image found read contents ready.opened.number shows (c.in_ok-opened.ensures.number (numbers image found read))) refl
 
 pub returns-clause-swept : goal.returns-clause-swept
@@ -75,14 +83,30 @@ returns-clause-swept g c honest read =
     let are = subst AreKeyspaces keyspaces c.in_ok-opened.ensures.lawful.keyspaces in
     subst (λ (s : Keyspaces). IsSwept old new ready.opened.catalog s.living) (sym keyspaces)
     (subst (λ (last : Catalog). IsSwept old new last found.catalog.keyspaces.living) (sym takes.last_is)
-    (is_swept old new found.catalog.catalog found.catalog.keyspaces.living (names_read found) found.folder_ids.items ready.sweep (c.in_ok-opened.ensures.finds honest _ read) read.folder_ids (c.in_ok-mend_and_sweep.ensures.gone honest) (lives_small found.catalog.keyspaces are) brings
+    (is_swept old new found.catalog.catalog found.catalog.keyspaces.living (names_read found) found.folder_ids.items ready.sweep (c.in_ok-opened.ensures.finds honest _ read) read.folder_ids (c.in_ok-mend_and_sweep.ensures.gone honest)
+    (lives_small found.catalog.keyspaces are) brings
     (tree_named (standing old) found read) (home_named (standing old) found read)))
 
-pub returns-clause-store : goal.returns-clause-store
-returns-clause-store g c honest contents read shows sound =
+pub returns-clause-from : goal.returns-clause-from
+returns-clause-from g c honest contents read shows openable =
+    let m : _ → Meaning = g.D.Disk.meaning in
+    let found = c.args.found in
     let ready = c.in_ok-opened.field-0 in
-    let image : Image = standing (state_in (g.D.Disk.meaning c.args.disk.now)) in
-    makes_store image c.args.found contents (string_bytes ready.mending.active) ready.opened read shows sound (c.in_ok-opened.ensures.opened honest read)
+    let same = c.in_ok-opened.ensures.same honest in
+    let kept = kept_on (m c.args.disk.now) (m c.ready_to_mend.new.disk) (m c.mend_and_sweep.new.disk) contents.homes same.state
+    (c.in_ok-mend_and_sweep.ensures.spared honest found contents (subst (λ (s : State). IsFinished (standing s) found) (sym same.state) read) shows
+    (subst (λ (s : State). IsOpenable (standing s) contents) (sym same.state) openable)
+    (subst (λ (s : State). IsMendingOf (standing s) found ready.mending) (sym same.state) (c.in_ok-opened.ensures.mending _ read)) (c.in_ok-opened.ensures.sweep honest _ read)) in
+    reads_from (m c.args.disk.now) (m c.mend_and_sweep.new.disk) found contents (string_bytes ready.mending.active) ready.opened read shows openable (c.in_ok-opened.ensures.opened honest read) kept
+
+pub returns-clause-writes : goal.returns-clause-writes
+returns-clause-writes g c honest read =
+    let m : _ → Meaning = g.D.Disk.meaning in
+    let found = c.args.found in
+    let image : Image = standing (state_in (m c.args.disk.now)) in
+    let takes = (c.in_ok-opened.ensures.opened honest read).takes in
+    let planned = c.in_ok-opened.ensures.mending image read in
+    (active_of found.journal_ids.items, active_small image found.journal_ids.items read.journal_ids, ap (λ (w : Journal). w.name) takes.journal ∙ planned.2.active)
 
 pub returns-clause-number : goal.returns-clause-number
 returns-clause-number g c honest contents read shows =
@@ -112,7 +136,9 @@ returns-in_err-mend_and_sweep-clause-kinds g c honest read =
     let found = c.args.found in
     let ready = c.in_ok-opened.field-0 in
     let same = c.in_ok-opened.ensures.same honest in
-    stays_both (m c.args.disk.now) (m c.ready_to_mend.new.disk) (m c.mend_and_sweep.new.disk) (tidy_none _ _ same) (c.in_err-mend_and_sweep.ensures.kinds honest found (subst (λ (s : State). IsFinished (standing s) found) (sym same.state) read) (subst (λ (s : State). IsMendingOf (standing s) found ready.mending) (sym same.state) (c.in_ok-opened.ensures.mending _ read)))
+    stays_both (m c.args.disk.now) (m c.ready_to_mend.new.disk) (m c.mend_and_sweep.new.disk) (tidy_none _ _ same)
+    (c.in_err-mend_and_sweep.ensures.kinds honest found (subst (λ (s : State). IsFinished (standing s) found) (sym same.state) read)
+    (subst (λ (s : State). IsMendingOf (standing s) found ready.mending) (sym same.state) (c.in_ok-opened.ensures.mending _ read)))
 
 pub returns-in_err-mend_and_sweep-clause-served : goal.returns-in_err-mend_and_sweep-clause-served
 returns-in_err-mend_and_sweep-clause-served g c honest tidy contents read shows sound =
@@ -120,7 +146,8 @@ returns-in_err-mend_and_sweep-clause-served g c honest tidy contents read shows 
     let ready = c.in_ok-opened.field-0 in
     let same = c.in_ok-opened.ensures.same honest in
     c.in_err-mend_and_sweep.ensures.served honest (subst IsTidy (sym same.state) tidy) found contents (subst (λ (s : State). IsFinished (standing s) found) (sym same.state) read) shows
-    (subst (λ (s : State). IsOpenable (standing s) contents) (sym same.state) sound) (subst (λ (s : State). IsMendingOf (standing s) found ready.mending) (sym same.state) (c.in_ok-opened.ensures.mending _ read)) (c.in_ok-opened.ensures.sweep honest _ read)
+    (subst (λ (s : State). IsOpenable (standing s) contents) (sym same.state) sound) (subst (λ (s : State). IsMendingOf (standing s) found ready.mending) (sym same.state) (c.in_ok-opened.ensures.mending _ read))
+    (c.in_ok-opened.ensures.sweep honest _ read)
     (subst (λ (s : State). All (HasAll s) ready.sweep.homes.items) (sym same.state) (c.in_ok-opened.ensures.finds honest _ read).each)
     ∙ c.in_ok-opened.ensures.served honest
 
@@ -130,7 +157,9 @@ returns-clause-kinds g c honest read =
     let found = c.args.found in
     let ready = c.in_ok-opened.field-0 in
     let same = c.in_ok-opened.ensures.same honest in
-    stays_both (m c.args.disk.now) (m c.ready_to_mend.new.disk) (m c.mend_and_sweep.new.disk) (tidy_none _ _ same) (c.in_ok-mend_and_sweep.ensures.kinds honest found (subst (λ (s : State). IsFinished (standing s) found) (sym same.state) read) (subst (λ (s : State). IsMendingOf (standing s) found ready.mending) (sym same.state) (c.in_ok-opened.ensures.mending _ read)))
+    stays_both (m c.args.disk.now) (m c.ready_to_mend.new.disk) (m c.mend_and_sweep.new.disk) (tidy_none _ _ same)
+    (c.in_ok-mend_and_sweep.ensures.kinds honest found (subst (λ (s : State). IsFinished (standing s) found) (sym same.state) read)
+    (subst (λ (s : State). IsMendingOf (standing s) found ready.mending) (sym same.state) (c.in_ok-opened.ensures.mending _ read)))
 
 pub returns-clause-served : goal.returns-clause-served
 returns-clause-served g c honest tidy contents read shows sound =
@@ -138,7 +167,8 @@ returns-clause-served g c honest tidy contents read shows sound =
     let ready = c.in_ok-opened.field-0 in
     let same = c.in_ok-opened.ensures.same honest in
     c.in_ok-mend_and_sweep.ensures.served honest (subst IsTidy (sym same.state) tidy) found contents (subst (λ (s : State). IsFinished (standing s) found) (sym same.state) read) shows
-    (subst (λ (s : State). IsOpenable (standing s) contents) (sym same.state) sound) (subst (λ (s : State). IsMendingOf (standing s) found ready.mending) (sym same.state) (c.in_ok-opened.ensures.mending _ read)) (c.in_ok-opened.ensures.sweep honest _ read)
+    (subst (λ (s : State). IsOpenable (standing s) contents) (sym same.state) sound) (subst (λ (s : State). IsMendingOf (standing s) found ready.mending) (sym same.state) (c.in_ok-opened.ensures.mending _ read))
+    (c.in_ok-opened.ensures.sweep honest _ read)
     (subst (λ (s : State). All (HasAll s) ready.sweep.homes.items) (sym same.state) (c.in_ok-opened.ensures.finds honest _ read).each)
     ∙ c.in_ok-opened.ensures.served honest
 
@@ -209,10 +239,15 @@ returns-clause-opens g c honest contents read shows sound base pending holds =
     base pending (amid_on (m c.args.disk.now) (m c.ready_to_mend.new.disk) same base pending holds)
     (subst (λ (s : State). FindsTables s (names_read found) (map string_bytes ready.sweep.tables.items)) (sym same.state) (c.in_ok-opened.ensures.finds honest _ read).tables) in
     let takes = c.in_ok-opened.ensures.opened honest read in
-    let made = makes_sound image found contents (string_bytes ready.mending.active) ready.opened read shows sound takes in
+    let kept = kept_on (m c.args.disk.now) (m c.ready_to_mend.new.disk) (m c.mend_and_sweep.new.disk) contents.homes same.state
+    (c.in_ok-mend_and_sweep.ensures.spared honest found contents (subst (λ (s : State). IsFinished (standing s) found) (sym same.state) read) shows
+    (subst (λ (s : State). IsOpenable (standing s) contents) (sym same.state) sound.openable)
+    (subst (λ (s : State). IsMendingOf (standing s) found ready.mending) (sym same.state) (c.in_ok-opened.ensures.mending _ read)) (c.in_ok-opened.ensures.sweep honest _ read)) in
+    let made = makes_sound (m c.args.disk.now) (m c.mend_and_sweep.new.disk) found contents (string_bytes ready.mending.active) ready.opened read shows sound.openable takes kept sound.versions in
     let told = told_contents image found contents read shows sound.openable in
-    opens_of (state_in (m c.mend_and_sweep.new.disk)) contents (opened contents.journals) (string_bytes ready.mending.active) found.journals.end repaired (Some contents) (persisted_of found) takes.loaded ready.opened
-    (takes_contents found contents ready.opened (string_bytes ready.mending.active) takes.loaded shows takes.takes) (tell_as (opened contents.journals) found ready.opened takes.journals told) (takes.journals.active_is ∙ active_contents found contents shows) made.0 made.1 refl
+    opens_of (m c.mend_and_sweep.new.disk) contents (opened contents.journals) (string_bytes ready.mending.active) found.journals.end repaired (Some contents) (persisted_of found) takes.loaded ready.opened
+    (takes_contents found contents ready.opened (string_bytes ready.mending.active) takes.loaded shows takes.takes) (tell_as (opened contents.journals) found ready.opened takes.journals told)
+    (takes.journals.active_is ∙ active_contents found contents shows) made refl
     (number_is image found read contents ready.opened.number shows (c.in_ok-opened.ensures.number (numbers image found read))) refl
 
 pub returns-clause-fresh : goal.returns-clause-fresh

@@ -7,7 +7,7 @@ use Rattle.fjall_recovery.specs.Folders.{Contents, IsFinished, ReadsFolder, Stan
 use Rattle.fjall_recovery.proofs.Causes.{due_once}
 use Rattle.fjall_recovery.proofs.Kept.{open_folder_is_kept}
 use Rattle.fjall_recovery.specs.Held.{Holds, store_held}
-use Rattle.fjall_recovery.proofs.Damage.{shows_alike}
+use Rattle.fjall_recovery.proofs.Shown.{shows_alike}
 use Rattle.fjall_repair.specs.Making.{ComesBackUnfinished}
 use Rattle.fjall_repair.specs.Opened.{ComesBack, HasNoJournal, Opens}
 use Rattle.fjall_repair.proofs.Openings.{begun_from, finished_is, held_up, holds_on, opened_from, run_on, stands_now, swept_on, unfinished_is, unopened}
@@ -34,7 +34,7 @@ returns-in-Some-clause-opened g c honest folder holds =
     let read : ReadsFolder image (Some c.in-Some.found) = subst (ReadsFolder image) c.in-Some.is (c.in_ok-found.ensures.found honest) in
     let same = c.in_ok-found.ensures.same honest in
     let is = finished_is image read.1.0 folder read.1.1 holds.now in
-    subst (λ (f : Option Contents). IfOk c.open_finished.result (Opens (state_in (m c.open_finished.new.disk)) f)) (sym is.1)
+    subst (λ (f : Option Contents). IfOk c.open_finished.result (Opens (m c.open_finished.new.disk) f)) (sym is.1)
     (c.open_finished.ensures.opened honest is.0 (subst (λ (s : State). IsFinished (standing s) c.in-Some.found) (sym same.state) read.0) (shows_alike c.in-Some.found image read.1.0 is.0 read.1.1 is.2.openable read.1.2)
     (holds_on (m c.args.disk.now) (m c.read_folder.new.disk) same (Some is.0) (subst (λ (f : Option Contents). Holds (state_in (m c.args.disk.now)) f) is.1 holds)))
 
@@ -45,9 +45,16 @@ returns-in-Some-clause-found g c honest =
     let read : ReadsFolder image (Some c.in-Some.found) = subst (ReadsFolder image) c.in-Some.is (c.in_ok-found.ensures.found honest) in
     let same = c.in_ok-found.ensures.same honest in
     let finished = subst (λ (s : State). IsFinished (standing s) c.in-Some.found) (sym same.state) read.0 in
-    opened_from image read.1.0 c.open_finished.result read.1.1
-    (c.open_finished.ensures.store honest read.1.0 finished read.1.2 (subst (λ (s : State). IsOpenable (standing s) read.1.0) (sym same.state) read.1.1))
+    opened_from (m c.args.disk.now) (m c.read_folder.new.disk) (m c.open_finished.new.disk) read.1.0 c.open_finished.result same.state read.1.1
+    (c.open_finished.ensures.from honest read.1.0 finished read.1.2 (subst (λ (s : State). IsOpenable (standing s) read.1.0) (sym same.state) read.1.1))
     (c.open_finished.ensures.number honest read.1.0 finished read.1.2)
+
+pub returns-in-Some-clause-writes : goal.returns-in-Some-clause-writes
+returns-in-Some-clause-writes g c honest =
+    let image : Image = standing (state_in (g.D.Disk.meaning c.args.disk.now)) in
+    let read : ReadsFolder image (Some c.in-Some.found) = subst (ReadsFolder image) c.in-Some.is (c.in_ok-found.ensures.found honest) in
+    let same = c.in_ok-found.ensures.same honest in
+    c.open_finished.ensures.writes honest (subst (λ (s : State). IsFinished (standing s) c.in-Some.found) (sym same.state) read.0)
 
 pub returns-in-Some-clause-any_moment : goal.returns-in-Some-clause-any_moment
 returns-in-Some-clause-any_moment g c honest folder holds back =
@@ -77,7 +84,7 @@ returns-in-None-clause-opened g c honest folder holds =
     let read : ReadsFolder image None = subst (ReadsFolder image) c.in-None.is (c.in_ok-found.ensures.found honest) in
     let same = c.in_ok-found.ensures.same honest in
     let is = unfinished_is image folder read holds.now in
-    subst (λ (f : Option Contents). IfOk c.open_unfinished.result (Opens (state_in (m c.open_unfinished.new.disk)) f)) (sym is)
+    subst (λ (f : Option Contents). IfOk c.open_unfinished.result (Opens (m c.open_unfinished.new.disk) f)) (sym is)
     (c.open_unfinished.ensures.opened honest (holds_on (m c.args.disk.now) (m c.read_folder.new.disk) same None (subst (λ (f : Option Contents). Holds (state_in (m c.args.disk.now)) f) is holds)))
 
 pub returns-in-None-clause-found : goal.returns-in-None-clause-found
@@ -85,7 +92,7 @@ returns-in-None-clause-found g c honest =
     let m : _ → Meaning = g.D.Disk.meaning in
     let image : Image = standing (state_in (m c.args.disk.now)) in
     let read : ReadsFolder image None = subst (ReadsFolder image) c.in-None.is (c.in_ok-found.ensures.found honest) in
-    begun_from image c.open_unfinished.result read c.open_unfinished.ensures.whole c.open_unfinished.ensures.store c.open_unfinished.ensures.number
+    begun_from (m c.args.disk.now) (m c.open_unfinished.new.disk) c.open_unfinished.result read c.open_unfinished.ensures.keyspaces c.open_unfinished.ensures.trees c.open_unfinished.ensures.number
 
 pub returns-in-None-clause-any_moment : goal.returns-in-None-clause-any_moment
 returns-in-None-clause-any_moment g c honest folder holds back =
@@ -179,7 +186,7 @@ returns-in-Some-clause-opens g c honest folder stands base pending holds =
     let read : ReadsFolder image (Some c.in-Some.found) = subst (ReadsFolder image) c.in-Some.is (c.in_ok-found.ensures.found honest) in
     let same = c.in_ok-found.ensures.same honest in
     let is = finished_is image read.1.0 folder read.1.1 stands in
-    subst (λ (f : Option Contents). IfOk c.open_finished.result (Opens (state_in (m c.open_finished.new.disk)) f)) (sym is.1)
+    subst (λ (f : Option Contents). IfOk c.open_finished.result (Opens (m c.open_finished.new.disk) f)) (sym is.1)
     (c.open_finished.ensures.opens honest is.0 (subst (λ (s : State). IsFinished (standing s) c.in-Some.found) (sym same.state) read.0) (shows_alike c.in-Some.found image read.1.0 is.0 read.1.1 is.2.openable read.1.2)
     (subst (λ (s : State). IsSound (standing s) is.0) (sym same.state) is.2) base pending (amid_on (m c.args.disk.now) (m c.read_folder.new.disk) same base pending holds))
 
@@ -199,7 +206,7 @@ returns-in-None-clause-opens g c honest folder stands base pending holds =
     let read : ReadsFolder image None = subst (ReadsFolder image) c.in-None.is (c.in_ok-found.ensures.found honest) in
     let same = c.in_ok-found.ensures.same honest in
     let is = unfinished_is image folder read stands in
-    subst (λ (f : Option Contents). IfOk c.open_unfinished.result (Opens (state_in (m c.open_unfinished.new.disk)) f)) (sym is)
+    subst (λ (f : Option Contents). IfOk c.open_unfinished.result (Opens (m c.open_unfinished.new.disk) f)) (sym is)
     (c.open_unfinished.ensures.opens honest (subst (λ (s : State). ReadsFolder (standing s) None) (sym same.state) read))
 
 pub returns-in_err-found-clause-held : goal.returns-in_err-found-clause-held

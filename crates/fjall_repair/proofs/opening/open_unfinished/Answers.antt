@@ -1,4 +1,6 @@
-use Rattle.std.proofs.Common.{◌≡◌, ℕ, [], None, map, refl, sym, subst, All, ◌∙◌, arith}
+use Rattle.std.proofs.Common.{◌≡◌, ℕ, ◌<◌, ◌^◌, [], ◌∷◌, None, length, length-append, map, refl, sym, subst, ap, All, ◌∙◌, arith}
+use Rattle.std.proofs.Math.Seq.{get_or-append_seam}
+use Rattle.fjall_journal.specs.Writer.{Journal}
 use Rattle.std.specs.List.{Contains}
 use Rattle.std.specs.Prelude.{string_bytes}
 use Rattle.std.proofs.lemmas.Result.{err_from_is_err_and}
@@ -13,7 +15,9 @@ use Rattle.fjall_repair.specs.Plans.{IsPlan as IsMakingOf}
 use Rattle.fjall_repair.specs.Opened.{nothing}
 use Rattle.fjall_repair.specs.Sweeps.{BringsNoTable, FindsTables, IsSwept, HasAll, no_names}
 use Rattle.fjall_repair.proofs.Planned.{is_swept, lives_small}
-use Rattle.fjall_repair.proofs.Openings.{held_early, holds_on, makes_nothing, opens_of, run_on, stands_now}
+use Rattle.fjall_repair.proofs.Openings.{held_early, holds_on, opens_of, run_on, stands_now}
+use Rattle.fjall_repair.proofs.OpenedTrees.{makes_nothing, no_trees}
+use Rattle.fjall_trees.specs.Views.{forest_of}
 use Rattle.fjall_files.specs.Tidy.{IsTidy}
 use Rattle.fjall_files.proofs.Tidying.{stays_both, stays_none as tidy_none}
 use Rattle.fjall_repair.proofs.Amid.{amid_now, amid_on}
@@ -51,8 +55,17 @@ returns-clause-opened g c honest holds =
     let repaired = c.in_ok-begin_and_sweep.ensures.ok honest (holds_on (m c.args.disk.now) (m c.ready_to_begin.new.disk) same None holds)
     (subst (λ (s : State). IsMakingOf (standing s) ready.making) (sym same.state) (c.in_ok-opened.ensures.making honest)) (c.in_ok-opened.ensures.sweep honest)
     (subst (λ (s : State). FindsTables s no_names (map string_bytes ready.sweep.tables.items)) (sym same.state) (c.in_ok-opened.ensures.finds honest).2.tables) in
-    opens_of (state_in (m c.begin_and_sweep.new.disk)) nothing (journals_begun ready.making) (journal_name ready.making.active) 0 repaired None [] [] ready.opened c.in_ok-opened.ensures.opened c.in_ok-opened.ensures.journals (c.in_ok-opened.ensures.active ∙ active_begun ready.making) c.in_ok-opened.ensures.whole
-    (makes_nothing (journal_name ready.making.active) ready.opened c.in_ok-opened.ensures.opened) refl c.in_ok-opened.ensures.number refl
+    opens_of (m c.begin_and_sweep.new.disk) nothing (journals_begun ready.making) (journal_name ready.making.active) 0 repaired None [] [] ready.opened c.in_ok-opened.ensures.opened c.in_ok-opened.ensures.journals
+    (c.in_ok-opened.ensures.active ∙ active_begun ready.making)
+    (makes_nothing (m c.begin_and_sweep.new.disk) (journal_name ready.making.active) ready.opened c.in_ok-opened.ensures.opened) refl c.in_ok-opened.ensures.number refl
+
+-- its writer goes on in the journal that was made last
+pub returns-clause-writes : goal.returns-clause-writes
+returns-clause-writes g c honest =
+    let making = c.in_ok-opened.field-0.making in
+    let sealed = making.sealed.items in
+    let fits = (c.in_ok-opened.ensures.making honest).to_be.fit (length sealed) 0 (omega (arith, length-append sealed (making.active ∷ []))) in
+    (making.active, subst (λ (n : ℕ). n < 2 ^ 64) (get_or-append_seam sealed making.active [] 0) fits, ap (λ (w : Journal). w.name) c.in_ok-opened.ensures.opened.journal)
 
 -- no table is named where none are
 none_has : (n : ℕ) → Contains [] n → ⊥
@@ -76,8 +89,8 @@ returns-clause-swept g c honest =
     (is_swept old new first_catalog [] no_names finds.0 ready.sweep finds.2 finds.1 (c.in_ok-begin_and_sweep.ensures.gone honest) (lives_small no_keyspaces are) brings
     (λ n has. absurd (none_has n has)) (λ id n lives has. absurd (none_has n has))))
 
-pub returns-clause-store : goal.returns-clause-store
-returns-clause-store g c = makes_nothing (journal_name c.in_ok-opened.field-0.making.active) c.in_ok-opened.field-0.opened c.in_ok-opened.ensures.opened
+pub returns-clause-trees : goal.returns-clause-trees
+returns-clause-trees g c = no_trees (forest_of c.in_ok-opened.field-0.opened.trees) c.in_ok-opened.ensures.opened.rest
 
 pub returns-clause-any_moment : goal.returns-clause-any_moment
 returns-clause-any_moment g c honest holds back =
@@ -96,13 +109,15 @@ returns-in_err-begin_and_sweep-clause-kinds g c honest =
     let m : _ → Meaning = g.D.Disk.meaning in
     let ready = c.in_ok-opened.field-0 in
     let same = c.in_ok-opened.ensures.same honest in
-    stays_both (m c.args.disk.now) (m c.ready_to_begin.new.disk) (m c.begin_and_sweep.new.disk) (tidy_none _ _ same) (c.in_err-begin_and_sweep.ensures.kinds honest (subst (λ (s : State). IsMakingOf (standing s) ready.making) (sym same.state) (c.in_ok-opened.ensures.making honest)))
+    stays_both (m c.args.disk.now) (m c.ready_to_begin.new.disk) (m c.begin_and_sweep.new.disk) (tidy_none _ _ same)
+    (c.in_err-begin_and_sweep.ensures.kinds honest (subst (λ (s : State). IsMakingOf (standing s) ready.making) (sym same.state) (c.in_ok-opened.ensures.making honest)))
 
 pub returns-in_err-begin_and_sweep-clause-served : goal.returns-in_err-begin_and_sweep-clause-served
 returns-in_err-begin_and_sweep-clause-served g c honest tidy =
     let ready = c.in_ok-opened.field-0 in
     let same = c.in_ok-opened.ensures.same honest in
-    c.in_err-begin_and_sweep.ensures.served honest (subst IsTidy (sym same.state) tidy) (subst (λ (s : State). IsMakingOf (standing s) ready.making) (sym same.state) (c.in_ok-opened.ensures.making honest)) (c.in_ok-opened.ensures.sweep honest)
+    c.in_err-begin_and_sweep.ensures.served honest (subst IsTidy (sym same.state) tidy) (subst (λ (s : State). IsMakingOf (standing s) ready.making) (sym same.state) (c.in_ok-opened.ensures.making honest))
+    (c.in_ok-opened.ensures.sweep honest)
     (subst (λ (s : State). All (HasAll s) ready.sweep.homes.items) (sym same.state) (c.in_ok-opened.ensures.finds honest).2.each)
     ∙ c.in_ok-opened.ensures.served honest
 
@@ -111,13 +126,15 @@ returns-clause-kinds g c honest =
     let m : _ → Meaning = g.D.Disk.meaning in
     let ready = c.in_ok-opened.field-0 in
     let same = c.in_ok-opened.ensures.same honest in
-    stays_both (m c.args.disk.now) (m c.ready_to_begin.new.disk) (m c.begin_and_sweep.new.disk) (tidy_none _ _ same) (c.in_ok-begin_and_sweep.ensures.kinds honest (subst (λ (s : State). IsMakingOf (standing s) ready.making) (sym same.state) (c.in_ok-opened.ensures.making honest)))
+    stays_both (m c.args.disk.now) (m c.ready_to_begin.new.disk) (m c.begin_and_sweep.new.disk) (tidy_none _ _ same)
+    (c.in_ok-begin_and_sweep.ensures.kinds honest (subst (λ (s : State). IsMakingOf (standing s) ready.making) (sym same.state) (c.in_ok-opened.ensures.making honest)))
 
 pub returns-clause-served : goal.returns-clause-served
 returns-clause-served g c honest tidy =
     let ready = c.in_ok-opened.field-0 in
     let same = c.in_ok-opened.ensures.same honest in
-    c.in_ok-begin_and_sweep.ensures.served honest (subst IsTidy (sym same.state) tidy) (subst (λ (s : State). IsMakingOf (standing s) ready.making) (sym same.state) (c.in_ok-opened.ensures.making honest)) (c.in_ok-opened.ensures.sweep honest)
+    c.in_ok-begin_and_sweep.ensures.served honest (subst IsTidy (sym same.state) tidy) (subst (λ (s : State). IsMakingOf (standing s) ready.making) (sym same.state) (c.in_ok-opened.ensures.making honest))
+    (c.in_ok-opened.ensures.sweep honest)
     (subst (λ (s : State). All (HasAll s) ready.sweep.homes.items) (sym same.state) (c.in_ok-opened.ensures.finds honest).2.each)
     ∙ c.in_ok-opened.ensures.served honest
 
@@ -133,7 +150,8 @@ returns-in_err-begin_and_sweep-clause-amid g c honest unfinished base pending ho
     let same = c.in_ok-opened.ensures.same honest in
     run_on (m c.args.disk.now) (m c.ready_to_begin.new.disk) same (m c.begin_and_sweep.new.disk) _
     (c.in_err-begin_and_sweep.ensures.amid honest (subst (λ (s : State). IsUnfinished (standing s)) (sym same.state) unfinished)
-    (subst (λ (s : State). IsMakingOf (standing s) ready.making) (sym same.state) (c.in_ok-opened.ensures.making honest)) (c.in_ok-opened.ensures.sweep honest) base pending (amid_on (m c.args.disk.now) (m c.ready_to_begin.new.disk) same base pending holds))
+    (subst (λ (s : State). IsMakingOf (standing s) ready.making) (sym same.state) (c.in_ok-opened.ensures.making honest)) (c.in_ok-opened.ensures.sweep honest) base pending
+    (amid_on (m c.args.disk.now) (m c.ready_to_begin.new.disk) same base pending holds))
 
 pub returns-clause-amid : goal.returns-clause-amid
 returns-clause-amid g c honest unfinished base pending holds =
@@ -142,7 +160,8 @@ returns-clause-amid g c honest unfinished base pending holds =
     let same = c.in_ok-opened.ensures.same honest in
     run_on (m c.args.disk.now) (m c.ready_to_begin.new.disk) same (m c.begin_and_sweep.new.disk) _
     (c.in_ok-begin_and_sweep.ensures.amid honest (subst (λ (s : State). IsUnfinished (standing s)) (sym same.state) unfinished)
-    (subst (λ (s : State). IsMakingOf (standing s) ready.making) (sym same.state) (c.in_ok-opened.ensures.making honest)) (c.in_ok-opened.ensures.sweep honest) base pending (amid_on (m c.args.disk.now) (m c.ready_to_begin.new.disk) same base pending holds))
+    (subst (λ (s : State). IsMakingOf (standing s) ready.making) (sym same.state) (c.in_ok-opened.ensures.making honest)) (c.in_ok-opened.ensures.sweep honest) base pending
+    (amid_on (m c.args.disk.now) (m c.ready_to_begin.new.disk) same base pending holds))
 
 pub returns-clause-opens : goal.returns-clause-opens
 returns-clause-opens g c honest unfinished =
@@ -152,8 +171,9 @@ returns-clause-opens g c honest unfinished =
     let repaired = c.in_ok-begin_and_sweep.ensures.repaired honest (subst (λ (s : State). IsUnfinished (standing s)) (sym same.state) unfinished)
     (subst (λ (s : State). IsMakingOf (standing s) ready.making) (sym same.state) (c.in_ok-opened.ensures.making honest)) (c.in_ok-opened.ensures.sweep honest)
     (subst (λ (s : State). FindsTables s no_names (map string_bytes ready.sweep.tables.items)) (sym same.state) (c.in_ok-opened.ensures.finds honest).2.tables) in
-    opens_of (state_in (m c.begin_and_sweep.new.disk)) nothing (journals_begun ready.making) (journal_name ready.making.active) 0 repaired None [] [] ready.opened c.in_ok-opened.ensures.opened c.in_ok-opened.ensures.journals (c.in_ok-opened.ensures.active ∙ active_begun ready.making) c.in_ok-opened.ensures.whole
-    (makes_nothing (journal_name ready.making.active) ready.opened c.in_ok-opened.ensures.opened) refl c.in_ok-opened.ensures.number refl
+    opens_of (m c.begin_and_sweep.new.disk) nothing (journals_begun ready.making) (journal_name ready.making.active) 0 repaired None [] [] ready.opened c.in_ok-opened.ensures.opened c.in_ok-opened.ensures.journals
+    (c.in_ok-opened.ensures.active ∙ active_begun ready.making)
+    (makes_nothing (m c.begin_and_sweep.new.disk) (journal_name ready.making.active) ready.opened c.in_ok-opened.ensures.opened) refl c.in_ok-opened.ensures.number refl
 
 pub returns-in_err-opened-clause-held : goal.returns-in_err-opened-clause-held
 returns-in_err-opened-clause-held g c honest unfinished base pending holds = amid_on _ _ (c.in_err-opened.ensures.same honest) base pending holds
@@ -164,7 +184,8 @@ returns-in_err-begin_and_sweep-clause-held g c honest unfinished base pending ho
     let ready = c.in_ok-opened.field-0 in
     let same = c.in_ok-opened.ensures.same honest in
     c.in_err-begin_and_sweep.ensures.held honest (subst (λ (s : State). IsUnfinished (standing s)) (sym same.state) unfinished)
-    (subst (λ (s : State). IsMakingOf (standing s) ready.making) (sym same.state) (c.in_ok-opened.ensures.making honest)) (c.in_ok-opened.ensures.sweep honest) base pending (amid_on (m c.args.disk.now) (m c.ready_to_begin.new.disk) same base pending holds)
+    (subst (λ (s : State). IsMakingOf (standing s) ready.making) (sym same.state) (c.in_ok-opened.ensures.making honest)) (c.in_ok-opened.ensures.sweep honest) base pending
+    (amid_on (m c.args.disk.now) (m c.ready_to_begin.new.disk) same base pending holds)
 
 pub returns-clause-held : goal.returns-clause-held
 returns-clause-held g c honest unfinished base pending holds =
@@ -172,7 +193,8 @@ returns-clause-held g c honest unfinished base pending holds =
     let ready = c.in_ok-opened.field-0 in
     let same = c.in_ok-opened.ensures.same honest in
     c.in_ok-begin_and_sweep.ensures.held honest (subst (λ (s : State). IsUnfinished (standing s)) (sym same.state) unfinished)
-    (subst (λ (s : State). IsMakingOf (standing s) ready.making) (sym same.state) (c.in_ok-opened.ensures.making honest)) (c.in_ok-opened.ensures.sweep honest) base pending (amid_on (m c.args.disk.now) (m c.ready_to_begin.new.disk) same base pending holds)
+    (subst (λ (s : State). IsMakingOf (standing s) ready.making) (sym same.state) (c.in_ok-opened.ensures.making honest)) (c.in_ok-opened.ensures.sweep honest) base pending
+    (amid_on (m c.args.disk.now) (m c.ready_to_begin.new.disk) same base pending holds)
 
 pub returns-clause-fresh : goal.returns-clause-fresh
 returns-clause-fresh g c honest none =

@@ -2,12 +2,14 @@ use Rattle.std.proofs.Common.{◌≡◌, ◌<◌, ◌∙◌, All, List, map, ap,
 use Rattle.fjall_journal.specs.declared.batch.Batch.{Batch}
 use Rattle.fjall_journal.specs.Batches.{view}
 use Rattle.fjall_meta.specs.declared.living.LivingKeyspace.{LivingKeyspace}
-use Rattle.fjall_replay.specs.Replayed.{AreTold, MayReplay}
+use Rattle.fjall_replay.specs.Beside.{AreEndedBy, AreReplayedWith}
+use Rattle.fjall_replay.specs.Replayed.{AreTold}
+use Rattle.fjall_trees.specs.Views.{forest_of}
 use Rattle.fjall_versions.specs.declared.recovery.Persisted.{Persisted}
 use Rattle.fjall_repair.specs.Opened.{IsFit}
 use Rattle.fjall_repair.specs.Readings.{persisted_in, persisted_of}
 use Rattle.fjall_repair.proofs.Openings.{made_before, number_small, numbers, told_below}
-use Rattle.fjall_repair.proofs.Replayed.{all_given, all_planted}
+use Rattle.fjall_repair.proofs.Replayed.{all_given, all_planted, all_positive}
 use Rattle.fjall_repair.specs.Steps.{active_of}
 use Rattle.fjall_repair.proofs.Counting.{rise_of}
 use Rattle.fjall_repair.proofs.Fitting.{read_fit}
@@ -29,36 +31,54 @@ pub returns-in_err-check_sizes-clause-only : goal.returns-in_err-check_sizes-cla
 returns-in_err-check_sizes-clause-only c image read =
     absurd (c.in_err-check_sizes.ensures.cause.1 (subst (All IsFit) (sym c.deref.ensures.value) (read_fit image c.args.found read)))
 
-pub replayed-requires-clause-fits : goal.replayed-requires-clause-fits
-replayed-requires-clause-fits c = subst (λ (l : List Batch). All (λ b. MayReplay (view b)) l) c.deref.ensures.value c.in_ok-check_sizes.ensures.ok
+pub replayed-requires-clause-ended : goal.replayed-requires-clause-ended
+replayed-requires-clause-ended c =
+    let same : c.deref-5.result.now ≡ persisted_of c.args.found = c.deref-5.ensures.value ∙ c.in_ok-persisted.ensures.ok ∙ ap (map persisted_in) c.deref-4.ensures.value in
+    subst (λ (l : List Persisted). AreEndedBy l 0 (forest_of c.in_ok-loaded.loaded)) (sym same) c.in_ok-loaded.ensures.ended
 
 pub returns-clause-opened : goal.returns-clause-opened
-returns-clause-opened c =
+returns-clause-opened c disk read =
     let found = c.args.found in
-    let same : c.deref-4.result.now ≡ persisted_of found = c.deref-4.ensures.value ∙ c.in_ok-persisted.ensures.ok ∙ ap (map persisted_in) c.deref-3.ensures.value in
+    let s = found.catalog.keyspaces in
+    let loaded = c.in_ok-loaded.ensures in
+    let made = c.in_ok-trees.ensures in
+    let same : c.deref-5.result.now ≡ persisted_of found = c.deref-5.ensures.value ∙ c.in_ok-persisted.ensures.ok ∙ ap (map persisted_in) c.deref-4.ensures.value in
     record {
-      journal = search rules;
-      last_is = refl;
-      keyspaces = refl;
-      trees = λ stored are. c.in_ok-trees.ensures.ok stored (subst (λ (l : List Persisted). AreTold found.catalog.keyspaces stored l) (sym same) are);
+      loaded = forest_of c.in_ok-loaded.loaded;
+      takes = record {
+        journal = search rules;
+        last_is = refl;
+        keyspaces = refl;
+        trees = λ entries stored told within shown.
+            subst (λ (l : List Batch). AreReplayedWith entries s stored (map view l) (forest_of c.in_ok-trees.trees)) c.deref-6.ensures.value
+            (made.ok entries stored (subst (λ (l : List Persisted). AreTold s stored l) (sym same) told) within shown);
+        reads = made.reads;
+        rest = made.rest;
+      };
+      journals = record { sealed_are = refl; active_is = c.active_id-id.ensures ∙ ap active_of c.deref-3.ensures.value; marks_are = c.in_ok-watermarks.ensures.ok };
+      opened = λ contents is shows. loaded.opened disk contents is (sym shows.keyspaces) read.homes;
+      reads = λ contents is shows entries have. loaded.reads disk contents is (sym shows.keyspaces) read.homes entries have;
+      sound = λ contents is shows versions have. loaded.sound disk contents is (sym shows.keyspaces) read.homes versions have;
     }
 
 pub returns-clause-lawful : goal.returns-clause-lawful
 returns-clause-lawful c =
     let number = c.number_of-number.result in
-    let s = c.args.found.catalog.keyspaces in
+    let found = c.args.found in
+    let s = found.catalog.keyspaces in
     let told = c.in_ok-check_told.ensures.ok in
     let made = c.in_ok-trees.ensures in
-    let trees = c.in_ok-trees.trees in
-    let ids = made.ids ∙ c.requires.live in
+    let ids = made.ids ∙ c.in_ok-loaded.ensures.live in
     record {
       keyspaces = made.lawful;
       made = subst (λ (l : List LivingKeyspace). All (λ k. k.number < number) l) c.living.ensures c.in_ok-check_made.ensures.ok;
-      forest = trees.lawful;
+      forest = c.in_ok-trees.trees.lawful;
       planted = all_planted s _ ids;
+      positive = all_positive s _ ids made.lawful;
       given = all_given s _ ids made.lawful;
-      below = made.below number (c.requires.below number told.homes) told.batches;
-      bare = made.bare c.requires.bare;
+      below = made.below number (c.in_ok-loaded.ensures.before number told.homes) (subst (λ (l : List Batch). All (λ b. b.seqno < number) l) (sym c.deref-6.ensures.value) told.batches);
       small = c.in_ok-check_small.ensures.ok;
-      numbered = rise_of c.args.found.journal_ids.items c.args.found.journals.sealed c.active_id-id.result c.requires.numbered.ascending c.requires.numbered.sealed (c.active_id-id.ensures ∙ ap active_of c.deref-2.ensures.value);
+      numbered =
+          rise_of found.journal_ids.items found.journals.sealed c.active_id-id.result c.requires.numbered.ascending c.requires.numbered.sealed
+          (c.active_id-id.ensures ∙ ap active_of c.deref-3.ensures.value);
     }

@@ -4,4 +4,4 @@ use Rattle.fjall_repair.proofs.Counting.{none_written}
 use Rattle.fjall_repair.proofs.ready.new_database.Goals as goal
 
 pub returns-clause-journals : goal.returns-clause-journals
-returns-clause-journals c = none_written c.args.sealed.now c.args.active c.in_ok-empty_journals.field-0 (told c.new-3.result) c.in_ok-empty_journals.ensures.tell (ap told c.new-3.ensures)
+returns-clause-journals c = none_written c.args.sealed.now c.args.active c.in_ok-empty_journals.field-0 (told c.new-2.result) c.in_ok-empty_journals.ensures.tell (ap told c.new-2.ensures)

@@ -1,4 +1,4 @@
-use Rattle.std.proofs.Common.{◌∙◌, inl, refl}
+use Rattle.std.proofs.Common.{◌∙◌, inl, refl, get_or}
 use Rattle.std.specs.List.{Contains}
 use Rattle.fjall_base.specs.Disk.{Meaning, state_in, standing}
 use Rattle.fjall_base.proofs.Moments.{runs_on}
@@ -11,6 +11,7 @@ use Rattle.fjall_recovery.specs.Places.{LiesInTree}
 use Rattle.fjall_repair.specs.Opened.{IsRepaired}
 use Rattle.fjall_repair.specs.Sweeps.{names_in, planned}
 use Rattle.fjall_repair.proofs.Removals.{stays_missing}
+use Rattle.fjall_repair.proofs.Keeping.{keeps_named}
 use Rattle.fjall_repair.proofs.Repairing.{finds_of, finds_still, on_ok_then, plan_of, repaired, root_kept, sound_amid, stands}
 use Rattle.fjall_files.proofs.Tidying.{stays_both, tidy_on}
 use Rattle.fjall_repair.proofs.SweepServed.{have_all_on}
@@ -106,3 +107,13 @@ pub returns-clause-tables : goal.returns-clause-tables
 returns-clause-tables g c honest found mending id n fits small missing =
     let m : _ → Meaning = g.D.Disk.meaning in
     stays_missing (Contains (planned c.args.plan.now)) (m c.mend.new.disk) (m c.sweep.new.disk) (table_name id n) (c.sweep.ensures.removes honest) (c.in_ok-mend.ensures.tables honest _ found mending id n ∙ missing)
+
+pub returns-in_err-mend-clause-spared : goal.returns-in_err-mend-clause-spared
+returns-in_err-mend-clause-spared g c honest found contents read shows openable mending is id h at k d lt = c.in_err-mend.ensures.tables honest _ found mending id (get_or h.last.tables k d).id
+
+pub returns-clause-spared : goal.returns-clause-spared
+returns-clause-spared g c honest found contents read shows openable mending is =
+    let m : _ → Meaning = g.D.Disk.meaning in
+    let plan = plan_of (seen (m c.args.disk.now)) found contents c.args.plan.now read shows is in
+    keeps_named (seen (m c.args.disk.now)) contents c.args.plan.now (m c.args.disk.now) (m c.mend.new.disk) (m c.sweep.new.disk) openable plan
+    (λ id n. c.in_ok-mend.ensures.tables honest _ found mending id n) (c.sweep.ensures.removes honest)

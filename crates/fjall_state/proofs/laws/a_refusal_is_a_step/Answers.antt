@@ -6,3 +6,6 @@ returns-clause-due c = Refusing.due_steps
 
 pub returns-clause-memory : goal.returns-clause-memory
 returns-clause-memory c = Refusing.memory_steps
+
+pub returns-clause-read : goal.returns-clause-read
+returns-clause-read c = Refusing.read_steps

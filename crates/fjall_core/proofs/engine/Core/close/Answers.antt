@@ -10,7 +10,7 @@ returns-clause-disk g c = λ honest.
     subst (λ disk. ClosesDisk old c.persist-closed.result disk) (sym c.into_disk.ensures.disk) (closes_disk old new c.persist-closed.result (c.persist-closed.ensures.serves honest).disk)
 
 pub returns-clause-crash : goal.returns-clause-crash
-returns-clause-crash g c = λ honest s d stands on.
+returns-clause-crash g c = λ honest s d stands reads on.
     subst (λ disk. Closes s d c.persist-closed.result disk) (sym c.into_disk.ensures.disk)
     (closing c.args.self c.persist-closed.new.self c.persist-closed.result s d c.persist-closed.ensures.owes (c.persist-closed.ensures.serves honest) (c.persist-closed.ensures.device honest)
-    (c.into_disk.ensures.housed honest) stands on)
+    (c.into_disk.ensures.housed honest) stands reads on)

@@ -1,11 +1,28 @@
-use Rattle.std.proofs.Common.{ap}
+use Rattle.std.proofs.Common.{subst}
+use Rattle.fjall_history.specs.Queries.{Get}
+use Rattle.fjall_state.specs.Shapes.{OfRead}
 use Rattle.fjall_core.specs.Holding.{Held}
-use Rattle.fjall_core.proofs.CallsInMemory.{value_owes, value_serves}
+use Rattle.fjall_core.specs.Standing.{Owes, Serves, value_reply}
+use Rattle.fjall_core.proofs.ReadCalls.{Came, value_owes, value_serves}
 use Rattle.fjall_core.proofs.engine.Core.get_at.Goals as goal
 
-pub returns-clause-serves : goal.returns-clause-serves
-returns-clause-serves g c = λ _.
-    value_serves c.args.self.now _ c.args.view c.args.id c.args.key.now c.get.result (ap (λ (core : Held). core.memory) c.self.view_is) c.get.ensures.due c.get.ensures.ok c.get.ensures.cause
-
-pub returns-clause-owes : goal.returns-clause-owes
-returns-clause-owes g c = value_owes c.args.self.now _ c.args.view c.args.id c.args.key.now c.get.result (ap (λ (core : Held). core.memory) c.self.view_is) c.get.ensures.due c.get.ensures.ok c.get.ensures.cause
+pub returns : goal.returns
+returns g c =
+    let m = g.D.Disk.meaning in
+    let old : Held = record { disk = m c.self.inside.disk; journal = c.self.inside.journal; catalog = c.self.inside.catalog; memory = c.self.inside.memory } in
+    let new : Held = record { disk = m c.get.new.disk; journal = c.self.inside.journal; catalog = c.self.inside.catalog; memory = c.get.new.self } in
+    let on = c.get.ensures in
+    let came : Came g.D.Disk.honest old new c.args.view c.args.id = record {
+      held = λ i. record { disk = new.disk; journal = old.journal; catalog = old.catalog; memory = on.held i };
+      trees = on.trees;
+      bare = λ no i. record { disk = (on.bare no).1 i; journal = old.journal; catalog = old.catalog; memory = (on.bare no).0 i };
+      waits = λ error is i. record { disk = (on.waits error is).1 i; journal = old.journal; catalog = old.catalog; memory = (on.waits error is).0 i };
+      reads = λ h entries are. on.reads h entries are;
+      disk = on.disk;
+    } in
+    record {
+      serves = λ h. subst (λ (o : Held). Serves o (OfRead c.args.view c.args.id (Get c.args.key.now)) (value_reply c.get.result) new) c.self.view_is
+          (value_serves g.D.Disk.honest old new c.args.view c.args.id c.args.key.now c.get.result came on.due (λ no. (on.bare no).2) on.cause (λ h. on.found h) (λ h. on.refused h) h);
+      owes = subst (λ (o : Held). Owes o (OfRead c.args.view c.args.id (Get c.args.key.now)) (value_reply c.get.result) new) c.self.view_is
+          (value_owes g.D.Disk.honest old new c.args.view c.args.id c.args.key.now c.get.result came on.due (λ no. (on.bare no).2) on.cause);
+    }

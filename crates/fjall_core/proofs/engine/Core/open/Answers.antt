@@ -1,19 +1,22 @@
-use Rattle.std.proofs.Common.{sym, subst}
-use Rattle.fjall_base.specs.Disk.{Image, Meaning, standing, state_in}
+use Rattle.std.proofs.Common.{ℕ, List, sym, subst}
+use Rattle.fjall_base.specs.Disk.{Meaning, state_in}
+use Rattle.fjall_table.specs.Blocks.{Entry}
 use Rattle.fjall_repair.specs.Sweeps.{IsSwept}
-use Rattle.fjall_state.specs.Remembered.{Remembered}
+use Rattle.fjall_state.specs.Remembered.{AreBeside, Remembered}
 use Rattle.fjall_core.specs.Openings.{Opens, OpensAs, OpensOn, OpensAmid}
+use Rattle.fjall_core.specs.Standing.{store_with_tables}
 use Rattle.fjall_core.proofs.DeviceFaults.{risen_blames}
-use Rattle.fjall_core.proofs.Opening.{held_of, keeps, opens_as, opens_new, opens_on}
+use Rattle.fjall_core.proofs.Opening.{held_of, keeps, opens_as, opens_beside, opens_on}
 use Rattle.fjall_core.proofs.Reopening.{opens_amid}
 use Rattle.fjall_core.proofs.engine.Core.open.Goals as goal
 
 pub returns-in-Ok-clause-opened : goal.returns-in-Ok-clause-opened
 returns-in-Ok-clause-opened g c honest =
     let m : _ → Meaning = g.D.Disk.meaning in
-    let image : Image = standing (state_in (m c.args.disk)) in
+    let old = m c.args.disk in
+    let new = m c.open_folder.new.disk in
     let o = c.in-Ok.opened in
-    subst (λ (memory : Remembered). OpensOn image (held_of (m c.open_folder.new.disk) o memory)) (sym c.new.ensures) (opens_on image (m c.open_folder.new.disk) o c.in-Ok.ensures.lawful (c.in-Ok.ensures.found honest))
+    subst (λ (memory : Remembered). OpensOn old (held_of new o memory)) (sym c.new.ensures) (opens_on old new o c.in-Ok.ensures.lawful (c.in-Ok.ensures.writes honest) (c.in-Ok.ensures.found honest))
 
 pub returns-in-Ok-clause-safe : goal.returns-in-Ok-clause-safe
 returns-in-Ok-clause-safe g c honest store (folder, holds, back, same) =
@@ -28,9 +31,10 @@ returns-in-Ok-clause-any_moment g c honest = let m : _ → Meaning = g.D.Disk.me
 pub returns-in-Ok-clause-stands : goal.returns-in-Ok-clause-stands
 returns-in-Ok-clause-stands g c =
     let m : _ → Meaning = g.D.Disk.meaning in
+    let new = m c.open_folder.new.disk in
     let o = c.in-Ok.opened in
-    let new = opens_new (m c.open_folder.new.disk) o c.in-Ok.ensures.lawful in
-    (new.0, new.1, new.2, subst (λ (memory : Remembered). Opens (held_of (m c.open_folder.new.disk) o memory) new.0 new.1 new.2) (sym c.new.ensures) new.3)
+    subst (λ (memory : Remembered). (entries : ℕ → List (List Entry)) → AreBeside memory entries → (damaged : List ℕ)
+    → Opens (held_of new o memory) (store_with_tables entries (held_of new o memory)) entries damaged memory.next) (sym c.new.ensures) (opens_beside new o c.in-Ok.ensures.lawful)
 
 pub returns-in-Err-clause-any_moment_err : goal.returns-in-Err-clause-any_moment_err
 returns-in-Err-clause-any_moment_err g c honest = let m : _ → Meaning = g.D.Disk.meaning in keeps (m c.args.disk) (m c.open_folder.new.disk) (c.open_folder.ensures.any_moment honest)

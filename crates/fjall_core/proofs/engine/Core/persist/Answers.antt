@@ -6,6 +6,7 @@ use Rattle.fjall_core.specs.Holding.{Held}
 use Rattle.fjall_core.specs.Crashes.{BlamesDevice}
 use Rattle.fjall_core.specs.Standing.{Serves, StandsOn}
 use Rattle.fjall_core.proofs.DeviceFaults.{fault_blames, refusal_blames, served_on}
+use Rattle.fjall_commit.proofs.KeptHomes.{persisted_homes, unpersisted_homes}
 use Rattle.fjall_core.proofs.Persists.{ill_due, persisted_serves, unpersisted_serves}
 use Rattle.fjall_core.proofs.ServedCalls.{due_serves}
 use Rattle.fjall_core.proofs.engine.Core.persist.Goals as goal
@@ -21,7 +22,7 @@ returns-in-Ok-clause-serves g c = λ h.
     let new : Held = record { disk = m c.sync_journal.new.disk; journal = c.sync_journal.new.journal; catalog = c.self.inside.catalog; memory = c.self.inside.memory } in
     subst (λ (core : Held). Serves core (OfPersist c.args.mode) Done new) c.self.view_is
     (persisted_serves old new c.args.mode (sym c.is_poisoned.ensures ∙ c.if-is_poisoned.false) (record { memory_is = refl; catalog = refl; journal = c.in-Ok.ensures.ok; faults = c.in-Ok.ensures.cause.later }) (c.in-Ok.ensures.took h)
-    (record { leaves = c.in-Ok.ensures.any_moment h; lies = λ _. c.in-Ok.ensures.lies h; elsewhere = c.in-Ok.ensures.elsewhere h; served = c.in-Ok.ensures.served h; kinds = c.in-Ok.ensures.kinds h }))
+    (record { leaves = c.in-Ok.ensures.any_moment h; lies = λ _. c.in-Ok.ensures.lies h; elsewhere = c.in-Ok.ensures.elsewhere h; homes = λ out. persisted_homes old.journal old.disk new.disk out c.args.mode (c.in-Ok.ensures.took h); served = c.in-Ok.ensures.served h; kinds = c.in-Ok.ensures.kinds h }))
 
 pub returns-in-Err-clause-serves : goal.returns-in-Err-clause-serves
 returns-in-Err-clause-serves g c = λ h.
@@ -30,7 +31,7 @@ returns-in-Err-clause-serves g c = λ h.
     let new : Held = record { disk = m c.sync_journal.new.disk; journal = c.sync_journal.new.journal; catalog = c.self.inside.catalog; memory = c.poison.new.self } in
     subst (λ (core : Held). Serves core (OfPersist c.args.mode) (Refused c.in-Err.error) new) c.self.view_is
     (unpersisted_serves old new c.args.mode c.in-Err.error (sym c.is_poisoned.ensures ∙ c.if-is_poisoned.false) c.poison.ensures c.in-Err.ensures.cause.cause (c.in-Err.ensures.left h)
-    (record { leaves = c.in-Err.ensures.any_moment h; lies = λ e. let bad : ⊥ = cc in absurd bad; elsewhere = c.in-Err.ensures.elsewhere h; served = c.in-Err.ensures.served h; kinds = c.in-Err.ensures.kinds h }))
+    (record { leaves = c.in-Err.ensures.any_moment h; lies = λ e. let bad : ⊥ = cc in absurd bad; elsewhere = c.in-Err.ensures.elsewhere h; homes = λ out. unpersisted_homes old.journal old.disk new.disk out new.journal c.args.mode (c.in-Err.ensures.left h); served = c.in-Err.ensures.served h; kinds = c.in-Err.ensures.kinds h }))
 
 -- ---- which calls the disk could serve
 
@@ -42,13 +43,13 @@ returns-in-Ok-clause-device g c = λ h s d stands on.
     let m = g.D.Disk.meaning in
     let old : Held = record { disk = m c.self.inside.disk; journal = c.self.inside.journal; catalog = c.self.inside.catalog; memory = c.self.inside.memory } in
     let new = m c.sync_journal.new.disk in
-    subst (λ (core : Held). StandsOn core d → BlamesDevice Done core.disk new) c.self.view_is
-    (λ here. served_on old new d (sym c.is_poisoned.ensures ∙ c.if-is_poisoned.false) (c.in-Ok.ensures.served h) here) on
+    subst (λ (core : Held). StandsOn core s.parts.entries d → BlamesDevice Done core.disk new) c.self.view_is
+    (λ here. served_on s.parts.entries old new d (sym c.is_poisoned.ensures ∙ c.if-is_poisoned.false) (c.in-Ok.ensures.served h) here) on
 
 pub returns-in-Err-clause-device : goal.returns-in-Err-clause-device
 returns-in-Err-clause-device g c = λ h s d stands on.
     let m = g.D.Disk.meaning in
     let old : Held = record { disk = m c.self.inside.disk; journal = c.self.inside.journal; catalog = c.self.inside.catalog; memory = c.self.inside.memory } in
     let new = m c.sync_journal.new.disk in
-    subst (λ (core : Held). StandsOn core d → BlamesDevice (Refused c.in-Err.error) core.disk new) c.self.view_is
-    (λ here. fault_blames old new d c.in-Err.error (sym c.is_poisoned.ensures ∙ c.if-is_poisoned.false) c.in-Err.ensures.cause.cause (c.in-Err.ensures.served h) here) on
+    subst (λ (core : Held). StandsOn core s.parts.entries d → BlamesDevice (Refused c.in-Err.error) core.disk new) c.self.view_is
+    (λ here. fault_blames s.parts.entries old new d c.in-Err.error (sym c.is_poisoned.ensures ∙ c.if-is_poisoned.false) c.in-Err.ensures.cause.cause (c.in-Err.ensures.served h) here) on

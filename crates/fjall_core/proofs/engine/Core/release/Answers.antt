@@ -4,9 +4,8 @@ use Rattle.fjall_history.specs.declared.reply.Reply.TheVariants.{Done}
 use Rattle.fjall_core.specs.Holding.{Held}
 use Rattle.fjall_core.specs.Standing.{Serves, held_due}
 use Rattle.fjall_core.proofs.ServedCalls.{due_serves}
-use Rattle.std.proofs.lemmas.Result.{err_from_is_err_and}
 use Rattle.fjall_state.specs.Remembered.{is_last, released}
-use Rattle.fjall_core.proofs.Releases.{counted_serves, then_serves, unremoved_owes, unremoved_serves}
+use Rattle.fjall_core.proofs.Releases.{counted_serves, left_by, then_serves, unremoved_owes, unremoved_serves}
 use Rattle.fjall_core.proofs.engine.Core.release.Goals as goal
 use Rattle.fjall_core.proofs.engine.Core.release.Goals.{then-not-is_last-via-then-not-is_last, then-not-is_last-via-else-not-is_last+then-is_poisoned}
 
@@ -26,21 +25,19 @@ returns-then-not-is_last-clause-serves g c = λ h.
     subst (λ (core : Held). Serves core (OfHandle OneLess c.args.id) Done new) c.self.view_is
     (counted_serves old new c.args.id (sym c.release_refusal.ensures ∙ c.in_default.is) why (record { memory_is = c.release.ensures; catalog = refl; journal = refl; faults = omega arith }) refl)
 
-pub returns-in_err-remove_files-clause-serves : goal.returns-in_err-remove_files-clause-serves
-returns-in_err-remove_files-clause-serves g c = λ h.
+pub returns-in-Err : goal.returns-in-Err
+returns-in-Err g c =
     let old = c.args.self.now in
+    let mid = c.remove_files.new.self in
+    let new = c.give_up.new.self in
     let none = ap (λ (core : Held). held_due core (OfHandle OneLess c.args.id)) (sym c.self.view_is) ∙ sym c.release_refusal.ensures ∙ c.in_default.is in
     let last = ap (λ (core : Held). is_last core.memory c.args.id) (sym c.self.view_is) ∙ sym c.is_last.ensures ∙ c.if-not-is_last.false in
     let well = ap (λ (core : Held). core.memory.poisoned) (sym c.self.view_is) ∙ sym c.is_poisoned.ensures ∙ c.if-is_poisoned.false in
-    let p = err_from_is_err_and c.from_residual.result c.from_residual.ensures.1 in
-    rw (p.1, p.2) (unremoved_serves (IsTrue g.D.Disk.honest) old c.remove_files.new.self c.args.id c.in_err-remove_files.field-0.0 none last well c.in_err-remove_files.ensures.removed h)
-
-pub returns-in_err-remove_files-clause-owes : goal.returns-in_err-remove_files-clause-owes
-returns-in_err-remove_files-clause-owes g c =
-    let old = c.args.self.now in
-    let none = ap (λ (core : Held). held_due core (OfHandle OneLess c.args.id)) (sym c.self.view_is) ∙ sym c.release_refusal.ensures ∙ c.in_default.is in
-    let p = err_from_is_err_and c.from_residual.result c.from_residual.ensures.1 in
-    rw (p.1, p.2) (unremoved_owes (IsTrue g.D.Disk.honest) old c.remove_files.new.self c.args.id c.in_err-remove_files.field-0.0 none c.in_err-remove_files.ensures.removed)
+    let left = left_by old mid new c.args.id c.in-Err.error c.give_up.ensures in
+    record {
+      serves = unremoved_serves (IsTrue g.D.Disk.honest) old mid new c.args.id c.in-Err.error none last well c.in-Err.ensures.removed left;
+      owes = unremoved_owes (IsTrue g.D.Disk.honest) old mid new c.args.id c.in-Err.error none c.in-Err.ensures.removed left;
+    }
 
 pub returns-clause-serves : goal.returns-clause-serves
 returns-clause-serves g c = λ h.
@@ -53,4 +50,4 @@ returns-clause-serves g c = λ h.
     let new : Held = record { disk = m c.self-2.inside.disk; journal = c.self-2.inside.journal; catalog = c.self-2.inside.catalog; memory = c.release-2.new.self } in
     let is : new ≡ record c.remove_files.new.self { memory = released c.args.id c.remove_files.new.self.memory } =
     (λ i. record { disk = view.disk; journal = view.journal; catalog = view.catalog; memory = c.release-2.ensures i }) ∙ ap (λ (core : Held). record core { memory = released c.args.id core.memory }) c.self-2.view_is in
-    then_serves (IsTrue g.D.Disk.honest) old c.remove_files.new.self new c.args.id none last well c.in_ok-remove_files.ensures.removed is h
+    then_serves (IsTrue g.D.Disk.honest) old c.remove_files.new.self new c.args.id none last well c.in_default-remove_files.ensures.removed is h

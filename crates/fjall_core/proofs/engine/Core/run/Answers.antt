@@ -5,15 +5,15 @@ use Rattle.std.proofs.lemmas.Iterator.Consumers.{YieldsList-end, YieldsList-turn
 use Rattle.fjall_state.specs.declared.call.Call.{Call}
 use Rattle.fjall_state.specs.Places.{resolved, resolved_all}
 use Rattle.fjall_state.specs.Shapes.{shape_of}
-use Rattle.fjall_core.specs.Standing.{Owes, OwesAll, Serves}
-use Rattle.fjall_core.proofs.OwedSteps.{owes_run}
-use Rattle.fjall_core.proofs.ResolvedRuns.{call_more, ids_more, ids_of, owed_more, so_far}
-use Rattle.fjall_core.proofs.RunsOverCrashes.{SoFar, none_yet, ends}
+use Rattle.fjall_core.specs.Standing.{Owes, OwesAll, Runs, Serves}
+use Rattle.fjall_core.proofs.ResolvedRuns.{call_more, ids_more, ids_of, owed_more, runs_more, so_far}
+use Rattle.fjall_core.proofs.RunsOverCrashes.{SoFar, none_yet, ends, runs_none}
 use Rattle.fjall_core.proofs.engine.Core.run.Goals as goal
 
 pub loop-call-init : goal.loop-call-init
 loop-call-init g c = record {
-  crash = λ _ s d stands on. subst (λ rs. SoFar c.args.self.now s d [] rs) (sym c.in_ok-replies.ensures.items) (none_yet c.args.self.now s d stands on);
+  runs = λ _. subst (λ rs. Runs c.args.self.now [] rs c.args.self.now) (sym c.in_ok-replies.ensures.items) (runs_none c.args.self.now);
+  crash = λ _ s d stands reads on. subst (λ rs. SoFar c.args.self.now s d [] rs) (sym c.in_ok-replies.ensures.items) (none_yet c.args.self.now s d stands reads on);
   owes = subst (λ rs. OwesAll c.args.self.now [] rs c.args.self.now) (sym c.in_ok-replies.ensures.items) refl;
   given = c.in_ok-ids.ensures.items ∙ ap ids_of (sym c.in_ok-replies.ensures.items);
   count = search rules;
@@ -38,9 +38,12 @@ loop-call-preserved g c =
     let same_ids : c.deref.result.now ≡ at.ids.items = search rules in
     let named : c.resolve.result ≡ resolved at.ids.items call = c.resolve.ensures ∙ ap (λ (l : List (Option ℕ)). resolved l call) same_ids in
     record {
-      crash = λ honest s d stands on. subst (λ n. SoFar c.serve-reply.new.self s d (so_far calls n c.push-in-loop-call.new.self.items) c.push-in-loop-call.new.self.items) longer
+      runs = λ honest. subst (λ n. Runs c.args.self.now (so_far calls n c.push-in-loop-call.new.self.items) c.push-in-loop-call.new.self.items c.serve-reply.new.self) longer
+          (runs_more calls at.replies.items c.push-in-loop-call.new.self.items at.ids.items (length at.yielded) call c.serve-reply.result turn.0 turn.1 counted at.invariant.given pushed c.args.self.now at.self c.serve-reply.new.self
+          (at.invariant.runs honest) (subst (λ (k : Call). Serves at.self (shape_of k) c.serve-reply.result c.serve-reply.new.self) named (c.serve-reply.ensures.serves honest)));
+      crash = λ honest s d stands reads on. subst (λ n. SoFar c.serve-reply.new.self s d (so_far calls n c.push-in-loop-call.new.self.items) c.push-in-loop-call.new.self.items) longer
           (call_more calls at.replies.items c.push-in-loop-call.new.self.items at.ids.items (length at.yielded) call c.serve-reply.result turn.0 turn.1 counted at.invariant.given pushed at.self c.serve-reply.new.self s d
-          (at.invariant.crash honest s d stands on) (subst (λ (k : Call). Serves at.self (shape_of k) c.serve-reply.result c.serve-reply.new.self) named (c.serve-reply.ensures.serves honest)));
+          (at.invariant.crash honest s d stands reads on) (subst (λ (k : Call). Serves at.self (shape_of k) c.serve-reply.result c.serve-reply.new.self) named (c.serve-reply.ensures.serves honest)));
       owes = subst (λ n. OwesAll c.args.self.now (so_far calls n c.push-in-loop-call.new.self.items) c.push-in-loop-call.new.self.items c.serve-reply.new.self) longer
           (owed_more calls at.replies.items c.push-in-loop-call.new.self.items at.ids.items (length at.yielded) call c.serve-reply.result turn.0 turn.1 counted at.invariant.given pushed c.args.self.now at.self c.serve-reply.new.self
           at.invariant.owes (subst (λ (k : Call). Owes at.self (shape_of k) c.serve-reply.result c.serve-reply.new.self) named c.serve-reply.ensures.owes));
@@ -60,24 +63,23 @@ unwrap-requires g c =
     search rules
 
 pub returns-clause-runs : goal.returns-clause-runs
-returns-clause-runs g c = λ s stands.
+returns-clause-runs g c = λ honest.
     let at = c.loop-call in
     let calls = c.args.calls.items in
     let road = YieldsList-from_vec {s = c.into_iter-call-iterator.result} calls (search rules) (search rules) in
     let end = YieldsList-end road at.yielded at.call-iterator at.yielded_by c.next.result c.next.new.self c.in-None.is c.next.ensures.steps in
     let all : length calls ≤ length at.yielded = omega (arith, end.1) in
-    owes_run c.args.self.now at.self (resolved_all calls at.replies.items) at.replies.items s
-    (subst (λ cs. OwesAll c.args.self.now (resolved_all cs at.replies.items) at.replies.items at.self) (take_all (length at.yielded) calls all) at.invariant.owes) stands
+    subst (λ cs. Runs c.args.self.now (resolved_all cs at.replies.items) at.replies.items at.self) (take_all (length at.yielded) calls all) (at.invariant.runs honest)
 
 pub returns-clause-crash : goal.returns-clause-crash
-returns-clause-crash g c = λ honest s d stands on.
+returns-clause-crash g c = λ honest s d stands reads on.
     let at = c.loop-call in
     let calls = c.args.calls.items in
     let road = YieldsList-from_vec {s = c.into_iter-call-iterator.result} calls (search rules) (search rules) in
     let end = YieldsList-end road at.yielded at.call-iterator at.yielded_by c.next.result c.next.new.self c.in-None.is c.next.ensures.steps in
     let all : length calls ≤ length at.yielded = omega (arith, end.1) in
     ends c.args.self.now at.self s d (resolved_all calls at.replies.items) at.replies.items on
-    (subst (λ cs. SoFar at.self s d (resolved_all cs at.replies.items) at.replies.items) (take_all (length at.yielded) calls all) (at.invariant.crash honest s d stands on))
+    (subst (λ cs. SoFar at.self s d (resolved_all cs at.replies.items) at.replies.items) (take_all (length at.yielded) calls all) (at.invariant.crash honest s d stands reads on))
 
 pub returns-clause-owes : goal.returns-clause-owes
 returns-clause-owes g c =

@@ -7,5 +7,5 @@ use Rattle.fjall_state.proofs.engine_state.EngineState.close_ticket.Goals as goa
 pub invariant_of-self : goal.invariant_of-self
 invariant_of-self c =
     let a = c.self.inside in
-    let m : Remembered = record { keyspaces = a.keyspaces; trees = forest_of a.trees; next = a.tickets.visible; poisoned = a.poisoned; handles = map_of a.handles; lasting = a.lasting.items; damaged = a.damaged.items; tickets = a.tickets.tickets; journals = journals_of a.sealed a.active a.watermarks } in
+    let m : Remembered = record { keyspaces = a.keyspaces; trees = forest_of a.trees; next = a.tickets.visible; poisoned = a.poisoned; handles = map_of a.handles; lasting = a.lasting.items; tickets = a.tickets.tickets; journals = journals_of a.sealed a.active a.watermarks } in
     closing_is_lawful m c.self.invariant c.close.new.self c.args.id c.close.result c.close.ensures.ok c.close.ensures.unchanged

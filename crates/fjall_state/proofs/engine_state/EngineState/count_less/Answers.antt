@@ -14,7 +14,6 @@ returns c =
       poisoned = c.self.inside.poisoned;
       handles = c.count_less.ensures i;
       lasting = c.self.inside.lasting.items;
-      damaged = c.self.inside.damaged.items;
       tickets = c.self.inside.tickets.tickets;
       journals = journals_of c.self.inside.sealed c.self.inside.active c.self.inside.watermarks;
     })

@@ -23,7 +23,7 @@ invariant_of-self-in-Ok c =
 pub invariant_of-self-in-Err : goal.invariant_of-self-in-Err
 invariant_of-self-in-Err c =
     let a = c.self.inside in
-    let old : Remembered = record { keyspaces = a.keyspaces; trees = forest_of a.trees; next = a.tickets.visible; poisoned = a.poisoned; handles = map_of a.handles; lasting = a.lasting.items; damaged = a.damaged.items; tickets = a.tickets.tickets; journals = journals_of a.sealed a.active a.watermarks } in
+    let old : Remembered = record { keyspaces = a.keyspaces; trees = forest_of a.trees; next = a.tickets.visible; poisoned = a.poisoned; handles = map_of a.handles; lasting = a.lasting.items; tickets = a.tickets.tickets; journals = journals_of a.sealed a.active a.watermarks } in
     let back : forest_of c.let_go.new.self ≡ forest_of a.trees = unplanted c.next_id-next.result a.keyspaces.next a.tickets.visible (forest_of a.trees) (forest_of c.plant.new.self) (forest_of c.let_go.new.self) c.next_id-next.ensures.value c.self.invariant.given
     (c.in_ok-plant.ensures.ok ∙ (λ i. with_tree (c.next_id-next.ensures.value i) (c.seqno-number.ensures.visible i) (forest_of a.trees))) c.let_go.ensures in
     alike old _ c.self.invariant c.in-Err.ensures.unchanged back (λ i. a.tickets.visible) (λ i. a.tickets.tickets)
@@ -41,7 +41,6 @@ returns-in-Err-clause-unchanged c =
       poisoned = a.poisoned;
       handles = map_of a.handles;
       lasting = a.lasting.items;
-      damaged = a.damaged.items;
       tickets = a.tickets.tickets;
       journals = journals_of a.sealed a.active a.watermarks;
     })

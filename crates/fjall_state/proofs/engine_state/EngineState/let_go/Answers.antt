@@ -25,7 +25,6 @@ returns c =
       poisoned = c.self.inside.poisoned;
       handles = map_of c.self.inside.handles;
       lasting = ids i;
-      damaged = c.self.inside.damaged.items;
       tickets = c.self.inside.tickets.tickets;
       journals = journals_of c.self.inside.sealed c.self.inside.active c.self.inside.watermarks;
     })

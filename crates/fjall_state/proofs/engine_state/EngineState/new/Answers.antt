@@ -9,7 +9,7 @@ use Rattle.fjall_state.proofs.engine_state.EngineState.new.Goals as goal
 
 pub invariant_of-result : goal.invariant_of-result
 invariant_of-result c =
-    let m = remembered c.args.keyspaces (forest_of c.args.trees) c.args.damaged.items c.args.next (journals_of c.args.sealed c.args.active c.args.watermarks) in
+    let m = remembered c.args.keyspaces (forest_of c.args.trees) c.args.next (journals_of c.args.sealed c.args.active c.args.watermarks) in
     let is : IsLawful m = record {
       keyspaces = search rules;
       made = c.requires.made;
@@ -17,7 +17,6 @@ invariant_of-result c =
       planted = c.requires.planted;
       given = c.requires.given;
       below = c.requires.below;
-      bare = c.requires.bare;
       small = c.requires.small;
       reached = all_none (λ i. i ≤ c.args.next);
       spared = λ some. absurd (omega arith);

@@ -22,7 +22,6 @@ returns-clause-ok c =
       poisoned = c.self.inside.poisoned;
       handles = more i;
       lasting = c.self.inside.lasting.items;
-      damaged = c.self.inside.damaged.items;
       tickets = c.self.inside.tickets.tickets;
       journals = journals_of c.self.inside.sealed c.self.inside.active c.self.inside.watermarks;
     })

@@ -10,5 +10,5 @@ pub invariant_of-self-then-is_sealed : goal.invariant_of-self-then-is_sealed
 invariant_of-self-then-is_sealed c =
     let a = c.self.inside in
     let id = c.args.id in
-    let m : Remembered = record { keyspaces = a.keyspaces; trees = forest_of a.trees; next = a.tickets.visible; poisoned = a.poisoned; handles = map_of a.handles; lasting = a.lasting.items; damaged = a.damaged.items; tickets = a.tickets.tickets; journals = journals_of a.sealed a.active a.watermarks } in
+    let m : Remembered = record { keyspaces = a.keyspaces; trees = forest_of a.trees; next = a.tickets.visible; poisoned = a.poisoned; handles = map_of a.handles; lasting = a.lasting.items; tickets = a.tickets.tickets; journals = journals_of a.sealed a.active a.watermarks } in
     alike (rotated id m) _ (rotated_is_lawful id m c.self.invariant) refl (c.in_ok-is_sealed.ensures.sealed (ap Ok c.if-is_sealed.true)) (ap (λ (t : Tracked). t.visible) c.gc.ensures.raised) (ap (λ (t : Tracked). t.tickets) c.gc.ensures.raised)

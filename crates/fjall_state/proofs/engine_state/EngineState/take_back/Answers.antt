@@ -13,7 +13,7 @@ invariant_of-self c =
     let m = c.requires.2 in
     let is = c.requires.3 in
     let a = c.self.inside in
-    let old : Remembered = record { keyspaces = a.keyspaces; trees = forest_of a.trees; next = a.tickets.visible; poisoned = a.poisoned; handles = map_of a.handles; lasting = a.lasting.items; damaged = a.damaged.items; tickets = a.tickets.tickets; journals = journals_of a.sealed a.active a.watermarks } in
+    let old : Remembered = record { keyspaces = a.keyspaces; trees = forest_of a.trees; next = a.tickets.visible; poisoned = a.poisoned; handles = map_of a.handles; lasting = a.lasting.items; tickets = a.tickets.tickets; journals = journals_of a.sealed a.active a.watermarks } in
     let same : old ≡ with_creation name options m = c.self.view_is ∙ c.requires.4 in
     alike m _ is (keyspaces_back name options m old is same c.take_back.new.self c.take_back.ensures)
     (trees_back name options m old is same c.next_id.result c.take_back.new.self (forest_of c.let_go.new.self) c.take_back.ensures c.next_id.ensures.value c.let_go.ensures)
@@ -22,10 +22,10 @@ invariant_of-self c =
 pub returns : goal.returns
 returns c = λ name options m is made.
     let a = c.self.inside in
-    let old : Remembered = record { keyspaces = a.keyspaces; trees = forest_of a.trees; next = a.tickets.visible; poisoned = a.poisoned; handles = map_of a.handles; lasting = a.lasting.items; damaged = a.damaged.items; tickets = a.tickets.tickets; journals = journals_of a.sealed a.active a.watermarks } in
+    let old : Remembered = record { keyspaces = a.keyspaces; trees = forest_of a.trees; next = a.tickets.visible; poisoned = a.poisoned; handles = map_of a.handles; lasting = a.lasting.items; tickets = a.tickets.tickets; journals = journals_of a.sealed a.active a.watermarks } in
     let same : old ≡ with_creation name options m = c.self.view_is ∙ made in
     let keyspaces = keyspaces_back name options m old is same c.take_back.new.self c.take_back.ensures in
     let trees = trees_back name options m old is same c.next_id.result c.take_back.new.self (forest_of c.let_go.new.self) c.take_back.ensures c.next_id.ensures.value c.let_go.ensures in
     let next = number_back name options m old is same c.retract.new.self c.retract.ensures in
     let tickets = tickets_back name options m old is same c.retract.new.self c.retract.ensures in
-    λ i. record { keyspaces = keyspaces i; trees = trees i; next = next i; poisoned = (same i).poisoned; handles = (same i).handles; lasting = (same i).lasting; damaged = (same i).damaged; tickets = tickets i; journals = (same i).journals }
+    λ i. record { keyspaces = keyspaces i; trees = trees i; next = next i; poisoned = (same i).poisoned; handles = (same i).handles; lasting = (same i).lasting; tickets = tickets i; journals = (same i).journals }

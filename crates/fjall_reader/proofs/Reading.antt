@@ -1,0 +1,175 @@
+-- What one read of a core shows, why it is refused, and what it leaves.
+use Rattle.std.proofs.Common.{◌≡◌, ℕ, Bool, IsTrue, List, [], ◌∷◌, Option, None, Some, Result, Ok, Err, IfErr, IfOk, IfSome, OnOk, Vec, inl, inr, refl, sym, ◌∙◌, ap, subst}
+use Rattle.std.specs.Prelude.{⊤}
+use Rattle.std.specs.Result.{result_err}
+use Rattle.std.specs.declared.alloc.Global.{Global}
+use Rattle.fjall_base.specs.Pairs.{Bytes, KeyRange, Pairs, lookup, page, pairs_between}
+use Rattle.fjall_base.specs.declared.error.Error.{Error}
+use Rattle.fjall_base.specs.declared.error.Error.TheVariants.{Io, OutOfMemory, Storage, ValueTooLong}
+use Rattle.fjall_blocks.specs.Readers.{Reader}
+use Rattle.fjall_trees.specs.Forests.{Forest}
+use Rattle.fjall_trees.specs.Tables.{AreSameTrees}
+use Rattle.fjall_maps.specs.Maps.{pairs_in}
+use Rattle.fjall_maps.specs.Tables.{no_entries}
+use Rattle.fjall_maps.proofs.Alike.{same_pairs}
+use Rattle.fjall_maps.proofs.Bare.{bare_pairs}
+use Rattle.fjall_history.specs.declared.ticket.View.{View}
+use Rattle.fjall_history.specs.declared.ticket.View.TheVariants.{At, Present}
+use Rattle.fjall_history.specs.declared.reply.Reply.{Reply}
+use Rattle.fjall_history.specs.declared.reply.Reply.TheVariants as replies
+use Rattle.fjall_history.specs.Queries.{Get, Page, Query, Tells}
+use Rattle.fjall_state.specs.Machine.{MayFail, Refuses, State, StepOf, due}
+use Rattle.fjall_state.specs.Reads as reads
+use Rattle.fjall_state.specs.Remembered.{Remembered, instant_in}
+use Rattle.fjall_state.specs.Shapes.{OfRead}
+use Rattle.fjall_state.proofs.SameTrees.{none_same, same_in}
+use Rattle.fjall_core.specs.Holding.{Held}
+use Rattle.fjall_core.specs.Standing.{GivesRead, Looks, LooksAt, Owes, OwesFailure, OwesRefusal, ReadsOn, Serves, StandsFor, held_due, pairs_reply, tables_of, value_reply}
+use Rattle.fjall_reader.specs.Shown.{IsReadRefusal, IsRefusedFor, Shows, read_due}
+use Rattle.fjall_reader.specs.Going.{looks_none}
+
+-- ---- what it leaves
+
+looks_at : (old new : Held) (tables : List Reader) → LooksAt tables old new → Looks old new
+looks_at old new [] same = subst (Looks old) (sym same) (looks_none old)
+looks_at old new (t ∷ tables) looks = looks
+
+looked_by : (old new : Held) (view : View) (id : ℕ) (query : Query) (error : Error) → OwesFailure old (OfRead view id query) error new → Looks old new
+looked_by old new view id query (Io kind) (inl fault) = absurd fault.0
+looked_by old new view id query (Io kind) (inr (has, looks, rose)) = looks
+looked_by old new view id query OutOfMemory owed = looks_at old new (tables_of old id) owed.1
+looked_by old new view id query (Storage told) owed = owed.2
+looked_by old new view id query ValueTooLong owed = absurd owed.0
+looked_by old new view id query error owed = absurd owed
+
+refusal_looks : (old new : Held) (view : View) (id : ℕ) (query : Query) (first : Option Error) (error : Error) → OwesRefusal first old (OfRead view id query) error new → Looks old new
+refusal_looks old new view id query (Some first) error owed = subst (Looks old) (sym owed.1) (looks_none old)
+refusal_looks old new view id query None error owed = looked_by old new view id query error owed
+
+-- a read that answers, or is refused, leaves the core but for what is kept of its tables
+pub value_looks : (old new : Held) (view : View) (id : ℕ) (key : Bytes) (result : Result (Option Bytes) Error) → Owes old (OfRead view id (Get key)) (value_reply result) new → Looks old new
+value_looks old new view id key (Ok found) owes = looks_at old new (tables_of old id) owes.1.1
+value_looks old new view id key (Err error) owes = refusal_looks old new view id (Get key) (read_due old view id) error owes
+
+pub page_looks : (old new : Held) (view : View) (id : ℕ) (range : KeyRange) (back : Bool) (max : ℕ) (result : Result (Vec (Bytes × Bytes) Global) Error) → Owes old (OfRead view id (Page range back max)) (pairs_reply result) new → Looks old new
+page_looks old new view id range back max (Ok found) owes = looks_at old new (tables_of old id) owes.1.1
+page_looks old new view id range back max (Err error) owes = refusal_looks old new view id (Page range back max) (read_due old view id) error owes
+
+-- ---- why it is refused
+
+fails : (old new : Held) (view : View) (id : ℕ) (query : Query) (tables : List Reader) (error : Error) → tables_of old id ≡ tables → OwesFailure old (OfRead view id query) error new → reads.ReadFails ⊤ tables old.disk new.disk error
+fails old new view id query tables (Io kind) is (inl fault) = absurd fault.0
+fails old new view id query [] (Io kind) is (inr (has, looks, rose)) = absurd (has is)
+fails old new view id query (t ∷ tables) (Io kind) is (inr (has, looks, rose)) = rose
+fails old new view id query [] OutOfMemory is owed = refl
+fails old new view id query (t ∷ tables) OutOfMemory is owed = tt
+fails old new view id query [] (Storage told) is owed = absurd (owed.1 is)
+fails old new view id query (t ∷ tables) (Storage told) is owed = (owed.0, tt)
+fails old new view id query tables ValueTooLong is owed = absurd owed.0
+fails old new view id query tables error is owed = absurd owed
+
+refused_for : (old new : Held) (view : View) (id : ℕ) (query : Query) (first : Option Error) (error : Error) → OwesRefusal first old (OfRead view id query) error new
+    → reads.IsReadRefusal first ⊤ (tables_of old id) old.disk new.disk error
+refused_for old new view id query (Some first) error owed = owed.0
+refused_for old new view id query None error owed = fails old new view id query (tables_of old id) error refl owed
+
+pub value_cause : (old new : Held) (view : View) (id : ℕ) (key : Bytes) (result : Result (Option Bytes) Error) → Owes old (OfRead view id (Get key)) (value_reply result) new → IfErr result (IsRefusedFor old view id new)
+value_cause old new view id key (Ok found) owes = tt
+value_cause old new view id key (Err error) owes = refused_for old new view id (Get key) (read_due old view id) error owes
+
+pub page_cause : (old new : Held) (view : View) (id : ℕ) (range : KeyRange) (back : Bool) (max : ℕ) (result : Result (Vec (Bytes × Bytes) Global) Error) → Owes old (OfRead view id (Page range back max)) (pairs_reply result) new
+    → IfErr result (IsRefusedFor old view id new)
+page_cause old new view id range back max (Ok found) owes = tt
+page_cause old new view id range back max (Err error) owes = refused_for old new view id (Page range back max) (read_due old view id) error owes
+
+-- so it is refused for some keyspace
+pub some_cause : {T : Type 0} (old new : Held) (view : View) (id : ℕ) (result : Result T Error) → IfErr result (IsRefusedFor old view id new) → IfSome (result_err result) (IsReadRefusal old view new)
+some_cause old new view id (Ok found) cause = tt
+some_cause old new view id (Err error) cause = inr (id, cause)
+
+-- ---- what it shows
+
+abbrev value_in : Reply → Option Bytes
+value_in (replies.Value found) = found
+value_in reply = None
+
+abbrev pairs_of : Reply → List (Bytes × Bytes)
+pairs_of (replies.Pairs found) = found.items
+pairs_of reply = []
+
+bare_tells : (old : Held) (view : View) (id : ℕ) (query : Query) (reply : Reply) (tables : List Reader) → tables ≡ [] → GivesRead tables old view id query reply → Tells query (pairs_in id (instant_in old.memory view) old.memory.trees) reply
+bare_tells old view id query reply [] none gives = gives
+bare_tells old view id query reply (t ∷ tables) none gives = let bad : ⊥ = cc in absurd bad
+
+pub value_shown : (honest : Bool) (old new : Held) (view : View) (id : ℕ) (key : Bytes) (result : Result (Option Bytes) Error) → Owes old (OfRead view id (Get key)) (value_reply result) new
+    → (IsTrue honest → Serves old (OfRead view id (Get key)) (value_reply result) new) → (map : Pairs) → Shows honest old view id map → IfOk result (λ found. found ≡ lookup map key)
+value_shown honest old new view id key (Err error) owes serves map shows = tt
+value_shown honest old new view id key (Ok found) owes serves map (inl (none, is)) =
+    ap value_in (bare_tells old view id (Get key) (replies.Value found) (tables_of old id) none owes.1.0) ∙ ap (λ (p : Pairs). lookup p key) (sym is)
+value_shown honest old new view id key (Ok found) owes serves map (inr (h, (s, stands, on, is))) =
+    ap value_in ((serves h).goes_on s stands on).3.1.0 ∙ ap (λ (p : Pairs). lookup p key) (sym is)
+
+pub page_shown : (honest : Bool) (old new : Held) (view : View) (id : ℕ) (range : KeyRange) (back : Bool) (max : ℕ) (result : Result (Vec (Bytes × Bytes) Global) Error) → Owes old (OfRead view id (Page range back max)) (pairs_reply result) new
+    → (IsTrue honest → Serves old (OfRead view id (Page range back max)) (pairs_reply result) new) → (map : Pairs) → Shows honest old view id map → IfOk result (λ found. found.items ≡ page back max (pairs_between range map))
+page_shown honest old new view id range back max (Err error) owes serves map shows = tt
+page_shown honest old new view id range back max (Ok found) owes serves map (inl (none, is)) =
+    let tells = bare_tells old view id (Page range back max) (replies.Pairs found) (tables_of old id) none owes.1.0 in
+    ap pairs_of tells.1 ∙ tells.2 ∙ ap (λ (p : Pairs). page back max (pairs_between range p)) (sym is)
+page_shown honest old new view id range back max (Ok found) owes serves map (inr (h, (s, stands, on, is))) =
+    let tells = ((serves h).goes_on s stands on).3.1.0 in
+    ap pairs_of tells.1 ∙ tells.2 ∙ ap (λ (p : Pairs). page back max (pairs_between range p)) (sym is)
+
+-- ---- what it goes on to show
+
+fails_still : (s t : State) (view : View) (id : ℕ) (query : Query) (error : Error) → MayFail (OfRead view id query) error s t → t ≡ s
+fails_still s t view id query (Io kind) (inl fault) = absurd fault.0
+fails_still s t view id query (Io kind) (inr (reads, same)) = same
+fails_still s t view id query OutOfMemory fails = fails.1
+fails_still s t view id query (Storage told) fails = fails.2
+fails_still s t view id query ValueTooLong fails = absurd fails.0
+fails_still s t view id query error fails = absurd fails
+
+refused_still : (s t : State) (view : View) (id : ℕ) (query : Query) (first : Option Error) (error : Error) → Refuses first (OfRead view id query) error s t → t ≡ s
+refused_still s t view id query (Some first) error refused = refused.1
+refused_still s t view id query None error refused = fails_still s t view id query error refused
+
+value_still : (s t : State) (view : View) (id : ℕ) (key : Bytes) (result : Result (Option Bytes) Error) → StepOf s (OfRead view id (Get key)) (value_reply result) t → t ≡ s
+value_still s t view id key (Ok found) step = step.1.1
+value_still s t view id key (Err error) step = refused_still s t view id (Get key) (due s (OfRead view id (Get key))) error step
+
+page_still : (s t : State) (view : View) (id : ℕ) (range : KeyRange) (back : Bool) (max : ℕ) (result : Result (Vec (Bytes × Bytes) Global) Error) → StepOf s (OfRead view id (Page range back max)) (pairs_reply result) t → t ≡ s
+page_still s t view id range back max (Ok found) step = step.1.1
+page_still s t view id range back max (Err error) step = refused_still s t view id (Page range back max) (due s (OfRead view id (Page range back max))) error step
+
+-- the core goes on standing for each state whose tables its disk has
+abbrev KeepsStates : Bool → Held → Held → Type 0
+KeepsStates honest old new = IsTrue honest → (s : State) → StandsFor old s → ReadsOn old s → StandsFor new s × ReadsOn new s
+
+pub value_keeps : (honest : Bool) (old new : Held) (view : View) (id : ℕ) (key : Bytes) (result : Result (Option Bytes) Error) → (IsTrue honest → Serves old (OfRead view id (Get key)) (value_reply result) new) → KeepsStates honest old new
+value_keeps honest old new view id key result serves h s stands on =
+    let goes = (serves h).goes_on s stands on in
+    let same = value_still s goes.0 view id key result goes.3 in
+    (subst (StandsFor new) same goes.1, subst (ReadsOn new) same goes.2)
+
+pub page_keeps : (honest : Bool) (old new : Held) (view : View) (id : ℕ) (range : KeyRange) (back : Bool) (max : ℕ) (result : Result (Vec (Bytes × Bytes) Global) Error)
+    → (IsTrue honest → Serves old (OfRead view id (Page range back max)) (pairs_reply result) new) → KeepsStates honest old new
+page_keeps honest old new view id range back max result serves h s stands on =
+    let goes = (serves h).goes_on s stands on in
+    let same = page_still s goes.0 view id range back max result goes.3 in
+    (subst (StandsFor new) same goes.1, subst (ReadsOn new) same goes.2)
+
+instant_looked : (old new : Held) (view : View) → Looks old new → instant_in new.memory view ≡ instant_in old.memory view
+instant_looked old new Present looks = ap (λ (m : Remembered). instant_in m Present) looks.memory_is
+instant_looked old new (At ticket) looks = ap (λ (m : Remembered). instant_in m (At ticket)) looks.memory_is
+
+bare_same : (id instant : ℕ) (old new : Forest) → AreSameTrees old new → pairs_in id instant old ≡ pairs_in id instant new
+bare_same id instant old new same = sym (bare_pairs id instant old) ∙ sym (same_pairs no_entries id instant old new same) ∙ bare_pairs id instant new
+
+pub shows_on : (honest : Bool) (old new : Held) (view : View) → Looks old new → KeepsStates honest old new → (id : ℕ) (map : Pairs) → Shows honest old view id map → Shows honest new view id map
+shows_on honest old new view looks keeps id map (inl (none, is)) = inl (
+  none_same (tables_of old id) (tables_of new id) (same_in id old.memory.trees new.memory.trees looks.trees).tables none,
+  is ∙ bare_same id (instant_in old.memory view) old.memory.trees new.memory.trees looks.trees ∙ ap (λ (instant : ℕ). pairs_in id instant new.memory.trees) (sym (instant_looked old new view looks)),
+)
+shows_on honest old new view looks keeps id map (inr (h, (s, stands, on, is))) =
+    let kept = keeps h s stands on in
+    inr (h, (s, kept.0, kept.1, is))
