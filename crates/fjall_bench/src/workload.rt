@@ -2,7 +2,7 @@
 
 use crate::data::{RECORD_LEN, key_of, value_of};
 use fjall_base::{Disk, Refused, Result, Slice};
-use fjall_core::{Config, Core, PersistMode, View};
+use fjall_core::{Call, Config, Core, JobId, PersistMode, Reply, View};
 use fjall_options::KeyspaceCreateOptions;
 use sha2::{Digest, Sha256};
 use std::alloc::Global;
@@ -40,10 +40,38 @@ fn insert_synced<D: Disk>(alloc: Global, core: &mut Core<D>, id: u64, number: u6
     core.persist(PersistMode::SyncAll)
 }
 
-/// Inserts each number's pair into a keyspace, and hands all of it to the system.
+// The calls that move what a keyspace has in memory to a table, and let go of the journals that nobody wants then.
+fn flushing(alloc: Global, id: u64) -> Result<Vec<Call>> {
+    let mut calls = Vec::with_capacity(alloc, 4)?;
+    calls.push(Call::RotateMemtable(id))?;
+    let begun_by = calls.len() as u64;
+    calls.push(Call::FlushBegin(id))?;
+    let job = JobId {
+        number: begun_by,
+        keyspace_id: id,
+    };
+    calls.push(Call::FlushFinish(job))?;
+    calls.push(Call::Maintenance)?;
+    Ok(calls)
+}
+
+// Flushes a keyspace.
+fn flush<D: Disk>(alloc: Global, core: &mut Core<D>, id: u64) -> Result<()> {
+    for reply in core.run(flushing(alloc, id)?)? {
+        if let Reply::Refused(error) = reply {
+            return Err(error);
+        }
+    }
+    Ok(())
+}
+
+/// Inserts each number's pair into a keyspace, which is flushed whenever its memtable is full, and hands all of it to the system.
 pub fn fill<D: Disk>(alloc: Global, core: &mut Core<D>, id: u64, numbers: &[u64]) -> Result<()> {
     for number in numbers {
         insert(alloc, core, id, *number)?;
+        if core.wants_rotation(id) {
+            flush(alloc, core, id)?;
+        }
     }
     core.persist(PersistMode::Buffer)
 }

@@ -1,5 +1,5 @@
 -- What an eviction of journals leaves on the disk, at its end and at each moment of it.
-use Rattle.std.proofs.Common.{◌≡◌, ◌⊎◌, inl, inr, ℕ, suc, ◌+◌, ◌^◌, ◌<◌, ◌≤◌, Bool, true, false, cond, List, [], ◌∷◌, ◌++◌, drop, length, map, All, refl, sym, ◌∙◌, ap, subst, arith, append_assoc, length-append}
+use Rattle.std.proofs.Common.{◌≡◌, ◌⊎◌, inl, inr, ℕ, suc, ◌+◌, ◌^◌, ◌<◌, ◌≤◌, Bool, true, false, cond, List, [], ◌∷◌, ◌++◌, drop, length, map, refl, sym, ◌∙◌, ap, subst, arith, append_assoc, length-append}
 use Rattle.std.specs.Prelude.{Result, Ok, Err, OnErr, OnOk}
 use Rattle.std.specs.List.{AllByRecursion}
 use Rattle.std.proofs.lemmas.List.{append-nil, map-append}
@@ -23,12 +23,12 @@ use Rattle.fjall_recovery.proofs.Roots.{all_both, all_front}
 use Rattle.fjall_commit.specs.Evictions.{StoppedEvicting, LeavesEviction, evicted}
 use Rattle.fjall_commit.specs.Journaling.{HasSome, IsWriting}
 use Rattle.fjall_commit.specs.Rotations.{KeepsSyncedKeyspaces, TellsOf}
-use Rattle.fjall_commit.proofs.ComingAndGoing.{Fits, all_by_recursion, went, with_sealed}
+use Rattle.fjall_commit.proofs.ComingAndGoing.{Fits, went, with_sealed}
 use Rattle.fjall_commit.proofs.CrashesInRotations.{TookFront, took_all}
 use Rattle.fjall_commit.proofs.CrashesInWrites.{root_left}
-use Rattle.fjall_commit.proofs.KeepingKeyspaces.{IsApart, apart_keeps, apart_left, journal_apart}
+use Rattle.fjall_commit.proofs.KeepingKeyspaces.{IsApart, apart_keeps, apart_left, each_apart}
 use Rattle.fjall_commit.proofs.Results.{on_ok}
-use Rattle.fjall_commit.proofs.RootAfterWrites.{ids_are, ids_of}
+use Rattle.fjall_commit.proofs.RootAfterWrites.{ids_of}
 use Rattle.fjall_commit.proofs.SyncedNames.{NarrowsBut, fixed, fixed_but, fixed-same, front_left, put_at, put_but, put_left}
 
 -- ---- ids
@@ -140,13 +140,13 @@ evicting_tidy state (name ∷ names) =
     (all_both IsTidyStep (removing name (state name).now) (SyncFolder [] ∷ []) (tidying.removing_tidy name (state name).now) (tt, tt))
     (evicting_tidy (after state (evicting_one state name)) names)
 
-names_apart : (gone more : List Sealed) (sealed : List Journal) → AllByRecursion (λ k. k.id < 2 ^ 64) sealed → told_ids (gone ++ more) ≡ ids_of sealed → AllByRecursion (λ name. is_of_keyspaces name ≡ false) (names_of gone)
-names_apart [] more sealed fit tells = tt
-names_apart (x ∷ gone) more [] fit tells = absurd (no_ids x.id (told_ids (gone ++ more)) tells)
-names_apart (x ∷ gone) more (k ∷ sealed) fit tells = (
-  journal_apart x.id (subst (λ n. n < 2 ^ 64) (sym (first_id x.id k.id (told_ids (gone ++ more)) (ids_of sealed) tells)) fit.0),
-  names_apart gone more sealed fit.1 (later_ids x.id k.id (told_ids (gone ++ more)) (ids_of sealed) tells),
-)
+names_apart : (gone : List Sealed) → AllByRecursion (λ name. is_of_keyspaces name ≡ false) (names_of gone)
+names_apart [] = tt
+names_apart (x ∷ gone) = (each_apart x.id, names_apart gone)
+
+-- all of them are in the root
+pub gone_apart : (state : State) (gone : List Sealed) → AllByRecursion IsApart (evicting state (names_of gone))
+gone_apart state gone = evicting_apart state (names_of gone) (names_apart gone)
 
 no_folders : (state : State) (journals : List Sealed) (sealed : List Journal) → AllByRecursion (λ k. (state (journal_name k.id)) ≡ record { now = File (texts_of k.batches) []; older = [] }) sealed
     → told_ids journals ≡ ids_of sealed → HasNoFolders state (names_of journals)
@@ -243,17 +243,11 @@ module _ (old new : Meaning) (writer : writers.Journal) (j : Journaling) (writin
   pub eviction_kinds : HasNoFolders state (names_of journals)
   eviction_kinds = no_folders state journals j.sealed writing.root.sealed tells
 
-  fit : AllByRecursion (λ k. k.id < 2 ^ 64) j.sealed
-  fit = all_by_recursion Fits j.sealed j.active (subst (All Fits) (ids_are j.sealed j.active (j.whole ++ [])) writing.root.fit)
-
-  apart : (gone more : List Sealed) → journals ≡ gone ++ more → AllByRecursion IsApart (evicting state (names_of gone))
-  apart gone more all = evicting_apart state (names_of gone) (names_apart gone more j.sealed fit (tells_all gone more all))
-
   moment : (gone more : List Sealed) (most : ℕ) → journals ≡ gone ++ more → length gone ≤ most → (image : Image) → Leaves state (evicting state (names_of gone)) image → LeavesEviction state j most image
   moment gone more most all few image left =
       let some = evicted_left gone more state j.sealed j writing.root (tells_all gone more all) image left in
       let le = some.1 in
-      record { gone = some.0; few = omega (arith, le, few); some = some.2; elsewhere = apart_left (evicting state (names_of gone)) state image (apart gone more all) left }
+      record { gone = some.0; few = omega (arith, le, few); some = some.2; elsewhere = apart_left (evicting state (names_of gone)) state image (gone_apart state gone) left }
 
   pub eviction_leaves : (most : ℕ) → TookEviction old new journals most → LeavesOnly old new (LeavesEviction state j most)
   eviction_leaves most run = record {
@@ -265,7 +259,7 @@ module _ (old new : Meaning) (writer : writers.Journal) (j : Journaling) (writin
 
   pub eviction_keeps : (most : ℕ) → TookEviction old new journals most → KeepsSyncedKeyspaces old new
   eviction_keeps most run =
-      apart_keeps old new run.took.front run.took.took (all_front IsApart run.took.front run.took.rest (subst (AllByRecursion IsApart) (sym run.took.all) (apart run.gone run.more run.all)))
+      apart_keeps old new run.took.front run.took.took (all_front IsApart run.took.front run.took.rest (subst (AllByRecursion IsApart) (sym run.took.all) (gone_apart state run.gone)))
 
   writing_on : (gone more : List Sealed) → journals ≡ gone ++ more → IsWriting (after state (evicting state (names_of gone))) writer (evicted (length gone) j)
   writing_on gone more all = record { root = evicted_lies gone more state j.sealed j writing.root (tells_all gone more all); name = writing.name; exact = writing.exact }

@@ -1,6 +1,8 @@
 -- Steps at files of the root leave what stands in `keyspaces`.
-use Rattle.std.proofs.Common.{◌≡◌, inl, inr, true, false, List, [], ◌∷◌, ℕ, ◌<◌, ◌^◌, codes, refl, sym, ◌∙◌, ap}
+use Rattle.std.proofs.Common.{◌≡◌, inl, inr, Bool, true, false, cond, nat_lt, lt-ltb, ◌==◌, List, [], ◌∷◌, ◌++◌, ℕ, zero, suc, ◌+◌, ◌/◌, ◌%◌, ◌<◌, ◌^◌, codes, refl, sym, ◌∙◌, ap, arith}
 use Rattle.std.proofs.lemmas.Bool.{true≢false}
+use Rattle.std.proofs.lemmas.Bool.Decides.{nat_tests}
+use Rattle.std.specs.Fmt.{digit_glyph, digits, digits_onto}
 use Rattle.std.specs.Prelude.{not}
 use Rattle.std.specs.Str.{bytes_eq}
 use Rattle.std.specs.List.{AllByRecursion}
@@ -8,10 +10,10 @@ use Rattle.fjall_base.specs.Disk.{Name, Entry, Place, State, Image, Survives, Le
 use Rattle.fjall_base.proofs.Names.{bool_cases, same}
 use Rattle.fjall_base.proofs.States.{alter-other, differs, put-other, settle-in, settle-out}
 use Rattle.fjall_files.specs.Names.{journal_name}
-use Rattle.fjall_files.specs.Regions.{IsImageIn, target}
+use Rattle.fjall_files.specs.Regions.{IsImageIn, is_under, target}
 use Rattle.fjall_files.proofs.Parts.{in_region, region_along, region_settle}
 use Rattle.fjall_recovery.specs.Halves.{is_of_keyspaces}
-use Rattle.fjall_recovery.proofs.Named.{journal_within, root_cases}
+use Rattle.fjall_recovery.proofs.Named.{root_cases}
 use Rattle.fjall_commit.specs.Rotations.{KeepsSyncedKeyspaces}
 
 -- the step changes no name of `keyspaces`, or syncs the names of the root
@@ -19,12 +21,36 @@ abbrev pub IsApart : Step → Type 0
 IsApart (SyncFolder folder) = folder ≡ []
 IsApart step = is_of_keyspaces (target step) ≡ false
 
--- a journal's file isn't in `keyspaces`
+-- digits before a name that isn't in `keyspaces` make one that isn't
+digits_apart : (k n : ℕ) (acc rest : List ℕ) → is_of_keyspaces (acc ++ rest) ≡ false → is_of_keyspaces (digits_onto k 10 false n acc ++ rest) ≡ false
+digits_apart zero n acc rest out = out
+digits_apart (suc k) n acc rest out = by (digits_apart k (n / 10) (glyph ∷ acc) rest first) (n / 10 == 0)
+  where
+    glyph : ℕ
+    glyph = digit_glyph false (n % 10)
+
+    is_digit : nat_lt (n % 10) 10 ≡ true
+    is_digit = lt-ltb (n % 10) 10 (omega arith)
+
+    no_letter : (107 == 48 + n % 10) ≡ false
+    no_letter = let low : n % 10 < 10 = omega arith in grind (arith, nat_tests, low)
+
+    first : is_of_keyspaces ((glyph ∷ acc) ++ rest) ≡ false
+    first =
+        ap (λ (b : Bool). cond (107 == cond b (48 + n % 10) (87 + n % 10)) (is_under (codes "eyspaces") (acc ++ rest)) false) is_digit
+        ∙ ap (λ (b : Bool). cond b (is_under (codes "eyspaces") (acc ++ rest)) false) no_letter
+
+    by : is_of_keyspaces (digits_onto k 10 false (n / 10) (glyph ∷ acc) ++ rest) ≡ false → (b : Bool) → is_of_keyspaces (cond b (glyph ∷ acc) (digits_onto k 10 false (n / 10) (glyph ∷ acc)) ++ rest) ≡ false
+    by more true = first
+    by more false = more
+
+-- a journal's file isn't in `keyspaces`, whatever its number
+pub each_apart : (id : ℕ) → is_of_keyspaces (journal_name id) ≡ false
+unfolding digits
+each_apart id = digits_apart 64 id [] (codes ".jnl") refl
+
 pub journal_apart : (id : ℕ) → id < 2 ^ 64 → is_of_keyspaces (journal_name id) ≡ false
-journal_apart id small = elim (bool_cases (is_of_keyspaces (journal_name id))) [
-  | inl is ↦ absurd (true≢false (sym (journal_within id small) ∙ ap not is))
-  | inr not ↦ not
-]
+journal_apart id small = each_apart id
 
 another : (name q : Name) → is_of_keyspaces name ≡ false → is_of_keyspaces q ≡ true → bytes_eq q name ≡ false
 another name q out in_it = differs q name (λ e. true≢false (sym in_it ∙ ap is_of_keyspaces e ∙ out))

@@ -12,12 +12,15 @@ use Rattle.fjall_files.proofs.Changes.{settle-now}
 use Rattle.fjall_journal.specs.declared.persist_mode.PersistMode.{PersistMode}
 use Rattle.fjall_journal.specs.Writer.{BatchTook, Journal, PersistTook, appending, batch_steps, making_file, making_synced, persist_steps}
 use Rattle.fjall_home.proofs.Naming.{other_folder}
+use Rattle.fjall_manager.specs.Journals.{Sealed}
 use Rattle.fjall_manager.specs.Rotations.{RotationTook, making_safe, rotating}
 use Rattle.fjall_recovery.specs.Halves.{is_of_keyspaces}
 use Rattle.fjall_recovery.proofs.Named.{under_within}
+use Rattle.fjall_recovery.proofs.Roots.{all_front}
 use Rattle.fjall_commit.specs.Journaling.{KeepsHome, KeepsHomes, KeepsOtherHomes}
 use Rattle.fjall_commit.proofs.AppendsAndSyncs.{SameBut, mode_but, part_but, whole_part}
 use Rattle.fjall_commit.proofs.BatchAppends.{part_but_one, took_but}
+use Rattle.fjall_commit.proofs.CrashesInEvictions.{TookEviction, gone_apart}
 use Rattle.fjall_commit.proofs.KeepingKeyspaces.{IsApart}
 use Rattle.fjall_commit.proofs.UnnamedHomes.{others_stay, settled_now}
 
@@ -114,6 +117,12 @@ module _ (old new : Meaning) (writer : Journal) (next : Name) (out : is_of_keysp
       apart_homes old new (appending writer.name writer.buffer ++ take n (Sync writer.name ∷ making_synced old next)) took
       (all_both (appending writer.name writer.buffer) (take n (Sync writer.name ∷ making_synced old next)) (appending_apart writer.name writer.buffer out)
       (all_taken n (Sync writer.name ∷ making_synced old next) (out, synced_apart)))
+
+-- ---- an eviction
+
+pub evicted_homes : (old new : Meaning) (journals : List Sealed) (most : ℕ) → TookEviction old new journals most → KeepsHomes old new
+evicted_homes old new journals most run =
+    apart_homes old new run.took.front run.took.took (all_front IsApart run.took.front run.took.rest (subst (AllByRecursion IsApart) (sym run.took.all) (gone_apart (state_in old) run.gone)))
 
 -- ---- another keyspace
 

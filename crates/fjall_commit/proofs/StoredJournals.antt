@@ -94,16 +94,21 @@ module _ (s : Keyspaces) (stored : ℕ → Stored) where
       filter-append (is_beyond (stored id).persisted) (clear_in s id b) (clears_of s id front)
       ∙ ap (λ (l : List ℕ). l ++ filter (is_beyond (stored id).persisted) (clears_of s id front)) (clear_none b id are.0) ∙ clears_none front id are.1
 
-  same_map : (id : ℕ) (front behind : List Shown) → AllByRecursion (IsStored s stored) front → map_held s (stored id) id (front ++ behind) ≡ map_held s (stored id) id behind
-  same_map id front behind are =
+  -- the clears of an id, and its versions, without them
+  pub same_clears : (id : ℕ) (front behind : List Shown) → AllByRecursion (IsStored s stored) front → clears_held s (stored id) id (front ++ behind) ≡ clears_held s (stored id) id behind
+  same_clears id front behind are =
       let h = stored id in
-      let later_clears = filter (is_beyond h.persisted) (clears_of s id behind) in
+      let later = filter (is_beyond h.persisted) (clears_of s id behind) in
+      clears_more s h id front behind ∙ ap (λ (l : List ℕ). (h.clears ++ l) ++ later) (clears_none front id are) ∙ ap (λ (l : List ℕ). l ++ later) (append-nil h.clears)
+
+  pub same_versions : (id : ℕ) (front behind : List Shown) → AllByRecursion (IsStored s stored) front → versions_held s (stored id) id (front ++ behind) ≡ versions_held s (stored id) id behind
+  same_versions id front behind are =
+      let h = stored id in
       let later = filter (λ (v : Entry). is_beyond h.persisted v.number) (versions_of s id behind) in
-      let clears : clears_held s h id (front ++ behind) ≡ clears_held s h id behind =
-      clears_more s h id front behind ∙ ap (λ (l : List ℕ). (h.clears ++ l) ++ later_clears) (clears_none front id are) ∙ ap (λ (l : List ℕ). l ++ later_clears) (append-nil h.clears) in
-      let versions : versions_held s h id (front ++ behind) ≡ versions_held s h id behind =
-      versions_more s h id front behind ∙ ap (λ (l : List Entry). (h.versions ++ l) ++ later) (versions_none front id are) ∙ ap (λ (l : List Entry). l ++ later) (append-nil h.versions) in
-      λ i. view_of (2 ^ 63) (clears i) (versions i)
+      versions_more s h id front behind ∙ ap (λ (l : List Entry). (h.versions ++ l) ++ later) (versions_none front id are) ∙ ap (λ (l : List Entry). l ++ later) (append-nil h.versions)
+
+  same_map : (id : ℕ) (front behind : List Shown) → AllByRecursion (IsStored s stored) front → map_held s (stored id) id (front ++ behind) ≡ map_held s (stored id) id behind
+  same_map id front behind are = λ i. view_of (2 ^ 63) (same_clears id front behind are i) (same_versions id front behind are i)
 
   -- the store without them
   pub same_store : (front behind : List Shown) → AllByRecursion (IsStored s stored) front → store_held s stored (front ++ behind) ≡ store_held s stored behind
@@ -119,7 +124,7 @@ parted j n behind =
     ap (λ (l : List Journal). batches_in (l ++ active)) (sym (take-append-drop n j.sealed)) ∙ ap (λ (l : List Journal). batches_in l) (append_assoc (take n j.sealed) (drop n j.sealed) active)
     ∙ flat_map-append (λ (k : Journal). k.batches) (take n j.sealed) (drop n j.sealed ++ active)
 
-shown_parted : (j : Journaling) (n : ℕ) (behind : List Written)
+pub shown_parted : (j : Journaling) (n : ℕ) (behind : List Written)
     → map shown (batches_in (journals_with j behind)) ≡ map shown (batches_in (take n j.sealed)) ++ map shown (batches_in (journals_with (evicted n j) behind))
 shown_parted j n behind = ap (map shown) (parted j n behind) ∙ map-append shown (batches_in (take n j.sealed)) (batches_in (journals_with (evicted n j) behind))
 
@@ -170,3 +175,13 @@ evicted_follow j n seqno can =
     let fewer : least_after 0 rest ≤ least_after 0 (front ++ rest) = fewer_least front rest in
     let all : least_after 0 (front ++ rest) ≤ seqno = subst (λ (l : List Shown). least_after 0 l ≤ seqno) (shown_parted j n j.later) can.above in
     record { above = omega (arith, fewer, all); room = can.room }
+
+-- nor is the greatest number of a folder without them
+pub evicted_least : (j : Journaling) (t : Tree) (n : ℕ) (behind : List Written) → number_of (contents_with (evicted n j) t behind) ≤ number_of (contents_with j t behind)
+evicted_least j t n behind =
+    let bound = past_records (fields t.last ∷ lasts t.keyspaces.living t.homes) in
+    let front = map shown (batches_in (take n j.sealed)) in
+    let rest = map shown (batches_in (journals_with (evicted n j) behind)) in
+    let fewer : least_after 0 rest ≤ least_after 0 (front ++ rest) = fewer_least front rest in
+    let no_greater : max (least_after 0 rest) bound ≤ max (least_after 0 (front ++ rest)) bound = omega (arith, fewer) in
+    subst (λ (l : List Shown). max (least_after 0 rest) bound ≤ max (least_after 0 l) bound) (sym (shown_parted j n behind)) no_greater

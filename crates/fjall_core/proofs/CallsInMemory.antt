@@ -20,6 +20,7 @@ use Rattle.fjall_core.specs.Standing.{HeldCount, OnDisk, Owes, Serves, names_rep
 use Rattle.fjall_core.proofs.ServedCalls.{answer_serves, either_serves, led_by, memory_owes, memory_serves, serves_by}
 use Rattle.fjall_core.proofs.TablesAtHome.{carry_all, keeps_disk, outside_same}
 use Rattle.fjall_core.proofs.KeyspaceCalls.{Recounts, recount_leads}
+use Rattle.fjall_core.proofs.KnownCores.{knows_same}
 
 -- ---- handles
 
@@ -35,6 +36,7 @@ retained_counts entries old new id is = record {
   catalog = ap (λ (core : Held). core.catalog) is;
   journal = ap (λ (core : Held). core.journal) is;
   journals = ap (λ (core : Held). core.memory.journals) is;
+  known = λ j t same. knows_same entries old new j t (ap (λ (core : Held). core.memory.trees) is) (ap (λ (core : Held). core.memory.records) is);
 }
 
 retained_there : (core : Held) (m : Remembered) (id : ℕ) (result : Result Unit Error) → OnOk result (due_in (facts_of core.memory 0) (OfHandle OneMore id) ≡ None) → OnOk result (m ≡ retained id core.memory) → OnErr result (m ≡ core.memory)

@@ -7,6 +7,7 @@ use Rattle.fjall_base.specs.Disk.{Image, LeavesOnly, Meaning, state_in}
 use Rattle.fjall_base.proofs.Moments.{at_end, weaken}
 use Rattle.fjall_files.specs.Regions.{Within}
 use Rattle.fjall_journal.specs.Batches.{Shown}
+use Rattle.fjall_meta.specs.Keyspaces.{Keyspaces}
 use Rattle.fjall_tree.specs.Records.{Fields}
 use Rattle.fjall_versions.specs.Replays.{first_fault, least_after}
 use Rattle.fjall_versions.proofs.Kept.{kept_along}
@@ -23,7 +24,7 @@ use Rattle.fjall_state.specs.Remembered.{Remembered}
 use Rattle.fjall_table.specs.Blocks.{Entry}
 use Rattle.fjall_maps.specs.Tables.{store_with}
 use Rattle.fjall_core.specs.Holding.{Held}
-use Rattle.fjall_core.specs.Durables.{Durable, Lies, Rests, StandsAmid, StaysFinished, AreKnown}
+use Rattle.fjall_core.specs.Durables.{Durable, Knows, Lies, Rests, StandsAmid, StaysFinished, AreKnown}
 use Rattle.fjall_core.specs.Standing.{Poisons, StandsOn}
 use Rattle.fjall_core.proofs.CrashesInRuns.{amid_more}
 use Rattle.fjall_commit.proofs.CrashedJournals.{commanded, store_is_kept}
@@ -81,20 +82,25 @@ ill_leads entries old new d command well fault leaves finished = leads_on entrie
 
 -- ---- a change that was done
 
+-- no table of an id that wasn't given out has an entry
+abbrev pub AreUnused : (ℕ → List (List Entry)) → ℕ → Type 0
+AreUnused entries next = (id : ℕ) → next ≤ id → entries id ≡ []
+
 -- What is known of a change of the keyspaces by one command, from a disk on which nothing is pending: the tree after it,
--- and that a crash meanwhile leaves the one or the other.
+-- that a crash meanwhile leaves the one or the other, and that what is known of homes stays.
 pub record Changed (mid new : Held) (j : Journaling) (t : Tree) (command : Command) (done : Bool) : Type 0 where
   pub next : Tree
   pub after : store_of_tree j next ≡ kept (apply (store_of_tree j t) command)
   pub run : Within (codes "keyspaces") mid.disk new.disk
   pub leaves : LeavesOnly mid.disk new.disk (HasEither t next)
-  pub number : done ≡ true → new.memory.next ≡ folders.number_of (contents_with j next [])
+  pub number : done ≡ true → folders.number_of (contents_with j next []) ≤ new.memory.next
   pub records : done ≡ true → List Fields
   pub in_tree : (is : done ≡ true) → LiesInTree (state_in new.disk) (records is) next
   pub last : done ≡ true → next.last ≡ new.catalog
   pub keyspaces : done ≡ true → next.keyspaces ≡ new.memory.keyspaces
   pub journal : done ≡ true → new.journal ≡ mid.journal
   pub journals : done ≡ true → new.memory.journals ≡ mid.memory.journals
+  pub known : done ≡ true → (entries : ℕ → List (List Entry)) → AreUnused entries t.keyspaces.next → Knows mid entries j t → Knows new entries j next
 
 -- where base and pending lie after it
 changed_lies : (mid new : Held) (base : Store) (command : Command) (lies : Lies mid (held_on mid base [])) → lies.journals.later ≡ [] → Changed mid new lies.journals lies.tree command true → Lies new (held_on new (apply base command) [])
@@ -111,14 +117,23 @@ changed_lies mid new base command lies none c =
       keyspaces = c.keyspaces refl;
       made = kept_along base (store_of_tree j lies.tree) (command ∷ []) (lies.made ∙ sym (store_is_kept (contents_with j lies.tree []))) ∙ sym c.after;
       waits = sym (ap (commanded c.next) none);
-      next = c.number refl ∙ ap (λ l. folders.number_of (contents_with j c.next l)) (sym none);
+      next = subst (λ l. folders.number_of (contents_with j c.next l) ≤ new.memory.next) (sym none) (c.number refl);
     }
+
+-- what is known of homes there
+changed_knows : (entries : ℕ → List (List Entry)) (mid new : Held) (base : Store) (command : Command) (lies : Lies mid (held_on mid base [])) (none : lies.journals.later ≡ [])
+    (c : Changed mid new lies.journals lies.tree command true) → AreUnused entries lies.tree.keyspaces.next
+    → Knows mid entries lies.journals lies.tree → Knows new entries (changed_lies mid new base command lies none c).journals (changed_lies mid new base command lies none c).tree
+unfolding changed_lies
+changed_knows entries mid new base command lies none c unused knows = c.known refl entries unused knows
 
 -- and what passes on the way
 pub changed_settles : (entries : ℕ → List (List Entry)) (mid new : Held) (base : Store) (command : Command) (lies : Lies mid (held_on mid base [])) → lies.journals.later ≡ [] → Changed mid new lies.journals lies.tree command true → new.memory.poisoned ≡ false
+    → AreUnused entries mid.memory.keyspaces.next → Knows mid entries lies.journals lies.tree
     → kept (apply base command) ≡ kept (store_with entries new.memory.keyspaces new.memory.trees) → Settles entries new (held_on mid base []) (command ∷ [])
-changed_settles entries mid new base command lies none c well present =
-    let still = stands_well entries new (apply base command) [] well (changed_lies mid new base command lies none c) present in (
+changed_settles entries mid new base command lies none c well unused knows present =
+    let after = changed_knows entries mid new base command lies none c (subst (λ (s : Keyspaces). AreUnused entries s.next) (sym lies.keyspaces) unused) knows in
+    let still = stands_well entries new (apply base command) [] well (changed_lies mid new base command lies none c) after present in (
       held_on new (apply base command) [],
       still,
       record {

@@ -1,5 +1,5 @@
 -- What a creation, a deletion and a removal are on the disk of a core.
-use Rattle.std.proofs.Common.{◌≡◌, ℕ, ◌<◌, ◌==◌, Bool, true, false, cond, not, List, [], ◌∷◌, ◌++◌, map, All, refl, sym, ◌∙◌, ap, subst, codes, arith}
+use Rattle.std.proofs.Common.{◌≡◌, ◌≢◌, ℕ, ◌<◌, ◌≤◌, ◌+◌, ◌==◌, Bool, true, false, cond, not, List, [], ◌∷◌, ◌++◌, map, All, refl, sym, ◌∙◌, ap, subst, codes, arith}
 use Rattle.std.proofs.lemmas.Bool.Decides.{nat_tests}
 use Rattle.std.proofs.lemmas.List.Elements.{All-weaker, filter_passes}
 use Rattle.std.specs.FinMap.{insert, remove}
@@ -38,6 +38,8 @@ use Rattle.fjall_core.proofs.CrashImages.{folder_amid}
 use Rattle.fjall_core.proofs.NextNumbers.{below_number, created_number, deleted_number}
 use Rattle.fjall_core.proofs.RootUnchanged.{leaves_beside}
 use Rattle.fjall_core.proofs.JournalWrites.{held_on}
+use Rattle.fjall_core.proofs.KnownBatches.{all_shown}
+use Rattle.fjall_core.proofs.KnownCores.{knows_created, knows_deleted}
 
 -- the tree of a core
 abbrev pub tree_held : Held → Homes → Versions → Tree
@@ -47,9 +49,10 @@ same_tree : (core : Held) (d : Durable) (lies : Lies core d) → tree_held core 
 same_tree core d lies = λ i. record { last = sym lies.last i; keyspaces = sym lies.keyspaces i; homes = lies.tree.homes; versions = lies.tree.versions }
 
 -- the number of a core on whose disk nothing is pending
-number_is : (core : Held) (base : Store) (lies : Lies core (held_on core base [])) → lies.journals.later ≡ [] → core.memory.next ≡ folders.number_of (contents_with lies.journals (tree_held core lies.tree.homes lies.tree.versions) [])
+number_is : (core : Held) (base : Store) (lies : Lies core (held_on core base [])) → lies.journals.later ≡ [] → folders.number_of (contents_with lies.journals (tree_held core lies.tree.homes lies.tree.versions) []) ≤ core.memory.next
 number_is core base lies none =
-    lies.next ∙ ap (λ l. folders.number_of (contents_with lies.journals lies.tree l)) none ∙ ap (λ (t : Tree). folders.number_of (contents_with lies.journals t [])) (sym (same_tree core (held_on core base []) lies))
+    subst (λ (t : Tree). folders.number_of (contents_with lies.journals t []) ≤ core.memory.next) (sym (same_tree core (held_on core base []) lies))
+    (subst (λ l. folders.number_of (contents_with lies.journals lies.tree l) ≤ core.memory.next) none lies.next)
 
 -- ---- a creation
 
@@ -73,7 +76,7 @@ stays_stored t number are =
     ∙ ap (λ b. cond b (stored_of (first_home number) []) (stored_in t.homes t.versions k.id)) other) t.keyspaces.living are.given
 
 -- the store of the keyspaces with one more
-created_store : (state : _) (j : Journaling) (t : Tree) (name : List ℕ) (options : List (List ℕ)) (number : ℕ) (c : Catalog) → LiesInRoot state j → AreKeyspaces t.keyspaces → number ≡ folders.number_of (contents_with j t [])
+created_store : (state : _) (j : Journaling) (t : Tree) (name : List ℕ) (options : List (List ℕ)) (number : ℕ) (c : Catalog) → LiesInRoot state j → AreKeyspaces t.keyspaces → folders.number_of (contents_with j t []) ≤ number
     → store_of_tree j (with_home name options number c t) ≡ kept (apply (store_of_tree j t) (Create name (option_pairs options)))
 created_store state j t name options number c root are is =
     let batches = map shown (batches_in (journals_with j [])) in
@@ -96,9 +99,9 @@ pub record Becomes (mid new : Held) (after : Remembered) (catalog : Catalog) (do
 
 pub creation_changed : (mid new : Held) (base : Store) (name : List ℕ) (options : List (List ℕ)) (creation : Creation) (done : Bool) (lies : Lies mid (held_on mid base [])) → lies.journals.later ≡ []
     → IsCreation mid.catalog (with_keyspace name options mid.memory.next mid.memory.keyspaces) mid.memory.keyspaces.next mid.memory.next creation → AreKeyspaces mid.memory.keyspaces
-    → AreKeyspaces (with_keyspace name options mid.memory.next mid.memory.keyspaces) → CreatedKeyspace mid new creation done → Becomes mid new (with_creation name options mid.memory) creation.update.catalog done
-    → Changed mid new lies.journals lies.tree (Create name (option_pairs options)) done
-creation_changed mid new base name options creation done lies none is were are disk core =
+    → AreKeyspaces (with_keyspace name options mid.memory.next mid.memory.keyspaces) → All (λ k. k.id < mid.memory.keyspaces.next) mid.memory.trees → CreatedKeyspace mid new creation done
+    → Becomes mid new (with_creation name options mid.memory) creation.update.catalog done → Changed mid new lies.journals lies.tree (Create name (option_pairs options)) done
+creation_changed mid new base name options creation done lies none is were are given disk core =
     let j = lies.journals in
     let t = tree_held mid lies.tree.homes lies.tree.versions in
     let number = mid.memory.next in
@@ -112,13 +115,17 @@ creation_changed mid new base name options creation done lies none is were are d
       after = created_store (state_in mid.disk) j t name options number catalog lies.writing.root were numbered;
       run = disk.within;
       leaves = disk.leaves lies.records t name options number there is are below were.fits;
-      number = λ ok. ap (λ (m : Remembered). m.next) (core.memory_is ok) ∙ created_number j t name options number catalog is.update.persisted is.update.highest numbered;
+      number = λ ok. subst (λ (n : ℕ). folders.number_of (contents_with j (with_home name options number catalog t) []) ≤ n) (sym (ap (λ (m : Remembered). m.next) (core.memory_is ok)))
+          (created_number j t name options number catalog is.update.persisted is.update.highest numbered);
       records = λ ok. lies.records ++ fields catalog ∷ [];
       in_tree = λ ok. disk.lies ok lies.records t name options number there is are below were.fits;
       last = λ ok. sym (core.catalog_is ok);
       keyspaces = λ ok. ap (λ (m : Remembered). m.keyspaces) (sym (core.memory_is ok));
       journal = core.journal_is;
       journals = λ ok. ap (λ (m : Remembered). m.journals) (core.memory_is ok);
+      known = λ ok entries unused.
+          let older = numbers_below number 0 (all_shown j) lies.writing.root.sound (let next = lies.next in omega (arith, next)) in
+          knows_created entries mid new name options catalog j t refl (core.memory_is ok) were given (unused mid.memory.keyspaces.next (omega arith)) older;
     })
 
 -- no call of it was one that no disk can serve
@@ -149,9 +156,9 @@ abbrev pub DeletedKeyspace : Held → Held → Update → Bool → Type 0
 DeletedKeyspace mid new update done = on_disk.DeletedKeyspace mid.disk new.disk update done
 
 pub deletion_changed : (mid new : Held) (base : Store) (id : ℕ) (update : Update) (done : Bool) (lies : Lies mid (held_on mid base [])) → lies.journals.later ≡ []
-    → IsUpdate mid.catalog (without_keyspace id mid.memory.keyspaces) mid.memory.next update → DeletedKeyspace mid new update done → Becomes mid new (with_deletion id mid.memory) update.catalog done
+    → IsUpdate mid.catalog (without_keyspace id mid.memory.keyspaces) mid.memory.next update → AreKeyspaces mid.memory.keyspaces → DeletedKeyspace mid new update done → Becomes mid new (with_deletion id mid.memory) update.catalog done
     → Changed mid new lies.journals lies.tree (Delete id) done
-deletion_changed mid new base id update done lies none is disk core =
+deletion_changed mid new base id update done lies none is were disk core =
     let j = lies.journals in
     let t = tree_held mid lies.tree.homes lies.tree.versions in
     let number = mid.memory.next in
@@ -164,13 +171,16 @@ deletion_changed mid new base id update done lies none is disk core =
       after = deleted_store j t id update.catalog;
       run = disk.within;
       leaves = disk.leaves lies.records t id number there is below;
-      number = λ ok. ap (λ (m : Remembered). m.next) (core.memory_is ok) ∙ deleted_number j t id number update.catalog is.persisted is.highest numbered;
+      number = λ ok. subst (λ (n : ℕ). folders.number_of (contents_with j (without_home id update.catalog t) []) ≤ n) (sym (ap (λ (m : Remembered). m.next) (core.memory_is ok)))
+          (deleted_number j t id number update.catalog is.persisted is.highest numbered);
       records = λ ok. lies.records ++ fields update.catalog ∷ [];
       in_tree = λ ok. disk.lies ok lies.records t id number there is below;
       last = λ ok. sym (core.catalog_is ok);
       keyspaces = λ ok. ap (λ (m : Remembered). m.keyspaces) (sym (core.memory_is ok));
       journal = core.journal_is;
       journals = λ ok. ap (λ (m : Remembered). m.journals) (core.memory_is ok);
+      known = λ ok entries unused.
+          knows_deleted entries mid new id update.catalog j t (ap (λ (m : Remembered). m.trees) (core.memory_is ok)) (ap (λ (m : Remembered). m.records) (core.memory_is ok));
     })
 
 -- no call of it was one that no disk can serve

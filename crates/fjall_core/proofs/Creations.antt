@@ -61,7 +61,7 @@ abbrev pub between : Held → Held → Meaning → Held
 between old made mid = record old { disk = mid; journal = made.journal }
 
 pub stays : (old made : Held) (mid : Meaning) → StaysSame old (between old made mid)
-stays old made mid = record { keyspaces = refl; next = refl; catalog = refl; journals = refl }
+stays old made mid = record { keyspaces = refl; trees = refl; records = refl; next = refl; catalog = refl; journals = refl }
 
 -- the store with the keyspace
 created_held : (old : Held) (name : Bytes) (options : List Bytes) → IsLawful old.memory
@@ -89,7 +89,7 @@ module _ (old : Held) (name : Bytes) (options : List Bytes) (id number : ℕ) (i
   changes_by : (made new : Held) (mid : Meaning) (creation : Creation) (done : Bool) → IsLawful old.memory → IsCreation old.catalog (with_keyspace name options old.memory.next old.memory.keyspaces) id number creation
       → on_disk.CreatedKeyspace mid new.disk creation done → Becomes (between old made mid) new (with_creation name options old.memory) creation.update.catalog done → ChangesTo (between old made mid) new (Create name (option_pairs options)) done
   changes_by made new mid creation done lawful is disk core base lies none =
-      creation_changed (between old made mid) new base name options creation done lies none (of_creation creation is) lawful.keyspaces after.keyspaces disk core
+      creation_changed (between old made mid) new base name options creation done lies none (of_creation creation is) lawful.keyspaces after.keyspaces lawful.given disk core
 
   -- the homes of the trees that stood before stay
   homes_by : (new : Meaning) (s : State) → StandsFor old s → ReadsOn old s → KeepsOtherHomes id old.disk new → HomesStay old.disk new old.memory.trees
@@ -167,7 +167,7 @@ module _ (old : Held) (name : Bytes) (options : List Bytes) (id number : ℕ) (i
         record { memory_is = λ _. ap (λ (h : Held). h.memory) all.2; catalog_is = λ _. ap (λ (h : Held). h.catalog) all.2; journal_is = λ _. refl } in
         let settled = alter_settles s.parts.entries old (between old made turned.mid) made d (Create name (option_pairs options)) room.well (stays old made turned.mid) turned.synced
         (changes_by made made turned.mid all.0 true lawful all.1 turned.changed core)
-        well
+        well stands.remembered.beside.unused
         (ap kept (sym (created_shown s.parts.entries old name options lawful stands.remembered.beside)) ∙ ap (λ (h : Held). kept (store_with_tables s.parts.entries h)) (sym all.2)) on in
         (settled.0, settled.1, (subst (λ l. Passes d l settled.0) (sym (asks_one s stands)) settled.2, λ sync. settled.3)) in
         serves_by old made (OfCreation name options) (Number id) (created_owes honest made all) (λ reads. reads)

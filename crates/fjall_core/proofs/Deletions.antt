@@ -58,9 +58,9 @@ module _ (old : Held) (id : ℕ) (none : held_due old (OfDeletion id) ≡ None) 
   pub room_left : old.memory.next < 2 ^ 63
   room_left = room.numbered
 
-  changes_by : (made new : Held) (mid : Meaning) (update : Update) (done : Bool) → IsUpdate old.catalog (without_keyspace id old.memory.keyspaces) old.memory.next update
+  changes_by : (made new : Held) (mid : Meaning) (update : Update) (done : Bool) → IsLawful old.memory → IsUpdate old.catalog (without_keyspace id old.memory.keyspaces) old.memory.next update
       → on_disk.DeletedKeyspace mid new.disk update done → Becomes (between old made mid) new (with_deletion id old.memory) update.catalog done → ChangesTo (between old made mid) new (Delete id) done
-  changes_by made new mid update done is disk core base lies empty = deletion_changed (between old made mid) new base id update done lies empty is disk core
+  changes_by made new mid update done lawful is disk core base lies empty = deletion_changed (between old made mid) new base id update done lies empty is lawful.keyspaces disk core
 
   -- wherever the core stood, no call was one that no disk can serve
   served_by : (made new : Held) (mid : Meaning) (update : Update) (done : Bool) → IsUpdate old.catalog (without_keyspace id old.memory.keyspaces) old.memory.next update
@@ -123,8 +123,8 @@ module _ (old : Held) (id : ℕ) (none : held_due old (OfDeletion id) ≡ None) 
       let core : Becomes (between old made turned.mid) new (with_deletion id old.memory) all.0.catalog true =
       record { memory_is = λ _. ap (λ (h : Held). h.memory) is; catalog_is = λ _. ap (λ (h : Held). h.catalog) is ∙ ap (λ (h : Held). h.catalog) all.2; journal_is = λ _. ap (λ (h : Held). h.journal) is } in
       let settled = alter_settles s.parts.entries old (between old made turned.mid) new d (Delete id) room.well (stays old made turned.mid) turned.synced
-      (changes_by made new turned.mid all.0 true all.1 changed core)
-      well
+      (changes_by made new turned.mid all.0 true lawful all.1 changed core)
+      well stands.remembered.beside.unused
       (sym (deleted_by (λ q. pairs_with s.parts.entries q (2 ^ 63) old.memory.trees) id old.memory.keyspaces) ∙ ap (λ (h : Held). kept (store_with_tables s.parts.entries h)) (sym is)) on in
       (settled.0, settled.1, (subst (λ l. Passes d l settled.0) (sym (asks_one s stands)) settled.2, λ sync. settled.3)) in
       serves_by old new (OfDeletion id) Done (deleted_owes honest made new lawful all is) (λ reads. reads)
@@ -188,7 +188,7 @@ module _ (old : Held) (id : ℕ) (none : held_due old (OfDeletion id) ≡ None) 
       (⊎_elim
       (λ unsynced. unsynced_leads s.parts.entries old new d (Delete id) room.well fault (subst (λ (h : Held). on_disk.Persisted old.disk h.disk old.journal h.journal SyncAll false) (sym back) unsynced) on)
       (λ turned. unaltered_leads s.parts.entries old (between old made turned.mid) new d (Delete id) room.well (stays old made turned.mid) turned.synced
-      (changes_by made new turned.mid all.0 false all.1 (subst (λ m. on_disk.DeletedKeyspace turned.mid m all.0 false) (sym disk) turned.changed)
+      (changes_by made new turned.mid all.0 false lawful all.1 (subst (λ m. on_disk.DeletedKeyspace turned.mid m all.0 false) (sym disk) turned.changed)
       (record { memory_is = λ e. not_done e; catalog_is = λ e. not_done e; journal_is = λ e. not_done e })) fault on)
       (all.5 true_)))
   undeleted_serves honest made new OutOfMemory lawful all back true_ = subst (λ (h : Held). Serves old (OfDeletion id) (Refused OutOfMemory) h) (sym (back ∙ all.0)) (memory_serves old (OfDeletion id) tt none)

@@ -1,5 +1,5 @@
 -- Where a rotation of the journal leads a core and its disk.
-use Rattle.std.proofs.Common.{◌≡◌, inl, inr, ℕ, ◌+◌, ◌<◌, ◌-◌, ◌^◌, arith, Bool, true, false, if◌then◌else◌, List, [], ◌++◌, Option, None, Result, Ok, Err, refl, sym, ◌∙◌, ap, subst}
+use Rattle.std.proofs.Common.{◌≡◌, inl, inr, ℕ, ◌+◌, ◌<◌, ◌≤◌, ◌-◌, ◌^◌, arith, Bool, true, false, if◌then◌else◌, List, [], ◌++◌, Option, None, Result, Ok, Err, refl, sym, ◌∙◌, ap, subst}
 use Rattle.std.proofs.lemmas.List.{append-nil}
 use Rattle.fjall_base.specs.Store.{Store, Command, fold, kept}
 use Rattle.fjall_base.specs.Disk.{LeavesOnly, Meaning, state_in}
@@ -12,7 +12,8 @@ use Rattle.fjall_files.specs.Tidy.{IsTidy}
 use Rattle.fjall_journal.specs.Writer.{Journal, written_out}
 use Rattle.fjall_manager.specs.Journals.{Journals, next_journal}
 use Rattle.fjall_manager.specs.Rotations.{RotationTook, sealed_of}
-use Rattle.fjall_recovery.specs.Places.{Journaling}
+use Rattle.fjall_recovery.specs.Folders.{number_of}
+use Rattle.fjall_recovery.specs.Places.{Journaling, contents_with}
 use Rattle.fjall_commit.specs.Journaling.{IsWriting}
 use Rattle.fjall_commit.specs.Rotations.{LeavesRotation, rotated}
 use Rattle.fjall_commit.proofs.CrashedJournals.{rotated_base, rotation_stands}
@@ -31,11 +32,13 @@ use Rattle.fjall_commit.proofs.KeptHomes.{rotated_homes, unrotated_homes}
 use Rattle.fjall_core.specs.Holding.{Held}
 use Rattle.fjall_core.specs.CallParts.{Turns, WentOver}
 use Rattle.fjall_core.specs.Crashes.{is_io}
-use Rattle.fjall_core.specs.Durables.{AreKnown, Durable, Lies, Rests, StandsAmid, StaysFinished}
+use Rattle.fjall_core.specs.Durables.{AreKnown, Durable, Knows, Lies, Rests, StandsAmid, StaysFinished}
 use Rattle.fjall_core.specs.Standing.{Owes, OwesRefusal, Poisons, RotatesJournal, Serves, StandsOn, held_due, next_name, reply_of}
 use Rattle.fjall_core.proofs.CrashImages.{has_finished}
 use Rattle.fjall_core.proofs.JournalWrites.{Leads, Settles, held_on, leads_on, present_of, settles_on, stands_ill, stands_well}
-use Rattle.fjall_core.proofs.KeyspacesUnchanged.{tree_along}
+use Rattle.fjall_core.proofs.KeyspacesUnchanged.{SameKeyspaces, tree_along}
+use Rattle.fjall_core.proofs.KnownBatches.{rotated_same}
+use Rattle.fjall_core.proofs.KnownCores.{knows_journals, knows_same}
 use Rattle.fjall_core.proofs.Refusals.{no_sync}
 use Rattle.fjall_core.proofs.ServedCalls.{led_by, memory_owes, memory_serves, serves_by}
 use Rattle.fjall_core.proofs.Syncs.{synced_passes}
@@ -78,6 +81,10 @@ module _ (old new : Held) (base : Store) (pending : List Command) (lies : Lies o
         | inr all ↦ has_finished image (rotated j) [] all
       ]
 
+  -- what stands in `keyspaces` is the same
+  turn_same : WentOver old.disk new.disk old.journal new.journal old.memory.journals.active true → SameKeyspaces (state_in old.disk) (state_in new.disk)
+  turn_same over = over.elsewhere j lies.writing lies.told.active (ap (λ p. p.older) lies.in_tree.rests.catalog.home.keyspaces_folder)
+
   -- where they lie once it was done: nothing is pending
   pub turn_lies : RotatesJournal old new → WentOver old.disk new.disk old.journal new.journal old.memory.journals.active true → Lies new (held_on new (fold base pending) [])
   turn_lies turns over =
@@ -87,15 +94,27 @@ module _ (old new : Held) (base : Store) (pending : List Command) (lies : Lies o
         records = lies.records;
         tree = t;
         writing = over.lies refl j lies.writing lies.told.active;
-        in_tree = tree_along (state_in old.disk) (state_in new.disk) lies.records t
-            (over.elsewhere j lies.writing lies.told.active (ap (λ p. p.older) lies.in_tree.rests.catalog.home.keyspaces_folder)) lies.in_tree;
+        in_tree = tree_along (state_in old.disk) (state_in new.disk) lies.records t (turn_same over) lies.in_tree;
         told = subst (AreKnown (rotated j)) (sym (ap (λ (m : Remembered). m.journals) turns.memory_is)) (known_rotated j old.journal old.memory.journals lies.told);
         last = lies.last ∙ sym turns.catalog;
         keyspaces = lies.keyspaces ∙ ap (λ (m : Remembered). m.keyspaces) (sym turns.memory_is);
         made = ap (λ (l : List Command). kept (fold base l)) lies.waits ∙ rotated_base t lies.in_tree.rests.versions base j lies.made lies.writing.root.sound;
         waits = refl;
-        next = ap (λ (m : Remembered). m.next) turns.memory_is ∙ lies.next ∙ sym (rotated_number j t);
+        next = subst (λ (n : ℕ). number_of (contents_with (rotated j) t []) ≤ n) (sym (ap (λ (m : Remembered). m.next) turns.memory_is)) (subst (λ (n : ℕ). n ≤ old.memory.next) (sym (rotated_number j t)) lies.next);
       }
+
+  pub turn_empty : (turns : RotatesJournal old new) (over : WentOver old.disk new.disk old.journal new.journal old.memory.journals.active true) → (turn_lies turns over).journals.later ≡ []
+  unfolding turn_lies
+  turn_empty turns over = refl
+
+  -- what is known of homes stays
+  pub turn_knows : (entries : ℕ → List (List Entry)) (turns : RotatesJournal old new) (over : WentOver old.disk new.disk old.journal new.journal old.memory.journals.active true)
+      → Knows old entries lies.journals lies.tree → Knows new entries (turn_lies turns over).journals (turn_lies turns over).tree
+  unfolding turn_lies
+  turn_knows entries turns over knows =
+      let t = lies.tree in
+      knows_journals entries new j (rotated j) t (rotated_same j) (inr refl)
+      (knows_same entries old new j t (ap (λ (m : Remembered). m.trees) turns.memory_is) (ap (λ (m : Remembered). m.records) turns.memory_is) knows)
 
 -- ---- where it leads
 
@@ -106,10 +125,12 @@ turn_settles : (entries : ℕ → List (List Entry)) (old new : Held) (d : Durab
 turn_settles entries old new d well turns over = settles_on entries old new d [] (λ base pending on.
     let lies = on.lies well in
     let after = turn_lies old new base pending lies turns over in
-    let still = stands_well entries new (fold base pending) [] (ap (λ (m : Remembered). m.poisoned) turns.memory_is ∙ well) after (present_of entries old (held_on old base pending) false well on ∙ same_present entries old new turns) in
+    let knows = turn_knows old new base pending lies entries turns over (on.knows well) in
+    let still = stands_well entries new (fold base pending) [] (ap (λ (m : Remembered). m.poisoned) turns.memory_is ∙ well) after knows
+    (present_of entries old (held_on old base pending) false well on ∙ same_present entries old new turns) in
     (held_on new (fold base pending) [], still, synced_passes old new base pending (turn_leaves old new base pending lies true over) still.rests, refl))
 
-turn_fails : (entries : ℕ → List (List Entry)) (old new : Held) (d : Durable) → old.memory.poisoned ≡ false → Poisons old.memory old new → WentOver old.disk new.disk old.journal new.journal old.memory.journals.active false → StandsOn old entries d → Leads entries new d []
+pub turn_fails : (entries : ℕ → List (List Entry)) (old new : Held) (d : Durable) → old.memory.poisoned ≡ false → Poisons old.memory old new → WentOver old.disk new.disk old.journal new.journal old.memory.journals.active false → StandsOn old entries d → Leads entries new d []
 turn_fails entries old new d well fault over = leads_on entries old new d [] (λ base pending on.
     let lies = on.lies well in
     let leaves = turn_leaves old new base pending lies false over in
@@ -119,7 +140,7 @@ turn_fails entries old new d well fault over = leads_on entries old new d [] (λ
     (held_on new base (pending ++ []), still, record { leaves = leaves; safe = []; base = refl; rest = refl; rests = rests }))
 
 -- no call was one that no disk can serve, where nothing stands in the way
-turn_served : (entries : ℕ → List (List Entry)) (old : Held) (new : Held) (d : Durable) (done : Bool) → old.memory.poisoned ≡ false → old.memory.journals.active < 2 ^ 64 - 2 → WentOver old.disk new.disk old.journal new.journal old.memory.journals.active done
+pub turn_served : (entries : ℕ → List (List Entry)) (old : Held) (new : Held) (d : Durable) (done : Bool) → old.memory.poisoned ≡ false → old.memory.journals.active < 2 ^ 64 - 2 → WentOver old.disk new.disk old.journal new.journal old.memory.journals.active done
     → StandsOn old entries d → IsTidy (state_in old.disk) → new.disk.misuses ≡ old.disk.misuses
 turn_served entries old new d done well numbered over on tidy =
     let lies = on.lies well in

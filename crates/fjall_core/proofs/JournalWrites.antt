@@ -11,7 +11,7 @@ use Rattle.fjall_manager.proofs.Raised.{change_marks}
 use Rattle.fjall_base.specs.Store.{Store, Command, apply, fold, kept}
 use Rattle.fjall_base.specs.Disk.{LeavesOnly, state_in}
 use Rattle.fjall_base.proofs.Moments.{at_end}
-use Rattle.fjall_journal.specs.Batches.{Written, shown}
+use Rattle.fjall_journal.specs.Batches.{Shown, Written, shown}
 use Rattle.fjall_journal.specs.Changes.{Change, Emptied, Items, command_of, of_change}
 use Rattle.fjall_journal.specs.Ops.{BatchItem}
 use Rattle.fjall_journal.specs.declared.persist_mode.PersistMode.{PersistMode}
@@ -30,13 +30,14 @@ use Rattle.fjall_maps.proofs.Emptied.{clear_with}
 use Rattle.fjall_maps.proofs.Pushed.{write_with}
 use Rattle.fjall_maps.proofs.Stores.{kept_by}
 use Rattle.fjall_catalog.specs.Catalog.{fields}
-use Rattle.fjall_contents.proofs.Following.{beyond_all}
+use Rattle.fjall_contents.proofs.Following.{before_least, beyond_all}
 use Rattle.fjall_recovery.specs.Homes.{lasts, stored_in}
 use Rattle.fjall_recovery.specs.Folders.{past_records}
 use Rattle.fjall_recovery.specs.Journals.{Journal, batches_in}
 use Rattle.fjall_recovery.specs.Folders as folders
 use Rattle.fjall_recovery.specs.Places.{Journaling, LiesInTree, contents_with, journals_with}
-use Rattle.fjall_recovery.proofs.Storing.{beyond_lasts}
+use Rattle.fjall_recovery.proofs.Storing.{are_within, beyond_lasts}
+use Rattle.fjall_replay.specs.Beside.{MayComeNext}
 use Rattle.fjall_contents.specs.Contents.{store_held}
 use Rattle.fjall_commit.specs.Journaling.{CanFollow, IsWriting, after_mode, is_out, next_number, synced, with_batch, handed}
 use Rattle.fjall_commit.proofs.Batches.{kept-mode, next-mode}
@@ -44,13 +45,15 @@ use Rattle.fjall_state.specs.Allowed.{FitsBatch, IsOfLiving}
 use Rattle.fjall_state.specs.Machine.{is_living, with_marks}
 use Rattle.fjall_state.specs.Remembered.{IsLawful, Remembered, with_change}
 use Rattle.fjall_core.specs.Holding.{Held}
-use Rattle.fjall_core.specs.Durables.{Durable, Lies, MakesPresent, Passes, Rests, StandsAmid, StaysFinished, AreKnown}
+use Rattle.fjall_core.specs.Durables.{Durable, Knows, Lies, MakesPresent, Passes, Rests, StandsAmid, StaysFinished, AreKnown}
 use Rattle.fjall_core.specs.CallParts.{WentOut}
 use Rattle.fjall_core.specs.Crashes.{IsSyncOf}
 use Rattle.fjall_core.specs.Standing.{Poisons, StandsOn, store_in, store_with_tables}
 use Rattle.fjall_core.proofs.KeyspacesUnchanged.{tree_along}
 use Rattle.fjall_commit.proofs.CrashedJournals.{commanded, commands_more, kept_with}
 use Rattle.fjall_core.proofs.CrashImages.{leaves_finished, lies_rest, root_amid, root_finished}
+use Rattle.fjall_core.proofs.KnownBatches.{all_shown, written_later, written_more}
+use Rattle.fjall_core.proofs.KnownCores.{knows_changed}
 
 -- the core stands on some disk now, to which these commands lead
 abbrev pub Leads : (ℕ → List (List Entry)) → Held → Durable → List Command → Type 0
@@ -78,13 +81,16 @@ settles_on entries old new d tried settles stands =
 pub present_of : (entries : ℕ → List (List Entry)) (core : Held) (d : Durable) (flag : Bool) → core.memory.poisoned ≡ flag → StandsOn core entries d → MakesPresent flag d (store_with_tables entries core)
 present_of entries core d flag is stands = subst (λ b. MakesPresent b d (store_with_tables entries core)) is stands.present
 
--- a core that no fault has poisoned stands where base and pending lie
-pub stands_well : (entries : ℕ → List (List Entry)) (core : Held) (base : Store) (pending : List Command) → core.memory.poisoned ≡ false → Lies core (held_on core base pending) → kept (fold base pending) ≡ kept (store_with_tables entries core) → StandsOn core entries (held_on core base pending)
-stands_well entries core base pending well lies present = record {
+-- a core that no fault has poisoned stands where base and pending lie, and where it knows its keyspaces' homes
+pub stands_well : (entries : ℕ → List (List Entry)) (core : Held) (base : Store) (pending : List Command) → core.memory.poisoned ≡ false → (lies : Lies core (held_on core base pending))
+    → Knows core entries lies.journals lies.tree
+    → kept (fold base pending) ≡ kept (store_with_tables entries core) → StandsOn core entries (held_on core base pending)
+stands_well entries core base pending well lies knows present = record {
   same = refl;
   rests = lies_rest core (held_on core base pending) lies;
   finished = root_finished (state_in core.disk) lies.journals lies.writing.root;
   lies = λ _. lies;
+  knows = λ _. knows;
   present = subst (λ b. MakesPresent b (held_on core base pending) (store_with_tables entries core)) (sym well) present;
 }
 
@@ -95,6 +101,7 @@ stands_ill entries core base pending ill rests finished present = record {
   rests = rests;
   finished = finished;
   lies = λ well. absurd (true≢false (sym ill ∙ well));
+  knows = λ well. absurd (true≢false (sym ill ∙ well));
   present = subst (λ b. MakesPresent b (held_on core base pending) (store_with_tables entries core)) (sym ill) present;
 }
 
@@ -147,9 +154,6 @@ batch_beyond core base pending change admitted lies =
 -- it follows the batches that stand
 pub it_follows : (core : Held) (base : Store) (pending : List Command) (room : core.memory.next < 2 ^ 63) (lies : Lies core (held_on core base pending)) → CanFollow lies.journals core.memory.next
 it_follows core base pending room lies = record { above = omega (arith, lies.next); room = room }
-
-more_max : (n past next : ℕ) → next ≡ max n past → n ≤ next → next + 1 ≡ max (next + 1) past
-more_max n past next is le = omega arith
 
 -- an item's keyspace that lives is found
 is_found : (core : Held) (id : ℕ) → is_living (store_in core) id ≡ true → is_some (keyspace_at id core.memory.keyspaces.living) ≡ true
@@ -230,11 +234,13 @@ module _ (old new : Held) (base : Store) (pending : List Command) (change : Chan
       ap (λ (l : List Command). l ++ command_of change ∷ []) lies.waits
       ∙ ap (λ (l : List Command). commanded lies.tree lies.journals.later ++ l) (sym (batch_beyond old base pending change admitted lies)) ∙ sym (commands_more lies.tree lies.journals.later (batch_of old change ∷ []))
 
-  next_too : new.memory.next ≡ max (next_number after) (past_records (fields lies.tree.last ∷ lasts lies.tree.keyspaces.living lies.tree.homes))
+  next_too : max (next_number after) (past_records (fields lies.tree.last ∷ lasts lies.tree.keyspaces.living lies.tree.homes)) ≤ new.memory.next
   next_too =
       let past = past_records (fields lies.tree.last ∷ lasts lies.tree.keyspaces.living lies.tree.homes) in
-      ap (λ (m : Remembered). m.next) goes.memory_is ∙ more_max (next_number lies.journals) past old.memory.next lies.next (it_follows old base pending admitted.room lies).above
-      ∙ ap (λ n. max n past) (sym (next-mode mode goes_out lies.journals (batch_of old change)))
+      let more = ap (λ (m : Remembered). m.next) goes.memory_is in
+      let least = next-mode mode goes_out lies.journals (batch_of old change) in
+      let was : max (next_number lies.journals) past ≤ old.memory.next = lies.next in
+      omega (arith, more, least, was)
 
   in_tree_too : LiesInTree (state_in new.disk) lies.records lies.tree
   in_tree_too = tree_along (state_in old.disk) (state_in new.disk) lies.records lies.tree (out.elsewhere lies.journals lies.writing) lies.in_tree
@@ -292,13 +298,51 @@ module _ (old new : Held) (base : Store) (pending : List Command) (change : Chan
       ∙ kept_with t lies.in_tree.rests.versions base lies.journals (lies.journals.later ++ batch_of old change ∷ []) lies.made sound_more
       ∙ ap (λ (l : List Journal). store_held t.keyspaces (stored_in t.homes t.versions) (map shown (batches_in l))) (sym synced_too)
 
+  -- ---- what is known of homes
+
+  -- it comes next behind all batches
+  comes_next : MayComeNext lies.tree.keyspaces (stored_in lies.tree.homes lies.tree.versions) (all_shown lies.journals) old.memory.next old.memory.trees
+  comes_next =
+      let t = lies.tree in
+      let is = admitted.lawful in
+      let past : past_records (lasts t.keyspaces.living t.homes) ≤ old.memory.next = omega (arith, lies.next) in
+      let above = (it_follows old base pending admitted.room lies).above in
+      let least = next_number lies.journals in
+      record {
+        forest = is.forest;
+        before = is.below;
+        small = admitted.room;
+        within = are_within t.homes t.versions lies.in_tree.rests.versions t.keyspaces;
+        older = All-weaker (λ (b : Shown). b.number < least) (λ (b : Shown). b.number < old.memory.next) (λ b low. omega (arith, low, above)) (all_shown lies.journals) (before_least 0 (all_shown lies.journals) lies.writing.root.sound).1;
+        made = subst (λ (s : Keyspaces). All (λ k. k.number < old.memory.next) s.living) (sym lies.keyspaces) is.made;
+        beyond = beyond_lasts t.homes t.versions t.keyspaces.living old.memory.next past;
+      }
+
+  knows_too : (entries : ℕ → List (List Entry)) → Knows old entries lies.journals lies.tree → Knows new entries after lies.tree
+  knows_too entries knows =
+      knows_changed entries old new change lies.journals after lies.tree goes.memory_is (written_more mode goes_out lies.journals (batch_of old change))
+      (written_later mode goes_out lies.journals (batch_of old change)) comes_next admitted.fits knows
+
+  pub pending_knows : (made : kept base ≡ folders.store_of (contents_with after lies.tree [])) (waits : all ≡ commanded lies.tree after.later) (entries : ℕ → List (List Entry)) → Knows old entries lies.journals lies.tree
+      → Knows new entries (pending_lies made waits).journals (pending_lies made waits).tree
+  unfolding pending_lies
+  pending_knows made waits entries knows = knows_too entries knows
+
+  pub settled_knows : (made : kept (fold base all) ≡ folders.store_of (contents_with after lies.tree [])) (waits : [] ≡ commanded lies.tree after.later) (entries : ℕ → List (List Entry))
+      → Knows old entries lies.journals lies.tree
+      → Knows new entries (settled_lies made waits).journals (settled_lies made waits).tree
+  unfolding settled_lies
+  settled_knows made waits entries knows = knows_too entries knows
+
 -- a change that waits, or is in the file and isn't synced
 unsynced_leads : (entries : ℕ → List (List Entry)) (old new : Held) (change : Change) (mode : Option PersistMode) (base : Store) (pending : List Command) (admitted : IsAdmitted old change) → AreOlder old.memory.trees entries → GoesOn old new change → (stands : StandsOn old entries (held_on old base pending))
-    → Wrote old new change mode true → Lies new (held_on new base (pending ++ command_of change ∷ [])) → Leads entries new (held_on old base pending) (command_of change ∷ [])
-unsynced_leads entries old new change mode base pending admitted older goes stands out after =
+    → Wrote old new change mode true → (after : Lies new (held_on new base (pending ++ command_of change ∷ []))) → Knows new entries after.journals after.tree
+    → Leads entries new (held_on old base pending) (command_of change ∷ [])
+unsynced_leads entries old new change mode base pending admitted older goes stands out after knows =
     let command = command_of change in
     let well : new.memory.poisoned ≡ false = ap (λ (m : Remembered). m.poisoned) goes.memory_is ∙ admitted.well in
-    let on = stands_well entries new base (pending ++ command ∷ []) well after (present_more entries old new base pending change admitted older goes.memory_is (present_of entries old (held_on old base pending) false admitted.well stands)) in (
+    let on = stands_well entries new base (pending ++ command ∷ []) well after knows (present_more entries old new base pending change admitted older goes.memory_is
+    (present_of entries old (held_on old base pending) false admitted.well stands)) in (
       held_on new base (pending ++ command ∷ []),
       on,
       record { leaves = change_leaves old new base pending change mode true admitted (stands.lies admitted.well) out; safe = []; base = refl; rest = refl; rests = on.rests },
@@ -306,12 +350,13 @@ unsynced_leads entries old new change mode base pending admitted older goes stan
 
 -- a change that was synced: nothing is pending
 synced_settles : (entries : ℕ → List (List Entry)) (old new : Held) (change : Change) (mode : PersistMode) (base : Store) (pending : List Command) (admitted : IsAdmitted old change) → AreOlder old.memory.trees entries → GoesOn old new change → (stands : StandsOn old entries (held_on old base pending))
-    → Wrote old new change (Some mode) true → Lies new (held_on new (fold base (pending ++ command_of change ∷ [])) []) → Settles entries new (held_on old base pending) (command_of change ∷ [])
-synced_settles entries old new change mode base pending admitted older goes stands out after =
+    → Wrote old new change (Some mode) true → (after : Lies new (held_on new (fold base (pending ++ command_of change ∷ [])) []))
+    → Knows new entries after.journals after.tree → Settles entries new (held_on old base pending) (command_of change ∷ [])
+synced_settles entries old new change mode base pending admitted older goes stands out after knows =
     let command = command_of change in
     let all = pending ++ command ∷ [] in
     let well : new.memory.poisoned ≡ false = ap (λ (m : Remembered). m.poisoned) goes.memory_is ∙ admitted.well in
-    let on = stands_well entries new (fold base all) [] well after (present_more entries old new base pending change admitted older goes.memory_is (present_of entries old (held_on old base pending) false admitted.well stands)) in (
+    let on = stands_well entries new (fold base all) [] well after knows (present_more entries old new base pending change admitted older goes.memory_is (present_of entries old (held_on old base pending) false admitted.well stands)) in (
       held_on new (fold base all) [],
       on,
       record { leaves = change_leaves old new base pending change (Some mode) true admitted (stands.lies admitted.well) out; safe = all; base = refl; rest = append-nil all; rests = on.rests },
@@ -333,32 +378,40 @@ write_leads entries old new change None d admitted older goes out stands =
     let lies = on.lies admitted.well in
     let writes = writes_so old new base pending change None admitted lies out in
     let goes_out = is_out None old.journal (batch_of old change) in
+    let waits = waits_too old new base pending change None admitted goes lies out goes_out writes in
     unsynced_leads entries old new change None base pending admitted older goes on out
-    (pending_lies old new base pending change None admitted goes lies out goes_out writes lies.made (waits_too old new base pending change None admitted goes lies out goes_out writes))) stands in
+    (pending_lies old new base pending change None admitted goes lies out goes_out writes lies.made waits)
+    (pending_knows old new base pending change None admitted goes lies out goes_out writes lies.made waits entries (on.knows admitted.well))) stands in
     (led.0, led.1, led.2, λ sync. absurd sync)
 write_leads entries old new change (Some Buffer) d admitted older goes out stands =
     let led = leads_on entries old new d (command_of change ∷ []) (λ base pending on.
     let lies = on.lies admitted.well in
     let writes = writes_so old new base pending change (Some Buffer) admitted lies out in
     let goes_out = is_out (Some Buffer) old.journal (batch_of old change) in
+    let waits = waits_too old new base pending change (Some Buffer) admitted goes lies out goes_out writes in
     unsynced_leads entries old new change (Some Buffer) base pending admitted older goes on out
-    (pending_lies old new base pending change (Some Buffer) admitted goes lies out goes_out writes lies.made (waits_too old new base pending change (Some Buffer) admitted goes lies out goes_out writes))) stands in
+    (pending_lies old new base pending change (Some Buffer) admitted goes lies out goes_out writes lies.made waits)
+    (pending_knows old new base pending change (Some Buffer) admitted goes lies out goes_out writes lies.made waits entries (on.knows admitted.well))) stands in
     (led.0, led.1, led.2, λ sync. absurd sync)
 write_leads entries old new change (Some SyncData) d admitted older goes out stands =
     let led = settles_on entries old new d (command_of change ∷ []) (λ base pending on.
     let lies = on.lies admitted.well in
     let writes = writes_so old new base pending change (Some SyncData) admitted lies out in
     let goes_out = is_out (Some SyncData) old.journal (batch_of old change) in
+    let made = settled_made old new base pending change (Some SyncData) admitted goes lies out goes_out writes in
     synced_settles entries old new change SyncData base pending admitted older goes on out
-    (settled_lies old new base pending change (Some SyncData) admitted goes lies out goes_out writes (settled_made old new base pending change (Some SyncData) admitted goes lies out goes_out writes) refl)) stands in
+    (settled_lies old new base pending change (Some SyncData) admitted goes lies out goes_out writes made refl)
+    (settled_knows old new base pending change (Some SyncData) admitted goes lies out goes_out writes made refl entries (on.knows admitted.well))) stands in
     (led.0, led.1, led.2, λ _. led.3)
 write_leads entries old new change (Some SyncAll) d admitted older goes out stands =
     let led = settles_on entries old new d (command_of change ∷ []) (λ base pending on.
     let lies = on.lies admitted.well in
     let writes = writes_so old new base pending change (Some SyncAll) admitted lies out in
     let goes_out = is_out (Some SyncAll) old.journal (batch_of old change) in
+    let made = settled_made old new base pending change (Some SyncAll) admitted goes lies out goes_out writes in
     synced_settles entries old new change SyncAll base pending admitted older goes on out
-    (settled_lies old new base pending change (Some SyncAll) admitted goes lies out goes_out writes (settled_made old new base pending change (Some SyncAll) admitted goes lies out goes_out writes) refl)) stands in
+    (settled_lies old new base pending change (Some SyncAll) admitted goes lies out goes_out writes made refl)
+    (settled_knows old new base pending change (Some SyncAll) admitted goes lies out goes_out writes made refl entries (on.knows admitted.well))) stands in
     (led.0, led.1, led.2, λ _. led.3)
 
 -- a change that a fault refused: a crash may leave it or not

@@ -1,27 +1,29 @@
 -- Where a creation, a deletion and a release lead a core and its disk.
-use Rattle.std.proofs.Common.{◌≡◌, inl, inr, ℕ, Bool, true, false, List, [], ◌∷◌, ◌++◌, refl, sym, ◌∙◌, ap, subst, codes}
+use Rattle.std.proofs.Common.{All, ◌≡◌, ◌≤◌, inl, inr, ℕ, Bool, true, false, List, [], ◌∷◌, ◌++◌, refl, sym, ◌∙◌, ap, subst, codes}
 use Rattle.std.proofs.lemmas.List.{append-nil}
 use Rattle.fjall_base.specs.Store.{Store, Command, apply, fold, kept}
-use Rattle.fjall_base.specs.Disk.{LeavesOnly, state_in}
+use Rattle.fjall_base.specs.Disk.{LeavesOnly, State, state_in}
 use Rattle.fjall_base.proofs.Moments.{at_end, runs_on, weaken}
 use Rattle.fjall_files.specs.Regions.{Within}
 use Rattle.fjall_journal.specs.declared.persist_mode.PersistMode.TheVariants.{SyncAll}
 use Rattle.fjall_maps.specs.Tables.{store_with}
+use Rattle.fjall_meta.specs.Keyspaces.{Keyspaces}
 use Rattle.fjall_versions.proofs.Kept.{kept_along}
-use Rattle.fjall_recovery.specs.Halves.{HasTree}
-use Rattle.fjall_recovery.specs.Places.{LiesInTree}
+use Rattle.fjall_recovery.specs.Halves.{HasTree, Tree}
+use Rattle.fjall_recovery.specs.Folders.{number_of}
+use Rattle.fjall_recovery.specs.Places.{Journaling, LiesInTree, contents_with}
 use Rattle.fjall_commit.specs.Journaling.{IsWriting}
 use Rattle.fjall_state.specs.Remembered.{Remembered}
 use Rattle.fjall_table.specs.Blocks.{Entry}
 use Rattle.fjall_core.specs.Holding.{Held}
-use Rattle.fjall_core.specs.Durables.{Durable, Lies, MakesPresent, Rests, StandsAmid, AreKnown}
+use Rattle.fjall_core.specs.Durables.{Durable, Knows, Lies, MakesPresent, Rests, StandsAmid, AreKnown}
 use Rattle.fjall_core.specs.Standing.{Poisons, StandsOn, store_with_tables}
-use Rattle.fjall_core.proofs.CatalogChanges.{Changed, change_leaves, changed_settles, ill_leads}
+use Rattle.fjall_core.proofs.CatalogChanges.{AreUnused, Changed, change_leaves, changed_settles, ill_leads}
 use Rattle.fjall_core.proofs.CrashesInRuns.{amid_least, amid_more, amid_shift, passes_on, passes_still}
 use Rattle.fjall_core.proofs.CatalogOnDisk.{removal_leaves}
 use Rattle.fjall_core.proofs.CrashImages.{leaves_finished, lies_rest}
 use Rattle.fjall_core.proofs.RootUnchanged.{within_finished, within_root, writing_along}
-use Rattle.fjall_core.proofs.Syncs.{Persisted, hand_leaves, StaysSame, sync_empty, sync_lies, synced_passes}
+use Rattle.fjall_core.proofs.Syncs.{Persisted, hand_leaves, StaysSame, sync_empty, sync_knows, sync_lies, synced_passes}
 use Rattle.fjall_core.proofs.JournalWrites.{Leads, Settles, held_on, leads_on, present_of, settles_on, stands_ill, stands_well}
 
 -- what happens to the keyspaces, once all is synced
@@ -30,13 +32,16 @@ ChangesTo mid new command done = (base : Store) (lies : Lies mid (held_on mid ba
 
 -- a change of the keyspaces that was done: nothing is pending
 pub alter_settles : (entries : ℕ → List (List Entry)) (old mid new : Held) (d : Durable) (command : Command) → old.memory.poisoned ≡ false → StaysSame old mid → Persisted old mid SyncAll true → ChangesTo mid new command true → new.memory.poisoned ≡ false
-    → kept (apply (store_with_tables entries old) command) ≡ kept (store_with_tables entries new) → StandsOn old entries d → Settles entries new d (command ∷ [])
-alter_settles entries old mid new d command well same out changes well' present = settles_on entries old new d (command ∷ []) (λ base pending on.
+    → AreUnused entries old.memory.keyspaces.next → kept (apply (store_with_tables entries old) command) ≡ kept (store_with_tables entries new) → StandsOn old entries d → Settles entries new d (command ∷ [])
+alter_settles entries old mid new d command well same out changes well' unused present = settles_on entries old new d (command ∷ []) (λ base pending on.
     let lies = on.lies well in
     let after = sync_lies old mid base pending same lies out in
     let none = sync_empty old mid base pending same lies out in
     let was = present_of entries old (held_on old base pending) false well on in
-    let settled = changed_settles entries mid new (fold base pending) command after none (changes (fold base pending) after none) well' (kept_along (fold base pending) (store_with_tables entries old) (command ∷ []) was ∙ present) in
+    let knows = sync_knows entries old mid base pending same lies out (on.knows well) in
+    let unused_mid = subst (λ (s : Keyspaces). AreUnused entries s.next) (sym same.keyspaces) unused in
+    let settled = changed_settles entries mid new (fold base pending) command after none (changes (fold base pending) after none) well' unused_mid knows
+    (kept_along (fold base pending) (store_with_tables entries old) (command ∷ []) was ∙ present) in
     let first = synced_passes old mid base pending (hand_leaves old mid SyncAll true base pending lies out) (lies_rest mid (held_on mid (fold base pending) []) after) in
     (settled.0, settled.1, passes_on (held_on old base pending) (held_on mid (fold base pending) []) settled.0 [] (command ∷ []) first settled.2, settled.3))
 
@@ -68,7 +73,8 @@ unaltered_leads entries old mid new d command well same out changes fault = ill_
 
 -- ---- handles
 
--- What counting handles leaves of a core: keyspaces, number and flag, and what the versions make of the keyspaces.
+-- What counting handles leaves of a core: keyspaces, number and flag, what the versions make of the keyspaces, and what is known of
+-- their homes.
 pub record Recounts (entries : ℕ → List (List Entry)) (old new : Held) : Type 0 where
   pub keyspaces : new.memory.keyspaces ≡ old.memory.keyspaces
   pub next : new.memory.next ≡ old.memory.next
@@ -77,6 +83,7 @@ pub record Recounts (entries : ℕ → List (List Entry)) (old new : Held) : Typ
   pub catalog : new.catalog ≡ old.catalog
   pub journal : new.journal ≡ old.journal
   pub journals : new.memory.journals ≡ old.memory.journals
+  pub known : (j : Journaling) (t : Tree) → t.keyspaces ≡ old.memory.keyspaces → Knows old entries j t → Knows new entries j t
 
 present_along : (flag : Bool) (d : Durable) (a b : Store) → kept a ≡ kept b → MakesPresent flag d a → MakesPresent flag d b
 present_along false d a b same is = is ∙ same
@@ -96,8 +103,16 @@ recounted_lies entries old new base pending c lies run in_tree = record {
   keyspaces = lies.keyspaces ∙ sym c.keyspaces;
   made = lies.made;
   waits = lies.waits;
-  next = c.next ∙ lies.next;
+  next = subst (λ (n : ℕ). number_of (contents_with lies.journals lies.tree lies.journals.later) ≤ n) (sym c.next) lies.next;
 }
+
+-- what is known of homes
+recounted_knows : (entries : ℕ → List (List Entry)) (old new : Held) (base : Store) (pending : List Command) (c : Recounts entries old new)
+    (lies : Lies old (held_on old base pending)) (run : Within (codes "keyspaces") old.disk new.disk) (in_tree : LiesInTree (state_in new.disk) lies.records lies.tree)
+    → Knows old entries lies.journals lies.tree
+    → Knows new entries (recounted_lies entries old new base pending c lies run in_tree).journals (recounted_lies entries old new base pending c lies run in_tree).tree
+unfolding recounted_lies
+recounted_knows entries old new base pending c lies run in_tree knows = c.known lies.journals lies.tree lies.keyspaces knows
 
 -- handles counted anew, on a disk that stays as it is
 pub recount_leads : (entries : ℕ → List (List Entry)) (old new : Held) (d : Durable) → new.disk ≡ old.disk → Recounts entries old new → StandsOn old entries d → Leads entries new d []
@@ -120,8 +135,9 @@ recount_leads entries old new d same c stands = (
           keyspaces = lies.keyspaces ∙ sym c.keyspaces;
           made = lies.made;
           waits = lies.waits;
-          next = c.next ∙ lies.next;
+          next = subst (λ (n : ℕ). number_of (contents_with lies.journals lies.tree lies.journals.later) ≤ n) (sym c.next) lies.next;
         };
+    knows = λ well. let lies = stands.lies (sym c.poisoned ∙ well) in c.known lies.journals lies.tree lies.keyspaces (stands.knows (sym c.poisoned ∙ well));
     present = present_along new.memory.poisoned d (store_with_tables entries old) (store_with_tables entries new) c.store (subst (λ b. MakesPresent b d (store_with_tables entries old)) (sym c.poisoned) stands.present);
   },
   passes_still d stands.rests,
@@ -138,7 +154,8 @@ pub removed_leads : (entries : ℕ → List (List Entry)) (old new : Held) (d : 
 removed_leads entries old new d well c gone = leads_on entries old new d [] (λ base pending on.
     let lies = on.lies well in
     let after = recounted_lies entries old new base pending c lies gone.within (gone.lies base pending lies) in
-    let still = stands_well entries new base pending (c.poisoned ∙ well) after (present_of entries old (held_on old base pending) false well on ∙ c.store) in
+    let knows = recounted_knows entries old new base pending c lies gone.within (gone.lies base pending lies) (on.knows well) in
+    let still = stands_well entries new base pending (c.poisoned ∙ well) after knows (present_of entries old (held_on old base pending) false well on ∙ c.store) in
     let leaves = removal_leaves old new base pending lies gone.within (gone.leaves base pending lies) in (
       held_on new base pending,
       still,

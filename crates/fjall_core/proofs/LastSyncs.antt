@@ -6,10 +6,10 @@ use Rattle.fjall_journal.specs.declared.persist_mode.PersistMode.{PersistMode}
 use Rattle.fjall_journal.specs.declared.persist_mode.PersistMode.TheVariants.{Buffer, SyncAll, SyncData}
 use Rattle.fjall_state.specs.declared.call.Call.{Call}
 use Rattle.fjall_journal.specs.Changes.{Emptied, Items}
-use Rattle.fjall_state.specs.Shapes.{OfChange, OfCount, OfCreation, OfDeletion, OfHandle, OfJournalRotation, OfPersist, OfRead, OfRotation, OfTickets, Shape, shape_of}
+use Rattle.fjall_state.specs.Shapes.{OfChange, OfCount, OfCreation, OfDeletion, OfFlushBegin, OfFlushFinish, OfHandle, OfJournalRotation, OfMaintenance, OfPersist, OfRead, OfRotation, OfTickets, Shape, shape_of}
 use Rattle.fjall_history.specs.declared.reply.Reply.{Reply}
 use Rattle.fjall_history.specs.declared.reply.Reply.TheVariants.{Refused}
-use Rattle.fjall_state.specs.Machine.{State, has_name, is_living, mode_in, present}
+use Rattle.fjall_state.specs.Machine.{State, begins_flush, has_name, is_living, mode_in, present}
 use Rattle.fjall_core.specs.Holding.{Held}
 use Rattle.fjall_core.specs.Durables.{Durable}
 use Rattle.fjall_core.specs.Crashes.{IsSync, IsSyncAt, IsSyncMode, IsSyncOf, RunOn, Syncs}
@@ -45,6 +45,9 @@ syncs_or_not s (OfHandle call id) = inr (λ sync. sync)
 syncs_or_not s (OfRead view id query) = inr (λ sync. sync)
 syncs_or_not s (OfRotation id) = inr (λ sync. sync)
 syncs_or_not s OfJournalRotation = inl tt
+syncs_or_not s (OfFlushBegin id) = is_true_or_not (begins_flush s.parts.trees id)
+syncs_or_not s (OfFlushFinish job) = inr (λ sync. sync)
+syncs_or_not s OfMaintenance = inr (λ sync. sync)
 syncs_or_not s (OfTickets call) = inr (λ sync. sync)
 syncs_or_not s (OfPersist mode) = mode_or_not mode
 syncs_or_not s (OfCount count) = inr (λ sync. sync)

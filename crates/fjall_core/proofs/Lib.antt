@@ -5,6 +5,10 @@ pub mod RunsOverCrashes
 mod ResolvedRuns
 mod CrashImages
 mod KeyspacesUnchanged
+mod KnownHomes
+mod KnownFlushes
+mod KnownBatches
+mod KnownCores
 mod JournalWrites
 mod Syncs
 mod TablesAtHome
@@ -15,7 +19,10 @@ mod CatalogChanges
 mod NextNumbers
 mod CatalogOnDisk
 mod KeyspaceCalls
+mod OwedStates
+mod OwedWork
 mod OwedSteps
+mod KeptJobs
 mod DeviceFaults
 mod ServedCalls
 mod TicketCalls
@@ -36,3 +43,11 @@ pub mod LastSyncs
 pub mod Lives
 pub mod Reopening
 pub mod JournalRotations
+mod PutFlushes
+mod MadeFlushes
+mod FlushesOnDisk
+mod FlushedTables
+mod FinishedFlushes
+mod BegunFlushes
+mod FlushBegins
+mod Evictions

@@ -60,20 +60,20 @@ change_past c number persisted highest = let a = ap past persisted in let b = ap
 abbrev pub least_in : Journaling → ℕ
 least_in j = least_after 0 (map shown (batches_in (journals_with j [])))
 
-pub created_number : (j : Journaling) (t : Tree) (name : List ℕ) (options : List (List ℕ)) (number : ℕ) (c : Catalog) → c.persisted ≡ Some number → c.highest ≡ Some number → number ≡ number_of (contents_with j t [])
-    → number + 1 ≡ number_of (contents_with j (with_home name options number c t) [])
+pub created_number : (j : Journaling) (t : Tree) (name : List ℕ) (options : List (List ℕ)) (number : ℕ) (c : Catalog) → c.persisted ≡ Some number → c.highest ≡ Some number → number_of (contents_with j t []) ≤ number
+    → number_of (contents_with j (with_home name options number c t) []) ≤ number + 1
 created_number j t name options number c persisted highest is =
     let last = change_past c number persisted highest in
     let more = more_past t.homes (record { id = t.keyspaces.next; number = number; name = name; options = options }) (first_home number) t.keyspaces.living in
     omega (arith, last, more, is)
 
-pub deleted_number : (j : Journaling) (t : Tree) (id number : ℕ) (c : Catalog) → c.persisted ≡ Some number → c.highest ≡ Some number → number ≡ number_of (contents_with j t [])
-    → number + 1 ≡ number_of (contents_with j (without_home id c t) [])
+pub deleted_number : (j : Journaling) (t : Tree) (id number : ℕ) (c : Catalog) → c.persisted ≡ Some number → c.highest ≡ Some number → number_of (contents_with j t []) ≤ number
+    → number_of (contents_with j (without_home id c t) []) ≤ number + 1
 deleted_number j t id number c persisted highest is =
     let last = change_past c number persisted highest in
     let fewer = fewer_past id t.keyspaces.living t.homes in
     omega (arith, last, fewer, is)
 
 -- what lies below the next number
-pub below_number : (j : Journaling) (t : Tree) (number : ℕ) → number ≡ number_of (contents_with j t []) → (least_in j ≤ number) × (past_record (fields t.last) ≤ number)
+pub below_number : (j : Journaling) (t : Tree) (number : ℕ) → number_of (contents_with j t []) ≤ number → (least_in j ≤ number) × (past_record (fields t.last) ≤ number)
 below_number j t number is = (omega (arith, is), omega (arith, is))

@@ -1,5 +1,8 @@
 -- A core over a folder that was opened.
-use Rattle.std.proofs.Common.{arith, ◌<◌, ◌≤◌, ◌==◌, ◌≡◌, ℕ, zero, suc, true, false, cond, List, [], ◌∷◌, ◌++◌, All, AllPairs, get_or, map, take, unwrap_or, Option, Some, eq-eqb, refl, sym, ◌∙◌, ap, subst}
+use Rattle.std.proofs.Common.{arith, ◌<◌, ◌≤◌, ◌==◌, ◌≡◌, ℕ, zero, suc, None, true, false, cond, List, [], ◌∷◌, ◌++◌, All, AllPairs, get_or, map, take, unwrap_or, Option, Some, eq-eqb, refl, sym, ◌∙◌, ap, subst}
+use Rattle.std.specs.FinMap.{get}
+use Rattle.std.specs.Option.{is_some}
+use Rattle.std.proofs.lemmas.Bool.{true≢false}
 use Rattle.std.proofs.lemmas.Bool.Decides.{nat_tests}
 use Rattle.std.proofs.lemmas.List.{append-nil}
 use Rattle.std.specs.List.{AllByRecursion, AllZip}
@@ -9,7 +12,10 @@ use Rattle.fjall_base.specs.Disk as disks
 use Rattle.fjall_base.specs.Disk.{File, LeavesOnly, Meaning, state_in}
 use Rattle.fjall_base.specs.declared.error.Error.{Error}
 use Rattle.fjall_base.specs.declared.error.Error.TheVariants.{Io}
+use Rattle.fjall_catalog.specs.Catalog.{fields, first_of}
 use Rattle.fjall_journal.specs.Batches.{Written, shown}
+use Rattle.fjall_loading.specs.Known.{AreAtHome, last_known}
+use Rattle.fjall_tree.specs.Records.{Fields}
 use Rattle.fjall_journal.specs.Writer.{Journal}
 use Rattle.fjall_manager.specs.Journals.{Sealed}
 use Rattle.fjall_manager.specs.Places.{told}
@@ -29,20 +35,22 @@ use Rattle.fjall_files.specs.Regions.{IsSafe}
 use Rattle.fjall_recovery.specs.Journals as read
 use Rattle.fjall_recovery.specs.Halves.{is_of_keyspaces}
 use Rattle.fjall_recovery.specs.Told.{TellsOf}
-use Rattle.fjall_recovery.specs.Places.{contents_with, texts_of}
+use Rattle.fjall_recovery.specs.Homes.{no_fields, stored_in}
+use Rattle.fjall_recovery.specs.Places.{contents_with, journals_with, texts_of}
+use Rattle.fjall_replay.specs.Beside.{AreReplayedWith}
 use Rattle.fjall_commit.specs.Watermarks.{AreMarked}
 use Rattle.fjall_commit.proofs.KeepingKeyspaces.{journal_apart}
 use Rattle.fjall_commit.proofs.RootAfterWrites.{active_fits, begins}
 use Rattle.fjall_repair.specs.declared.opened.Opened.{Opened}
-use Rattle.fjall_repair.specs.Opened.{AreAtHome, ComesBack, IsOpenedFrom, IsUnopened, WritesJournal, store_entries}
+use Rattle.fjall_repair.specs.Opened.{ComesBack, IsOpenedFrom, IsUnopened, WritesJournal, store_entries}
 use Rattle.fjall_repair.specs.Opened as repair
-use Rattle.fjall_state.specs.Remembered.{AreBeside, Remembered, journals_of, remembered}
+use Rattle.fjall_state.specs.Remembered.{AreBeside, IsBegun, Remembered, journals_of, remembered}
 use Rattle.fjall_history.proofs.Values.{all_none}
 use Rattle.fjall_state.specs.Remembered as memory
 use Rattle.fjall_state.specs.Machine.{is_among, opened_state}
 use Rattle.fjall_state.proofs.Standing.{an_opening_stands}
 use Rattle.fjall_core.specs.Holding.{Held}
-use Rattle.fjall_core.specs.Durables.{Durable, Lies}
+use Rattle.fjall_core.specs.Durables.{Durable, Knows, Lies}
 use Rattle.fjall_core.specs.Openings.{AreAllDamaged, AreWhole, IsAtEnd, IsDueTo, KeepsStore, Opens, OpensAs, OpensOn, opened_as, parts_of}
 use Rattle.fjall_core.specs.Standing.{ReadsOn, store_with_tables}
 use Rattle.fjall_commit.proofs.CrashedJournals.{commanded, store_is_kept}
@@ -53,7 +61,7 @@ abbrev pub held_of : Meaning → Opened → Remembered → Held
 held_of disk o memory = record { disk = disk; journal = o.journal; catalog = o.catalog; memory = memory }
 
 abbrev pub memory_of : Opened → Remembered
-memory_of o = remembered o.keyspaces (forest_of o.trees) o.number (journals_of o.sealed o.active o.watermarks)
+memory_of o = remembered o.keyspaces (forest_of o.trees) o.number (journals_of o.sealed o.active o.watermarks) o.records
 
 abbrev pub core_of : Meaning → Opened → Held
 core_of disk o = held_of disk o (memory_of o)
@@ -70,7 +78,22 @@ lawful_of o lawful = record {
   small = lawful.small;
   reached = all_none (λ i. i ≤ o.number);
   spared = λ some. let bad : ⊥ = omega (arith, some) in absurd bad;
+  above = all_none (λ i. 0 < 0 → 0 < i);
+  recorded = lawful.recorded;
+  kept = lawful.kept;
+  begun = λ i d lt. subst (IsBegun 0 0) (sym (lawful.still i d lt)) tt;
+  jobs = omega arith;
 }
+
+-- what is said of each keyspace's last record
+same_record : (found : Option Fields) (a b : Fields) → is_some found ≡ true → unwrap_or found a ≡ unwrap_or found b
+same_record (Some last) a b some = refl
+same_record None a b some = absurd (true≢false (sym some))
+
+records_of : (disk : Meaning) (o : Opened) (entries : ℕ → List (List Entry)) → repair.IsLawful o → All (λ k. (parts_of (core_of disk o) entries).records k.id ≡ last_known o.records k) o.keyspaces.living
+records_of disk o entries lawful i d lt =
+    let k = get_or o.keyspaces.living i d in
+    same_record (get o.records k.id) no_fields (fields (first_of k.number)) (lawful.recorded i d lt)
 
 -- a tree without tables reads no entries
 none_read : (disk : Meaning) (tables : List Reader) (entries : List (List Entry)) → AreRead disk tables entries → tables ≡ [] → entries ≡ []
@@ -96,7 +119,7 @@ opens disk o entries store damaged next lawful beside made number =
     record {
       remembered = subst (λ (s : Store). memory.StandsFor m table (opened_state s damaged next parts)) made
           (subst (λ (n : ℕ). memory.StandsFor m table (opened_state (store_with entries o.keyspaces (forest_of o.trees)) damaged n parts)) number
-          (an_opening_stands m (lawful_of o lawful) refl refl refl refl table parts refl refl refl beside damaged));
+          (an_opening_stands m (lawful_of o lawful) refl refl refl refl refl table parts refl refl refl (records_of disk o entries lawful) beside damaged));
       journal = refl;
       buffer = refl;
     }
@@ -128,7 +151,7 @@ told_all disk o damaged lawful all = λ i d lt wrong.
     all k.id (subst (λ (shape : Shape). SomeTableIsWrong disk shape.tables) (sym (placed (forest_of o.trees) lawful.forest.ascend i d lt)) wrong)
 
 -- its disk has the tables of its trees
-reads_of : (disk : Meaning) (o : Opened) (entries : ℕ → List (List Entry)) (store : Store) (damaged : List ℕ) (next : ℕ) → repair.IsLawful o → AreReadOn disk (forest_of o.trees) entries → AreAtHome (forest_of o.trees)
+reads_of : (disk : Meaning) (o : Opened) (entries : ℕ → List (List Entry)) (store : Store) (damaged : List ℕ) (next : ℕ) → repair.IsLawful o → AreReadOn disk (forest_of o.trees) entries → AreAtHome o.records (forest_of o.trees)
     → IsTold disk damaged (forest_of o.trees) → is_of_keyspaces o.journal.name ≡ false → ReadsOn (core_of disk o) (opened_as (core_of disk o) store entries damaged next)
 reads_of disk o entries store damaged next lawful on named wrong outside = record {
   tables = λ i d lt. record { positive = lawful.positive i d lt; read = (on i d lt).tables; named = named i d lt; damage = wrong i d lt };
@@ -191,7 +214,16 @@ module _ (disk : Meaning) (folder : Option Contents) (o : Opened) (is : repair.O
     keyspaces = is.keyspaces;
     made = kept_held;
     waits = sym (ap (commanded is.t) is.later);
-    next = is.number ∙ ap (λ (b : List Written). number_of (contents_with is.j is.t b)) (sym is.later);
+    next = subst (λ (n : ℕ). n ≤ o.number) (is.number ∙ ap (λ (b : List Written). number_of (contents_with is.j is.t b)) (sym is.later)) (omega arith);
+  }
+
+  -- what is known of the keyspaces' homes; no flush is out
+  knows : repair.IsLawful o → Knows (core_of disk o) is.entries lies.journals lies.tree
+  unfolding lies
+  knows lawful = record {
+    shown = subst (λ (b : List Written). AreReplayedWith is.entries is.t.keyspaces (stored_in is.t.homes is.t.versions) (map shown (read.batches_in (journals_with is.j b))) (forest_of o.trees)) (sym is.later) is.shown;
+    homes = is.known;
+    covered = λ i d lt out at. let no : None ≡ Some out = sym (lawful.still i d lt) ∙ at in absurd cc;
   }
 
   -- the active journal's file holds the batches, all of them synced
@@ -220,7 +252,7 @@ module _ (disk : Meaning) (folder : Option Contents) (o : Opened) (is : repair.O
     reads = reads_of disk o is.entries (store_held folder) [] (number_held folder) lawful is.on is.named (λ i d lt wrong. absurd (is.right i d lt wrong)) writes_outside;
     journal = at_end;
     sealed = whole_as (state_in disk) is.j.sealed o.sealed is.sealed is.root.sealed;
-    base = record { same = refl; rests = lies_rest (core_of disk o) here lies; finished = root_finished (state_in disk) is.j is.root; lies = λ well. lies; present = ap kept (sym held ∙ sym is.made) };
+    base = record { same = refl; rests = lies_rest (core_of disk o) here lies; finished = root_finished (state_in disk) is.j is.root; lies = λ well. lies; knows = λ well. knows lawful; present = ap kept (sym held ∙ sym is.made) };
   })
 
 -- whatever store the disk held is left

@@ -6,7 +6,7 @@ use Rattle.std.specs.Prelude.{IsPermutation}
 use Rattle.std.specs.FinMap.{get, len, values}
 use Rattle.fjall_base.specs.Pairs.{Bytes}
 use Rattle.fjall_base.specs.declared.error.Error.{Error}
-use Rattle.fjall_base.specs.declared.error.Error.TheVariants.{Io, OutOfMemory, Storage, ValueTooLong}
+use Rattle.fjall_base.specs.declared.error.Error.TheVariants.{Io, NumbersUsedUp, OutOfMemory, Poisoned, Storage, TooManyItems, ValueTooLong}
 use Rattle.fjall_journal.specs.Changes.{Change, Emptied, Items, change_text}
 use Rattle.fjall_journal.specs.Writer.{Journal, after_command, counted, filled, goes_out}
 use Rattle.fjall_journal.specs.Writer as writer
@@ -22,50 +22,25 @@ use Rattle.fjall_history.specs.Histories.{number}
 use Rattle.fjall_history.specs.Queries.{Query, Tells}
 use Rattle.fjall_history.specs.Tickets.{Tickets, closed, collected, opened}
 use Rattle.fjall_state.specs.declared.call.Call.{Call}
-use Rattle.fjall_state.specs.Shapes.{AsKeyspace, ByMode, Clone, Close, Collect, Count, Exists, JournalSpace, Keyspaces, Next, OfChange, OfCount, OfCreation, OfDeletion, OfHandle, OfJournalRotation, OfPersist, OfRead, OfRotation, OfTickets, OneLess, OneMore, Open, OpenTickets, Persistence, Entries, SealedMemtables, Shape, TicketCall, Visible, WriteBuffer, shape_of}
+use Rattle.fjall_state.specs.Shapes.{AsKeyspace, ByMode, Clone, Close, Collect, Count, DiskSpace, Exists, Flushes, JournalSpace, Keyspaces, Next, OfChange, OfCount, OfCreation, OfDeletion, OfFlushBegin, OfFlushFinish, OfHandle, OfJournalRotation, OfMaintenance, OfPersist, OfRead, OfRotation, OfTickets, OneLess, OneMore, Open, OpenTickets, Persistence, Entries, SealedMemtables, Shape, Tables, TablesL0, TicketCall, ToFlush, Visible, WriteBuffer, shape_of}
 use Rattle.fjall_state.specs.Shapes as shapes
 use Rattle.fjall_state.specs.Allowed.{MayChange}
-use Rattle.fjall_state.specs.Machine.{Answers, CountIs, creation_refusals, first_due, has_name, State, Parts, StepOf, ReadsTables, Refuses, ChangesDisk, MayFail, TakesMemory, TooLong, TurnsTickets, accepted, created, deleted, due, facts, is_living, leaves_buffer, mode_in, present, rotates, written, written_out}
+use Rattle.fjall_state.specs.Machine.{ChangesDisk, CountIs, MayFail, Parts, ReadsTables, Refuses, State, TakesMemory, TooLong, TurnsTickets, accepted, begins_flush, created, creation_refusals, deleted, due, facts, first_due, has_name, is_flushing, is_living, leaves_buffer, mode_in, present, rotates, written, written_out}
 use Rattle.fjall_state.specs.Machine as machine
 use Rattle.fjall_state.specs.Remembered.{IsLawful, Remembered, facts_of, instant_in, poisoned}
 use Rattle.fjall_state.specs.Remembered as memory
 use Rattle.fjall_manager.specs.Journals.{Journals, bytes_of}
 use Rattle.fjall_state.proofs.ByHand.{options_agree}
-use Rattle.fjall_state.proofs.Sizes.{buffers_agree, rotations_agree, sealed_agree, versions_agree, wants_agree}
+use Rattle.fjall_state.proofs.Sizes.{awaited_agree, buffers_agree, l0_counts_agree, rotations_agree, sealed_agree, space_agrees, spaces_agree, table_counts_agree, versions_agree, waits_agree, wants_agree}
 use Rattle.fjall_state.proofs.Dues.{may_change, may_create, may_delete}
 use Rattle.fjall_state.proofs.Standing as law
 use Rattle.fjall_core.specs.Holding.{Held}
 use Rattle.fjall_blocks.specs.Readers.{Reader}
+use Rattle.fjall_core.proofs.OwedStates.{Answered, Steps, none_more, poisoned_stands, poisoned_state, same_due, still}
+use Rattle.fjall_core.proofs.OwedWork.{begin_steps, finish_steps, maintenance_steps, same_late, same_room, same_used, work_steps}
 use Rattle.fjall_core.specs.Standing.{StandsFor, at_fault, tables_of, Looks, LooksAt, GivesRead, Gives, Owes, OwesAll, RotatesJournal, OwesChange, OwesCreation, OwesDeletion, OwesRefusal, OwesFailure, Poisons, RanOut, Grows, HandsOver, HeldCount, Alters, Counts, Creates, Deletes, held_due, mode_of, store_in, text_of}
 
--- the machine may step so, to a state that the core stands for now
-abbrev pub Steps : Held → State → Shape → Reply → Type 0
-Steps new s shape reply = (t : State) × StandsFor new t × StepOf s shape reply t
-
--- the same of a reply that is no refusal
-abbrev pub Answered : Held → State → Shape → Reply → Type 0
-Answered new s shape reply = (t : State) × StandsFor new t × ((due s shape ≡ None) × Answers s shape reply t)
-
--- what is due in a state that the core stands for is due for the core
-pub same_due : (core : Held) (s : State) (shape : Shape) → StandsFor core s → due s shape ≡ held_due core shape
-same_due core s shape stands = law.facts_agree core.memory core.catalog.next_table_id s stands.remembered shape
-
--- a state's parts, with what a core knows of lengths and of tree 0's next table
-abbrev pub parts_held : Held → State → Parts
-parts_held core s = record s.parts { journal = core.journal.len; buffer = length core.journal.buffer; table = core.catalog.next_table_id }
-
 -- ---- refusals
-
--- the state after a fault in a change
-abbrev pub poisoned_state : Held → State → State
-poisoned_state new s = record s { poisoned = true; parts = parts_held new s }
-
-poisoned_stands : (left : Remembered) (old new : Held) (table : ℕ) (s : State) → Poisons left old new → memory.StandsFor left table s → StandsFor new (poisoned_state new s)
-poisoned_stands left old new table s fault stands = record {
-  remembered = subst (λ (m : Remembered). memory.StandsFor m new.catalog.next_table_id (poisoned_state new s)) (sym fault.memory_is) (law.a_fault_stands left table s stands (parts_held new s) refl refl refl);
-  journal = refl;
-  buffer = refl;
-}
 
 -- what a fault leaves in memory, but that it poisons the core, stands for what it leaves of a state
 fault_left : (old : Held) (s : State) (shape : Shape) → StandsFor old s → memory.StandsFor (at_fault shape old.memory) old.catalog.next_table_id (machine.at_fault s shape)
@@ -76,6 +51,9 @@ fault_left old s (OfHandle OneMore id) stands = stands.remembered
 fault_left old s (OfHandle OneLess id) stands = law.a_release_stands old.memory old.catalog.next_table_id s stands.remembered id
 fault_left old s (OfRotation id) stands = stands.remembered
 fault_left old s OfJournalRotation stands = stands.remembered
+fault_left old s (OfFlushBegin id) stands = stands.remembered
+fault_left old s (OfFlushFinish job) stands = stands.remembered
+fault_left old s OfMaintenance stands = stands.remembered
 fault_left old s (OfRead view id query) stands = stands.remembered
 fault_left old s (OfTickets call) stands = stands.remembered
 fault_left old s (OfPersist mode) stands = stands.remembered
@@ -95,9 +73,6 @@ pub looked_at_stands : (old new : Held) (s : State) (tables : List Reader) → L
 looked_at_stands old new s [] same stands = subst (λ c. StandsFor c s) (sym same) stands
 looked_at_stands old new s (t ∷ tables) looks stands = looked_stands old new s looks stands
 
-still : (old new : Held) (s : State) → new ≡ old → StandsFor old s → StandsFor new s
-still old new s same stands = subst (λ c. StandsFor c s) (sym same) stands
-
 -- what is too long for the core is so for the state
 same_long : (old : Held) (s : State) (shape : Shape) → StandsFor old s → TooLong (store_in old) shape → TooLong (present s) shape
 same_long old s (OfCreation name options) stands long = law.long_creation old.memory old.catalog.next_table_id s stands.remembered name options long
@@ -106,6 +81,9 @@ same_long old s (OfChange change how) stands long = absurd long
 same_long old s (OfHandle call id) stands long = absurd long
 same_long old s (OfRotation id) stands long = absurd long
 same_long old s OfJournalRotation stands long = absurd long
+same_long old s (OfFlushBegin id) stands long = absurd long
+same_long old s (OfFlushFinish job) stands long = absurd long
+same_long old s OfMaintenance stands long = absurd long
 same_long old s (OfRead view id query) stands long = absurd long
 same_long old s (OfTickets call) stands long = absurd long
 same_long old s (OfPersist mode) stands long = absurd long
@@ -133,6 +111,9 @@ same_changes old s (OfHandle OneMore id) stands changes = absurd changes
 same_changes old s (OfHandle OneLess id) stands changes = tt
 same_changes old s (OfRotation id) stands changes = absurd changes
 same_changes old s OfJournalRotation stands changes = tt
+same_changes old s (OfFlushBegin id) stands changes = absurd changes
+same_changes old s (OfFlushFinish job) stands changes = absurd changes
+same_changes old s OfMaintenance stands changes = absurd changes
 same_changes old s (OfRead view id query) stands changes = absurd changes
 same_changes old s (OfTickets call) stands changes = absurd changes
 same_changes old s (OfPersist mode) stands changes = tt
@@ -147,6 +128,9 @@ ran_out_still old new s (OfCreation name options) same stands = still old new s 
 ran_out_still old new s (OfDeletion id) same stands = still old new s same stands
 ran_out_still old new s (OfRotation id) same stands = still old new s same stands
 ran_out_still old new s OfJournalRotation same stands = still old new s same stands
+ran_out_still old new s (OfFlushBegin id) same stands = still old new s same stands
+ran_out_still old new s (OfFlushFinish job) same stands = still old new s same stands
+ran_out_still old new s OfMaintenance same stands = still old new s same stands
 ran_out_still old new s (OfRead view id query) looks stands = looked_at_stands old new s (tables_of old id) looks stands
 ran_out_still old new s (OfTickets call) same stands = still old new s same stands
 ran_out_still old new s (OfPersist mode) same stands = still old new s same stands
@@ -157,12 +141,16 @@ failure_steps old new s shape (Io kind) none stands (inl (changes, fault)) =
     let left = machine.at_fault s shape in (
       poisoned_state new left,
       poisoned_stands (at_fault shape old.memory) old new old.catalog.next_table_id left fault (fault_left old s shape stands),
-      inl (same_changes old s shape stands changes, record { is = refl; trees = refl; entries = refl; journals = refl }),
+      inl (same_changes old s shape stands changes, record { is = refl; trees = refl; entries = refl; records = refl; journals = refl }),
     )
-failure_steps old new s shape (Io kind) none stands (inr (reads, looks, rose)) = absurd (none reads)
+failure_steps old new s shape (Io kind) none stands (inr (inl (reads, looks, rose))) = absurd (none reads)
+failure_steps old new s shape (Io kind) none stands (inr (inr poisons)) = let left = work_steps old new s stands shape poisons in (left.0, left.1, inr (inr left.2))
 failure_steps old new s shape OutOfMemory none stands (takes, out) = (s, ran_out_still old new s shape out stands, (takes, refl))
 failure_steps old new s shape (Storage told) none stands (is, reads, looks) = absurd (none reads)
 failure_steps old new s shape ValueTooLong none stands (long, same) = (s, still old new s same stands, (same_long old s shape stands long, refl))
+failure_steps old new s shape Poisoned none stands (late, same) = (s, still old new s same stands, (same_late old s stands shape late, refl))
+failure_steps old new s shape NumbersUsedUp none stands (used, same) = (s, still old new s same stands, (same_used old s stands shape used, refl))
+failure_steps old new s shape TooManyItems none stands (room, same) = (s, still old new s same stands, (same_room old s stands shape room, refl))
 failure_steps old new s shape error none stands bad = absurd bad
 
 refusal_steps : (old new : Held) (s : State) (shape : Shape) (error : Error) (first : Option Error) → (ReadsTables old.memory.trees shape → ⊥) → StandsFor old s → OwesRefusal first old shape error new → (t : State) × StandsFor new t × Refuses first shape error s t
@@ -220,15 +208,12 @@ changed_steps old new s (Emptied id) how none grows stands =
 
 -- ---- what else changes
 
-none_more : (j : Journal) (parts : Parts) → parts.journal ≡ j.len → parts.buffer ≡ length j.buffer → (written_out parts 0).journal ≡ (writer.written_out j).len
-none_more j parts journal buffer = ap counted (let sum : parts.journal + (parts.buffer + 0) ≡ j.len + length j.buffer = omega (arith, journal, buffer) in sum)
-
 -- the parts are others, and the history and what is held are as before
 handed_stands : (old new : Held) (s : State) → HandsOver old new → StandsFor old s → StandsFor new (record s { parts = written_out s.parts 0 })
 handed_stands old new s hands stands = record {
   remembered = subst (λ (m : Remembered). memory.StandsFor m new.catalog.next_table_id (record s { parts = written_out s.parts 0 })) (sym hands.memory_is)
       (law.other_parts_stand old.memory new.catalog.next_table_id s (subst (λ c. memory.StandsFor old.memory c s) (ap (λ c. c.next_table_id) (sym hands.catalog)) stands.remembered) (written_out s.parts 0)
-      (stands.remembered.next_table ∙ ap (λ c. c.next_table_id) (sym hands.catalog)) refl refl refl);
+      (stands.remembered.next_table ∙ ap (λ c. c.next_table_id) (sym hands.catalog)) refl refl refl refl);
   journal = none_more old.journal s.parts stands.journal stands.buffer ∙ ap (λ (j : Journal). j.len) (sym hands.journal);
   buffer = ap (λ (j : Journal). length j.buffer) (sym hands.journal);
 }
@@ -435,6 +420,13 @@ same_counts old s (Entries id) reply told stands = told ∙ ap (λ n. Number (co
 same_counts old s (SealedMemtables id) reply told stands = told ∙ ap Number (sym (sealed_agree old.memory old.catalog.next_table_id s stands.remembered id))
 same_counts old s WriteBuffer reply told stands = told ∙ ap (λ n. Number (counted n)) (sym (buffers_agree old.memory old.catalog.next_table_id s stands.remembered))
 same_counts old s (shapes.WantsRotation id) reply told stands = told ∙ ap Flag (sym (wants_agree old.memory old.catalog.next_table_id s stands.remembered id))
+same_counts old s (Tables id) reply told stands = told ∙ ap Number (sym (table_counts_agree old.memory old.catalog.next_table_id s stands.remembered id))
+same_counts old s (TablesL0 id) reply told stands = told ∙ ap Number (sym (l0_counts_agree old.memory old.catalog.next_table_id s stands.remembered id))
+same_counts old s (DiskSpace (Some id)) reply told stands = told ∙ ap Number (sym (space_agrees old.memory old.catalog.next_table_id s stands.remembered id))
+same_counts old s (DiskSpace None) reply told stands =
+    told ∙ (λ i. Number (counted (sym (spaces_agree old.memory old.catalog.next_table_id s stands.remembered) i + counted (bytes_of (sym stands.remembered.journals i).sealed + sym stands.journal i))))
+same_counts old s Flushes reply told stands = told ∙ ap Number (sym (waits_agree old.memory old.catalog.next_table_id s stands.remembered))
+same_counts old s ToFlush reply (ids, told, is) stands = (ids, told, is ∙ sym (awaited_agree old.memory old.catalog.next_table_id s stands.remembered))
 
 creation_steps : (old new : Held) (s : State) (name : Bytes) (options : List Bytes) (id : ℕ) → held_due old (OfCreation name options) ≡ None → OwesCreation old name options id new → StandsFor old s → Steps new s (OfCreation name options) (Number id)
 creation_steps old new s name options id none (inl (found, same)) stands = found_steps old new s name options id none found same stands
@@ -452,6 +444,10 @@ gives_step old new (OfHandle OneMore id) reply s bare none (told, is) stands = s
 gives_step old new (OfHandle OneLess id) reply s bare none (told, counts) stands = subst (λ r. Answered new s (OfHandle OneLess id) r) (sym told) (released_steps old new s id none counts stands)
 gives_step old new (OfRotation id) reply s bare none (told, is) stands = rotation_steps old new s id reply none (rotates old.memory.trees id) refl told is stands
 gives_step old new OfJournalRotation reply s bare none (told, turns) stands = subst (λ r. Answered new s OfJournalRotation r) (sym told) (turned_steps old new s none turns stands)
+gives_step old new (OfFlushBegin id) reply s bare none begins stands = begin_steps old new s stands id reply (begins_flush old.memory.trees id) refl none begins
+gives_step old new (OfFlushFinish job) reply s bare none finishes stands =
+    finish_steps old new s stands job reply (is_flushing old.memory.trees job) refl (is_living (store_in old) job.keyspace_id) refl none finishes
+gives_step old new OfMaintenance reply s bare none (told, becomes) stands = subst (λ r. Answered new s OfMaintenance r) (sym told) (maintenance_steps old new s stands none becomes)
 gives_step old new (OfRead view id query) reply s bare none (told, looks) stands = read_steps old new s view id query reply (tables_of old id) refl bare none told looks stands
 gives_step old new (OfTickets call) reply s bare none (turns, is) stands = tickets_step old new s stands is call reply none turns
 gives_step old new (OfPersist mode) reply s bare none (told, hands) stands =

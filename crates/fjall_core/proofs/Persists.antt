@@ -49,7 +49,7 @@ persisted_serves old new mode well hands took out =
     (led.0, led.1, (led.2, led.3 s)))
 
 -- what a persist that failed took of the disk
-part_of : (old new : Held) (now : Journal) (mode : PersistMode) → PersistTook old.journal now mode old.disk new.disk → TookPart old.disk new.disk old.journal.name old.journal.buffer ⊎ Took old.disk new.disk (persist_steps old.journal mode)
+pub part_of : (old new : Held) (now : Journal) (mode : PersistMode) → PersistTook old.journal now mode old.disk new.disk → TookPart old.disk new.disk old.journal.name old.journal.buffer ⊎ Took old.disk new.disk (persist_steps old.journal mode)
 part_of old new now mode (inl part) = inl part.1
 part_of old new now mode (inr (is, synced, inl out)) = inl (whole_part old.disk new.disk old.journal.name old.journal.buffer out)
 part_of old new now mode (inr (is, synced, inr all)) = inr all

@@ -1,5 +1,5 @@
 -- What reads serve: what stands in memory, or what the tables hold, of which more may be kept afterwards.
-use Rattle.std.proofs.Common.{◌≡◌, ◌==◌, All, inl, inr, ℕ, Bool, true, false, if◌then◌else◌, unwrap_or, List, [], ◌∷◌, Option, None, Some, Result, Ok, Err, IfOk, IfErr, OnOk, IsTrue, Vec, refl, sym, ◌∙◌, ap, subst}
+use Rattle.std.proofs.Common.{◌≡◌, ◌≤◌, ◌==◌, All, inl, inr, ℕ, Bool, true, false, if◌then◌else◌, unwrap_or, List, [], ◌∷◌, Option, None, Some, Result, Ok, Err, IfOk, IfErr, OnOk, IsTrue, Vec, refl, sym, ◌∙◌, ap, subst}
 use Rattle.std.proofs.lemmas.Bool.{eqb-true, true≢false}
 use Rattle.fjall_lsm.specs.Puts.{bare_tree}
 use Rattle.std.proofs.lemmas.List.{append-nil}
@@ -17,7 +17,8 @@ use Rattle.fjall_table.specs.Blocks.{Entry}
 use Rattle.fjall_blocks.specs.Readers.{LooksOn, Reader, SomeTableIsWrong}
 use Rattle.fjall_commit.proofs.KeptHomes.{homes_none}
 use Rattle.fjall_commit.specs.Journaling.{IsWriting}
-use Rattle.fjall_recovery.specs.Places.{LiesInTree}
+use Rattle.fjall_recovery.specs.Folders.{number_of}
+use Rattle.fjall_recovery.specs.Places.{LiesInTree, contents_with}
 use Rattle.fjall_recovery.specs.Refusals.{HasRisen}
 use Rattle.fjall_trees.specs.Forests.{Forest, Planted, tree_at}
 use Rattle.fjall_trees.specs.Tables.{AreReadOn, AreSameTrees, shape_in}
@@ -38,11 +39,13 @@ use Rattle.fjall_state.proofs.Refusing.{read_steps}
 use Rattle.fjall_state.proofs.Standing as law
 use Rattle.fjall_core.specs.Holding.{Held}
 use Rattle.fjall_core.specs.Crashes.{is_io}
-use Rattle.fjall_core.specs.Durables.{AreKnown, Durable, MakesPresent, StaysFinished}
+use Rattle.fjall_core.specs.Durables.{AreKnown, Durable, Knows, MakesPresent, StaysFinished}
 use Rattle.fjall_core.specs.Standing.{DiskRead, GivesRead, IsOfKind, Looks, LooksAt, OnDisk, Owes, OwesRefusal, ReadsOn, Serves, StandsFor, StandsOn, held_due, pairs_reply, store_with_tables, tables_of, value_reply}
+use Rattle.fjall_core.proofs.KeptEntries.{step_keeps}
 use Rattle.fjall_core.proofs.CrashesInRuns.{passes_still}
 use Rattle.fjall_core.proofs.DeviceFaults.{risen_blames}
 use Rattle.fjall_core.proofs.JournalWrites.{Leads, held_on, leads_on}
+use Rattle.fjall_core.proofs.KnownCores.{knows_looked}
 use Rattle.fjall_core.proofs.OwedSteps.{looked_stands}
 use Rattle.fjall_core.proofs.Refusals.{is_fault, never_due}
 use Rattle.fjall_core.proofs.ServedCalls.{led_by, served}
@@ -109,7 +112,7 @@ module _ (honest : Bool) (old new : Held) (view : View) (id : ℕ) (query : Quer
   refusal_owes : (error : Error) (first : Option Error) → held_due old (OfRead view id query) ≡ first → (tables : List Reader) → tables_of old id ≡ tables → IsReadRefusal first (Unit {0}) tables old.disk new.disk error → OwesRefusal first old (OfRead view id query) error new
   refusal_owes error (Some first) due tables is refused = (refused, came.waits first (due_here old view id query ∙ due))
   refusal_owes error None due [] is refused = subst (λ e. OwesRefusal None old (OfRead view id query) e new) (sym refused) (tt, subst (λ ts. LooksAt ts old new) (sym is) (came.bare is))
-  refusal_owes (Io kind) None due (t ∷ tables) is refused = inr (some_tables t tables is, looks, refused)
+  refusal_owes (Io kind) None due (t ∷ tables) is refused = inr (inl (some_tables t tables is, looks, refused))
   refusal_owes OutOfMemory None due (t ∷ tables) is refused = (tt, subst (λ ts. LooksAt ts old new) (sym is) looks)
   refusal_owes (Storage told) None due (t ∷ tables) is refused = (refused.0, some_tables t tables is, looks)
   refusal_owes error None due (t ∷ tables) is refused = absurd refused
@@ -166,8 +169,11 @@ module _ (honest : Bool) (old new : Held) (view : View) (id : ℕ) (query : Quer
               keyspaces = lies.keyspaces ∙ sym (ap (λ (c : Held). c.memory.keyspaces) came.held);
               made = lies.made;
               waits = lies.waits;
-              next = ap (λ (c : Held). c.memory.next) came.held ∙ lies.next;
+              next = subst (λ (n : ℕ). number_of (contents_with lies.journals lies.tree lies.journals.later) ≤ n) (sym (ap (λ (c : Held). c.memory.next) came.held)) lies.next;
             };
+        knows = λ well.
+            let lies = on.lies (sym flag ∙ well) in
+            knows_looked entries old new lies.journals lies.tree (ap (λ (c : Held). c.memory.records) came.held) came.trees (on.knows (sym flag ∙ well));
         present = along new.memory.poisoned old.disk new.disk base pending (store_with_tables entries old) (store_with_tables entries new) shown (subst (λ b. MakesPresent b here (store_with_tables entries old)) (sym flag) on.present);
       } in
       let passes = passes_still here on.rests in (
@@ -209,7 +215,7 @@ module _ (honest : Bool) (old new : Held) (view : View) (id : ℕ) (query : Quer
       let due = held_due old (OfRead view id query) in
       let known = subst (λ first. IsReadRefusal first (Unit {0}) (tables_of old id) old.disk new.disk error) (due_here old view id query) cause in
       let took = came.disk.same h in
-      served old new (OfRead view id query) (Refused error) (λ s stands reads. (
+      served old new (OfRead view id query) (Refused error) (λ s t. step_keeps s t (OfRead view id query) (Refused error) (λ is. is)) (λ s stands reads. (
         s,
         stands_still s stands,
         read_steps old.memory old.catalog.next_table_id s stands.remembered view id query old.disk new.disk error
@@ -258,7 +264,7 @@ module _ (honest : Bool) (old new : Held) (view : View) (id : ℕ) (key : Bytes)
           → Serves old (OfRead view id (Get key)) (value_reply r) new
       by (Ok value) none told is wrong =
           let here : held_due old (OfRead view id (Get key)) ≡ None = sym (due_here old view id (Get key)) ∙ none in
-          served old new (OfRead view id (Get key)) (Value value) (λ s stands reads. (
+          served old new (OfRead view id (Get key)) (Value value) (λ s t. step_keeps s t (OfRead view id (Get key)) (Value value) (λ is. is)) (λ s stands reads. (
             s,
             stands_still honest old new view id (Get key) came s stands,
             (law.facts_agree old.memory old.catalog.next_table_id s stands.remembered (OfRead view id (Get key)) ∙ here, (view_has honest old new view id (Get key) came s (Value value) stands reads here (λ entries are. ap Value (is entries are)), refl)),
@@ -298,7 +304,7 @@ module _ (honest : Bool) (old new : Held) (view : View) (id : ℕ) (range : KeyR
           → Serves old (OfRead view id query) (pairs_reply r) new
       by (Ok found) none told is wrong =
           let here : held_due old (OfRead view id query) ≡ None = sym (due_here old view id query) ∙ none in
-          served old new (OfRead view id query) (PairsIs found) (λ s stands reads. (
+          served old new (OfRead view id query) (PairsIs found) (λ s t. step_keeps s t (OfRead view id query) (PairsIs found) (λ is. is)) (λ s stands reads. (
             s,
             stands_still honest old new view id query came s stands,
             (law.facts_agree old.memory old.catalog.next_table_id s stands.remembered (OfRead view id query) ∙ here, (view_has honest old new view id query came s (PairsIs found) stands reads here (λ entries are. (found, refl, is entries are)), refl)),

@@ -13,7 +13,7 @@ use Rattle.fjall_history.specs.declared.ticket.View.TheVariants.{At, Present}
 use Rattle.fjall_history.specs.declared.reply.Reply.TheVariants.{Refused}
 use Rattle.fjall_history.specs.Tickets.{Tickets, ids_used_up, is_open}
 use Rattle.fjall_state.proofs.Dues.{may_change}
-use Rattle.fjall_state.specs.Shapes.{Clone, Close, Collect, OfChange, OfCount, OfCreation, OfDeletion, OfHandle, OfJournalRotation, OfPersist, OfRead, OfRotation, OfTickets, OneLess, OneMore, Open, Shape, TicketCall}
+use Rattle.fjall_state.specs.Shapes.{Clone, Close, Collect, OfChange, OfCount, OfCreation, OfDeletion, OfFlushBegin, OfFlushFinish, OfHandle, OfJournalRotation, OfMaintenance, OfPersist, OfRead, OfRotation, OfTickets, OneLess, OneMore, Open, Shape, TicketCall}
 use Rattle.fjall_state.specs.Machine.{Facts, State, change_refusals, clear_refusals, creation_refusals, deletion_refusals, due, due_in, facts, first_due, handle_refusals, has_name, is_living, items_refusals, present, rotation_refusals, ticket_refusal, view_refusals, journal_refusals}
 use Rattle.fjall_core.specs.Crashes.{IsSync, asked, attempt, is_io}
 
@@ -62,6 +62,9 @@ never_due f (OfHandle OneMore id) = no_fault_due (handle_refusals f OneMore id) 
 never_due f (OfHandle OneLess id) = no_fault_due (handle_refusals f OneLess id) (refl, (refl, tt))
 never_due f (OfRotation id) = no_fault_due (rotation_refusals f id) (refl, (refl, (refl, tt)))
 never_due f OfJournalRotation = no_fault_due (journal_refusals f) (refl, (refl, tt))
+never_due f (OfFlushBegin id) = no_fault_due (rotation_refusals f id) (refl, (refl, (refl, tt)))
+never_due f (OfFlushFinish job) = refl
+never_due f OfMaintenance = no_fault_due ((f.poisoned, Poisoned) ∷ []) (refl, tt)
 never_due f (OfRead Present id query) = no_fault_due (view_refusals f Present id) (refl, (refl, tt))
 never_due f (OfRead (At ticket) id query) = no_fault_due (view_refusals f (At ticket) id) (refl, (refl, (refl, tt)))
 never_due f (OfTickets call) = no_ticket_fault f.tickets call
@@ -114,6 +117,9 @@ asks s (OfDeletion id) = deletion_asks s id (is_living (present s) id) refl
 asks s (OfHandle call id) = asks_nothing refl
 asks s (OfRotation id) = asks_nothing refl
 asks s OfJournalRotation = asks_nothing refl
+asks s (OfFlushBegin id) = asks_nothing refl
+asks s (OfFlushFinish job) = asks_nothing refl
+asks s OfMaintenance = asks_nothing refl
 asks s (OfRead view id query) = asks_nothing refl
 asks s (OfTickets call) = asks_nothing refl
 asks s (OfPersist mode) = asks_nothing refl

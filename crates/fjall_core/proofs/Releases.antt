@@ -4,8 +4,10 @@ use Rattle.std.proofs.lemmas.Bool.{true≢false}
 use Rattle.std.proofs.lemmas.Bool.Decides.{nat_tests}
 use Rattle.std.proofs.lemmas.List.Elements.{All-cons, All-filter, All-nil, All-weaker, filter_passes}
 use Rattle.std.proofs.lemmas.Option.{none-some}
+use Rattle.std.specs.FinMap.{remove}
 use Rattle.std.specs.Option.{is_some}
 use Rattle.fjall_base.specs.Store.{kept}
+use Rattle.fjall_base.specs.Disk as disk
 use Rattle.fjall_base.specs.Disk.{Meaning, Took, state_in}
 use Rattle.fjall_base.specs.declared.error.Error.{Error}
 use Rattle.fjall_base.specs.declared.error.Error.TheVariants.{Io, OutOfMemory, UnknownKeyspace}
@@ -24,6 +26,8 @@ use Rattle.fjall_trees.specs.Forests.{Planted, without}
 use Rattle.fjall_commit.proofs.KeptHomes.{homes_none, removal_others}
 use Rattle.fjall_versions.proofs.Naming.{living_names}
 use Rattle.fjall_commit.specs.Removals.{IsUnused, RemovesOwn}
+use Rattle.fjall_recovery.specs.Halves.{Tree}
+use Rattle.fjall_recovery.specs.Places.{Journaling}
 use Rattle.fjall_state.specs.Shapes.{OfHandle, OneLess}
 use Rattle.fjall_history.specs.declared.reply.Reply.TheVariants.{Done, Refused}
 use Rattle.fjall_state.specs.Machine.{State, handles_of, is_living, is_unknown}
@@ -31,7 +35,7 @@ use Rattle.fjall_state.specs.Remembered.{Remembered, is_last, poisoned, released
 use Rattle.fjall_state.proofs.Dues.{none_due}
 use Rattle.fjall_state.proofs.Standing as law
 use Rattle.fjall_core.specs.Holding.{Held}
-use Rattle.fjall_core.specs.Durables.{Durable}
+use Rattle.fjall_core.specs.Durables.{Durable, Knows}
 use Rattle.fjall_core.specs.Crashes.{is_io}
 use Rattle.fjall_core.specs.Standing.{Counts, Owes, OwesRefusal, Poisons, Serves, StandsFor, StandsOn, held_due, store_in, store_with_tables}
 use Rattle.fjall_core.proofs.TablesAtHome.{CarryTables, HomesStay, IsOutside, KeepsReads, all_stay, carry_all, carry_along, carry_dropped, keeps_disk, keeps_homes, others_there, outside_ill, outside_same}
@@ -39,6 +43,7 @@ use Rattle.fjall_core.proofs.JournalWrites.{held_on}
 use Rattle.fjall_core.specs.CallParts.{FilesGone, Removes}
 use Rattle.fjall_core.proofs.ServedCalls.{led_by, serves_by}
 use Rattle.fjall_core.proofs.KeyspaceCalls.{Recounts, Removed, recount_leads, removed_leads, unremoved_leads}
+use Rattle.fjall_core.proofs.KnownCores.{knows_dropped, knows_same}
 
 -- ---- the id
 
@@ -102,6 +107,21 @@ carry_released old new id is = carry_along old.memory.trees _ new.memory.trees i
 counts_outside : (old new : Held) (id : ℕ) → Counts old (released id old.memory) new → IsOutside old → IsOutside new
 counts_outside old new id counts = outside_same old new (ap (λ (m : Remembered). m.poisoned) counts.memory_is) (ap (λ (j : Journal). j.name) counts.journal)
 
+-- what is known of homes stays: with the last handle of a deleted keyspace go its tree and its last record
+released_knows : (entries : ℕ → List (List Entry)) (old new : Held) (id : ℕ) (j : Journaling) (t : Tree)
+    → new.memory ≡ released id old.memory → t.keyspaces ≡ old.memory.keyspaces → Knows old entries j t → Knows new entries j t
+released_knows entries old new id j t is same knows = by (is_last old.memory id) refl (ap (λ (m : Remembered). m.trees) is) (ap (λ (m : Remembered). m.records) is)
+  where
+    none : is_last old.memory id ≡ true → keyspace_at id old.memory.keyspaces.living ≡ None
+    none last = gone_none (keyspace_at id old.memory.keyspaces.living) (sym (living_names old.memory.keyspaces [] id) ∙ deleted old.memory id last)
+
+    by : (last : Bool) → is_last old.memory id ≡ last → new.memory.trees ≡ (if last then without id old.memory.trees else old.memory.trees) → new.memory.records ≡ (if last then remove old.memory.records id else old.memory.records)
+        → Knows new entries j t
+    by true last trees records =
+        let there = subst (λ (k : Keyspaces). keyspace_at id k.living ≡ None) (sym same) (none last) in
+        knows_dropped entries old new id j t records trees there (none_there id t.keyspaces.living there) knows
+    by false last trees records = knows_same entries old new j t trees records knows
+
 recounts_of : (old new : Held) (s : State) (id : ℕ) → StandsFor old s → Counts old (released id old.memory) new → Recounts s.parts.entries old new
 recounts_of old new s id stands counts =
     let held = stands.remembered in
@@ -113,6 +133,7 @@ recounts_of old new s id stands counts =
       catalog = counts.catalog;
       journal = counts.journal;
       journals = ap (λ (m : Remembered). m.journals) counts.memory_is;
+      known = λ j t. released_knows s.parts.entries old new id j t counts.memory_is;
     }
 
 pub released_owes : (old new : Held) (id : ℕ) → held_due old (OfHandle OneLess id) ≡ None → Counts old (released id old.memory) new → Owes old (OfHandle OneLess id) Done new
@@ -147,7 +168,8 @@ release_served old new id gone unused well entries d on tidy =
 
 removed_of : (old new : Held) (s : State) (id : ℕ) → StandsFor old s → held_due old (OfHandle OneLess id) ≡ None → is_last old.memory id ≡ true → FilesGone id old.disk new.disk → Removed old new
 removed_of old new s id stands none last gone =
-    let unused = unused_of old.memory id stands.remembered.lawful.keyspaces (known old id none) (deleted old.memory id last) in
+    let are = stands.remembered.lawful.keyspaces in
+    let unused = unused_of old.memory id are (known old id none) (deleted old.memory id last) in
     record {
       within = gone.within;
       leaves = λ base pending lies. gone.leaves lies.records lies.tree (subst (λ (k : Keyspaces). IsUnused id k) (sym lies.keyspaces) unused) lies.in_tree;
@@ -195,6 +217,7 @@ same_counts entries old new same = record {
   catalog = ap (λ (h : Held). h.catalog) same;
   journal = ap (λ (h : Held). h.journal) same;
   journals = ap (λ (h : Held). h.memory.journals) same;
+  known = λ j t kept. knows_same entries old new j t (ap (λ (h : Held). h.memory.trees) same) (ap (λ (h : Held). h.memory.records) same);
 }
 
 out_serves : (old new : Held) (id : ℕ) → held_due old (OfHandle OneLess id) ≡ None → is_last old.memory id ≡ true → old.memory.poisoned ≡ false → new ≡ record old { disk = new.disk } → old.disk.faults ≤ new.disk.faults

@@ -22,6 +22,7 @@ use Rattle.fjall_recovery.proofs.Holding.{folder_stands}
 use Rattle.fjall_repair.specs.declared.opened.Opened.{Opened}
 use Rattle.fjall_repair.specs.Opened.{ComesBack}
 use Rattle.fjall_repair.specs.Opened as repair
+use Rattle.fjall_repair.specs.Sweeps.{IsSwept}
 use Rattle.fjall_core.specs.Holding.{Held}
 use Rattle.fjall_core.specs.Durables.{Durable, IsFinished, StaysFinished}
 use Rattle.fjall_core.specs.Openings.{OpensAmid}
@@ -98,11 +99,12 @@ a_core_holds_amid core entries d on housed = finished_amid (state_in d.meaning) 
 
 -- ---- what is opened
 
-pub opens_amid : (old new : Meaning) (o : Opened) (base : Store) (pending : List Command) → HoldsAmid (state_in old) base pending → StaysTidy old new
+pub opens_amid : (old new : Meaning) (o : Opened) (base : Store) (pending : List Command) → HoldsAmid (state_in old) base pending → StaysTidy old new → IsSwept (state_in old) (state_in new) o.catalog o.keyspaces.living
     → ((folder : Option Contents) → IsFolder (standing (state_in old)) folder → repair.Opens new folder o) → LeavesOnly old new (StandsAmid base [] pending) → repair.IsLawful o → OpensAmid old (core_of new o) base pending
-opens_amid old new o base pending holds kinds opens run lawful =
+opens_amid old new o base pending holds kinds swept opens run lawful =
     let found = stood (standing (state_in old)) (kept (fold base holds.now.front)) holds.now.stands in
-    record { front = holds.now.front; within = holds.now.within; opens = opens_as new found.0 o (opens found.0 found.1) (kept (fold base holds.now.front)) lawful found.2; any_moment = run; kinds = kinds }
+    let is = opens found.0 found.1 in
+    record { front = holds.now.front; within = holds.now.within; opens = opens_as new found.0 o is (kept (fold base holds.now.front)) lawful found.2; any_moment = run; kinds = kinds }
   where
     stood : (image : Image) (store : Store) → StandsFor image store → (folder : Option Contents) × IsFolder image folder × (store ≡ store_held folder)
     stood image store (inl (c, sound, is)) = (Some c, sound, is)

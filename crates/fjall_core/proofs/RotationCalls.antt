@@ -14,6 +14,7 @@ use Rattle.fjall_core.specs.Holding.{Held}
 use Rattle.fjall_core.specs.Standing.{Owes, Serves, flag_reply, held_due}
 use Rattle.fjall_core.proofs.TablesAtHome.{KeepsReads, carry_all, carry_sealed, keeps_disk, outside_same}
 use Rattle.fjall_core.proofs.KeyspaceCalls.{Recounts, recount_leads}
+use Rattle.fjall_core.proofs.KnownCores.{knows_sealed}
 use Rattle.fjall_core.proofs.ServedCalls.{led_by, memory_owes, memory_serves, serves_by}
 
 -- what is due, as it was looked for in a core's memory
@@ -28,9 +29,18 @@ module _ (core : Held) (id : ℕ) (none : held_due core (OfRotation id) ≡ None
   abbrev with_memory : Remembered → Held
   with_memory m = record core { memory = m }
 
-  recounts : (entries : ℕ → List (List Entry)) (seals : Bool) → Recounts entries core (with_memory (after seals))
-  recounts entries true = record { keyspaces = refl; next = refl; poisoned = refl; store = ap kept (sym (rotated_store_with entries id core.memory.keyspaces core.memory.trees)); catalog = refl; journal = refl; journals = refl }
-  recounts entries false = record { keyspaces = refl; next = refl; poisoned = refl; store = refl; catalog = refl; journal = refl; journals = refl }
+  recounts : (entries : ℕ → List (List Entry)) (seals : Bool) → seals ≡ rotates core.memory.trees id → Recounts entries core (with_memory (after seals))
+  recounts entries true value = record {
+    keyspaces = refl;
+    next = refl;
+    poisoned = refl;
+    store = ap kept (sym (rotated_store_with entries id core.memory.keyspaces core.memory.trees));
+    catalog = refl;
+    journal = refl;
+    journals = refl;
+    known = λ j t same. knows_sealed entries core (with_memory (after true)) id j t refl refl (sym value);
+  }
+  recounts entries false value = record { keyspaces = refl; next = refl; poisoned = refl; store = refl; catalog = refl; journal = refl; journals = refl; known = λ j t same knows. knows }
 
   -- its disk keeps the tables
   rotated_keeps : (seals : Bool) → KeepsReads core (with_memory (after seals))
@@ -47,7 +57,7 @@ module _ (core : Held) (id : ℕ) (none : held_due core (OfRotation id) ≡ None
   done_serves : (seals : Bool) → seals ≡ rotates core.memory.trees id → Serves core (OfRotation id) (Flag seals) (with_memory (after seals))
   done_serves seals value =
       serves_by core (with_memory (after seals)) (OfRotation id) (Flag seals) (done_owes seals value) (λ reads. reads) refl (stays_start core.disk) (rotated_keeps seals) (λ s d stands on tidy. refl)
-      (λ s d stands on. led_by (with_memory (after seals)) s d (OfRotation id) (Flag seals) [] refl (λ sync. sync) (recount_leads s.parts.entries core (with_memory (after seals)) d refl (recounts s.parts.entries seals) on))
+      (λ s d stands on. led_by (with_memory (after seals)) s d (OfRotation id) (Flag seals) [] refl (λ sync. sync) (recount_leads s.parts.entries core (with_memory (after seals)) d refl (recounts s.parts.entries seals value) on))
 
   abbrev answer : Bool → Result Bool Error
   answer seals = Ok seals

@@ -1,8 +1,8 @@
 -- What came of the work of a call is what the call owes, and a crash leaves what it may.
-use Rattle.std.proofs.Common.{◌≡◌, ℕ, false, List, [], ◌∷◌, IfSome, Option, None, Some, refl, sym, ◌∙◌, ap, arith, subst}
+use Rattle.std.proofs.Common.{◌≡◌, ◌⊎◌, inl, inr, ℕ, ◌≤◌, false, List, [], ◌∷◌, IfSome, Option, None, Some, refl, sym, ◌∙◌, ap, arith, subst}
 use Rattle.std.proofs.lemmas.Bool.{true≢false}
 use Rattle.std.proofs.lemmas.List.{append-nil}
-use Rattle.fjall_base.specs.Store.{Command}
+use Rattle.fjall_base.specs.Store.{Command, Store}
 use Rattle.fjall_base.specs.Disk.{Meaning, state_in}
 use Rattle.fjall_base.specs.Disk as disk
 use Rattle.fjall_base.specs.declared.error.Error.{Error}
@@ -16,13 +16,14 @@ use Rattle.fjall_catalog.specs.Catalog.{listed}
 use Rattle.fjall_catalog.specs.Updates.{IsTableGone}
 use Rattle.fjall_files.specs.Tidy.{IsTidy, StaysTidy}
 use Rattle.fjall_files.proofs.Tidying.{stays_start}
-use Rattle.fjall_state.specs.Shapes.{OfChange, OfCount, OfCreation, OfDeletion, OfHandle, OfJournalRotation, OfPersist, OfRead, OfRotation, OfTickets, OneLess, OneMore, Shape}
+use Rattle.fjall_state.specs.Shapes.{OfChange, OfCount, OfCreation, OfDeletion, OfFlushBegin, OfFlushFinish, OfHandle, OfJournalRotation, OfMaintenance, OfPersist, OfRead, OfRotation, OfTickets, OneLess, OneMore, Shape}
 use Rattle.fjall_table.specs.Blocks.{Entry}
 use Rattle.fjall_blocks.specs.Readers.{Reader}
+use Rattle.fjall_trees.specs.Forests.{Forest}
 use Rattle.fjall_trees.proofs.Same.{same_trees}
 use Rattle.fjall_history.specs.declared.reply.Reply.{Reply}
 use Rattle.fjall_history.specs.declared.reply.Reply.TheVariants.{Refused}
-use Rattle.fjall_state.specs.Machine.{State, ReadsTables, StepOf, TakesMemory, TooLong}
+use Rattle.fjall_state.specs.Machine.{HasTables, State, ReadsTables, StepOf, TakesMemory, TooLong}
 use Rattle.fjall_state.specs.Remembered.{IsDueOrMemory, facts_of}
 use Rattle.fjall_core.specs.Holding.{Held}
 use Rattle.fjall_core.specs.Durables.{Durable, Passes}
@@ -30,7 +31,7 @@ use Rattle.fjall_core.specs.Crashes.{BlamesDevice, CallLeaves, IsSync, attempt, 
 use Rattle.fjall_core.specs.Standing.{DiskLooked, DiskRead, HasTable, LooksAt, OnDisk, Owes, OwesRefusal, RanOut, ReadsOn, ReplacesTable, Serves, StandsFor, StandsOn, held_due, store_in, tables_of}
 use Rattle.fjall_core.proofs.CrashesInRuns.{passes_still}
 use Rattle.fjall_core.proofs.Refusals.{is_fault, never_due, no_attempt, no_sync}
-use Rattle.fjall_core.proofs.KeptEntries.{step_keeps}
+use Rattle.fjall_core.proofs.KeptEntries.{Finishes, HasGiven, KeepsTables, no_fault_keeps, step_keeps}
 use Rattle.fjall_core.proofs.TablesAtHome.{KeepsReads, keeps_same, said_same}
 use Rattle.fjall_core.proofs.OwedSteps.{due_step, memory_step, owes_step}
 use Rattle.fjall_core.proofs.DeviceFaults.{refusal_blames}
@@ -48,19 +49,62 @@ Blames old reply new = (s : State) (d : Durable) → StandsFor old s → StandsO
 abbrev pub LeadsFrom : Held → Shape → Reply → Held → Type 0
 LeadsFrom old shape reply new = (s : State) (d : Durable) → StandsFor old s → StandsOn old s.parts.entries d → Led new s d shape reply
 
--- What a call steps to, what it did to the disk, and where it leads, is what it serves, where its disk keeps the tables.
-pub served : (old new : Held) (shape : Shape) (reply : Reply) → ((s : State) → StandsFor old s → ReadsOn old s → (t : State) × StandsFor new t × StepOf s shape reply t) → OnDisk old shape reply new → StaysTidy old.disk new.disk → KeepsReads old new
+-- a call for which it matters what tables hold: a read of some, and a flush that is finished
+abbrev pub NeedsTables : Forest → Shape → Type 0
+NeedsTables trees (OfRead view id query) = HasTables id trees
+NeedsTables trees (OfFlushFinish job) = Unit {0}
+NeedsTables trees shape = ⊥
+
+reads_none : (trees : Forest) (shape : Shape) → (NeedsTables trees shape → ⊥) → ReadsTables trees shape → ⊥
+reads_none trees (OfRead view id query) plain = plain
+reads_none trees (OfChange change how) plain = λ reads. reads
+reads_none trees (OfCreation name options) plain = λ reads. reads
+reads_none trees (OfDeletion id) plain = λ reads. reads
+reads_none trees (OfHandle call id) plain = λ reads. reads
+reads_none trees (OfRotation id) plain = λ reads. reads
+reads_none trees OfJournalRotation plain = λ reads. reads
+reads_none trees (OfFlushBegin id) plain = λ reads. reads
+reads_none trees (OfFlushFinish job) plain = λ reads. reads
+reads_none trees OfMaintenance plain = λ reads. reads
+reads_none trees (OfTickets call) plain = λ reads. reads
+reads_none trees (OfPersist mode) plain = λ reads. reads
+reads_none trees (OfCount count) plain = λ reads. reads
+
+finishes_none : (trees : Forest) (shape : Shape) → (NeedsTables trees shape → ⊥) → Finishes shape → ⊥
+finishes_none trees (OfFlushFinish job) plain = plain
+finishes_none trees (OfRead view id query) plain = λ is. is
+finishes_none trees (OfChange change how) plain = λ is. is
+finishes_none trees (OfCreation name options) plain = λ is. is
+finishes_none trees (OfDeletion id) plain = λ is. is
+finishes_none trees (OfHandle call id) plain = λ is. is
+finishes_none trees (OfRotation id) plain = λ is. is
+finishes_none trees OfJournalRotation plain = λ is. is
+finishes_none trees (OfFlushBegin id) plain = λ is. is
+finishes_none trees OfMaintenance plain = λ is. is
+finishes_none trees (OfTickets call) plain = λ is. is
+finishes_none trees (OfPersist mode) plain = λ is. is
+finishes_none trees (OfCount count) plain = λ is. is
+
+-- a keyspace that is made has no tables yet
+given_else : (core : Held) (s t : State) → StandsFor core s → HasGiven s t → (id : ℕ) → ((s.parts.records id).next_table_id ≤ (t.parts.records id).next_table_id) ⊎ (s.parts.entries id ≡ [])
+given_else core s t stands given id = elim (given id) [
+  | inl le ↦ inl le
+  | inr new ↦ inr (stands.remembered.beside.unused id (let next = ap (λ (x : Store). x.next) stands.remembered.present in omega (arith, new, next)))
+]
+
+-- What a call steps to, what it did to the disk, and where it leads, is what it serves, where it and its disk keep the tables.
+pub served : (old new : Held) (shape : Shape) (reply : Reply) → ((s t : State) → StepOf s shape reply t → KeepsTables s t) → ((s : State) → StandsFor old s → ReadsOn old s → (t : State) × StandsFor new t × StepOf s shape reply t) → OnDisk old shape reply new → StaysTidy old.disk new.disk → KeepsReads old new
     → Blames old reply new → LeadsFrom old shape reply new → Serves old shape reply new
-served old new shape reply steps disk stays keeps device led = record {
+served old new shape reply leaves steps disk stays keeps device led = record {
   disk = disk;
   goes_on = λ s stands reads.
       let stepped = steps s stands reads in
       let t = stepped.0 in
-      let same = step_keeps s t shape reply stepped.2 in
+      let same = leaves s t stepped.2 in
       let kept = keeps s stands reads in (
         t,
         stepped.1,
-        record { tables = said_same new.disk s t new.memory.trees same.entries same.damaged kept.tables; writer = kept.writer },
+        record { tables = said_same new.disk s t new.memory.trees same.entries same.damaged (given_else old s t stands same.given) kept.tables; writer = kept.writer },
         stepped.2,
         λ d on.
             let way = led s d stands on in
@@ -71,10 +115,11 @@ served old new shape reply steps disk stays keeps device led = record {
       );
 }
 
--- so it is of a call that reads no tables, by what it owes
-pub serves_by : (old new : Held) (shape : Shape) (reply : Reply) → Owes old shape reply new → (ReadsTables old.memory.trees shape → ⊥) → OnDisk old shape reply new → StaysTidy old.disk new.disk → KeepsReads old new
+-- so it is of a call that needs no tables, by what it owes
+pub serves_by : (old new : Held) (shape : Shape) (reply : Reply) → Owes old shape reply new → (NeedsTables old.memory.trees shape → ⊥) → OnDisk old shape reply new → StaysTidy old.disk new.disk → KeepsReads old new
     → Blames old reply new → LeadsFrom old shape reply new → Serves old shape reply new
-serves_by old new shape reply owes bare disk stays keeps device led = served old new shape reply (λ s stands reads. owes_step old new shape reply s bare owes stands) disk stays keeps device led
+serves_by old new shape reply owes plain disk stays keeps device led =
+    served old new shape reply (λ s t. step_keeps s t shape reply (finishes_none old.memory.trees shape plain)) (λ s stands reads. owes_step old new shape reply s (reads_none old.memory.trees shape plain) owes stands) disk stays keeps device led
 
 -- a way that these commands lead, of a call that tried just them and was no sync
 pub led_by : (new : Held) (s : State) (d : Durable) (shape : Shape) (reply : Reply) (tried : List Command) → attempt s shape reply ≡ tried → (IsSync s shape reply → ⊥) → Leads s.parts.entries new d tried → Led new s d shape reply
@@ -105,6 +150,9 @@ out_untouched core (OfCreation name options) = refl
 out_untouched core (OfDeletion id) = refl
 out_untouched core (OfRotation id) = refl
 out_untouched core OfJournalRotation = refl
+out_untouched core (OfFlushBegin id) = refl
+out_untouched core (OfFlushFinish job) = refl
+out_untouched core OfMaintenance = refl
 out_untouched core (OfTickets call) = refl
 out_untouched core (OfPersist mode) = refl
 out_untouched core (OfCount count) = refl
@@ -116,8 +164,8 @@ untouched core shape (Storage told) other = out_untouched core shape
 untouched core shape error other = refl
 
 -- a refusal that is no fault and changes nothing
-refusal_serves : (core : Held) (shape : Shape) (error : Error) → is_io error ≡ false → ((s : State) → StandsFor core s → (t : State) × StandsFor core t × StepOf s shape (Refused error) t) → Serves core shape (Refused error) core
-refusal_serves core shape error other steps = served core core shape (Refused error) (λ s stands reads. steps s stands) (untouched core shape error other) (stays_start core.disk) (keeps_same core core refl)
+pub refusal_serves : (core : Held) (shape : Shape) (error : Error) → is_io error ≡ false → ((s : State) → StandsFor core s → (t : State) × StandsFor core t × StepOf s shape (Refused error) t) → Serves core shape (Refused error) core
+refusal_serves core shape error other steps = served core core shape (Refused error) (λ s t. no_fault_keeps s t shape error other) (λ s stands reads. steps s stands) (untouched core shape error other) (stays_start core.disk) (keeps_same core core refl)
     (λ s d stands on tidy. refusal_blames error core.disk other)
     (λ s d stands on. still_led core core s d shape (Refused error) (no_attempt s shape error other) (no_sync s shape error) refl on)
 
@@ -138,6 +186,9 @@ ran_out core (OfCreation name options) = refl
 ran_out core (OfDeletion id) = refl
 ran_out core (OfRotation id) = refl
 ran_out core OfJournalRotation = refl
+ran_out core (OfFlushBegin id) = refl
+ran_out core (OfFlushFinish job) = refl
+ran_out core OfMaintenance = refl
 ran_out core (OfTickets call) = refl
 ran_out core (OfPersist mode) = refl
 ran_out core (OfCount count) = refl
@@ -173,7 +224,7 @@ either_serves core shape error takes is = by_due (held_due core shape) refl is
 -- ---- reads
 
 -- an answer that changes nothing, of a call that asks for no command
-pub answer_serves : (core : Held) (shape : Shape) (reply : Reply) → (ReadsTables core.memory.trees shape → ⊥) → Owes core shape reply core → OnDisk core shape reply core → BlamesDevice reply core.disk core.disk → ((s : State) → attempt s shape reply ≡ [])
+pub answer_serves : (core : Held) (shape : Shape) (reply : Reply) → (NeedsTables core.memory.trees shape → ⊥) → Owes core shape reply core → OnDisk core shape reply core → BlamesDevice reply core.disk core.disk → ((s : State) → attempt s shape reply ≡ [])
     → ((s : State) → IsSync s shape reply → ⊥) → Serves core shape reply core
 answer_serves core shape reply bare owes disk blames none unsynced =
     serves_by core core shape reply owes bare disk (stays_start core.disk) (keeps_same core core refl) (λ s d stands on tidy. blames)

@@ -1,5 +1,5 @@
 -- Where a sync of the journal leads a core and its disk.
-use Rattle.std.proofs.Common.{◌≡◌, inl, ℕ, Bool, true, false, List, [], ◌∷◌, ◌++◌, max, map, refl, sym, ◌∙◌, ap, subst}
+use Rattle.std.proofs.Common.{◌≡◌, ◌≤◌, inl, ℕ, Bool, true, false, List, [], ◌∷◌, ◌++◌, max, map, refl, sym, ◌∙◌, ap, subst}
 use Rattle.std.proofs.lemmas.List.{append-nil}
 use Rattle.fjall_base.specs.Store.{Store, Command, fold, kept}
 use Rattle.fjall_base.specs.Disk.{LeavesOnly, state_in}
@@ -11,9 +11,9 @@ use Rattle.fjall_catalog.specs.Catalog.{fields}
 use Rattle.fjall_versions.specs.Replays.{least_after}
 use Rattle.fjall_contents.specs.Contents.{store_held}
 use Rattle.fjall_recovery.specs.Homes.{lasts, stored_in}
-use Rattle.fjall_recovery.specs.Folders.{past_records}
+use Rattle.fjall_recovery.specs.Folders.{number_of, past_records}
 use Rattle.fjall_recovery.specs.Journals.{Journal, batches_in}
-use Rattle.fjall_recovery.specs.Places.{Journaling, journals_with}
+use Rattle.fjall_recovery.specs.Places.{Journaling, contents_with, journals_with}
 use Rattle.fjall_commit.specs.Journaling.{LeavesRoot, after_persist, synced}
 use Rattle.fjall_state.specs.Shapes.{OfPersist}
 use Rattle.fjall_history.specs.declared.reply.Reply.TheVariants.{Done}
@@ -22,7 +22,7 @@ use Rattle.fjall_state.specs.Remembered.{Remembered}
 use Rattle.fjall_table.specs.Blocks.{Entry}
 use Rattle.fjall_maps.specs.Tables.{store_with}
 use Rattle.fjall_core.specs.Holding.{Held}
-use Rattle.fjall_core.specs.Durables.{AreKnown, Durable, Lies, Passes, Rests, StandsAmid}
+use Rattle.fjall_core.specs.Durables.{AreKnown, Durable, Knows, Lies, Passes, Rests, StandsAmid}
 use Rattle.fjall_commit.specs.SyncedChanges as on_disk
 use Rattle.fjall_core.specs.Crashes.{IsSync}
 use Rattle.fjall_core.specs.Standing.{HandsOver, Poisons, StandsOn}
@@ -30,6 +30,8 @@ use Rattle.fjall_core.specs.Standing as standing
 use Rattle.fjall_core.proofs.KeyspacesUnchanged.{tree_along}
 use Rattle.fjall_commit.proofs.CrashedJournals.{kept_with}
 use Rattle.fjall_core.proofs.CrashImages.{leaves_finished, root_amid}
+use Rattle.fjall_core.proofs.KnownBatches.{persisted_later, persisted_same}
+use Rattle.fjall_core.proofs.KnownCores.{knows_journals, knows_same}
 use Rattle.fjall_core.proofs.JournalWrites.{Leads, Settles, held_on, known_handed, known_synced, leads_on, settles_on, present_of, stands_ill, stands_well}
 
 -- what a persist did to the disk and to the journal's writer of a core
@@ -42,9 +44,11 @@ hand_leaves old new mode done base pending lies out =
     root_amid base pending old.disk new.disk lies.journals lies.records lies.tree [] lies.made lies.waits lies.in_tree
     (subst (λ (l : List Written). LeavesOnly old.disk new.disk (LeavesRoot (state_in old.disk) lies.journals l)) (sym (append-nil lies.journals.later)) (out.leaves lies.journals lies.writing))
 
--- the same keyspaces, catalog and number in memory
+-- the same keyspaces with their trees and last records, the same catalog and number in memory
 pub record StaysSame (old new : Held) : Type 0 where
   pub keyspaces : new.memory.keyspaces ≡ old.memory.keyspaces
+  pub trees : new.memory.trees ≡ old.memory.trees
+  pub records : new.memory.records ≡ old.memory.records
   pub next : new.memory.next ≡ old.memory.next
   pub catalog : new.catalog ≡ old.catalog
   pub journals : new.memory.journals ≡ old.memory.journals
@@ -62,8 +66,22 @@ buffer_lies old new base pending same lies out = record {
   keyspaces = lies.keyspaces ∙ sym same.keyspaces;
   made = lies.made;
   waits = lies.waits;
-  next = same.next ∙ lies.next;
+  next = subst (λ (n : ℕ). number_of (contents_with (after_persist Buffer lies.journals) lies.tree (after_persist Buffer lies.journals).later) ≤ n) (sym same.next) lies.next;
 }
+
+-- what is known of homes stays, of which nothing is in the journals
+module _ (entries : ℕ → List (List Entry)) (old new : Held) (mode : PersistMode) (base : Store) (pending : List Command) (same : StaysSame old new) (lies : Lies old (held_on old base pending)) (out : Persisted old new mode true) where
+  persisted_knows : Knows old entries lies.journals lies.tree → Knows new entries (after_persist mode lies.journals) lies.tree
+  persisted_knows knows =
+      let j = lies.journals in
+      let t = lies.tree in
+      knows_journals entries new j (after_persist mode j) t (persisted_same mode j) (persisted_later mode j) (knows_same entries old new j t same.trees same.records knows)
+
+buffer_knows : (entries : ℕ → List (List Entry)) (old new : Held) (base : Store) (pending : List Command) (same : StaysSame old new) (lies : Lies old (held_on old base pending))
+    (out : Persisted old new Buffer true) → Knows old entries lies.journals lies.tree
+    → Knows new entries (buffer_lies old new base pending same lies out).journals (buffer_lies old new base pending same lies out).tree
+unfolding buffer_lies
+buffer_knows entries old new base pending same lies out = persisted_knows entries old new Buffer base pending same lies out
 
 -- the synced journals hold what they held
 synced_journals : (j : Journaling) → journals_with (synced j) [] ≡ journals_with j j.later
@@ -86,12 +104,19 @@ sync_lies old new base pending same lies out =
       made = ap (λ (l : List Command). kept (fold base l)) lies.waits ∙ kept_with t lies.in_tree.rests.versions base j j.later lies.made lies.writing.root.sound
           ∙ ap (λ (l : List Journal). store_held t.keyspaces (stored_in t.homes t.versions) (map shown (batches_in l))) (sym (synced_journals j));
       waits = refl;
-      next = same.next ∙ lies.next ∙ ap (λ (l : List Journal). max (least_after 0 (map shown (batches_in l))) (past_records (fields t.last ∷ lasts t.keyspaces.living t.homes))) (sym (synced_journals j));
+      next = subst (λ (n : ℕ). number_of (contents_with (synced j) t []) ≤ n) (sym same.next)
+          (subst (λ (l : List Journal). max (least_after 0 (map shown (batches_in l))) (past_records (fields t.last ∷ lasts t.keyspaces.living t.homes)) ≤ old.memory.next) (sym (synced_journals j)) lies.next);
     }
 
 pub sync_empty : (old new : Held) (base : Store) (pending : List Command) (same : StaysSame old new) (lies : Lies old (held_on old base pending)) (out : Persisted old new SyncAll true) → (sync_lies old new base pending same lies out).journals.later ≡ []
 unfolding sync_lies
 sync_empty old new base pending same lies out = refl
+
+pub sync_knows : (entries : ℕ → List (List Entry)) (old new : Held) (base : Store) (pending : List Command) (same : StaysSame old new) (lies : Lies old (held_on old base pending))
+    (out : Persisted old new SyncAll true) → Knows old entries lies.journals lies.tree
+    → Knows new entries (sync_lies old new base pending same lies out).journals (sync_lies old new base pending same lies out).tree
+unfolding sync_lies
+sync_knows entries old new base pending same lies out = persisted_knows entries old new SyncAll base pending same lies out
 
 -- commands that a base has already
 pub synced_passes : (old new : Held) (base : Store) (pending : List Command) → LeavesOnly old.disk new.disk (StandsAmid base [] (pending ++ [])) → Rests (held_on new (fold base pending) [])
@@ -99,7 +124,14 @@ pub synced_passes : (old new : Held) (base : Store) (pending : List Command) →
 synced_passes old new base pending leaves rests = record { leaves = leaves; safe = pending; base = refl; rest = refl; rests = rests }
 
 pub same_of : (old new : Held) → HandsOver old new → StaysSame old new
-same_of old new hands = record { keyspaces = ap (λ (m : Remembered). m.keyspaces) hands.memory_is; next = ap (λ (m : Remembered). m.next) hands.memory_is; catalog = hands.catalog; journals = ap (λ (m : Remembered). m.journals) hands.memory_is }
+same_of old new hands = record {
+  keyspaces = ap (λ (m : Remembered). m.keyspaces) hands.memory_is;
+  trees = ap (λ (m : Remembered). m.trees) hands.memory_is;
+  records = ap (λ (m : Remembered). m.records) hands.memory_is;
+  next = ap (λ (m : Remembered). m.next) hands.memory_is;
+  catalog = hands.catalog;
+  journals = ap (λ (m : Remembered). m.journals) hands.memory_is;
+}
 
 same_store : (entries : ℕ → List (List Entry)) (old new : Held) → new.memory ≡ old.memory → kept (standing.store_with_tables entries old) ≡ kept (standing.store_with_tables entries new)
 same_store entries old new is = ap (λ (m : Remembered). kept (store_with entries m.keyspaces m.trees)) (sym is)
@@ -109,7 +141,9 @@ pub sync_settles : (entries : ℕ → List (List Entry)) (old new : Held) (d : D
 sync_settles entries old new d well hands out = settles_on entries old new d [] (λ base pending on.
     let lies = on.lies well in
     let after = sync_lies old new base pending (same_of old new hands) lies out in
-    let still = stands_well entries new (fold base pending) [] (ap (λ (m : Remembered). m.poisoned) hands.memory_is ∙ well) after (present_of entries old (held_on old base pending) false well on ∙ same_store entries old new hands.memory_is) in
+    let knows = sync_knows entries old new base pending (same_of old new hands) lies out (on.knows well) in
+    let still = stands_well entries new (fold base pending) [] (ap (λ (m : Remembered). m.poisoned) hands.memory_is ∙ well) after knows
+    (present_of entries old (held_on old base pending) false well on ∙ same_store entries old new hands.memory_is) in
     (held_on new (fold base pending) [], still, synced_passes old new base pending (hand_leaves old new SyncAll true base pending lies out) still.rests, refl))
 
 -- what waited is in the file
@@ -117,7 +151,8 @@ buffer_leads : (entries : ℕ → List (List Entry)) (old new : Held) (d : Durab
 buffer_leads entries old new d well hands out = leads_on entries old new d [] (λ base pending on.
     let lies = on.lies well in
     let after = buffer_lies old new base pending (same_of old new hands) lies out in
-    let still = stands_well entries new base pending (ap (λ (m : Remembered). m.poisoned) hands.memory_is ∙ well) after (present_of entries old (held_on old base pending) false well on ∙ same_store entries old new hands.memory_is) in
+    let knows = buffer_knows entries old new base pending (same_of old new hands) lies out (on.knows well) in
+    let still = stands_well entries new base pending (ap (λ (m : Remembered). m.poisoned) hands.memory_is ∙ well) after knows (present_of entries old (held_on old base pending) false well on ∙ same_store entries old new hands.memory_is) in
     (held_on new base pending, still, record { leaves = hand_leaves old new Buffer true base pending lies out; safe = []; base = refl; rest = sym (append-nil pending); rests = still.rests }))
 
 -- a persist that was done, and where it synced, nothing is pending

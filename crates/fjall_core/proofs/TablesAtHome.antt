@@ -1,5 +1,5 @@
 -- A core's disk has the tables of its trees still, where the keyspaces' homes stay and trees change in memory alone.
-use Rattle.std.proofs.Common.{◌≡◌, ◌≢◌, ℕ, zero, suc, ◌<◌, ◌^◌, ◌==◌, Bool, true, false, not, List, [], ◌∷◌, All, Some, slice_get, get_or, refl, sym, ◌∙◌, ap, subst}
+use Rattle.std.proofs.Common.{◌≡◌, ◌≢◌, ◌⊎◌, inl, inr, ℕ, zero, suc, ◌<◌, ◌≤◌, ◌^◌, ◌==◌, Bool, true, false, not, List, [], ◌∷◌, All, Some, slice_get, get_or, refl, sym, ◌∙◌, ap, subst, arith}
 use Rattle.std.proofs.lemmas.List.Elements.{All-cons, All-filter, All-head, All-nil, All-push, All-tail, All-weaker}
 use Rattle.std.proofs.lemmas.Bool.{true≢false}
 use Rattle.fjall_base.specs.Disk as disk
@@ -12,6 +12,8 @@ use Rattle.fjall_table.specs.Blocks.{Entry}
 use Rattle.fjall_table.specs.Files.{entry_at}
 use Rattle.fjall_blocks.specs.Readers.{AreRead, AreSameTables, HoldsAWrongBlock, IsTableBut, Reader, SomeTableIsWrong}
 use Rattle.fjall_blocks.proofs.Several.{same_at}
+use Rattle.fjall_home.proofs.Naming.{table_under}
+use Rattle.fjall_loading.specs.Known.{IsGiven}
 use Rattle.fjall_lsm.specs.Puts.{bare_tree}
 use Rattle.fjall_lsm.specs.Trees.{sealed_off}
 use Rattle.fjall_trees.specs.Forests.{Forest, Planted, altered_at, without}
@@ -29,12 +31,17 @@ use Rattle.fjall_core.specs.Standing.{LieAtHome, ReadsOn, StandsFor}
 abbrev pub HaveFiles : Meaning → Meaning → List Reader → Type 0
 HaveFiles old new tables = All (λ t. entry_at new t.name ≡ entry_at old t.name) tables
 
+-- a keyspace's own tables are in its folder
+pub under_home : (id next : ℕ) (tables : List Reader) → All (IsGiven id next) tables → All (λ t. is_under (keyspace_folder id) t.name ≡ true) tables
+under_home id next tables named =
+    All-weaker (IsGiven id next) (λ (t : Reader). is_under (keyspace_folder id) t.name ≡ true) (λ t given. ap (is_under (keyspace_folder id)) given.3 ∙ table_under id given.0) tables named
+
 -- so they are where the keyspace's home is
-kept_files : (old new : Meaning) (id : ℕ) (tables : List Reader) → KeepsHome old new id → All (λ t. is_under (keyspace_folder id) t.name ≡ true) tables → HaveFiles old new tables
+pub kept_files : (old new : Meaning) (id : ℕ) (tables : List Reader) → KeepsHome old new id → All (λ t. is_under (keyspace_folder id) t.name ≡ true) tables → HaveFiles old new tables
 kept_files old new id tables home named =
     All-weaker (λ (t : Reader). is_under (keyspace_folder id) t.name ≡ true) (λ t. entry_at new t.name ≡ entry_at old t.name) (λ t is. home t.name is) tables named
 
-files_read : (old new : Meaning) (tables : List Reader) (entries : List (List Entry)) → HaveFiles old new tables → AreRead old tables entries → AreRead new tables entries
+pub files_read : (old new : Meaning) (tables : List Reader) (entries : List (List Entry)) → HaveFiles old new tables → AreRead old tables entries → AreRead new tables entries
 files_read old new [] [] same r = tt
 files_read old new [] (es ∷ entries) same r = r
 files_read old new (t ∷ tables) [] same r = r
@@ -58,22 +65,23 @@ at_place P (u ∷ tables) zero t all has = subst P (some_in u t has) (All-head P
     some_in a b same = cc
 at_place P (u ∷ tables) (suc at) t all has = at_place P tables at t (All-tail P u tables all) has
 
-files_wrong : (old new : Meaning) (tables : List Reader) → HaveFiles old new tables → SomeTableIsWrong new tables → SomeTableIsWrong old tables
+pub files_wrong : (old new : Meaning) (tables : List Reader) → HaveFiles old new tables → SomeTableIsWrong new tables → SomeTableIsWrong old tables
 files_wrong old new tables same (at, t, has, wrong) =
     (at, t, has, subst (λ (e : disk.Entry). HoldsAWrongBlock e t.handles) (at_place (λ u. entry_at new u.name ≡ entry_at old u.name) tables at t same has) wrong)
 
 -- where the home stays all of it does
-pub home_stays : (old new : Meaning) (id : ℕ) (entries : List (List Entry)) (is_damaged : Bool) (tables : List Reader) → KeepsHome old new id → LieAtHome old id entries is_damaged tables → LieAtHome new id entries is_damaged tables
-home_stays old new id entries is_damaged tables home lie =
-    let files = kept_files old new id tables home lie.named in
+pub home_stays : (old new : Meaning) (id next : ℕ) (entries : List (List Entry)) (is_damaged : Bool) (tables : List Reader) → KeepsHome old new id → LieAtHome old id next entries is_damaged tables
+    → LieAtHome new id next entries is_damaged tables
+home_stays old new id next entries is_damaged tables home lie =
+    let files = kept_files old new id tables home (under_home id next tables lie.named) in
     record { positive = lie.positive; read = files_read old new tables entries files lie.read; named = lie.named; damage = λ wrong. lie.damage (files_wrong old new tables files wrong) }
 
 -- a keyspace without tables has none anywhere
-pub no_tables : (disk : Meaning) (id : ℕ) (entries : List (List Entry)) (is_damaged : Bool) → 0 < id → entries ≡ [] → LieAtHome disk id entries is_damaged []
-no_tables disk id entries is_damaged some none = record {
+pub no_tables : (disk : Meaning) (id next : ℕ) (entries : List (List Entry)) (is_damaged : Bool) → 0 < id → entries ≡ [] → LieAtHome disk id next entries is_damaged []
+no_tables disk id next entries is_damaged some none = record {
   positive = some;
   read = subst (AreRead disk []) (sym none) tt;
-  named = All-nil (λ (t : Reader). is_under (keyspace_folder id) t.name ≡ true);
+  named = All-nil (IsGiven id next);
   damage = λ (at, t, has, wrong). let bad : ⊥ = cc in absurd bad;
 }
 
@@ -81,7 +89,7 @@ no_tables disk id entries is_damaged some none = record {
 
 -- the tables of these trees, as a state says
 abbrev pub LieThere : Meaning → State → Forest → Type 0
-LieThere disk s trees = All (λ k. LieAtHome disk k.id (s.parts.entries k.id) (is_among s.damaged k.id) k.shape.tables) trees
+LieThere disk s trees = All (λ k. LieAtHome disk k.id (s.parts.records k.id).next_table_id (s.parts.entries k.id) (is_among s.damaged k.id) k.shape.tables) trees
 
 -- the homes of the keyspaces that have these trees stay
 abbrev pub HomesStay : Meaning → Meaning → Forest → Type 0
@@ -90,16 +98,36 @@ HomesStay old new trees = All (λ k. KeepsHome old new k.id) trees
 pub homes_stay : (old new : Meaning) (s : State) (trees : Forest) → HomesStay old new trees → LieThere old s trees → LieThere new s trees
 homes_stay old new s trees homes lie = λ i d lt.
     let k = get_or trees i d in
-    home_stays old new k.id (s.parts.entries k.id) (is_among s.damaged k.id) k.shape.tables (homes i d lt) (lie i d lt)
+    home_stays old new k.id (s.parts.records k.id).next_table_id (s.parts.entries k.id) (is_among s.damaged k.id) k.shape.tables (homes i d lt) (lie i d lt)
 
 pub all_stay : (old new : Meaning) (trees : Forest) → KeepsHomes old new → HomesStay old new trees
 all_stay old new trees homes = λ i d lt. homes (get_or trees i d).id
 
--- a state that says the same of tables
-pub said_same : (disk : Meaning) (s t : State) (trees : Forest) → t.parts.entries ≡ s.parts.entries → t.damaged ≡ s.damaged → LieThere disk s trees → LieThere disk t trees
-said_same disk s t trees entries damaged lie =
-    subst (λ (e : ℕ → List (List Entry)). All (λ k. LieAtHome disk k.id (e k.id) (is_among t.damaged k.id) k.shape.tables) trees) (sym entries)
-    (subst (λ (d : List ℕ). All (λ k. LieAtHome disk k.id (s.parts.entries k.id) (is_among d k.id) k.shape.tables) trees) (sym damaged) lie)
+-- tables whose ids were given out before
+pub given_on : (id old new : ℕ) (tables : List Reader) → old ≤ new → All (IsGiven id old) tables → All (IsGiven id new) tables
+given_on id old new tables le named = All-weaker (IsGiven id old) (IsGiven id new) (λ t given. (given.0, (let lt = given.1 in omega (arith, le, lt)), given.2, given.3)) tables named
+
+none_given : (disk : Meaning) (id next : ℕ) (tables : List Reader) (entries : List (List Entry)) → AreRead disk tables entries → entries ≡ [] → All (IsGiven id next) tables
+none_given disk id next [] entries are none = All-nil (IsGiven id next)
+none_given disk id next (t ∷ tables) [] are none = absurd are
+none_given disk id next (t ∷ tables) (es ∷ entries) are none = absurd cc
+
+-- a state that says the same of tables, and has given out more of their ids, if any
+pub said_same : (disk : Meaning) (s t : State) (trees : Forest) → t.parts.entries ≡ s.parts.entries → t.damaged ≡ s.damaged
+    → ((id : ℕ) → ((s.parts.records id).next_table_id ≤ (t.parts.records id).next_table_id) ⊎ (s.parts.entries id ≡ [])) → LieThere disk s trees → LieThere disk t trees
+said_same disk s t trees entries damaged given lie = λ i d lt.
+    let k = get_or trees i d in
+    let was = lie i d lt in
+    let read = subst (λ (e : ℕ → List (List Entry)). AreRead disk k.shape.tables (e k.id)) (sym entries) was.read in
+    record {
+      positive = was.positive;
+      read = read;
+      named = elim (given k.id) [
+        | inl le ↦ given_on k.id (s.parts.records k.id).next_table_id (t.parts.records k.id).next_table_id k.shape.tables le was.named
+        | inr none ↦ none_given disk k.id (t.parts.records k.id).next_table_id k.shape.tables (s.parts.entries k.id) was.read none
+      ];
+      damage = λ wrong. ap (λ (l : List ℕ). is_among l k.id) damaged ∙ was.damage wrong;
+    }
 
 -- ---- trees that change in memory
 
@@ -108,8 +136,8 @@ abbrev pub CarryTables : Forest → Forest → Type 0
 CarryTables old new = (disk : Meaning) (s : State) → LieThere disk s old → LieThere disk s new
 
 -- what is said of the tables of one tree
-abbrev Lies : Meaning → State → ℕ → List Reader → Type 0
-Lies disk s id tables = LieAtHome disk id (s.parts.entries id) (is_among s.damaged id) tables
+abbrev pub Lies : Meaning → State → ℕ → List Reader → Type 0
+Lies disk s id tables = LieAtHome disk id (s.parts.records id).next_table_id (s.parts.entries id) (is_among s.damaged id) tables
 
 pub carry_all : (old new : Forest) → new ≡ old → CarryTables old new
 carry_all old new same disk s lie = subst (LieThere disk s) (sym same) lie
@@ -129,7 +157,7 @@ carry_dropped id trees disk s lie = All-filter (λ k. not (k.id == id)) (λ (k :
 -- with a tree more, of a keyspace that has no table
 pub planted_there : (disk : Meaning) (s : State) (id from : ℕ) (trees : Forest) → 0 < id → s.parts.entries id ≡ [] → LieThere disk s trees → LieThere disk s (with_tree id from trees)
 planted_there disk s id from trees some none lie =
-    All-push (λ (k : Planted). Lies disk s k.id k.shape.tables) trees (record { id = id; shape = bare_tree from }) lie (no_tables disk id (s.parts.entries id) (is_among s.damaged id) some none)
+    All-push (λ (k : Planted). Lies disk s k.id k.shape.tables) trees (record { id = id; shape = bare_tree from }) lie (no_tables disk id (s.parts.records id).next_table_id (s.parts.entries id) (is_among s.damaged id) some none)
 
 -- ---- a core's
 
@@ -180,17 +208,16 @@ others_there id old new s trees others lie fits differ = λ i d lt. others (get_
 -- what stays of a keyspace's tables, whatever is kept of them
 record StaysSaid (old new : Meaning) (s : State) (id : ℕ) (tables : List Reader) : Type 0 where
   positive : 0 < id
-  named : All (λ t. is_under (keyspace_folder id) t.name ≡ true) tables
+  named : All (IsGiven id (s.parts.records id).next_table_id) tables
   damage : SomeTableIsWrong new tables → is_among s.damaged id ≡ true
 
-named_same : (id : ℕ) (old new : List Reader) → AreSameTables old new → All (λ t. is_under (keyspace_folder id) t.name ≡ true) old → All (λ t. is_under (keyspace_folder id) t.name ≡ true) new
-named_same id [] [] same named = named
-named_same id [] (u ∷ new) same named = absurd same
-named_same id (t ∷ old) [] same named = absurd same
-named_same id (t ∷ old) (u ∷ new) same named =
-    All-cons (λ (r : Reader). is_under (keyspace_folder id) r.name ≡ true) u new
-    (ap (is_under (keyspace_folder id)) same.0.name ∙ All-head (λ (r : Reader). is_under (keyspace_folder id) r.name ≡ true) t old named)
-    (named_same id old new same.1 (All-tail (λ (r : Reader). is_under (keyspace_folder id) r.name ≡ true) t old named))
+named_same : (id next : ℕ) (old new : List Reader) → AreSameTables old new → All (IsGiven id next) old → All (IsGiven id next) new
+named_same id next [] [] same named = named
+named_same id next [] (u ∷ new) same named = absurd same
+named_same id next (t ∷ old) [] same named = absurd same
+named_same id next (t ∷ old) (u ∷ new) same named =
+    let first = All-head (IsGiven id next) t old named in
+    All-cons (IsGiven id next) u new (first.0, first.1, first.2, same.0.name ∙ first.3) (named_same id next old new same.1 (All-tail (IsGiven id next) t old named))
 
 wrong_before : (disk : Meaning) (old new : List Reader) → AreSameTables old new → SomeTableIsWrong disk new → SomeTableIsWrong disk old
 wrong_before disk old new same (at, u, has, wrong) =
@@ -198,7 +225,7 @@ wrong_before disk old new same (at, u, has, wrong) =
     (at, found.0, found.1, subst (HoldsAWrongBlock (entry_at disk found.0.name)) found.2.handles (subst (λ (n : Name). HoldsAWrongBlock (entry_at disk n) u.handles) found.2.name wrong))
 
 said_again : (old new : Meaning) (s : State) (id : ℕ) (a b : List Reader) → AreSameTables a b → StaysSaid old new s id a → StaysSaid old new s id b
-said_again old new s id a b same said = record { positive = said.positive; named = named_same id a b same said.named; damage = λ wrong. said.damage (wrong_before new a b same wrong) }
+said_again old new s id a b same said = record { positive = said.positive; named = named_same id (s.parts.records id).next_table_id a b same said.named; damage = λ wrong. said.damage (wrong_before new a b same wrong) }
 
 -- the same tables, of which others may be kept, on a disk that was looked at
 pub keeps_looked : (old new : Held) → AreSameTrees old.memory.trees new.memory.trees
@@ -206,7 +233,7 @@ pub keeps_looked : (old new : Held) → AreSameTrees old.memory.trees new.memory
 keeps_looked old new same are homes outside s stands reads =
     let first : All (λ k. StaysSaid old.disk new.disk s k.id k.shape.tables) old.memory.trees = λ i d lt.
     let k = get_or old.memory.trees i d in
-    let lie = home_stays old.disk new.disk k.id (s.parts.entries k.id) (is_among s.damaged k.id) k.shape.tables (homes k.id) (reads.tables i d lt) in
+    let lie = home_stays old.disk new.disk k.id (s.parts.records k.id).next_table_id (s.parts.entries k.id) (is_among s.damaged k.id) k.shape.tables (homes k.id) (reads.tables i d lt) in
     record { positive = lie.positive; named = lie.named; damage = lie.damage } in
     let all = all_same (StaysSaid old.disk new.disk s) (said_again old.disk new.disk s) old.memory.trees new.memory.trees same first in
     record {

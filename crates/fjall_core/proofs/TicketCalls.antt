@@ -20,6 +20,7 @@ use Rattle.fjall_core.specs.Standing.{Owes, Serves, StandsOn, reply_of, ticket_r
 use Rattle.fjall_core.proofs.ServedCalls.{Led, due_owes, due_serves, either_owes, either_serves, led_by, serves_by}
 use Rattle.fjall_core.proofs.TablesAtHome.{KeepsReads, carry_all, keeps_disk, outside_same}
 use Rattle.fjall_core.proofs.KeyspaceCalls.{Recounts, recount_leads}
+use Rattle.fjall_core.proofs.KnownCores.{knows_same}
 
 -- the core with such tickets, and what it leads to
 module _ (core : Held) (m : Remembered) (tickets : Tickets) (is : m ≡ with_tickets tickets core.memory) where
@@ -41,6 +42,7 @@ module _ (core : Held) (m : Remembered) (tickets : Tickets) (is : m ≡ with_tic
     catalog = refl;
     journal = refl;
     journals = ap (λ (x : Remembered). x.journals) is;
+    known = λ j t same. knows_same entries core turned j t (ap (λ (x : Remembered). x.trees) is) (ap (λ (x : Remembered). x.records) is);
   }
 
   pub turned_leads : (s : State) (d : Durable) (call : TicketCall) (reply : Reply) → attempt s (OfTickets call) reply ≡ [] → (IsSync s (OfTickets call) reply → ⊥) → StandsOn core s.parts.entries d → Led turned s d (OfTickets call) reply

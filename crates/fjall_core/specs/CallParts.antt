@@ -1,5 +1,5 @@
 -- What the parts of calls make of a core and of its disk.
-use Rattle.std.specs.Prelude.{◌≡◌, ℕ, ◌+◌, ◌≤◌, Bool, true, false, List, [], ◌∷◌, ◌++◌, codes, Option, is_none, Result, Ok, Err}
+use Rattle.std.specs.Prelude.{All, ◌≡◌, ◌⊎◌, ℕ, ◌^◌, ◌<◌, ◌+◌, ◌≤◌, Bool, true, false, if◌then◌else◌, List, [], ◌∷◌, ◌++◌, codes, length, Option, Some, is_none, Result, Ok, Err}
 use Rattle.fjall_base.specs.Disk.{IsNoFile, IsNoFolder, LeavesOnly, Meaning, Name, Took, state_in}
 use Rattle.fjall_base.specs.Errors.{Rose}
 use Rattle.fjall_base.specs.declared.error.Error.{Error}
@@ -8,8 +8,19 @@ use Rattle.fjall_journal.specs.declared.persist_mode.PersistMode.{PersistMode}
 use Rattle.fjall_journal.specs.Batches.{Written}
 use Rattle.fjall_journal.specs.Changes.{Change, change_text, of_change}
 use Rattle.fjall_files.specs.Regions.{Within, is_under}
-use Rattle.fjall_files.specs.Names.{journal_name, keyspace_folder}
-use Rattle.fjall_manager.specs.Rotations.{RotationTook, rotating}
+use Rattle.fjall_base.specs.declared.error.Error.TheVariants.{NumbersUsedUp}
+use Rattle.fjall_commit.specs.Evictions.{ForEvicting, LeavesEviction, evicted}
+use Rattle.fjall_files.specs.Calls.{AllServed}
+use Rattle.fjall_commit.specs.SyncedChanges as on_disk
+use Rattle.fjall_files.specs.Names.{journal_name, keyspace_folder, table_name}
+use Rattle.fjall_flush.specs.Plans.{HaveFiles, IsPlanRefusal, KeepsTables}
+use Rattle.fjall_jobs.specs.declared.flush_job.FlushJob.{FlushJob}
+use Rattle.fjall_jobs.specs.declared.flush_made.FlushMade.{FlushMade}
+use Rattle.fjall_jobs.specs.Flushes.{flush_task}
+use Rattle.fjall_journal.specs.declared.persist_mode.PersistMode.TheVariants.{SyncAll}
+use Rattle.fjall_loading.specs.Known.{last_known}
+use Rattle.fjall_trees.specs.Tables.{shape_in}
+use Rattle.fjall_manager.specs.Rotations.{RotationTook, empty_journal, rotating}
 use Rattle.fjall_commit.specs.Rotations.{KeepsSyncedKeyspaces, LeavesRotation, rotated}
 use Rattle.fjall_files.specs.Tidy.{StaysTidy}
 use Rattle.fjall_journal.specs.Writer.{BatchTook, Journal, after_command, batch_steps, written_out}
@@ -19,13 +30,16 @@ use Rattle.fjall_catalog.specs.declared.update.Update.{Update}
 use Rattle.fjall_catalog.specs.Updates.{IsPreparingRefusal, IsUpdate}
 use Rattle.fjall_recovery.specs.Halves.{HasTree, Tree, is_of_keyspaces}
 use Rattle.fjall_recovery.specs.Places.{Journaling, LiesInTree}
-use Rattle.fjall_commit.specs.Journaling.{CanFollow, IsWriting, LeavesRoot, after_mode, is_out, with_batch}
+use Rattle.fjall_commit.specs.Journaling.{CanFollow, IsWriting, KeepsHomes, LeavesRoot, after_mode, is_out, with_batch}
 use Rattle.fjall_commit.specs.declared.creation.Creation.{Creation}
 use Rattle.fjall_commit.specs.Changes.{IsCreation}
 use Rattle.fjall_commit.specs.Removals.{IsUnused, RemovesOwn}
-use Rattle.fjall_state.specs.Remembered.{poisoned, with_change}
+use Rattle.fjall_state.specs.Evicting.{going_in}
+use Rattle.fjall_state.specs.Finishing.{ForFinishing, ForFlush, IsFinished, keyspace_of}
+use Rattle.fjall_state.specs.Remembered.{KnowsTask, Remembered, poisoned, with_change}
+use Rattle.fjall_state.specs.Machine.{flush_with}
 use Rattle.fjall_core.specs.Holding.{Held}
-use Rattle.fjall_core.specs.Standing.{RotatesJournal, next_name}
+use Rattle.fjall_core.specs.Standing.{Becomes, BeginsAt, EvictionTook, EvictsInMemory, Poisons, RotatesJournal, SyncFailed, SyncTook, are_jobs_used_up, evicted_in_memory, is_long, job_of, journal_synced, next_name}
 use Rattle.fjall_commit.specs.SyncedChanges.{CreatedKeyspace, DeletedKeyspace, SyncedThenChanged, SyncsThenChanges}
 
 -- What came of making a keyspace that stands in memory already: it is on the disk, and the catalog knows it; or the disk
@@ -117,3 +131,91 @@ Turns honest old (Err (Io fault)) new =
     × (honest → RotationTook old.disk new.disk old.journal new.journal (next_name old))
     × (honest → WentOver old.disk new.disk old.journal new.journal old.memory.journals.active false)
 Turns honest old (Err error) new = (new ≡ old) × (error ≡ OutOfMemory)
+
+-- ---- flushes
+
+-- the journal was synced, and a long one sealed
+pub record SyncedAll (old new : Held) : Type 0 where
+  pub memory_is : new.memory ≡ journal_synced old
+  pub catalog : new.catalog ≡ old.catalog
+  pub journal : new.journal ≡ (if is_long old.journal then empty_journal (next_name old) else written_out old.journal)
+  pub faults : old.disk.faults ≤ new.disk.faults
+
+-- What a sync of the journal, or a rotation of a long one, did to the disk and to the journal's writer.
+abbrev pub WentSynced : (long done : Bool) → Held → Held → Type 0
+WentSynced true done old new = WentOver old.disk new.disk old.journal new.journal old.memory.journals.active done
+WentSynced false done old new = on_disk.Persisted old.disk new.disk old.journal new.journal SyncAll done
+
+-- the journal was synced; or the disk failed; or memory ran out, and nothing changed
+abbrev pub SyncsAll : Type 0 → Held → Result Unit Error → Held → Type 0
+SyncsAll honest old (Ok _) new = SyncedAll old new × (honest → SyncTook old new) × (honest → WentSynced (is_long old.journal) true old new)
+SyncsAll honest old (Err (Io kind)) new =
+    (new.memory ≡ old.memory) × (new.catalog ≡ old.catalog) × Rose old.disk.faults new.disk.faults
+    × (honest → SyncFailed old new) × (honest → WentSynced (is_long old.journal) false old new)
+SyncsAll honest old (Err error) new = (new ≡ old) × (error ≡ OutOfMemory)
+
+-- A flush of the keyspace is out, of which the core knows what it was begun with, behind a sync; or a fault of the disk has poisoned
+-- the core; or nothing changed, for want of memory or of a number.
+abbrev pub Begins : Type 0 → Held → ℕ → Result FlushJob Error → Held → Type 0
+Begins honest old id (Ok job) new =
+    (job_of (flush_task job) ≡ record { number = old.memory.next_job; keyspace_id = id }) × KnowsTask new.memory (flush_task job)
+    × (are_jobs_used_up old ≡ false) × BeginsAt old id new
+    × (honest → SyncTook old new) × (honest → WentSynced (is_long old.journal) true old new)
+Begins honest old id (Err (Io kind)) new =
+    (are_jobs_used_up old ≡ false) × Poisons old.memory old new
+    × (honest → SyncFailed old new) × (honest → WentSynced (is_long old.journal) false old new)
+Begins honest old id (Err NumbersUsedUp) new = (new ≡ old) × (are_jobs_used_up old ≡ true)
+Begins honest old id (Err error) new = (new ≡ old) × (error ≡ OutOfMemory)
+
+-- What the writing of a flush did to the disk: nothing outside the keyspace's folder; a crash leaves the tree before or the one after;
+-- where it was done the one after lies there. The keyspace's tables, but for the new one, stand in sight as they did, and where it was done the
+-- file of the new table has its bytes, and its id has its place. No call was one that no disk can serve, where no folder stands in the new table's place.
+pub record WroteFlush (m : Remembered) (made : FlushMade) (old new : Meaning) (done : Bool) : Type 0 where
+  pub within : Within (keyspace_folder (keyspace_of made)) old new
+  pub leaves : ForFinishing old m made (λ id records t h next. LeavesOnly old new (λ image. HasTree image t ⊎ HasTree image next))
+  pub lies : done ≡ true → ForFinishing old m made (λ id records t h next. LiesInTree (state_in new) records next)
+  pub beside : ForFlush m (keyspace_of made) (λ k out. KeepsTables (keyspace_of made) (last_known m.records k).next_table_id old new)
+  pub fits : done ≡ true → ForFlush m (keyspace_of made) (λ k out. (last_known m.records k).next_table_id + length made.tables.items < 2 ^ 64)
+  pub files : done ≡ true → ForFlush m (keyspace_of made) (λ k out. HaveFiles new (keyspace_of made) (last_known m.records k).next_table_id made.tables.items)
+  pub served : ForFinishing old m made (λ id records t h next. IsNoFolder (state_in old (table_name id h.last.next_table_id)).now → AllServed old new)
+  pub kinds : StaysTidy old new
+
+-- the flush of that keyspace, which was out, is finished in memory
+abbrev pub PutInMemory : Remembered → FlushMade → Remembered → Type 0
+PutInMemory old made new =
+    ForFlush old (keyspace_of made) (λ k out. IsFinished old (keyspace_of made) (last_known old.records k) out made.tables.items new)
+
+-- the flush is finished, on the disk and in memory; or a fault of the disk has poisoned the core; or nothing changed, for want of memory,
+-- of room in the record, or of an id for the table
+abbrev pub Puts : Type 0 → Held → FlushMade → Result Unit Error → Held → Type 0
+Puts honest old made (Ok _) new =
+    PutInMemory old.memory made new.memory × Becomes old new.memory new × (honest → WroteFlush old.memory made old.disk new.disk true)
+Puts honest old made (Err (Io kind)) new = Poisons old.memory old new × (honest → WroteFlush old.memory made old.disk new.disk false)
+Puts honest old made (Err error) new =
+    (new ≡ old) × ForFlush old.memory (keyspace_of made)
+    (λ k out. IsPlanRefusal (last_known old.memory.records k) (flush_with (shape_in (keyspace_of made) old.memory.trees) out made.tables.items) error)
+
+-- What an eviction did to the disk: a crash leaves all but some of the journals that go, the oldest ones; where it was done the writer
+-- goes on behind the others; and what stands in `keyspaces` stayed, in sight wherever the writer goes on.
+pub record WentAway (m : Remembered) (old new : Meaning) (done : Bool) : Type 0 where
+  pub leaves : ForEvicting old m.journals.sealed (λ writer j. LeavesOnly old new (LeavesEviction (state_in old) j (length (going_in m))))
+  pub lies : done ≡ true → ForEvicting old m.journals.sealed (λ writer j. IsWriting (state_in new) writer (evicted (length (going_in m)) j))
+  pub elsewhere : ForEvicting old m.journals.sealed (λ writer j. KeepsSyncedKeyspaces old new)
+  pub homes : KeepsHomes old new
+  pub served : ForEvicting old m.journals.sealed (λ writer j. new.misuses ≡ old.misuses)
+  pub kinds : StaysTidy old new
+
+-- the oldest sealed journals are gone that nobody wants; or a fault of the disk has poisoned the core, and some of them are gone
+abbrev pub Evicts : Type 0 → Held → Result Unit Error → Held → Type 0
+Evicts honest old (Ok _) new =
+    Becomes old (evicted_in_memory old.memory) new
+    × (honest → EvictionTook old.memory old.disk new.disk) × (honest → WentAway old.memory old.disk new.disk true)
+Evicts honest old (Err (Io kind)) new =
+    (left : Remembered) × EvictsInMemory old.memory left × Poisons left old new × (honest → WentAway old.memory old.disk new.disk false)
+    × (old.disk.faults ≤ new.disk.faults)
+Evicts honest old (Err error) new = ⊥
+
+-- a flush that isn't stale is finished, and journals are removed that nobody wants any more; or one of the two failed
+abbrev pub Finishes : Type 0 → Held → FlushMade → Result Unit Error → Held → Type 0
+Finishes honest old made (Ok _) new = (mid : Held) × Puts honest old made (Ok tt) mid × Evicts honest mid (Ok tt) new
+Finishes honest old made (Err error) new = Puts honest old made (Err error) new ⊎ ((mid : Held) × Puts honest old made (Ok tt) mid × Evicts honest mid (Err error) new)

@@ -15,8 +15,8 @@ use Rattle.fjall_versions.specs.Replays.{option_pairs}
 use Rattle.fjall_recovery.specs.Folders.{StandsFor}
 use Rattle.fjall_journal.specs.Changes.{Emptied, Items, command_of}
 use Rattle.fjall_history.specs.Histories.{Accepted, commands_of, extended}
-use Rattle.fjall_state.specs.Shapes.{OfChange, OfCount, OfCreation, OfDeletion, OfHandle, OfJournalRotation, OfPersist, OfRead, OfRotation, OfTickets, Shape, shape_of}
-use Rattle.fjall_state.specs.Machine.{State, Step, has_name, is_living, mode_in, present}
+use Rattle.fjall_state.specs.Shapes.{OfChange, OfCount, OfCreation, OfDeletion, OfFlushBegin, OfFlushFinish, OfHandle, OfJournalRotation, OfMaintenance, OfPersist, OfRead, OfRotation, OfTickets, Shape, shape_of}
+use Rattle.fjall_state.specs.Machine.{State, Step, begins_flush, has_name, is_living, mode_in, present}
 use Rattle.fjall_core.specs.Durables.{Durable, IsBeginning, StandsAmid, Passes}
 
 -- the command that a call asks for in that state
@@ -29,6 +29,9 @@ asked s (OfDeletion id) = if is_living (present s) id then (Delete id ∷ []) el
 asked s (OfHandle call id) = []
 asked s (OfRotation id) = []
 asked s OfJournalRotation = []
+asked s (OfFlushBegin id) = []
+asked s (OfFlushFinish job) = []
+asked s OfMaintenance = []
 asked s (OfRead view id query) = []
 asked s (OfTickets call) = []
 asked s (OfPersist mode) = []
@@ -55,7 +58,8 @@ abbrev pub IsSyncOf : Option PersistMode → Type 0
 IsSyncOf None = ⊥
 IsSyncOf (Some mode) = IsSyncMode mode
 
--- a call that syncs all that was accepted, where it succeeds: a creation, a deletion and a rotation of the journal do so too
+-- A call that syncs all that was accepted, where it succeeds: a creation, a deletion, a rotation of the journal and a flush that begins
+-- do so too.
 abbrev pub Syncs : State → Shape → Type 0
 Syncs s (OfChange (Items []) how) = ⊥
 Syncs s (OfChange (Items (item ∷ items)) how) = IsSyncOf (mode_in (present s) how)
@@ -65,6 +69,9 @@ Syncs s (OfDeletion id) = is_living (present s) id ≡ true
 Syncs s (OfHandle call id) = ⊥
 Syncs s (OfRotation id) = ⊥
 Syncs s OfJournalRotation = Unit {0}
+Syncs s (OfFlushBegin id) = begins_flush s.parts.trees id ≡ true
+Syncs s (OfFlushFinish job) = ⊥
+Syncs s OfMaintenance = ⊥
 Syncs s (OfRead view id query) = ⊥
 Syncs s (OfTickets call) = ⊥
 Syncs s (OfPersist mode) = IsSyncMode mode

@@ -1,8 +1,10 @@
 -- What a crash leaves of the engine's commands.
-use Rattle.std.specs.Prelude.{◌≡◌, ◌⊎◌, ℕ, ◌<◌, ◌^◌, Bool, true, false, List, [], ◌∷◌, ◌++◌, map, Ok}
+use Rattle.std.specs.Prelude.{All, ◌≡◌, ◌⊎◌, ℕ, ◌<◌, ◌≤◌, ◌^◌, Bool, true, false, List, [], ◌∷◌, ◌++◌, length, map, Ok, Some}
 use Rattle.fjall_base.specs.Store.{Store, Command, fold, kept}
 use Rattle.fjall_base.specs.Disk.{Image, IsFile, IsImage, Meaning, LeavesOnly, State, state_in}
-use Rattle.fjall_journal.specs.Batches.{shown}
+use Rattle.fjall_journal.specs.Batches.{Written, shown}
+use Rattle.fjall_lsm.specs.Jobs.{flush_end}
+use Rattle.fjall_lsm.specs.Trees.{Flushing}
 use Rattle.fjall_tree.specs.Records.{Fields}
 use Rattle.fjall_files.specs.declared.marker.Marker.TheVariants.{Whole}
 use Rattle.fjall_files.specs.Marker.{marker_tells}
@@ -10,11 +12,16 @@ use Rattle.fjall_files.specs.Names.{journal_name}
 use Rattle.fjall_contents.specs.Contents.{journal_beyond}
 use Rattle.fjall_manager.specs.Journals.{Journals}
 use Rattle.fjall_manager.specs.Telling.{AreMarksOf}
+use Rattle.fjall_loading.specs.Known.{IsKnown}
 use Rattle.fjall_recovery.specs.Homes.{stored_in}
+use Rattle.fjall_recovery.specs.Journals.{batches_in}
+use Rattle.fjall_replay.specs.Beside.{AreReplayedWith}
+use Rattle.fjall_table.specs.Blocks.{Entry}
+use Rattle.fjall_trees.specs.Forests.{Planted}
 use Rattle.fjall_recovery.specs.Folders.{marker_bytes, number_of, store_of}
 pub use Rattle.fjall_recovery.specs.Amid.{IsBeginning, StandsAmid}
 use Rattle.fjall_recovery.specs.Halves.{Tree}
-use Rattle.fjall_recovery.specs.Places.{Journaling, LiesInTree, contents_with}
+use Rattle.fjall_recovery.specs.Places.{Journaling, LiesInTree, contents_with, journals_with}
 use Rattle.fjall_commit.specs.Journaling.{IsWriting}
 use Rattle.fjall_commit.specs.Watermarks.{AreMarked}
 use Rattle.fjall_core.specs.Holding.{Held}
@@ -69,7 +76,20 @@ pub record Lies (core : Held) (d : Durable) : Type 0 where
   pub keyspaces : tree.keyspaces ≡ core.memory.keyspaces
   pub made : kept d.base ≡ store_of (contents_with journals tree [])
   pub waits : d.pending ≡ journal_beyond tree.keyspaces (stored_in tree.homes tree.versions) (map shown journals.later)
-  pub next : core.memory.next ≡ number_of (contents_with journals tree journals.later)
+  pub next : number_of (contents_with journals tree journals.later) ≤ core.memory.next
+
+-- Where a flush is out of a tree, the parts of memory that it takes are there, and all that it covers was synced before it began: the
+-- batches that aren't synced yet are numbered from where the parts begin that it leaves.
+abbrev pub CoversSynced : List Written → Planted → Type 0
+CoversSynced later k =
+    (out : Flushing) → k.shape.flush ≡ Some out → (out.count ≤ length k.shape.memory.sealed) × All (λ b. flush_end k.shape ≤ b.number) later
+
+-- What the core knows of its keyspaces' homes, where its tables have these entries: its trees show what files hold and what all
+-- batches make beyond that; the home of each keyspace is known; and flushes that are out cover what was synced.
+pub record Knows (core : Held) (entries : ℕ → List (List Entry)) (j : Journaling) (t : Tree) : Type 0 where
+  pub shown : AreReplayedWith entries t.keyspaces (stored_in t.homes t.versions) (map shown (batches_in (journals_with j j.later))) core.memory.trees
+  pub homes : All (IsKnown core.memory.records core.memory.trees entries t.homes t.versions) t.keyspaces.living
+  pub covered : All (CoversSynced j.later) core.memory.trees
 
 -- base and pending make the present, but that after a fault the last one may be pending that isn't there
 abbrev pub MakesPresent : Bool → Durable → Store → Type 0

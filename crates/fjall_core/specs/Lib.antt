@@ -5,3 +5,4 @@ pub mod Crashes
 pub mod Standing
 pub mod Openings
 pub mod Lives
+pub mod Jobs

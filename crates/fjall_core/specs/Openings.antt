@@ -1,5 +1,5 @@
 -- What opening makes of a disk.
-use Rattle.std.specs.Prelude.{◌≡◌, ◌⊎◌, ℕ, true, List, [], length, Option, Err}
+use Rattle.std.specs.Prelude.{◌≡◌, ◌⊎◌, ℕ, true, List, [], length, Option, Err, unwrap_or}
 use Rattle.fjall_base.specs.Store.{Store, Command, fold, kept}
 use Rattle.fjall_base.specs.Disk.{LeavesOnly, Meaning, State, Took, standing, state_in}
 use Rattle.fjall_base.specs.declared.error.Error.{Error}
@@ -10,11 +10,13 @@ use Rattle.std.specs.List.{AllByRecursion}
 use Rattle.fjall_files.specs.Names.{journal_name}
 use Rattle.fjall_manager.specs.Journals.{Sealed}
 use Rattle.fjall_journal.specs.Writer.{Journal}
+use Rattle.std.specs.FinMap.{get}
 use Rattle.fjall_recovery.specs.Folders as folders
 use Rattle.fjall_recovery.specs.Folders.{Contents}
 use Rattle.fjall_recovery.specs.Refusals.{FolderRefuses, IsDue}
 use Rattle.fjall_recovery.specs.Amid.{HoldsAmid, IsBeginning, StandsAmid}
 use Rattle.fjall_recovery.specs.Held.{IsOpenFolder, number_held}
+use Rattle.fjall_recovery.specs.Homes.{no_fields}
 use Rattle.fjall_repair.specs.Opened.{HaveEntriesIn, IsSomeFolder, store_entries}
 use Rattle.fjall_table.specs.Blocks.{Entry}
 use Rattle.fjall_blocks.specs.Readers.{SomeTableIsWrong}
@@ -35,6 +37,7 @@ parts_of core entries = record {
   table = core.catalog.next_table_id;
   trees = core.memory.trees;
   entries = entries;
+  records = λ id. unwrap_or (get core.memory.records id) no_fields;
 }
 
 -- a core that was just opened as this store, whose tables have these entries, of which these keyspaces are damaged, and whose next

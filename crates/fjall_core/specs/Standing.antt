@@ -1,5 +1,5 @@
 -- What a core stands for, and what its calls owe.
-use Rattle.std.specs.Prelude.{All, Bool, ◌≡◌, ◌⊎◌, ℕ, ◌+◌, ◌<◌, ◌≤◌, ◌&&◌, true, false, nat_le, not, if◌then◌else◌, List, [], ◌∷◌, ◌++◌, length, codes, IfSome, MatchBool, MatchOption, Option, Some, None, is_none, Result, Ok, Err, OnOk, IsPermutation, IsSorted, Vec}
+use Rattle.std.specs.Prelude.{All, Bool, ◌==◌, ◌||◌, ◌^◌, ◌-◌, count_by, map, nat_lt, ◌≡◌, ◌⊎◌, ℕ, ◌+◌, ◌<◌, ◌≤◌, ◌&&◌, true, false, nat_le, not, if◌then◌else◌, List, [], ◌∷◌, ◌++◌, length, codes, IfSome, MatchBool, MatchOption, Option, Some, None, is_none, Result, Ok, Err, OnOk, IsPermutation, IsSorted, Vec}
 use Rattle.std.specs.FinMap.{len, values}
 use Rattle.std.specs.declared.alloc.Global.{Global}
 use Rattle.fjall_base.specs.Pairs.{Bytes, byte_order}
@@ -8,19 +8,31 @@ use Rattle.fjall_base.specs.Disk.{Meaning, Name, Took, TookPart, LeavesOnly, sta
 use Rattle.fjall_base.specs.Disk as disk
 use Rattle.fjall_base.specs.Errors.{Rose}
 use Rattle.fjall_base.specs.declared.error.Error.{Error}
-use Rattle.fjall_base.specs.declared.error.Error.TheVariants.{Io, OutOfMemory, Poisoned, Storage, ValueTooLong}
+use Rattle.fjall_base.specs.declared.error.Error.TheVariants.{Io, NumbersUsedUp, OutOfMemory, Poisoned, Storage, TooManyItems, ValueTooLong}
+use Rattle.fjall_base.specs.declared.error.Refused.{Refused as Refusal}
 use Rattle.fjall_base.specs.declared.error.StorageError.TheVariants.{TableDamaged}
-use Rattle.fjall_files.specs.Regions.{IsSafe, Within, is_under}
+use Rattle.fjall_files.specs.Regions.{IsSafe, Within}
 use Rattle.fjall_files.specs.Tidy.{StaysTidy}
 use Rattle.fjall_recovery.specs.Amid.{HoldsAmid}
 use Rattle.fjall_journal.specs.declared.persist_mode.PersistMode.{PersistMode}
 use Rattle.fjall_journal.specs.declared.persist_mode.PersistMode.TheVariants.{SyncAll}
-use Rattle.fjall_journal.specs.Writer.{BatchTook, after_command, batch_steps, counted, goes_out, persist_steps, written_out}
+use Rattle.fjall_journal.specs.Writer.{BatchTook, Journal, after_command, batch_steps, counted, goes_out, persist_steps, written_out}
 use Rattle.fjall_files.specs.Names.{journal_name, keyspace_folder, table_name}
 use Rattle.fjall_recovery.specs.Halves.{is_of_keyspaces}
 use Rattle.fjall_table.specs.Blocks.{Entry}
 use Rattle.fjall_blocks.specs.Readers.{AreRead, Reader, SomeTableIsWrong}
-use Rattle.fjall_meta.specs.Keyspaces.{id_of}
+use Rattle.fjall_tree.specs.Records.{Fields}
+use Rattle.fjall_jobs.specs.declared.flush_job.FlushJob.{FlushJob}
+use Rattle.fjall_jobs.specs.declared.flush_made.FlushMade.{FlushMade}
+use Rattle.fjall_jobs.specs.declared.made_table.MadeTable.{MadeTable}
+use Rattle.fjall_jobs.specs.Flushes.{flush_task}
+use Rattle.fjall_jobs.specs.Tasks.{IsFlushed, Task}
+use Rattle.fjall_lsm.specs.Jobs.{IsFlushing}
+use Rattle.fjall_lsm.specs.Trees.{is_l0}
+use Rattle.fjall_flush.specs.Flushes.{infos_from, record_after}
+use Rattle.fjall_loading.specs.Known.{IsGiven, last_known}
+use Rattle.fjall_meta.specs.declared.living.LivingKeyspace.{LivingKeyspace}
+use Rattle.fjall_meta.specs.Keyspaces.{id_of, keyspace_at}
 use Rattle.fjall_catalog.specs.declared.catalog.Catalog.{Catalog}
 use Rattle.fjall_catalog.specs.Updates.{IsTableGone}
 use Rattle.fjall_maps.specs.Maps.{pairs_in, store_of}
@@ -29,22 +41,25 @@ use Rattle.fjall_recovery.specs.Folders.{Contents}
 use Rattle.fjall_recovery.specs.Held.{Holds, store_held}
 use Rattle.fjall_repair.specs.Opened.{ComesBack}
 use Rattle.fjall_commit.specs.Removals.{RemovesOwn}
-use Rattle.fjall_manager.specs.Journals.{bytes_of}
+use Rattle.fjall_manager.specs.Evictions.{StoppedBehind, evicting}
+use Rattle.fjall_manager.specs.Journals.{Sealed, bytes_of, names_of, staying, waited_for}
 use Rattle.fjall_manager.specs.Rotations.{RotationTook, empty_journal, rotating}
 use Rattle.fjall_trees.specs.Tables.{AreSameTrees, shape_in}
 use Rattle.fjall_journal.specs.Changes.{Change, Items, Emptied, change_text}
+use Rattle.fjall_history.specs.declared.job.JobId.{JobId}
 use Rattle.fjall_history.specs.declared.ticket.Ticket.{Ticket}
 use Rattle.fjall_history.specs.declared.reply.Reply.{Reply}
-use Rattle.fjall_history.specs.declared.reply.Reply.TheVariants.{Done, Value, Pairs, Number, Names, Flag, Opened, Refused}
+use Rattle.fjall_history.specs.declared.reply.Reply.TheVariants.{Began, Done, Ids, Value, Pairs, Number, Names, Flag, Opened, Refused}
 use Rattle.fjall_history.specs.declared.ticket.View.{View}
 use Rattle.fjall_history.specs.Queries.{Get, Page, Query, Tells}
 use Rattle.fjall_state.specs.declared.call.Call.{Call}
-use Rattle.fjall_state.specs.Shapes.{Count, Exists, JournalSpace, Keyspaces, Next, OfChange, OfCount, OfCreation, OfDeletion, OfHandle, OfJournalRotation, OfPersist, OfRead, OfRotation, OfTickets, OneLess, OneMore, OpenTickets, Persistence, Entries, SealedMemtables, Shape, Visible, WriteBuffer, shape_of}
+use Rattle.fjall_state.specs.Shapes.{Count, DiskSpace, Exists, Flushes, JournalSpace, Keyspaces, Next, OfChange, OfCount, OfCreation, OfDeletion, OfFlushBegin, OfFlushFinish, OfHandle, OfJournalRotation, OfMaintenance, OfPersist, OfRead, OfRotation, OfTickets, OneLess, OneMore, OpenTickets, Persistence, Entries, SealedMemtables, Shape, Tables, TablesL0, ToFlush, Visible, WriteBuffer, shape_of}
 use Rattle.fjall_state.specs.Shapes as shapes
-use Rattle.fjall_state.specs.Machine.{State, StepOf, Run, TakesMemory, ChangesDisk, ReadsTables, TooLong, TurnsTickets, present, due_in, buffer_size, has_name, is_among, is_living, mode_in, rotates, version_count, wants_rotation}
-use Rattle.fjall_state.specs.Remembered.{IsLawful, Remembered, facts_of, instant_in, is_last, with_change, with_creation, with_deletion, with_tickets, with_trees, retained, released, rotated, poisoned}
+use Rattle.fjall_state.specs.Machine.{State, StepOf, Run, TakesMemory, ChangesDisk, LacksRoom, ReadsTables, TooLong, TurnsTickets, begins_flush, present, due_in, buffer_size, flush_count, flush_with, has_name, is_among, is_flushing, is_living, mode_in, rotates, table_space, tables_space, version_count, wants_rotation}
+use Rattle.fjall_state.specs.Remembered.{IsLawful, Remembered, facts_of, flushed_by, instant_in, is_last, with_change, with_creation, with_deletion, with_tickets, with_trees, retained, released, rotated, poisoned}
 use Rattle.fjall_state.specs.Remembered as memory
-use Rattle.fjall_core.specs.Durables.{Durable, StandsAmid, Passes, Rests, Lies, MakesPresent, StaysFinished}
+use Rattle.fjall_state.specs.Evicting.{going_in}
+use Rattle.fjall_core.specs.Durables.{Durable, Knows, StandsAmid, Passes, Rests, Lies, MakesPresent, StaysFinished}
 use Rattle.fjall_core.specs.Crashes.{BlamesDevice, CallPasses, RunOn, Tried, IsSyncAt, SafeAt}
 use Rattle.fjall_core.specs.Holding.{Held}
 
@@ -64,28 +79,29 @@ store_with_tables entries core = store_with entries core.memory.keyspaces core.m
 
 -- The core stands on this disk, with this base and this pending, where its tables have these entries: whatever a crash leaves is
 -- the base with a beginning of what is pending, in a folder whose making was finished. While no fault has poisoned it, both lie on
--- the disk as it knows.
+-- the disk as it knows, and it knows its keyspaces' homes.
 pub record StandsOn (core : Held) (entries : ℕ → List (List Entry)) (d : Durable) : Type 0 where
   pub same : d.meaning ≡ core.disk
   pub rests : Rests d
   pub finished : StaysFinished (state_in d.meaning)
   pub lies : core.memory.poisoned ≡ false → Lies core d
+  pub knows : (well : core.memory.poisoned ≡ false) → Knows core entries (lies well).journals (lies well).tree
   pub present : MakesPresent core.memory.poisoned d (store_with_tables entries core)
 
 -- ---- what it reads
 
--- On this disk the tables of a keyspace, whose id is never 0, lie in the keyspace's folder and have these entries, but for wrong
--- blocks, which a damaged keyspace alone may have.
-pub record LieAtHome (disk : Meaning) (id : ℕ) (entries : List (List Entry)) (is_damaged : Bool) (tables : List Reader) : Type 0 where
+-- On this disk the tables of a keyspace, whose id is never 0, have these entries, but for wrong blocks, which a damaged keyspace alone
+-- may have. Each is one of the keyspace's own, of an id below the next one.
+pub record LieAtHome (disk : Meaning) (id next : ℕ) (entries : List (List Entry)) (is_damaged : Bool) (tables : List Reader) : Type 0 where
   pub positive : 0 < id
   pub read : AreRead disk tables entries
-  pub named : All (λ t. is_under (keyspace_folder id) t.name ≡ true) tables
+  pub named : All (IsGiven id next) tables
   pub damage : SomeTableIsWrong disk tables → is_damaged ≡ true
 
 -- Its disk has the tables of all its trees, as the state says; and while no fault has poisoned it, its writer goes on in a file
 -- outside of keyspaces' folders.
 pub record ReadsOn (core : Held) (s : State) : Type 0 where
-  pub tables : All (λ k. LieAtHome core.disk k.id (s.parts.entries k.id) (is_among s.damaged k.id) k.shape.tables) core.memory.trees
+  pub tables : All (λ k. LieAtHome core.disk k.id (s.parts.records k.id).next_table_id (s.parts.entries k.id) (is_among s.damaged k.id) k.shape.tables) core.memory.trees
   pub writer : core.memory.poisoned ≡ false → is_of_keyspaces core.journal.name ≡ false
 
 -- ---- what calls owe, whatever the disk is
@@ -115,6 +131,9 @@ at_fault (OfHandle OneMore id) m = m
 at_fault (OfHandle OneLess id) m = released id m
 at_fault (OfRotation id) m = m
 at_fault OfJournalRotation m = m
+at_fault (OfFlushBegin id) m = m
+at_fault (OfFlushFinish job) m = m
+at_fault OfMaintenance m = m
 at_fault (OfRead view id query) m = m
 at_fault (OfTickets call) m = m
 at_fault (OfPersist mode) m = m
@@ -199,20 +218,129 @@ RanOut old (OfHandle OneMore id) new = new ≡ old
 RanOut old (OfHandle OneLess id) new = (new ≡ record old { disk = new.disk }) × (old.disk.faults ≤ new.disk.faults)
 RanOut old (OfRotation id) new = new ≡ old
 RanOut old OfJournalRotation new = new ≡ old
+RanOut old (OfFlushBegin id) new = new ≡ old
+RanOut old (OfFlushFinish job) new = new ≡ old
+RanOut old OfMaintenance new = new ≡ old
 RanOut old (OfRead view id query) new = LooksAt (tables_of old id) old new
 RanOut old (OfTickets call) new = new ≡ old
 RanOut old (OfPersist mode) new = new ≡ old
 RanOut old (OfCount count) new = new ≡ old
 
--- Where no refusal is due, a fault may be told, or want of memory, or that an option's value is too long to be stored; and a read of
--- a keyspace that has tables may tell of a fault, or of a wrong block.
+-- ---- flushes and evictions
+
+-- the active journal is longer than 64,000,000 bytes with what waits
+abbrev pub is_long : Journal → Bool
+is_long journal = nat_lt 64000000 (journal.len + length journal.buffer)
+
+-- no number of a job is left, or none of a journal where the journal is rotated
+abbrev pub are_jobs_used_up : Held → Bool
+are_jobs_used_up core = (core.memory.next_job == 2 ^ 64 - 1) || (is_long core.journal && nat_le (2 ^ 64 - 2) core.memory.journals.active)
+
+-- what is in memory once the journal is synced, which is rotated where it is long
+abbrev pub journal_synced : Held → Remembered
+journal_synced core = if is_long core.journal then memory.journal_rotated (written_out core.journal).len core.memory else core.memory
+
+-- A flush of all sealed memtables of a keyspace is out, and all that waited is in the journal's file; a long one was sealed.
+pub record BeginsAt (old : Held) (id : ℕ) (new : Held) : Type 0 where
+  pub memory_is : new.memory ≡ memory.flush_out id (journal_synced old)
+  pub catalog : new.catalog ≡ old.catalog
+  pub journal : new.journal ≡ (if is_long old.journal then empty_journal (next_name old) else written_out old.journal)
+  pub faults : old.disk.faults ≤ new.disk.faults
+
+-- what comes of a flush that is to begin
+abbrev pub OwesBegin : Bool → Held → ℕ → Reply → Held → Type 0
+OwesBegin true old id reply new = (reply ≡ Began (Some (record { number = old.memory.next_job; keyspace_id = id }))) × (are_jobs_used_up old ≡ false) × BeginsAt old id new
+OwesBegin false old id reply new = (reply ≡ Began None) × (new ≡ old)
+
+-- What is in memory once a flush of a keyspace that lives is finished, which was out: what was made of the task that it was begun
+-- with, with readers of its table under the next id, at level 0, and the keyspace's record after it.
+pub record FlushedInMemory (old : Remembered) (id : ℕ) (new : Remembered) : Type 0 where
+  pub k : LivingKeyspace
+  pub lives : keyspace_at id old.keyspaces.living ≡ Some k
+  pub task : Task
+  pub begun : IsFlushing (shape_in id old.trees) task
+  pub tables : List MadeTable
+  pub clears : List ℕ
+  pub made : IsFlushed task tables clears
+  pub readers : List Reader
+  pub infos : map (λ t. t.info) readers ≡ infos_from (last_known old.records k).next_table_id tables
+  pub is : new ≡ memory.with_flush id begun.out readers (record_after (flush_with (shape_in id old.trees) begun.out tables) (last_known old.records k)) old
+
+-- the oldest sealed journals are gone, up to the first that some keyspace that lives hasn't flushed
+abbrev pub evicted_in_memory : Remembered → Remembered
+evicted_in_memory m = memory.with_sealed (staying (flushed_by m.keyspaces m.records) m.journals.sealed) m
+
+-- an eviction that stopped before its end: the oldest are gone, up to one that nobody wants either
+abbrev pub EvictsInMemory : Remembered → Remembered → Type 0
+EvictsInMemory old new =
+    (gone left : List Sealed) × StoppedBehind (flushed_by old.keyspaces old.records) old.journals.sealed left gone × (new ≡ memory.with_sealed left old)
+
+-- Memory is this, and neither the catalog nor the journal's writer changed.
+pub record Becomes (old : Held) (after : Remembered) (new : Held) : Type 0 where
+  pub memory_is : new.memory ≡ after
+  pub catalog : new.catalog ≡ old.catalog
+  pub journal : new.journal ≡ old.journal
+  pub faults : old.disk.faults ≤ new.disk.faults
+
+-- What comes of a flush that is to be finished: it takes effect, and journals that nobody wants any more are removed; or it is stale,
+-- where it isn't out, and where its keyspace is deleted, and then it is out no more.
+abbrev pub OwesFinish : (out lives : Bool) → Held → JobId → Reply → Held → Type 0
+OwesFinish true true old job reply new =
+    (reply ≡ Flag true) × (old.memory.poisoned ≡ false) × (mid : Remembered) × FlushedInMemory old.memory job.keyspace_id mid × Becomes old (evicted_in_memory mid) new
+OwesFinish true false old job reply new = (reply ≡ Flag false) × (new ≡ record old { memory = memory.flush_gone job.keyspace_id old.memory })
+OwesFinish false lives old job reply new = (reply ≡ Flag false) × (new ≡ old)
+
+-- the flush of this job would take effect, but for a fault that has poisoned the core, or for want of something
+abbrev pub IsDueToFinish : Held → JobId → Type 0
+IsDueToFinish core job = (is_flushing core.memory.trees job ≡ true) × (is_living (store_in core) job.keyspace_id ≡ true)
+
+-- the last record of a keyspace that lives
+abbrev pub LastIs : Held → ℕ → (Fields → Type 0) → Type 0
+LastIs core id Holds = (k : LivingKeyspace) × (keyspace_at id core.memory.keyspaces.living ≡ Some k) × Holds (last_known core.memory.records k)
+
+-- What a fault leaves of a worker's step: of a flush that begins nothing but the poison; one that is finished took effect in memory or
+-- it didn't; and some journals may be gone that nobody wants.
+abbrev pub WorkPoisons : Held → Shape → Held → Type 0
+WorkPoisons old (OfFlushBegin id) new = (begins_flush old.memory.trees id ≡ true) × (are_jobs_used_up old ≡ false) × Poisons old.memory old new
+WorkPoisons old (OfFlushFinish job) new =
+    IsDueToFinish old job × (old.memory.poisoned ≡ false)
+    × (Poisons old.memory old new ⊎ ((mid left : Remembered) × FlushedInMemory old.memory job.keyspace_id mid × EvictsInMemory mid left × Poisons left old new))
+WorkPoisons old OfMaintenance new = (left : Remembered) × EvictsInMemory old.memory left × Poisons left old new
+WorkPoisons old shape new = ⊥
+
+-- a worker's step that needs a number of which none is left: a job's, a journal's, or that of a keyspace's next table
+abbrev pub UsesUp : Held → Shape → Type 0
+UsesUp old (OfFlushBegin id) = (begins_flush old.memory.trees id ≡ true) × (are_jobs_used_up old ≡ true)
+UsesUp old (OfFlushFinish job) = IsDueToFinish old job × (old.memory.poisoned ≡ false) × LastIs old job.keyspace_id (λ last. last.next_table_id ≡ 2 ^ 64 - 1)
+UsesUp old shape = ⊥
+
+-- the record of a keyspace whose flush is to be finished has no room for its table and its clears
+abbrev pub HasNoRoom : Held → Shape → Type 0
+HasNoRoom old (OfFlushFinish job) =
+    let tree = shape_in job.keyspace_id old.memory.trees in
+    IsDueToFinish old job × (old.memory.poisoned ≡ false) × LastIs old job.keyspace_id (LacksRoom tree tree.flush)
+HasNoRoom old shape = ⊥
+
+-- a flush that is to be finished in a poisoned core, and isn't stale
+abbrev pub FinishesLate : Held → Shape → Type 0
+FinishesLate old (OfFlushFinish job) = IsDueToFinish old job × (old.memory.poisoned ≡ true)
+FinishesLate old shape = ⊥
+
+-- ---- refusals
+
+-- Where no refusal is due, a fault may be told, or want of memory, or that an option's value is too long to be stored; a read of a
+-- keyspace that has tables may tell of a fault, or of a wrong block; and a worker's step that the core is poisoned, or that no number
+-- or no room is left.
 abbrev pub OwesFailure : Held → Shape → Error → Held → Type 0
 OwesFailure old shape (Io kind) new =
     (ChangesDisk (facts_of old.memory old.catalog.next_table_id) (length old.journal.buffer) shape × Poisons (at_fault shape old.memory) old new)
-    ⊎ (ReadsTables old.memory.trees shape × Looks old new × Rose old.disk.faults new.disk.faults)
+    ⊎ ((ReadsTables old.memory.trees shape × Looks old new × Rose old.disk.faults new.disk.faults) ⊎ WorkPoisons old shape new)
 OwesFailure old shape OutOfMemory new = TakesMemory shape × RanOut old shape new
 OwesFailure old shape (Storage told) new = (told ≡ TableDamaged) × ReadsTables old.memory.trees shape × Looks old new
 OwesFailure old shape ValueTooLong new = TooLong (store_in old) shape × (new ≡ old)
+OwesFailure old shape Poisoned new = FinishesLate old shape × (new ≡ old)
+OwesFailure old shape NumbersUsedUp new = UsesUp old shape × (new ≡ old)
+OwesFailure old shape TooManyItems new = HasNoRoom old shape × (new ≡ old)
 OwesFailure old shape error new = ⊥
 
 -- a refusal is the one that is due, and changes nothing
@@ -235,6 +363,11 @@ OwesCreation old name options id new =
 abbrev pub OwesDeletion : Held → ℕ → Held → Type 0
 OwesDeletion old id new = ((is_living (store_in old) id ≡ false) × (new ≡ old)) ⊎ ((is_living (store_in old) id ≡ true) × Deletes old id new)
 
+-- of one keyspace, or of all that live with all journals
+abbrev pub space_in : Held → Option ℕ → ℕ
+space_in core (Some id) = table_space (shape_in id core.memory.trees)
+space_in core None = counted (tables_space (store_in core) core.memory.trees + counted (bytes_of core.memory.journals.sealed + core.journal.len))
+
 -- counts from memory
 abbrev pub HeldCount : Held → Count → Reply → Type 0
 HeldCount core Keyspaces reply = reply ≡ Number (length core.memory.keyspaces.living)
@@ -249,6 +382,11 @@ HeldCount core (Entries id) reply = reply ≡ Number (counted (version_count (sh
 HeldCount core (SealedMemtables id) reply = reply ≡ Number (length (shape_in id core.memory.trees).memory.sealed)
 HeldCount core WriteBuffer reply = reply ≡ Number (counted (buffer_size (store_in core) core.memory.trees))
 HeldCount core (shapes.WantsRotation id) reply = reply ≡ Flag (wants_rotation (store_in core) core.memory.trees id)
+HeldCount core (Tables id) reply = reply ≡ Number (length (shape_in id core.memory.trees).tables)
+HeldCount core (TablesL0 id) reply = reply ≡ Number (count_by (λ t. is_l0 t.info.level) (shape_in id core.memory.trees).tables)
+HeldCount core (DiskSpace id) reply = reply ≡ Number (space_in core id)
+HeldCount core Flushes reply = reply ≡ Number (flush_count (store_in core) core.memory.trees)
+HeldCount core ToFlush reply = (ids : Vec ℕ Global) × (reply ≡ Ids ids) × (ids.items ≡ waited_for (flushed_by core.memory.keyspaces core.memory.records) core.memory.journals.sealed)
 
 -- an answer to such a query
 abbrev pub IsOfKind : Query → Reply → Type 0
@@ -270,6 +408,9 @@ Gives old (OfHandle OneMore id) reply new = (reply ≡ Done) × (new ≡ record 
 Gives old (OfHandle OneLess id) reply new = (reply ≡ Done) × Counts old (released id old.memory) new
 Gives old (OfRotation id) reply new = (reply ≡ Flag (rotates old.memory.trees id)) × (new ≡ (if rotates old.memory.trees id then record old { memory = rotated id old.memory } else old))
 Gives old OfJournalRotation reply new = (reply ≡ Done) × RotatesJournal old new
+Gives old (OfFlushBegin id) reply new = OwesBegin (begins_flush old.memory.trees id) old id reply new
+Gives old (OfFlushFinish job) reply new = OwesFinish (is_flushing old.memory.trees job) (is_living (store_in old) job.keyspace_id) old job reply new
+Gives old OfMaintenance reply new = (reply ≡ Done) × Becomes old (evicted_in_memory old.memory) new
 Gives old (OfRead view id query) reply new = GivesRead (tables_of old id) old view id query reply × LooksAt (tables_of old id) old new
 Gives old (OfTickets call) reply new =
     TurnsTickets old.memory.next old.memory.tickets call reply new.memory.tickets × (new ≡ record old { memory = with_tickets new.memory.tickets old.memory })
@@ -295,7 +436,19 @@ abbrev pub DiskRead : List Reader → Held → Held → Type 0
 DiskRead [] old new = new.disk ≡ old.disk
 DiskRead (t ∷ tables) old new = Took old.disk new.disk []
 
--- what the disk took of a call where it failed; of a creation and a deletion the clause on crashes tells
+-- what the disk took of a sync of the journal before a flush, where it failed
+abbrev pub SyncFailed : Held → Held → Type 0
+SyncFailed old new =
+    MatchBool (is_long old.journal) (RotationTook old.disk new.disk old.journal new.journal (next_name old))
+    (TookPart old.disk new.disk old.journal.name old.journal.buffer ⊎ Took old.disk new.disk (persist_steps old.journal SyncAll))
+
+-- and where it was done
+abbrev pub SyncTook : Held → Held → Type 0
+SyncTook old new =
+    MatchBool (is_long old.journal) (Took old.disk new.disk (rotating old.disk old.journal (next_name old))) (Took old.disk new.disk (persist_steps old.journal SyncAll))
+
+-- What the disk took of a call where it failed; of a creation and a deletion, of a flush that is finished and of what follows it the
+-- clause on crashes tells.
 abbrev pub DiskFailed : Held → Shape → Held → Type 0
 DiskFailed old (OfChange change how) new = BatchTook (mode_of old how) old.disk new.disk old.journal (text_of old change)
 DiskFailed old (OfCreation name options) new = Unit {0}
@@ -304,6 +457,9 @@ DiskFailed old (OfHandle OneMore id) new = ⊥
 DiskFailed old (OfHandle OneLess id) new = Within (codes "keyspaces") old.disk new.disk
 DiskFailed old (OfRotation id) new = ⊥
 DiskFailed old OfJournalRotation new = RotationTook old.disk new.disk old.journal new.journal (next_name old)
+DiskFailed old (OfFlushBegin id) new = SyncFailed old new
+DiskFailed old (OfFlushFinish job) new = Unit {0}
+DiskFailed old OfMaintenance new = Unit {0}
 DiskFailed old (OfRead view id query) new = Took old.disk new.disk []
 DiskFailed old (OfTickets call) new = ⊥
 DiskFailed old (OfPersist mode) new = TookPart old.disk new.disk old.journal.name old.journal.buffer ⊎ Took old.disk new.disk (persist_steps old.journal mode)
@@ -333,15 +489,32 @@ DiskLooked old (OfHandle OneMore id) new = new.disk ≡ old.disk
 DiskLooked old (OfHandle OneLess id) new = Took old.disk new.disk []
 DiskLooked old (OfRotation id) new = new.disk ≡ old.disk
 DiskLooked old OfJournalRotation new = new.disk ≡ old.disk
+DiskLooked old (OfFlushBegin id) new = new.disk ≡ old.disk
+DiskLooked old (OfFlushFinish job) new = new.disk ≡ old.disk
+DiskLooked old OfMaintenance new = new.disk ≡ old.disk
 DiskLooked old (OfRead view id query) new = DiskRead (tables_of old id) old new
 DiskLooked old (OfTickets call) new = new.disk ≡ old.disk
 DiskLooked old (OfPersist mode) new = new.disk ≡ old.disk
 DiskLooked old (OfCount count) new = new.disk ≡ old.disk
 
+-- what the disk took of an eviction of all sealed journals that nobody wants
+abbrev pub EvictionTook : Remembered → Meaning → Meaning → Type 0
+EvictionTook m old new = Took old new (evicting (state_in old) (names_of (going_in m)))
+
+-- What the disk took of a flush that was finished: within the keyspace's folder, where the record that it appended says what is known of
+-- the keyspace now, and then an eviction.
+pub record FlushTook (old : Held) (id : ℕ) (new : Held) : Type 0 where
+  pub mid : Meaning
+  pub left : Remembered
+  pub flushed : FlushedInMemory old.memory id left
+  pub within : Within (keyspace_folder id) old.disk mid
+  pub evicted : EvictionTook left mid new.disk
+
 -- What the disk took of a call that was done: of a change the batch's text behind what waited in the buffer, where it doesn't
 -- wait too, and a sync where its mode asks for one; of a creation of a name that none had, and of a deletion of a keyspace that
 -- lived, another table of tree 0, where the clause on crashes tells the rest; of a release the removal of files; of a rotation of
--- the journal the buffer, its sync, and the next journal with its name; of a persist the buffer, and a sync where its mode asks for
+-- the journal the buffer, its sync, and the next journal with its name; of a flush that begins a sync or a rotation of the journal, of
+-- one that is finished its table, its record and an eviction; of a persist the buffer, and a sync where its mode asks for
 -- one; and else nothing.
 abbrev pub DiskTook : Held → Shape → Held → Type 0
 DiskTook old (OfChange (Items []) how) new = new.disk ≡ old.disk
@@ -353,6 +526,10 @@ DiskTook old (OfHandle OneMore id) new = new.disk ≡ old.disk
 DiskTook old (OfHandle OneLess id) new = RemovesLast old id new
 DiskTook old (OfRotation id) new = new.disk ≡ old.disk
 DiskTook old OfJournalRotation new = Took old.disk new.disk (rotating old.disk old.journal (next_name old))
+DiskTook old (OfFlushBegin id) new = MatchBool (begins_flush old.memory.trees id) (SyncTook old new) (new.disk ≡ old.disk)
+DiskTook old (OfFlushFinish job) new =
+    MatchBool (is_flushing old.memory.trees job && is_living (store_in old) job.keyspace_id) (FlushTook old job.keyspace_id new) (new.disk ≡ old.disk)
+DiskTook old OfMaintenance new = EvictionTook old.memory old.disk new.disk
 DiskTook old (OfRead view id query) new = DiskRead (tables_of old id) old new
 DiskTook old (OfTickets call) new = new.disk ≡ old.disk
 DiskTook old (OfPersist mode) new = Took old.disk new.disk (persist_steps old.journal mode)
@@ -399,6 +576,26 @@ pairs_reply (Err error) = Refused error
 abbrev pub number_reply : Result ℕ Error → Reply
 number_reply (Ok n) = Number n
 number_reply (Err error) = Refused error
+
+-- the job of that task
+abbrev pub job_of : Task → JobId
+job_of task = record { number = task.id; keyspace_id = task.keyspace }
+
+-- the reply to a flush that is to begin
+abbrev pub job_reply : Result (Option FlushJob) Error → Reply
+job_reply (Ok None) = Began None
+job_reply (Ok (Some job)) = Began (Some (job_of (flush_task job)))
+job_reply (Err error) = Refused error
+
+-- the reply to a flush that is to be finished
+abbrev pub finish_reply : Result Bool (Refusal FlushMade) → Reply
+finish_reply (Ok done) = Flag done
+finish_reply (Err refused) = Refused refused.error
+
+-- the reply to a question for keyspaces
+abbrev pub ids_reply : Result (Vec ℕ Global) Error → Reply
+ids_reply (Ok ids) = Ids ids
+ids_reply (Err error) = Refused error
 
 -- the reply to a rotation
 abbrev pub flag_reply : Result Bool Error → Reply

@@ -24,11 +24,12 @@ pub struct Core<D: Disk> {
 impl<D: Disk> Model for Core<D> {
     ghost use Rattle.std.specs.Coded.{codes};
     ghost use Rattle.fjall_core.specs.Holding.{Held};
+    ghost use Rattle.fjall_loading.specs.Known.{records_code};
     ghost use Rattle.fjall_state.specs.Remembered.{handles_code};
 
     ghost Value = { Held };
 
-    ghost coded = { Prim.hlevel (codes, handles_code) };
+    ghost coded = { Prim.hlevel (codes, handles_code, records_code) };
 
     ghost view = { λ core. record { disk = D.meaning core.disk; journal = core.journal; catalog = core.catalog; memory = core.memory } };
 }

@@ -5,6 +5,7 @@ mod clears;
 mod close;
 mod config;
 mod engine;
+mod flushes;
 mod journals;
 mod keyspaces;
 mod laws;
@@ -14,12 +15,14 @@ mod reads;
 mod replies;
 mod run;
 mod snapshots;
+mod tables;
 mod writes;
 
 pub use config::Config;
 pub use engine::Core;
+pub use fjall_jobs::{FlushJob, FlushMade};
 pub use fjall_journal::{BatchItem, Op, PersistMode};
-pub use fjall_state::{Call, Reply, Ticket, View};
+pub use fjall_state::{Call, JobId, Reply, Ticket, View};
 pub use fjall_versions::KeyRange;
 pub use laws::{
     a_core_holds_amid, a_crash_amid_holds, a_last_sync, a_life_holds, a_run_blames_the_device,

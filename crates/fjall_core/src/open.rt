@@ -75,6 +75,7 @@ impl<D: Disk> Core<D> {
                     opened.sealed,
                     opened.active,
                     opened.watermarks,
+                    opened.records,
                 ),
             }),
             Err(error) => Err(Refused { error, value: disk }),

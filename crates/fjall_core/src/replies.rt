@@ -1,7 +1,7 @@
 //! Results of calls, as replies.
 
 ghost use Rattle.std.specs.Prelude.{◌≡◌};
-ghost use Rattle.fjall_core.specs.Standing.{flag_reply, names_reply, number_reply, pairs_reply, reply_of, ticket_reply, value_reply};
+ghost use Rattle.fjall_core.specs.Standing.{flag_reply, ids_reply, names_reply, number_reply, pairs_reply, reply_of, ticket_reply, value_reply};
 
 use fjall_base::{KvPair, Result, Slice, UserValue};
 use fjall_state::{Reply, Ticket};
@@ -72,6 +72,16 @@ pub(crate) fn names_reply(found: Result<Vec<Slice>>) -> Reply
 {
     match found {
         Ok(names) => Reply::Names(names),
+        Err(error) => Reply::Refused(error),
+    }
+}
+
+/// The reply to a question for keyspaces.
+pub(crate) fn ids_reply(found: Result<Vec<u64>>) -> Reply
+    ensures { result ≡ ids_reply found }
+{
+    match found {
+        Ok(ids) => Reply::Ids(ids),
         Err(error) => Reply::Refused(error),
     }
 }

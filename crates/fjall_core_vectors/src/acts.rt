@@ -1,6 +1,7 @@
 //! Scenarios over a disk in memory: lists of acts, and what each of them answers.
 
 use crate::database::{Database, add, closed, crashed, items, opened, view_of};
+use crate::lists::{all_told, flush, serve};
 use crate::script::Line;
 use crate::tape::Tape;
 use fjall_base::{CompressionType, Disk, Error, KvPair, Refused, Result, Slice, checksum};
@@ -40,6 +41,27 @@ pub enum Act {
     Visible,
     Space,
     Journals,
+    /// These lines in one list of calls: what is replied to each.
+    Serve(&'static [Line]),
+    /// A flush of a keyspace begins, is run and finished: whether there was one.
+    Flush(u64),
+    /// Inserts so many keys of two bytes into a keyspace.
+    Many(u64, u16),
+    /// The ids of the keyspaces that hold the oldest sealed journal back.
+    ToFlush,
+    /// How many keyspaces wait for a flush.
+    Outstanding,
+    /// How many sealed memtables a keyspace has.
+    Sealed(u64),
+    /// The sizes of all memtables.
+    WriteBuffer,
+    /// How many versions a keyspace has.
+    Versions(u64),
+    Tables(u64),
+    /// The tables of a keyspace at level 0.
+    Level0(u64),
+    /// How many bytes the tables of a keyspace have, or all tables and journals.
+    DiskSpace(Option<u64>),
     /// The database is closed, and its disk left.
     Close,
     /// Its disk is left as it is.
@@ -56,6 +78,10 @@ pub enum Act {
     Add(&'static str, &'static [u8]),
     /// Adds so many bytes of `ONE` to the journal.
     One(usize),
+    /// Makes a folder.
+    Folder(&'static str),
+    /// A file ends at this length.
+    Cut(&'static str, usize),
     /// Puts another byte at a place of a file.
     Damage(&'static str, usize, u8),
     /// Adds a batch to the journal: its number and changes.
@@ -221,6 +247,13 @@ fn told_number(core: &Database<MemoryDisk>, act: Act) -> Option<u64> {
         Act::Space => Some(core.journal_disk_space()),
         Act::Journals => Some(core.journal_count() as u64),
         Act::Snapshots => Some(core.open_snapshots()),
+        Act::Outstanding => Some(core.outstanding_flushes() as u64),
+        Act::Sealed(id) => Some(core.sealed_memtable_count(id) as u64),
+        Act::WriteBuffer => Some(core.write_buffer_size()),
+        Act::Versions(id) => Some(core.approximate_len(id)),
+        Act::Tables(id) => Some(core.table_count(id) as u64),
+        Act::Level0(id) => Some(core.l0_table_count(id) as u64),
+        Act::DiskSpace(id) => Some(core.disk_space(id)),
         _ => None,
     }
 }
@@ -232,6 +265,40 @@ fn told(alloc: Global, core: &Database<MemoryDisk>, act: Act) -> Result<String> 
         number_text(alloc, number)
     } else {
         Ok(String::from_str(alloc, "the database is open")?)
+    }
+}
+
+/// Ids, with a space between them.
+fn ids_text(alloc: Global, ids: &[u64]) -> Result<String> {
+    let mut text = String::new(alloc);
+    for id in ids {
+        if !text.is_empty() {
+            text.push_str(" ")?;
+        }
+        text.push_str(&format!(in alloc; "{id}")?)?;
+    }
+    Ok(text)
+}
+
+/// Inserts so many keys of two bytes.
+fn insert_many(core: &mut Database<MemoryDisk>, id: u64, count: u16) -> Result<()> {
+    for key in 0..count {
+        core.insert(id, &key.to_be_bytes(), b"v")?;
+    }
+    Ok(())
+}
+
+/// What an open database answers to what is of flushes.
+fn flushed(alloc: Global, core: &mut Database<MemoryDisk>, act: Act) -> Result<String> {
+    match act {
+        Act::Serve(lines) => all_told(alloc, &serve(core, lines)?),
+        Act::Flush(id) => flag_text(alloc, flush(core, &[Line::Begin(id), Line::Finish(id)])?),
+        Act::ToFlush => ids_text(alloc, &core.keyspaces_to_flush()?),
+        Act::Many(id, count) => {
+            insert_many(core, id, count)?;
+            Ok(String::new(alloc))
+        }
+        _ => told(alloc, core, act),
     }
 }
 
@@ -248,7 +315,7 @@ fn asked(alloc: Global, core: &mut Database<MemoryDisk>, act: Act) -> Result<Str
         Act::Page(id, from, to, back, max) => page_text(alloc, core, id, (from, to), back, max),
         Act::Names => names_text(alloc, &core.names()?),
         Act::Exists(name) => flag_text(alloc, core.keyspace_exists(name.as_bytes())),
-        _ => told(alloc, core, act),
+        _ => flushed(alloc, core, act),
     }
 }
 
@@ -328,6 +395,8 @@ fn changed(alloc: Global, disk: &mut MemoryDisk, act: Act) -> Result<String> {
     match act {
         Act::Add(name, bytes) => add(disk, name, bytes)?,
         Act::One(len) => add(disk, "0.jnl", one(len))?,
+        Act::Folder(name) => disk.make_folder(name)?,
+        Act::Cut(name, len) => disk.cut_sync(name, len)?,
         Act::Damage(name, at, byte) => damage(alloc, disk, name, at, byte)?,
         Act::Batch(seqno, changes) => add(disk, "0.jnl", &batch(alloc, seqno, changes)?)?,
         _ => return Ok(String::from_str(alloc, "no database is open")?),

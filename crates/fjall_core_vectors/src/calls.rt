@@ -1,13 +1,13 @@
 //! Reads, writes and lists of calls.
 
 use crate::acts::Act::*;
-use crate::acts::{ITEMS, Row, Scenario, first_wrong, names_text};
+use crate::acts::{ITEMS, Row, Scenario, first_wrong};
 use crate::database::{Database, Item, batch, items, opened, view_of};
+use crate::lists::{all_told, creation, insertion};
 use crate::script::Line::*;
 use fjall_base::{ClosedDisk, Disk, Error, Result, Slice};
-use fjall_core::{Call, Config, PersistMode, Reply, Ticket, View};
+use fjall_core::{Call, Config, JobId, PersistMode, Reply, Ticket, View};
 use fjall_memory::MemoryDisk;
-use fjall_options::KeyspaceCreateOptions;
 use std::alloc::{AllocError, Global};
 use std::ops::Bound::{Excluded, Included, Unbounded};
 use std::test::Fail;
@@ -160,6 +160,18 @@ enum Request {
     PageSeenAt(u64),
     Gc,
     OpenSnapshots,
+    FlushBegin(u64),
+    /// Of the job that the call at this place began.
+    FlushFinish(u64),
+    Maintenance,
+    SealedMemtableCount,
+    OutstandingFlushes,
+    TableCount,
+    L0TableCount,
+    DiskSpace(Option<u64>),
+    ApproximateLen,
+    WriteBufferSize,
+    KeyspacesToFlush,
 }
 
 /// The calls of keyspaces, keys and counts, for a new database.
@@ -214,17 +226,43 @@ const OF_TICKETS: &[Request] = &[
     Request::Seqno,
 ];
 
-/// The call that makes the keyspace.
-fn creation(alloc: Global) -> Result<Call> {
-    let options = KeyspaceCreateOptions::default(alloc)?;
-    Ok(Call::Keyspace(Slice::new(alloc, b"items")?, options))
-}
-
-/// The call that gives the key a value in the keyspace of this id.
-fn insertion(alloc: Global, id: u64) -> Result<Call> {
-    let key = Slice::new(alloc, b"a")?;
-    Ok(Call::Insert(id, key, Slice::new(alloc, b"b")?))
-}
+/// Those of flushes: a job is named by the place of the call that began it. Three memtables are sealed, and then no flush begins
+/// beside one that is out, none is finished twice, and none that never began.
+const OF_FLUSHES: &[Request] = &[
+    Request::Keyspace,
+    Request::Insert(1),
+    Request::RotateMemtable,
+    Request::Insert(1),
+    Request::RotateMemtable,
+    Request::Insert(1),
+    Request::RotateMemtable,
+    Request::SealedMemtableCount,
+    Request::OutstandingFlushes,
+    Request::FlushBegin(1),
+    Request::OutstandingFlushes,
+    Request::FlushBegin(1),
+    Request::FlushFinish(11),
+    Request::FlushFinish(0),
+    Request::FlushFinish(99),
+    Request::SealedMemtableCount,
+    Request::WriteBufferSize,
+    Request::FlushFinish(9),
+    Request::SealedMemtableCount,
+    Request::OutstandingFlushes,
+    Request::TableCount,
+    Request::L0TableCount,
+    Request::WriteBufferSize,
+    Request::ApproximateLen,
+    Request::FlushFinish(9),
+    Request::FlushBegin(1),
+    Request::FlushBegin(2),
+    Request::FlushBegin(0),
+    Request::Maintenance,
+    Request::KeyspacesToFlush,
+    Request::DiskSpace(None),
+    Request::DiskSpace(Some(1)),
+    Request::DiskSpace(Some(2)),
+];
 
 /// What the batch changes.
 const CHANGES: &[Item] = &[(1, "c", Some("d")), (1, "a", None)];
@@ -245,6 +283,24 @@ fn page_at(view: View) -> Call {
 }
 
 impl Request {
+    /// The call, where it is of flushes.
+    fn of_flush(self) -> Option<Call> {
+        match self {
+            Request::FlushBegin(id) => Some(Call::FlushBegin(id)),
+            Request::FlushFinish(place) => Some(Call::FlushFinish(JobId::of_call(place))),
+            Request::Maintenance => Some(Call::Maintenance),
+            Request::SealedMemtableCount => Some(Call::SealedMemtableCount(1)),
+            Request::OutstandingFlushes => Some(Call::OutstandingFlushes),
+            Request::TableCount => Some(Call::TableCount(1)),
+            Request::L0TableCount => Some(Call::L0TableCount(1)),
+            Request::DiskSpace(id) => Some(Call::DiskSpace(id)),
+            Request::ApproximateLen => Some(Call::ApproximateLen(1)),
+            Request::WriteBufferSize => Some(Call::WriteBufferSize),
+            Request::KeyspacesToFlush => Some(Call::KeyspacesToFlush),
+            _ => None,
+        }
+    }
+
     /// The call, where it is of tickets or of a page.
     fn of_ticket(self) -> Option<Call> {
         match self {
@@ -255,7 +311,7 @@ impl Request {
             Request::PageAt => Some(page_at(View::Present)),
             Request::Gc => Some(Call::Gc),
             Request::OpenSnapshots => Some(Call::OpenSnapshots),
-            _ => None,
+            _ => self.of_flush(),
         }
     }
 
@@ -298,8 +354,8 @@ impl Request {
             return Ok(call);
         }
         match self {
-            Request::Keyspace => creation(alloc),
-            Request::Insert(id) => insertion(alloc, id),
+            Request::Keyspace => creation(alloc, "items"),
+            Request::Insert(id) => insertion(alloc, id, "a", "b"),
             Request::CommitBatch => commit(alloc),
             Request::SeenAt(place) => seen_at(alloc, place),
             _ => Ok(self.naming(alloc)?),
@@ -314,40 +370,6 @@ fn calls(alloc: Global, requests: &[Request]) -> Result<Vec<Call>> {
         calls.push(request.call(alloc)?)?;
     }
     Ok(calls)
-}
-
-/// What a reply tells, where the text of its names is this.
-fn told_with(alloc: Global, reply: &Reply, names: &str) -> std::result::Result<String, AllocError> {
-    match reply {
-        Reply::Done => String::from_str(alloc, "done"),
-        Reply::Value(Some(value)) => format!(in alloc; "value {:?}", value.as_slice()),
-        Reply::Value(None) => String::from_str(alloc, "no value"),
-        Reply::Pairs(pairs) => format!(in alloc; "{} pairs", pairs.len()),
-        Reply::Number(number) => format!(in alloc; "number {number}"),
-        Reply::Names(_) => format!(in alloc; "names {names}"),
-        Reply::Flag(is_so) => format!(in alloc; "flag {is_so}"),
-        Reply::Opened(ticket) => format!(in alloc; "ticket {} at {}", ticket.id, ticket.instant),
-        Reply::Refused(error) => format!(in alloc; "refused {error:?}"),
-    }
-}
-
-/// What a reply tells.
-fn told(alloc: Global, reply: &Reply) -> Result<String> {
-    let names = match reply {
-        Reply::Names(names) => names_text(alloc, names)?,
-        _ => String::new(alloc),
-    };
-    Ok(told_with(alloc, reply, &names)?)
-}
-
-/// What replies tell, each with a semicolon behind it.
-fn all_told(alloc: Global, replies: &[Reply]) -> Result<String> {
-    let mut text = String::new(alloc);
-    for reply in replies {
-        text.push_str(&told(alloc, reply)?)?;
-        text.push_str("; ")?;
-    }
-    Ok(text)
 }
 
 /// What a database replies to these requests.
@@ -381,6 +403,14 @@ const LISTS: &[(&[Request], &str)] = &[
         done; refused SnapshotClosed; refused SnapshotClosed; value [98]; 1 pairs; no value; \
         refused SnapshotClosed; refused SnapshotClosed; refused SnapshotClosed; number 2; number 1; \
         number 3; ",
+    ),
+    (
+        OF_FLUSHES,
+        "number 1; done; flag true; done; flag true; done; flag true; number 3; number 1; \
+        job 0 of 1; number 0; no job; flag false; flag false; flag false; number 3; number 54; \
+        flag true; number 0; number 0; number 1; number 1; number 0; number 1; \
+        flag false; no job; refused UnknownKeyspace; refused UnknownKeyspace; done; ids []; \
+        number 251; number 104; number 0; ",
     ),
 ];
 

@@ -117,6 +117,48 @@ impl<D: Disk> Database<D> {
         self.core.journal_count()
     }
 
+    /// Begins a flush, and lets its job go; answers whether one began.
+    pub fn flush_begin(&mut self, id: u64) -> Result<bool> {
+        Ok(self.core.flush_begin(id)?.is_some())
+    }
+
+    pub fn maintenance(&mut self) -> Result<()> {
+        self.core.maintenance()
+    }
+
+    pub fn keyspaces_to_flush(&mut self) -> Result<Vec<u64>> {
+        self.core
+            .get_keyspaces_to_flush_for_oldest_journal_eviction()
+    }
+
+    pub fn outstanding_flushes(&self) -> usize {
+        self.core.outstanding_flushes()
+    }
+
+    pub fn sealed_memtable_count(&self, id: u64) -> usize {
+        self.core.sealed_memtable_count(id)
+    }
+
+    pub fn write_buffer_size(&self) -> u64 {
+        self.core.write_buffer_size()
+    }
+
+    pub fn approximate_len(&self, id: u64) -> u64 {
+        self.core.approximate_len(id)
+    }
+
+    pub fn table_count(&self, id: u64) -> usize {
+        self.core.table_count(id)
+    }
+
+    pub fn l0_table_count(&self, id: u64) -> usize {
+        self.core.l0_table_count(id)
+    }
+
+    pub fn disk_space(&self, id: Option<u64>) -> u64 {
+        self.core.disk_space(id)
+    }
+
     pub fn commit_batch(&mut self, items: &[Item], mode: Option<PersistMode>) -> Result<()> {
         let items = batch(self.alloc, items)?;
         self.core.commit_batch(items, mode)
@@ -190,6 +232,10 @@ impl<D: Disk> Database<D> {
 
     pub fn journal_disk_space(&self) -> u64 {
         self.core.journal_disk_space()
+    }
+
+    pub fn alloc(&self) -> Global {
+        self.alloc
     }
 
     pub fn run(&mut self, calls: Vec<Call>) -> Result<Vec<Reply>> {

@@ -16,11 +16,17 @@ mod database;
 #[cfg(test)]
 mod faults;
 #[cfg(test)]
+mod flushes;
+#[cfg(test)]
+mod flushing;
+#[cfg(test)]
 mod folders;
 #[cfg(test)]
 mod journals;
 #[cfg(test)]
 mod keyspaces;
+#[cfg(test)]
+mod lists;
 #[cfg(test)]
 mod moments;
 #[cfg(test)]
@@ -39,3 +45,5 @@ mod sweep;
 mod tape;
 #[cfg(test)]
 mod tickets;
+#[cfg(test)]
+mod work;

@@ -2,8 +2,8 @@
 
 use crate::database::opened;
 use crate::moments::Moment;
-use crate::script::{Checked, Tried};
-use crate::sweep::{check_disk, lines, recorded, step_count};
+use crate::script::{Checked, Line, Tried, script};
+use crate::sweep::{check_disk, first, recorded, step_count};
 use crate::tape::{Log, Step, Tape};
 use std::alloc::Global;
 use std::test::Fail;
@@ -119,10 +119,10 @@ fn check_each(alloc: Global, images: Vec<Moment>, tried: &Tried) -> Checked<usiz
     Ok(count)
 }
 
-/// Crashes the openings of what each crash may leave of the script's lines from one on, before another.
-fn check_restarts(alloc: Global, from: usize, end: usize) -> Checked<usize> {
-    let from = step_count(alloc, lines(from))?;
-    let (tried, log) = recorded(alloc, lines(end))?;
+/// Crashes the openings of what each crash may leave of these lines, from one on and before another.
+pub fn check_restarts(alloc: Global, lines: &[Line], from: usize, end: usize) -> Checked<usize> {
+    let from = step_count(alloc, first(lines, from))?;
+    let (tried, log) = recorded(alloc, first(lines, end))?;
     let images = images_from(alloc, &log, from)?;
     check_each(alloc, images, &tried)
 }
@@ -142,21 +142,21 @@ fn the_first_opening_is_crashed_three_times(rt: HostRuntime) -> Result<(), Fail>
 
 #[test]
 fn openings_up_to_the_first_closing_are_crashed_three_times(rt: HostRuntime) -> Result<(), Fail> {
-    let count = check_restarts(rt.alloc(), 0, 26)?;
+    let count = check_restarts(rt.alloc(), script(), 0, 26)?;
     assert!(rt; count > 550, "{count} openings");
     Ok(())
 }
 
 #[test]
 fn openings_up_to_the_second_closing_are_crashed_three_times(rt: HostRuntime) -> Result<(), Fail> {
-    let count = check_restarts(rt.alloc(), 26, 39)?;
+    let count = check_restarts(rt.alloc(), script(), 26, 39)?;
     assert!(rt; count > 110, "{count} openings");
     Ok(())
 }
 
 #[test]
 fn openings_behind_it_are_crashed_three_times(rt: HostRuntime) -> Result<(), Fail> {
-    let count = check_restarts(rt.alloc(), 39, usize::MAX)?;
+    let count = check_restarts(rt.alloc(), script(), 39, usize::MAX)?;
     assert!(rt; count > 650, "{count} openings");
     Ok(())
 }

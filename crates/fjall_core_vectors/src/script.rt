@@ -1,8 +1,10 @@
 //! A script of calls, and what it must leave.
 
 use crate::database::{Database, Item, opened, view_of};
+use crate::lists::{answer, flush, serve};
 use crate::reference::{Change, Command, Home, are_seen, fold, shown};
 use crate::tickets::Tickets;
+use crate::work::Work;
 use fjall_base::{Disk, Error, Refused, Result, Slice};
 use fjall_core::{PersistMode, View};
 use std::alloc::{AllocError, AllocFailed, Global};
@@ -25,6 +27,11 @@ pub enum Line {
     Rotate(u64),
     /// The journal is sealed, and the next one begun.
     RotateJournal,
+    /// A flush of a keyspace begins; outside a list of calls its job is let go.
+    Begin(u64),
+    /// The flush of a keyspace that began last in the same list of calls is run and finished.
+    Finish(u64),
+    Maintain,
     Snapshot,
     /// Of the ticket of this id.
     CloneSnapshot(u64),
@@ -155,8 +162,7 @@ pub struct History {
     accepted: usize,
     is_poisoned: bool,
     tickets: Tickets,
-    // of each memtable that was sealed, which keyspace's, and how many commands were accepted before
-    sealed: Vec<(u64, usize)>,
+    work: Work,
 }
 
 /// A database shows the keyspaces that these commands make.
@@ -193,14 +199,29 @@ impl Tried {
 impl Line {
     /// Whether it syncs what was accepted before it, where it is done. What a creation or a deletion itself does is
     /// safe then, too.
-    fn is_sync(&self, is_command: bool) -> bool {
+    fn is_sync(&self, is_command: bool, answer: Option<u64>) -> bool {
         match self {
             Line::Create(_) | Line::Delete(_) => is_command,
             Line::Commit(_, Some(mode)) => is_command && !matches!(mode, PersistMode::Buffer),
             Line::Persist(mode) => !matches!(mode, PersistMode::Buffer),
             Line::RotateJournal => true,
+            Line::Begin(_) => answer == Some(1),
             _ => false,
         }
+    }
+
+    /// Whether a poisoned database refuses it, though it is no command.
+    fn is_change(&self, answer: Option<u64>) -> bool {
+        match self {
+            Line::Rotate(_) | Line::RotateJournal | Line::Begin(_) | Line::Maintain => true,
+            Line::Finish(_) => answer == Some(1),
+            _ => false,
+        }
+    }
+
+    /// Whether a fault in it leaves open what was flushed, or which journals there are.
+    fn is_work(&self) -> bool {
+        matches!(self, Line::RotateJournal | Line::Finish(_) | Line::Maintain)
     }
 
     /// Asks for it, where it is of keys, or of all of them.
@@ -224,11 +245,13 @@ impl Line {
             Line::CloseSnapshot(id) => core.close_snapshot(*id),
             Line::Persist(mode) => core.persist(*mode),
             Line::RotateJournal => core.rotate_journal(),
+            Line::Maintain => core.maintenance(),
             _ => self.ask_of_keys(core),
         }
     }
 
-    /// Asks for it; answers the id of what it makes or opens, the watermark, or 1 where it seals a memtable, else 0.
+    /// Asks for it; answers the id of what it makes or opens, the watermark, or 1 where it seals a memtable, begins a flush or
+    /// finishes one, else 0.
     pub fn ask<D: Disk>(&self, core: &mut Database<D>) -> Result<Option<u64>> {
         match self {
             Line::Create(name) => Ok(Some(core.keyspace(name.as_bytes())?)),
@@ -236,6 +259,8 @@ impl Line {
             Line::CloneSnapshot(id) => Ok(Some(core.clone_snapshot(*id)?)),
             Line::Gc => Ok(Some(core.gc())),
             Line::Rotate(id) => Ok(Some(u64::from(core.rotate_memtable(*id)?))),
+            Line::Begin(id) => Ok(Some(u64::from(core.flush_begin(*id)?))),
+            Line::Finish(_) => Ok(Some(u64::from(flush(core, &[*self])?))),
             _ => {
                 self.ask_to_change(core)?;
                 Ok(None)
@@ -296,7 +321,7 @@ impl History {
             accepted: 0,
             is_poisoned: false,
             tickets: Tickets::new(alloc),
-            sealed: Vec::new(alloc),
+            work: Work::new(alloc),
         }
     }
 
@@ -330,45 +355,69 @@ impl History {
         })
     }
 
-    /// How many commands were accepted before the memtable of a keyspace was sealed last; 0 where it wasn't since the opening.
-    fn sealed_behind(&self, id: u64) -> usize {
-        let mut count = 0usize;
-        for (other, accepted) in &self.sealed {
-            if *other == id {
-                count = *accepted;
-            }
-        }
-        count
+    /// Whether a question was answered as it must be, where what must be is known.
+    fn is_told(&self, answer: Option<u64>, is_so: bool) -> bool {
+        self.work.is_unsure || answer == Some(u64::from(is_so))
     }
 
-    /// Whether the memtable of a keyspace holds something.
-    fn has_memtable(&self, id: u64) -> bool {
-        let mut is_held = false;
-        for (at, command) in self.tried.commands.iter().enumerate() {
-            is_held = is_held || self.sealed_behind(id) <= at && command.is_kept_in(id);
-        }
-        is_held
-    }
-
-    /// Seals the memtable of a keyspace, where it holds something, which raises the watermark; answers whether it does.
-    fn seal(&mut self, id: u64) -> Result<bool> {
-        let is_held = self.has_memtable(id);
-        if is_held {
+    /// Seals the memtable of a keyspace, where it holds something, which raises the watermark.
+    fn note_seal(&mut self, id: u64, answer: Option<u64>) -> Result<bool> {
+        let is_held = self.work.has_memtable(&self.tried.commands, id);
+        if answer == Some(1) {
             self.tickets.gc(self.accepted);
-            self.sealed.push((id, self.accepted))?;
+            self.work.seal(id, self.accepted)?;
         }
-        Ok(is_held)
+        Ok(self.is_told(answer, is_held))
     }
 
-    /// Takes note of what a line does to snapshots and memtables; answers whether this is what it must answer.
-    fn note(&mut self, line: Line, answer: Option<u64>) -> Result<bool> {
+    /// A flush begins, where a memtable is sealed and none is out.
+    fn note_beginning(&mut self, id: u64, answer: Option<u64>) -> Result<bool> {
+        let is_wanted = self.work.wants_flush(id);
+        if answer == Some(1) {
+            self.work.begin(id)?;
+        }
+        Ok(self.is_told(answer, is_wanted))
+    }
+
+    /// Journals are removed that no keyspace holds back which lives.
+    fn note_eviction(&mut self, alloc: Global) -> Result<()> {
+        let homes = self.homes(alloc)?;
+        self.work.evict(&self.tried.commands, &homes)
+    }
+
+    /// A flush that is out of a keyspace that lives is finished, and journals are removed.
+    fn note_ending(&mut self, alloc: Global, id: u64, answer: Option<u64>) -> Result<bool> {
+        let is_due = self.work.is_out(id) && lives(&self.homes(alloc)?, id);
+        if answer == Some(1) {
+            self.work.finish(id)?;
+            self.note_eviction(alloc)?;
+        } else {
+            self.work.drop_flush(id)?;
+        }
+        Ok(self.is_told(answer, is_due))
+    }
+
+    /// Takes note of what a line does to memtables, tables and journals; answers whether this is what it must answer.
+    fn note_work(&mut self, alloc: Global, line: Line, answer: Option<u64>) -> Result<bool> {
+        match line {
+            Line::Rotate(id) => return self.note_seal(id, answer),
+            Line::Begin(id) => return self.note_beginning(id, answer),
+            Line::Finish(id) => return self.note_ending(alloc, id, answer),
+            Line::RotateJournal => self.work.rotate_journal(self.accepted)?,
+            Line::Maintain => self.note_eviction(alloc)?,
+            _ => {}
+        }
+        Ok(true)
+    }
+
+    /// Takes note of what a line does beside its command; answers whether this is what it must answer.
+    fn note(&mut self, alloc: Global, line: Line, answer: Option<u64>) -> Result<bool> {
         Ok(match line {
             Line::Snapshot => answer == Some(self.tickets.open(self.accepted)?),
             Line::CloneSnapshot(id) => { answer.is_some() && answer == self.tickets.open_like(id)? }
             Line::CloseSnapshot(id) => self.tickets.close(id),
             Line::Gc => answer == Some(self.tickets.gc(self.accepted)),
-            Line::Rotate(id) => answer == Some(u64::from(self.seal(id)?)),
-            _ => true,
+            _ => self.note_work(alloc, line, answer)?,
         })
     }
 
@@ -381,10 +430,16 @@ impl History {
     }
 
     /// A call was done.
-    fn accept(&mut self, line: Line, answer: Option<u64>, command: Option<Command>) -> Checked<()> {
+    fn accept(
+        &mut self,
+        alloc: Global,
+        line: Line,
+        answer: Option<u64>,
+        command: Option<Command>,
+    ) -> Checked<()> {
         let is_command = command.is_some();
-        let is_due = self.note(line, answer)?;
-        let is_change = is_command || matches!(line, Line::Rotate(_) | Line::RotateJournal);
+        let is_due = self.note(alloc, line, answer)?;
+        let is_change = is_command || line.is_change(answer);
         if !is_due || is_change && self.is_poisoned {
             return Err(Wrong::Line(line));
         }
@@ -392,24 +447,29 @@ impl History {
         if !self.is_poisoned {
             self.accepted = self.tried.commands.len();
         }
-        if line.is_sync(is_command) {
+        if line.is_sync(is_command, answer) {
             self.tried.safe = self.accepted;
         }
         Ok(())
     }
 
-    /// A call met the fault, and a crash may leave its command or not; or it found no memory, and then nothing was tried.
-    fn fault(&mut self, error: Error, command: Option<Command>) -> Checked<()> {
+    /// A call met the fault, or found no memory.
+    fn meet(&mut self, error: Error) -> Checked<()> {
         match error {
-            Error::OutOfMemory if self.at_fault.is_none() => {}
-            Error::Io(_) if self.at_fault.is_none() => {
-                self.is_poisoned = true;
-                self.tried.commands.extend(command)?;
-            }
+            Error::OutOfMemory | Error::Io(_) if self.at_fault.is_none() => {}
             _ => return Err(Wrong::Fault(error)),
         }
         self.at_fault = Some(self.tried.clone()?);
         Ok(())
+    }
+
+    /// A call met the fault, and a crash may leave its command or not; or it found no memory, and then nothing was tried.
+    fn fault(&mut self, error: Error, command: Option<Command>) -> Checked<()> {
+        if matches!(error, Error::Io(_)) && self.at_fault.is_none() {
+            self.is_poisoned = true;
+            self.tried.commands.extend(command)?;
+        }
+        self.meet(error)
     }
 
     /// A call was refused, for the fault or since one before it was.
@@ -420,7 +480,10 @@ impl History {
             Error::UnknownKeyspace | Error::KeyspaceDeleted => {
                 command.is_none() && self.at_fault.is_some()
             }
-            _ => return self.fault(error, command),
+            _ => {
+                self.work.is_unsure = self.work.is_unsure || line.is_work();
+                return self.fault(error, command);
+            }
         };
         if is_due {
             Ok(())
@@ -465,26 +528,65 @@ impl History {
         Ok(true)
     }
 
+    /// It has as many journals as must be, where that is known.
+    fn are_counted<D: Disk>(&self, core: &Database<D>) -> bool {
+        self.work.is_unsure || core.journal_count() == self.work.journal_count()
+    }
+
     /// A database shows the keyspaces that the accepted commands make, and by each ticket what it must.
     fn is_shown<D: Disk>(&self, alloc: Global, core: &mut Database<D>) -> Result<bool> {
         let homes = self.homes(alloc)?;
-        if shown(alloc, core, View::Present)? != homes {
+        if shown(alloc, core, View::Present)? != homes || !self.are_counted(core) {
             return Ok(false);
         }
         self.are_views(alloc, core, &homes)
     }
 
-    /// Asks for what a line says.
-    fn serve<D: Disk>(&mut self, alloc: Global, core: &mut Database<D>, line: Line) -> Checked<()> {
-        let command = self.command(alloc, line)?;
-        match line.ask(core) {
-            Ok(answer) => self.accept(line, answer, command)?,
-            Err(error) => self.refuse(line, error, command)?,
-        }
-        if self.is_shown(alloc, core)? {
+    /// What a line left is shown. A read that meets the fault is asked once more.
+    fn check<D: Disk>(&mut self, alloc: Global, core: &mut Database<D>, line: Line) -> Checked<()> {
+        let is_shown = match self.is_shown(alloc, core) {
+            Ok(is_shown) => is_shown,
+            Err(error) => {
+                self.meet(error)?;
+                self.is_shown(alloc, core)?
+            }
+        };
+        if is_shown {
             Ok(())
         } else {
             Err(Wrong::Line(line))
+        }
+    }
+
+    /// Takes what a line was answered.
+    fn hear(&mut self, alloc: Global, line: Line, heard: Result<Option<u64>>) -> Checked<()> {
+        let command = self.command(alloc, line)?;
+        match heard {
+            Ok(answer) => self.accept(alloc, line, answer, command),
+            Err(error) => self.refuse(line, error, command),
+        }
+    }
+
+    /// Asks for what a line says.
+    fn serve<D: Disk>(&mut self, alloc: Global, core: &mut Database<D>, line: Line) -> Checked<()> {
+        self.hear(alloc, line, line.ask(core))?;
+        self.check(alloc, core, line)
+    }
+
+    /// Asks for what these lines say in one list of calls.
+    fn serve_list<D: Disk>(
+        &mut self,
+        alloc: Global,
+        core: &mut Database<D>,
+        lines: &[Line],
+    ) -> Checked<()> {
+        let replies = serve(core, lines)?;
+        for (line, reply) in lines.iter().zip(replies) {
+            self.hear(alloc, *line, answer(reply))?;
+        }
+        match lines.last() {
+            Some(line) => self.check(alloc, core, *line),
+            None => Ok(()),
         }
     }
 
@@ -499,16 +601,28 @@ impl History {
         }
     }
 
+    /// For how many commands a database stands. A read that meets the fault is asked once more.
+    fn stand<D: Disk>(&mut self, alloc: Global, core: &mut Database<D>) -> Checked<usize> {
+        match self.tried.stand_in(alloc, core) {
+            Err(Wrong::Error(error)) => {
+                self.meet(error)?;
+                self.tried.stand_in(alloc, core)
+            }
+            stood => stood,
+        }
+    }
+
     /// Opens a database. From then on all that it shows is safe.
     fn open<D: Disk + Drop>(&mut self, alloc: Global, disk: D) -> Checked<Database<D>> {
         let mut core = self.try_open(alloc, disk)?;
-        let count = self.tried.stand_in(alloc, &mut core)?;
+        let count = self.stand(alloc, &mut core)?;
         self.tried.commands.truncate(count);
         self.tried.safe = count;
         self.accepted = count;
         self.is_poisoned = false;
         self.tickets = Tickets::new(alloc);
-        self.sealed.clear();
+        let homes = self.homes(alloc)?;
+        self.work.open(&self.tried.commands, &homes)?;
         Ok(core)
     }
 
@@ -525,7 +639,7 @@ impl History {
     }
 
     /// Asks for what a line says, or closes the database and opens it again.
-    fn take<D: Disk + Drop>(
+    fn take_line<D: Disk + Drop>(
         &mut self,
         alloc: Global,
         core: Database<D>,
@@ -540,12 +654,46 @@ impl History {
         Ok(core)
     }
 
-    /// Opens a database, and asks for what these lines say.
+    /// The same of lines: more than one are one list of calls.
+    fn take<D: Disk + Drop>(
+        &mut self,
+        alloc: Global,
+        core: Database<D>,
+        lines: &[Line],
+    ) -> Checked<Database<D>> {
+        if let [line] = lines {
+            return self.take_line(alloc, core, *line);
+        }
+        let mut core = core;
+        self.serve_list(alloc, &mut core, lines)?;
+        Ok(core)
+    }
+
+    /// Opens a database, and asks for what these lines say; those from the beginning of a flush up to its end are one list.
     pub fn play<D: Disk + Drop>(&mut self, alloc: Global, disk: D, lines: &[Line]) -> Checked<D> {
         let mut core = self.open(alloc, disk)?;
+        let mut list = Vec::new(alloc);
         for line in lines {
-            core = self.take(alloc, core, *line)?;
+            list.push(*line)?;
+            if !is_in_flush(&list) {
+                core = self.take(alloc, core, &list)?;
+                list.clear();
+            }
         }
+        core = self.take(alloc, core, &list)?;
         Ok(core.into_disk())
     }
+}
+
+/// Whether a flush that begins in these lines doesn't end there.
+fn is_in_flush(lines: &[Line]) -> bool {
+    let mut begun = 0usize;
+    for line in lines {
+        match line {
+            Line::Begin(_) => begun = begun.saturating_add(1),
+            Line::Finish(_) => begun = begun.saturating_sub(1),
+            _ => {}
+        }
+    }
+    begun > 0
 }

@@ -10,9 +10,8 @@ use fjall_memory::MemoryDisk;
 use std::alloc::Global;
 use std::test::Fail;
 
-/// The first lines of the script, so many of them.
-pub fn lines(count: usize) -> &'static [Line] {
-    let lines = script();
+/// The first of these lines, so many of them.
+pub fn first(lines: &[Line], count: usize) -> &[Line] {
     lines.get(..count).unwrap_or(lines)
 }
 
@@ -106,11 +105,11 @@ fn check_step(alloc: Global, moment: &mut Moment, step: &Step, tried: &Tried) ->
 }
 
 /// How many calls of the disk the lines before this one make, and how many commands are safe from then on.
-fn before(alloc: Global, line: usize) -> Checked<(usize, usize)> {
+fn before(alloc: Global, lines: &[Line], line: usize) -> Checked<(usize, usize)> {
     if line == 0 {
         return Ok((0, 0));
     }
-    let (history, log) = played(alloc, lines(line.saturating_sub(1)), 0, 0)?;
+    let (history, log) = played(alloc, first(lines, line.saturating_sub(1)), 0, 0)?;
     Ok((log.steps.len(), history.tried.safe))
 }
 
@@ -148,60 +147,60 @@ fn check_moments(
     Ok(count.saturating_add(check_ends(alloc, &moment, tried)?))
 }
 
-/// Crashes each moment of one of the script's lines; line 0 is the first opening. What the line syncs is safe behind it.
-fn check_line(alloc: Global, line: usize) -> Checked<usize> {
-    let (from, safe) = before(alloc, line)?;
-    let (history, log) = played(alloc, lines(line), 0, 0)?;
+/// Crashes each moment of one of these lines; line 0 is the first opening. What the line syncs is safe behind it.
+fn check_line(alloc: Global, lines: &[Line], line: usize) -> Checked<usize> {
+    let (from, safe) = before(alloc, lines, line)?;
+    let (history, log) = played(alloc, first(lines, line), 0, 0)?;
     check_moments(alloc, &history.tried, &log, from, safe)
 }
 
-/// Crashes each moment of these lines.
-fn check_lines(alloc: Global, from: usize, end: usize) -> Checked<usize> {
+/// Crashes each moment of these lines, from one on and before another. Answers how many crashes that were.
+pub fn check_lines(alloc: Global, lines: &[Line], from: usize, end: usize) -> Checked<usize> {
     let mut count = 0usize;
     for line in from..end {
-        count = count.saturating_add(check_line(alloc, line)?);
+        count = count.saturating_add(check_line(alloc, lines, line)?);
     }
     Ok(count)
 }
 
 #[test]
 fn each_moment_of_the_first_lines_is_crashed(rt: HostRuntime) -> Result<(), Fail> {
-    let count = check_lines(rt.alloc(), 0, 8)?;
+    let count = check_lines(rt.alloc(), script(), 0, 8)?;
     assert!(rt; count > 3_500, "{count} crashes");
     Ok(())
 }
 
 #[test]
 fn each_moment_up_to_the_first_deletion_is_crashed(rt: HostRuntime) -> Result<(), Fail> {
-    let count = check_lines(rt.alloc(), 8, 16)?;
+    let count = check_lines(rt.alloc(), script(), 8, 16)?;
     assert!(rt; count > 1_300, "{count} crashes");
     Ok(())
 }
 
 #[test]
 fn each_moment_up_to_the_first_closing_is_crashed(rt: HostRuntime) -> Result<(), Fail> {
-    let count = check_lines(rt.alloc(), 16, 26)?;
+    let count = check_lines(rt.alloc(), script(), 16, 26)?;
     assert!(rt; count > 2_500, "{count} crashes");
     Ok(())
 }
 
 #[test]
 fn each_moment_up_to_the_second_closing_is_crashed(rt: HostRuntime) -> Result<(), Fail> {
-    let count = check_lines(rt.alloc(), 26, 39)?;
+    let count = check_lines(rt.alloc(), script(), 26, 39)?;
     assert!(rt; count > 1_400, "{count} crashes");
     Ok(())
 }
 
 #[test]
 fn each_moment_up_to_the_last_deletion_is_crashed(rt: HostRuntime) -> Result<(), Fail> {
-    let count = check_lines(rt.alloc(), 39, 44)?;
+    let count = check_lines(rt.alloc(), script(), 39, 44)?;
     assert!(rt; count > 3_500, "{count} crashes");
     Ok(())
 }
 
 #[test]
 fn each_moment_of_the_last_lines_is_crashed(rt: HostRuntime) -> Result<(), Fail> {
-    let count = check_lines(rt.alloc(), 44, 49)?;
+    let count = check_lines(rt.alloc(), script(), 44, 49)?;
     assert!(rt; count > 2_400, "{count} crashes");
     Ok(())
 }
@@ -213,7 +212,7 @@ fn is_of_table(step: &Step) -> bool {
 
 /// Crashes the first creation at each length of its table.
 fn check_table(alloc: Global) -> Checked<usize> {
-    let (tried, log) = recorded(alloc, lines(1))?;
+    let (tried, log) = recorded(alloc, first(script(), 1))?;
     let mut moment = Moment::new(alloc);
     let mut count = 0usize;
     for step in &log.steps {
@@ -252,9 +251,9 @@ fn check_failure(
     Ok(count)
 }
 
-/// Lets a call of the script fail, crashes the disk at once, and again behind the last line.
-fn check_fault(alloc: Global, number: usize, part: usize) -> Checked<usize> {
-    let (history, log) = played(alloc, script(), number, part)?;
+/// Lets a call of these lines fail, crashes the disk at once, and again behind the last line.
+fn check_fault(alloc: Global, lines: &[Line], number: usize, part: usize) -> Checked<usize> {
+    let (history, log) = played(alloc, lines, number, part)?;
     let Some(at_fault) = &history.at_fault else {
         return Ok(0);
     };
@@ -263,25 +262,25 @@ fn check_fault(alloc: Global, number: usize, part: usize) -> Checked<usize> {
     Ok(count.saturating_add(check_ends(alloc, &moment, &history.tried)?))
 }
 
-/// Lets this call of the script fail; of an append none of the bytes, half of them, and all go out. Answers how many
+/// Lets this call of these lines fail; of an append none of the bytes, half of them, and all go out. Answers how many
 /// crashes followed.
-fn check_parts(alloc: Global, number: usize, step: &Step) -> Checked<usize> {
-    let count = check_fault(alloc, number, 0)?;
+fn check_parts(alloc: Global, lines: &[Line], number: usize, step: &Step) -> Checked<usize> {
+    let count = check_fault(alloc, lines, number, 0)?;
     let Step::Append(_, bytes) = step else {
         return Ok(count);
     };
-    let half = check_fault(alloc, number, bytes.len() / 2)?;
-    let all = check_fault(alloc, number, bytes.len())?;
+    let half = check_fault(alloc, lines, number, bytes.len() / 2)?;
+    let all = check_fault(alloc, lines, number, bytes.len())?;
     Ok(count.saturating_add(half).saturating_add(all))
 }
 
-/// Lets each of these calls of the script fail. Answers how many crashes followed.
-fn check_faults(alloc: Global, from: usize, end: usize) -> Checked<usize> {
-    let (_, log) = played(alloc, script(), 0, 0)?;
+/// Lets calls of these lines fail, from one on and before another. Answers how many crashes followed.
+pub fn check_faults(alloc: Global, lines: &[Line], from: usize, end: usize) -> Checked<usize> {
+    let (_, log) = played(alloc, lines, 0, 0)?;
     let mut count = 0usize;
     for (at, step) in log.steps.iter().enumerate() {
         if from <= at && at < end {
-            count = count.saturating_add(check_parts(alloc, at.saturating_add(1), step)?);
+            count = count.saturating_add(check_parts(alloc, lines, at.saturating_add(1), step)?);
         }
     }
     Ok(count)
@@ -289,42 +288,42 @@ fn check_faults(alloc: Global, from: usize, end: usize) -> Checked<usize> {
 
 #[test]
 fn each_call_up_to_the_37th_fails(rt: HostRuntime) -> Result<(), Fail> {
-    let count = check_faults(rt.alloc(), 0, 37)?;
+    let count = check_faults(rt.alloc(), script(), 0, 37)?;
     assert!(rt; count > 230, "{count} crashes");
     Ok(())
 }
 
 #[test]
 fn each_call_up_to_the_74th_fails(rt: HostRuntime) -> Result<(), Fail> {
-    let count = check_faults(rt.alloc(), 37, 74)?;
+    let count = check_faults(rt.alloc(), script(), 37, 74)?;
     assert!(rt; count > 320, "{count} crashes");
     Ok(())
 }
 
 #[test]
 fn each_call_up_to_the_111th_fails(rt: HostRuntime) -> Result<(), Fail> {
-    let count = check_faults(rt.alloc(), 74, 111)?;
+    let count = check_faults(rt.alloc(), script(), 74, 111)?;
     assert!(rt; count > 340, "{count} crashes");
     Ok(())
 }
 
 #[test]
 fn each_call_up_to_the_148th_fails(rt: HostRuntime) -> Result<(), Fail> {
-    let count = check_faults(rt.alloc(), 111, 148)?;
+    let count = check_faults(rt.alloc(), script(), 111, 148)?;
     assert!(rt; count > 290, "{count} crashes");
     Ok(())
 }
 
 #[test]
 fn each_call_up_to_the_185th_fails(rt: HostRuntime) -> Result<(), Fail> {
-    let count = check_faults(rt.alloc(), 148, 185)?;
+    let count = check_faults(rt.alloc(), script(), 148, 185)?;
     assert!(rt; count > 400, "{count} crashes");
     Ok(())
 }
 
 #[test]
 fn each_call_up_to_the_last_fails(rt: HostRuntime) -> Result<(), Fail> {
-    let count = check_faults(rt.alloc(), 185, usize::MAX)?;
+    let count = check_faults(rt.alloc(), script(), 185, usize::MAX)?;
     assert!(rt; count > 300, "{count} crashes");
     Ok(())
 }

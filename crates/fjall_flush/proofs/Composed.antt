@@ -11,7 +11,7 @@ use Rattle.fjall_files.specs.Regions.{IsImageIn, Within, is_under}
 use Rattle.fjall_files.proofs.Changes.{within_state}
 use Rattle.fjall_files.proofs.Parts.{region_run}
 use Rattle.fjall_home.specs.Changes.{HasEither}
-use Rattle.fjall_home.specs.Homes.{HasHome, Home, IsFree, IsReady, SyncedStays}
+use Rattle.fjall_home.specs.Homes.{HasHome, Home, IsFree, Rests, SyncedStays}
 use Rattle.fjall_home.specs.Reading.{AreIndexed}
 use Rattle.fjall_home.proofs.Naming.{some_folder, table_counts}
 use Rattle.fjall_home.proofs.Openings.{right_is_indexed}
@@ -32,7 +32,7 @@ use Rattle.fjall_versions.proofs.Slots.{get_put, same_id, same_maps}
 use Rattle.fjall_flush.specs.Flushes.{HasAt}
 use Rattle.fjall_flush.proofs.AfterHomes.{versions_at}
 
--- ---- rooms
+-- ---- no other keyspace's room for new tables is taken
 
 pub room_stays : (old new : Meaning) (id other next : ℕ) → id < 2 ^ 64 → other < 2 ^ 64 → other ≢ id → Within (keyspace_folder id) old new → IsFree (state_in old) other next
     → IsFree (state_in new) other next
@@ -122,16 +122,11 @@ module _ (m0 : Meaning) (records : List Fields) (t : Tree) (id : ℕ) (h : Home)
       ])
 
   -- at the end the tree lies there with the other one
-  pub ends : (mid : Meaning) (r : Result Unit Error) → Within (keyspace_folder id) m0 mid → OnOk r (IsReady (state_in mid) id (home.safe.records ++ next.last ∷ []) next)
+  pub ends : (mid : Meaning) (r : Result Unit Error) → Within (keyspace_folder id) m0 mid → OnOk r (Rests (state_in mid) id (home.safe.records ++ next.last ∷ []) next)
       → OnOk r (LiesInTree (state_in mid) records (with_home_at id next more t))
-  ends mid (Err e) run ready = tt
-  ends mid (Ok done) run ready = record {
+  ends mid (Err e) run rests = tt
+  ends mid (Ok done) run rests = record {
     rests = home_rests id next more t home.lives (state_in m0) (state_in mid) records lies.rests (λ q out. within_state (keyspace_folder id) (some_folder id) m0 mid run q (not_under id q out))
-        (record { records = own ++ next.last ∷ []; rests = ready.rests; indexes = next_indexes.0; indexed = next_indexes.1; clears = clears }) has;
+        (record { records = own ++ next.last ∷ []; rests = rests; indexes = next_indexes.0; indexed = next_indexes.1; clears = clears }) has;
     free = room_stays m0 mid id 0 t.last.next_table_id small (omega arith) (not_zero t.keyspaces id lies.rests.catalog.are home.lives) run lies.free;
   }
-
--- and the keyspace has room
-pub has_room : (state : State) (id : ℕ) (records : List Fields) (next : Home) (r : Result Unit Error) → OnOk r (IsReady state id records next) → OnOk r (IsFree state id next.last.next_table_id)
-has_room state id records next (Err e) ready = tt
-has_room state id records next (Ok done) ready = ready.free

@@ -1,5 +1,5 @@
 -- A flush as it is written: the tree at each moment of it, and at its end.
-use Rattle.std.proofs.Common.{◌⊎◌, ℕ, ◌+◌, List, [], ◌∷◌, ◌++◌, length, Result, OnOk}
+use Rattle.std.proofs.Common.{◌⊎◌, ℕ, List, [], ◌∷◌, ◌++◌, Result, OnOk}
 use Rattle.fjall_base.specs.declared.error.Error.{Error}
 use Rattle.fjall_base.specs.Disk.{LeavesOnly, LeavesOnlyBy, Meaning, state_in}
 use Rattle.fjall_base.proofs.Moments.{runs_on}
@@ -7,7 +7,7 @@ use Rattle.fjall_files.specs.Names.{keyspace_folder}
 use Rattle.fjall_files.specs.Regions.{Within}
 use Rattle.fjall_files.proofs.Made.{within_both}
 use Rattle.fjall_home.specs.Changes.{HasEither}
-use Rattle.fjall_home.specs.Homes.{HasHome, Home, IsFree, IsReady, SyncedStays}
+use Rattle.fjall_home.specs.Homes.{HasHome, Home, Rests, SyncedStays}
 use Rattle.fjall_jobs.specs.declared.made_table.MadeTable.{MadeTable}
 use Rattle.fjall_recovery.specs.Halves.{HasTree, Tree}
 use Rattle.fjall_recovery.specs.Homes.{ClearsAreWithin, HasVersions}
@@ -25,7 +25,7 @@ use Rattle.fjall_flush.proofs.Composed.{IsHome, is_home}
 use Rattle.fjall_home.proofs.Resting.{last_record}
 
 module _ (m0 : Meaning) (records : List Fields) (t : Tree) (id number : ℕ) (h : Home) (versions : List Entry) (lists : List (List Entry)) (plan : FlushPlan) (tables : List MadeTable) (clears : List ℕ)
-    (lies : LiesInTree (state_in m0) records t) (at : HasAt t id h versions) (free : IsFree (state_in m0) id h.last.next_table_id) (is : IsPlan id h.last (flush_with number tables clears) plan)
+    (lies : LiesInTree (state_in m0) records t) (at : HasAt t id h versions) (is : IsPlan id h.last (flush_with number tables clears) plan)
     (follows : Follows (flush_with number tables clears) lists h.last) where
   abbrev f : Flush
   f = flush_with number tables clears
@@ -43,8 +43,8 @@ module _ (m0 : Meaning) (records : List Fields) (t : Tree) (id number : ℕ) (h 
   abbrev pub own : List Fields
   own = home.safe.records
 
-  pub ready : IsReady (state_in m0) id own h
-  ready = record { rests = home.safe.rests; free = free }
+  abbrev pub rests : Rests (state_in m0) id own h
+  rests = home.safe.rests
 
   pub next_record : IsRecord next.last
   next_record = is_record f lists h.last follows is.fits (last_record (state_in m0) id own h home.safe.rests)
@@ -70,10 +70,6 @@ module _ (m0 : Meaning) (records : List Fields) (t : Tree) (id number : ℕ) (h 
 
   -- at the end
   pub ended : (mid new : Meaning) (r : Result Unit Error) → Within (keyspace_folder id) m0 mid → Within (keyspace_folder id) mid new
-      → OnOk r (IsReady (state_in new) id (own ++ next.last ∷ []) next) → OnOk r (LiesInTree (state_in new) records after)
+      → OnOk r (Rests (state_in new) id (own ++ next.last ∷ []) next) → OnOk r (LiesInTree (state_in new) records after)
   ended mid new r one two done =
       Composed.ends m0 records t id h versions is.folder.0 lies at home next (versions ++ flat lists) has within new r (within_both (keyspace_folder id) m0 mid new one two) done
-
-  pub roomy : (new : Meaning) (r : Result Unit Error) → OnOk r (IsReady (state_in new) id (own ++ next.last ∷ []) next)
-      → OnOk r (IsFree (state_in new) id (h.last.next_table_id + length tables))
-  roomy new r done = Composed.has_room (state_in new) id (own ++ next.last ∷ []) next r done

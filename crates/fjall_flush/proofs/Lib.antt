@@ -4,8 +4,11 @@ pub mod Once
 pub mod AfterRecords
 pub mod AfterHomes
 pub mod NewTables
+pub mod Putting
+pub mod Beside
 pub mod Composed
 pub mod Flushing
 pub mod SameStore
 pub mod SameNumber
 pub mod Taken
+pub mod Finishing

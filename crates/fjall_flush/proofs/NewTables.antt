@@ -1,5 +1,5 @@
--- The table of a flush, as a new table of a home.
-use Rattle.std.proofs.Common.{◌≡◌, ℕ, ◌+◌, ◌-◌, ◌<◌, ◌≤◌, ◌^◌, List, [], ◌∷◌, get_or, length, Some, None, String, refl, sym, ap, subst, arith, string_bytes}
+-- The table of a flush, as it was planned.
+use Rattle.std.proofs.Common.{◌≡◌, ℕ, ◌-◌, ◌<◌, ◌≤◌, ◌^◌, List, [], ◌∷◌, length, Some, None, String, sym, ap, subst, arith, string_bytes}
 use Rattle.std.specs.Prelude.{slice_get}
 use Rattle.std.proofs.Math.Logic.{∥∥₁_elim}
 use Rattle.std.proofs.Props.{props}
@@ -8,13 +8,10 @@ use Rattle.fjall_files.specs.Names.{table_name}
 use Rattle.fjall_jobs.specs.declared.flush_made.FlushMade.{FlushMade}
 use Rattle.fjall_jobs.specs.declared.made_table.MadeTable.{MadeTable}
 use Rattle.fjall_jobs.specs.Sequences.{AreMadeTables, AreParted}
-use Rattle.fjall_home.specs.declared.writing.TableFile.{TableFile}
-use Rattle.fjall_home.specs.Changes.{AreNewTables}
-use Rattle.fjall_home.proofs.Writings.{NewAt}
 use Rattle.fjall_table.specs.Blocks.{Entry}
 use Rattle.fjall_tree.specs.Records.{Fields}
 use Rattle.fjall_flush.specs.declared.plan.FlushPlan.{FlushPlan}
-use Rattle.fjall_flush.specs.Flushes.{flush_with, infos_from, texts_of}
+use Rattle.fjall_flush.specs.Flushes.{flush_with}
 use Rattle.fjall_flush.specs.Plans.{IsNamed, IsPlan}
 
 -- ---- a flush makes one table at most
@@ -47,20 +44,3 @@ module _ (plan : FlushPlan) (name : String Global) (tables : List MadeTable) (at
   pub one_table : (table : MadeTable) → Some table ≡ slice_get tables 0 → (id number : ℕ) (clears : List ℕ) (last : Fields) → IsPlan id last (flush_with number tables clears) plan
       → IsOnly id last.next_table_id tables name table
   one_table table first id number clears last is = one_named id last.next_table_id tables name table (subst (IsNamed id last.next_table_id tables) at is.table) (sym first)
-
--- the file that it gets
-abbrev pub file_of : String Global → MadeTable → TableFile
-file_of name table = record { name = name; bytes = table.bytes }
-
-pub new_at : (id next : ℕ) (tables : List MadeTable) (name : String Global) (table : MadeTable) → IsOnly id next tables name table
-    → NewAt id (next + 0) (file_of name table) (get_or (texts_of tables) 0 [])
-new_at id next tables name table is =
-    let here : next + 0 ≡ next = omega arith in
-    subst (λ (n : ℕ). NewAt id n (file_of name table) (get_or (texts_of tables) 0 [])) (sym here)
-    (record { name = is.named; below = is.below; bytes_are = ap (λ (l : List MadeTable). get_or (texts_of l) 0 []) (sym is.only) })
-
-pub new_tables : (id next : ℕ) (tables : List MadeTable) (name : String Global) (table : MadeTable) → IsOnly id next tables name table
-    → AreNewTables id next (infos_from next tables) (file_of name table ∷ []) (texts_of tables)
-new_tables id next tables name table is =
-    subst (λ (l : List MadeTable). AreNewTables id next (infos_from next l) (file_of name table ∷ []) (texts_of l)) (sym is.only)
-    (record { id_is = refl; below = is.below; name = is.named; bytes_are = refl }, tt)

@@ -1,33 +1,32 @@
--- A flush keeps the greatest number of the folder, and what a crash leaves of it stands for what was synced.
-use Rattle.std.proofs.Common.{◌≡◌, ◌⊎◌, inl, inr, ℕ, ◌+◌, ◌<◌, ◌==◌, max, Bool, true, false, cond, List, [], ◌∷◌, ◌++◌, All, map, Option, Some, None, refl, sym, ◌∙◌, ap, subst, arith, codes, not}
+-- What a flush makes of the greatest number of the folder; and what a crash leaves of it stands for what was synced.
+use Rattle.std.proofs.Common.{◌≡◌, ◌⊎◌, inl, inr, ℕ, ◌+◌, ◌≤◌, ◌==◌, max, Bool, true, false, cond, List, [], ◌∷◌, ◌++◌, All, Option, Some, None, is_some, refl, sym, ◌∙◌, ap, subst, arith, codes, not}
 use Rattle.std.specs.FinMap.{get}
-use Rattle.std.proofs.lemmas.List.{append-nil}
-use Rattle.std.proofs.lemmas.List.Elements.{All-head, All-tail}
+use Rattle.std.proofs.lemmas.Bool.{cond-true, eq-eqb}
+use Rattle.std.proofs.lemmas.List.Elements.{All-cons, All-nil, All-weaker}
 use Rattle.fjall_base.specs.Disk.{Image, LeavesOnly, Meaning, Name, state_in}
 use Rattle.fjall_base.specs.Store.{Store, kept}
 use Rattle.fjall_files.specs.Names.{keyspace_folder}
 use Rattle.fjall_files.specs.Regions.{Within, is_under}
 use Rattle.fjall_home.specs.Homes.{Home}
 use Rattle.fjall_home.proofs.Outside.{within_keyspaces}
-use Rattle.fjall_journal.specs.Batches.{Shown, Written, shown}
+use Rattle.fjall_journal.specs.Batches.{Written}
 use Rattle.fjall_meta.specs.declared.living.LivingKeyspace.{LivingKeyspace}
+use Rattle.fjall_meta.specs.Keyspaces.{keyspace_at}
 use Rattle.fjall_recovery.specs.Amid.{StandsAmid}
 use Rattle.fjall_recovery.specs.Folders.{number_of, past, past_record, past_records, store_of}
 use Rattle.fjall_recovery.specs.Halves.{HasRoot, HasTree, Tree, is_of_root}
-use Rattle.fjall_recovery.specs.Homes.{last_in, lasts}
-use Rattle.fjall_recovery.specs.Journals.{batches_in}
+use Rattle.fjall_recovery.specs.Homes.{Homes, last_in, lasts}
 use Rattle.fjall_recovery.specs.Places.{Journaling, LiesInRoot, contents_with, journals_with}
 use Rattle.fjall_recovery.proofs.Holding.{made}
 use Rattle.fjall_recovery.proofs.Roots.{crashes_leave_the_root}
 use Rattle.fjall_table.specs.Blocks.{Entry}
-use Rattle.fjall_versions.specs.Replays.{least_after}
-use Rattle.fjall_versions.proofs.Faults.{least_after-append}
+use Rattle.fjall_versions.proofs.Ids.{living_has}
 use Rattle.fjall_versions.proofs.Slots.{get_put, same_id}
 use Rattle.fjall_commit.proofs.CrashedJournals.{commanded, commands_more, kept_with}
 use Rattle.fjall_flush.specs.Covering.{MayCount}
 use Rattle.fjall_flush.specs.Flushes.{Flush, home_after, raised, record_after, tree_after}
 use Rattle.fjall_flush.proofs.Composed.{seen}
-use Rattle.fjall_flush.proofs.SameStore.{beginning_above, in_journals, same_store, shown_above}
+use Rattle.fjall_flush.proofs.SameStore.{same_store}
 
 -- ---- the greatest number
 
@@ -41,12 +40,13 @@ past_after f h =
     let two = past_raised h.last.highest f.number in
     omega (arith, one, two)
 
--- batches above a number leave the least number of the next one above it
-still_above : (number least : ℕ) (batches : List Shown) → number < least → All (λ b. number < b.number) batches → number < least_after least batches
-still_above number least [] lt above = lt
-still_above number least (b ∷ batches) lt above =
-    let here = All-head (λ (c : Shown). number < c.number) b batches above in
-    still_above number (b.number + 1) batches (omega (arith, here)) (All-tail (λ (c : Shown). number < c.number) b batches above)
+-- the last record of each keyspace is among all
+pub each_counts : (homes : Homes) (living : List LivingKeyspace) → All (λ k. past_record (last_in (get homes k.id)) ≤ past_records (lasts living homes)) living
+each_counts homes [] = All-nil (λ (k : LivingKeyspace). past_record (last_in (get homes k.id)) ≤ 0)
+each_counts homes (k ∷ living) =
+    All-cons (λ (i : LivingKeyspace). past_record (last_in (get homes i.id)) ≤ past_records (lasts (k ∷ living) homes)) k living (omega arith)
+    (All-weaker (λ (i : LivingKeyspace). past_record (last_in (get homes i.id)) ≤ past_records (lasts living homes))
+    (λ i. past_record (last_in (get homes i.id)) ≤ past_records (lasts (k ∷ living) homes)) (λ i le. omega (arith, le)) living (each_counts homes living))
 
 -- the root is outside the folder of all keyspaces
 pub apart : (q : Name) → is_of_root q ≡ true → is_under (codes "keyspaces") q ≡ false
@@ -60,37 +60,52 @@ module _ (j : Journaling) (t : Tree) (id : ℕ) (f : Flush) (lists : List (List 
   abbrev next : Tree
   next = tree_after id f lists h versions t
 
-  reached : (behind : List Written) → All (λ b. f.number < b.number) behind → f.number < least_after 0 (map shown (batches_in (journals_with j behind)))
-  reached behind above =
-      let front = map shown (batches_in j.sealed ++ j.whole) in
-      let lt : f.number < least_after 0 front = subst (λ (l : List Shown). f.number < least_after 0 l) (in_journals j [] ∙ append-nil front) may.synced.reached in
-      subst (λ (l : List Shown). f.number < least_after 0 l) (sym (in_journals j behind))
-      (subst (λ n. f.number < n) (sym (least_after-append 0 front (map shown behind))) (still_above f.number (least_after 0 front) (map shown behind) lt (shown_above f.number behind above)))
-
-  -- where a number beyond the flush's is known, no record is missed
-  one_record : (least : ℕ) (other : ℕ) → f.number < least → max least (past_record (last_in (get next.homes other))) ≡ max least (past_record (last_in (get t.homes other)))
-  one_record least other lt = ap (λ (o : Option Home). max least (past_record (last_in o))) (get_put t.homes id (home_after f h) other) ∙ by (other == id) refl
+  -- no record is missed, and none tells more than it did or than the flush's number
+  one_record : (other : ℕ) → (past_record (last_in (get t.homes other)) ≤ past_record (last_in (get next.homes other)))
+      × (past_record (last_in (get next.homes other)) ≤ max (past_record (last_in (get t.homes other))) (f.number + 1))
+  one_record other = subst between (sym (get_put t.homes id (home_after f h) other)) (by (other == id) refl)
     where
-      by : (b : Bool) → (other == id) ≡ b → max least (past_record (last_in (cond b (Some (home_after f h)) (get t.homes other)))) ≡ max least (past_record (last_in (get t.homes other)))
-      by true is =
-          let same : max least (past_record (record_after f h.last)) ≡ max least (past_record h.last) = let e = past_after f h in omega (arith, lt, e) in
-          same ∙ subst (λ i. max least (past_record h.last) ≡ max least (past_record (last_in (get t.homes i)))) (sym (same_id other id is))
-          (sym (ap (λ (o : Option Home). max least (past_record (last_in o))) may.at.home))
-      by false is = refl
+      between : Option Home → Type 0
+      between o = (past_record (last_in (get t.homes other)) ≤ past_record (last_in o)) × (past_record (last_in o) ≤ max (past_record (last_in (get t.homes other))) (f.number + 1))
 
-  all_records : (least : ℕ) (living : List LivingKeyspace) → f.number < least → max least (past_records (lasts living next.homes)) ≡ max least (past_records (lasts living t.homes))
-  all_records least [] lt = refl
-  all_records least (k ∷ living) lt =
-      let one = one_record least k.id lt in
-      let rest = all_records least living lt in
+      by : (b : Bool) → (other == id) ≡ b → between (cond b (Some (home_after f h)) (get t.homes other))
+      by true is =
+          let e = past_after f h in
+          let here : past_record (last_in (get t.homes other)) ≡ past_record h.last =
+          ap (λ i. past_record (last_in (get t.homes i))) (same_id other id is) ∙ ap (λ (o : Option Home). past_record (last_in o)) may.at.home in
+          omega (arith, e, here)
+      by false is = omega arith
+
+  all_records : (living : List LivingKeyspace) → (past_records (lasts living t.homes) ≤ past_records (lasts living next.homes))
+      × (past_records (lasts living next.homes) ≤ max (past_records (lasts living t.homes)) (f.number + 1))
+  all_records [] = omega arith
+  all_records (k ∷ living) =
+      let one = one_record k.id in
+      let rest = all_records living in
       omega (arith, one, rest)
 
-  pub same_number : (behind rest : List Written) → behind ++ rest ≡ j.later → number_of (contents_with j next behind) ≡ number_of (contents_with j t behind)
-  same_number behind rest is =
-      let least = least_after 0 (map shown (batches_in (journals_with j behind))) in
-      let lt = reached behind (beginning_above f.number behind rest j.later is may.synced.later) in
-      let all = all_records least t.keyspaces.living lt in
-      omega (arith, all)
+  pub between_numbers : (behind : List Written) → (number_of (contents_with j t behind) ≤ number_of (contents_with j next behind))
+      × (number_of (contents_with j next behind) ≤ max (f.number + 1) (number_of (contents_with j t behind)))
+  between_numbers behind = let all = all_records t.keyspaces.living in omega (arith, all)
+
+  -- the record of a keyspace that lives tells the flush's number
+  told : (o : Option LivingKeyspace) → keyspace_at id t.keyspaces.living ≡ o → is_some o ≡ true → f.number + 1 ≤ past_records (lasts t.keyspaces.living next.homes)
+  told None found some = absurd cc
+  told (Some k) found some =
+      let own : last_in (get next.homes id) ≡ record_after f h.last =
+      ap last_in (get_put t.homes id (home_after f h) id ∙ cond-true (id == id) (Some (home_after f h)) (get t.homes id) (eq-eqb id id refl)) in
+      let counted = living_has (λ i. past_record (last_in (get next.homes i)) ≤ past_records (lasts t.keyspaces.living next.homes)) t.keyspaces.living id k found
+      (each_counts next.homes t.keyspaces.living) in
+      let here = subst (λ r. past_record r ≤ past_records (lasts t.keyspaces.living next.homes)) own counted in
+      let e = past_after f h in
+      omega (arith, here, e)
+
+  pub number_after : (behind : List Written) → is_some (keyspace_at id t.keyspaces.living) ≡ true
+      → number_of (contents_with j next behind) ≡ max (f.number + 1) (number_of (contents_with j t behind))
+  number_after behind lives =
+      let own = told (keyspace_at id t.keyspaces.living) refl lives in
+      let all = all_records t.keyspaces.living in
+      omega (arith, own, all)
 
   -- ---- a crash
 

@@ -112,7 +112,7 @@ module _ (s : Keyspaces) (p : Option ℕ) (id q : ℕ) where
 abbrev pub front_of : Journaling → List Shown
 front_of j = map shown (batches_in j.sealed ++ j.whole)
 
-pub in_journals : (j : Journaling) (behind : List Written) → map shown (batches_in (journals_with j behind)) ≡ front_of j ++ map shown behind
+in_journals : (j : Journaling) (behind : List Written) → map shown (batches_in (journals_with j behind)) ≡ front_of j ++ map shown behind
 in_journals j behind =
     ap (map shown) (batches_are j behind ∙ sym (append_assoc (batches_in j.sealed) j.whole behind)) ∙ map-append shown (batches_in j.sealed ++ j.whole) behind
 
@@ -120,10 +120,10 @@ pub first_all : {X : Type 0} (P : X → Type 0) (xs ys : List X) → All P (xs +
 first_all P [] ys all = All-nil P
 first_all P (x ∷ xs) ys all = All-cons P x xs (All-head P x (xs ++ ys) all) (first_all P xs ys (All-tail P x (xs ++ ys) all))
 
-pub beginning_above : (number : ℕ) (behind rest later : List Written) → behind ++ rest ≡ later → All (λ b. number < b.number) later → All (λ b. number < b.number) behind
+beginning_above : (number : ℕ) (behind rest later : List Written) → behind ++ rest ≡ later → All (λ b. number < b.number) later → All (λ b. number < b.number) behind
 beginning_above number behind rest later is above = first_all (λ (b : Written). number < b.number) behind rest (subst (All (λ (b : Written). number < b.number)) (sym is) above)
 
-pub shown_above : (number : ℕ) (batches : List Written) → All (λ b. number < b.number) batches → All (λ b. number < b.number) (map shown batches)
+shown_above : (number : ℕ) (batches : List Written) → All (λ b. number < b.number) batches → All (λ b. number < b.number) (map shown batches)
 shown_above number batches above = All-map (λ (b : Shown). number < b.number) shown batches above
 
 -- ---- one keyspace
@@ -151,7 +151,7 @@ module _ (j : Journaling) (t : Tree) (id : ℕ) (f : Flush) (lists : List (List 
   low_clears = All-weaker (λ n. is_beyond p n ≡ false) (λ n. n ≤ q) (λ n within. within_number p q n may.beyond within) h.last.clears has.within.1
 
   above_later : All (λ b. q < b.number) (map shown j.later)
-  above_later = shown_above q j.later may.synced.later
+  above_later = shown_above q j.later may.synced
 
   shows : (key : Bytes) (i : ℕ) → value_at key i (h.last.clears ++ (f.clears ++ may.rest_clears)) (versions ++ (may.covered ++ may.rest))
       ≡ value_at key i (h.last.clears ++ told_clears s p id (front_of j ++ map shown j.later)) (versions ++ told s p id (front_of j ++ map shown j.later))
@@ -191,7 +191,7 @@ module _ (j : Journaling) (t : Tree) (id : ℕ) (f : Flush) (lists : List (List 
 
   pub same_store : (behind rest : List Written) → behind ++ rest ≡ j.later → store_of (contents_with j next behind) ≡ store_of (contents_with j t behind)
   same_store behind rest is =
-      let above = beginning_above q behind rest j.later is may.synced.later in
+      let above = beginning_above q behind rest j.later is may.synced in
       let batches = map shown (batches_in (journals_with j behind)) in
       views_alone_matter s (stored_in next.homes next.versions) (stored_in t.homes t.versions) batches batches (λ i d lt key. each_one behind above key (get_or s.living i d).id)
 

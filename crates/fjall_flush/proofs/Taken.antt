@@ -37,7 +37,7 @@ use Rattle.fjall_flush.proofs.SameStore.{first_all}
 
 -- ---- numbers of parts
 
-last_all : {X : Type 0} (P : X → Type 0) (xs ys : List X) → All P (xs ++ ys) → All P ys
+pub last_all : {X : Type 0} (P : X → Type 0) (xs ys : List X) → All P (xs ++ ys) → All P ys
 last_all P [] ys all = all
 last_all P (x ∷ xs) ys all = last_all P xs ys (All-tail P x (xs ++ ys) all)
 
@@ -108,7 +108,7 @@ ascends_both bound (x ∷ xs) ys up also low high =
     )
 
 -- where one part begins, or behind it, all parts behind it begin
-from_on : (bound : ℕ) (k : Held) (ks : List Held) → AreApart (k ∷ ks) → All IsHeld (k ∷ ks) → bound ≤ k.from → All (λ p. bound ≤ p.from) (k ∷ ks)
+pub from_on : (bound : ℕ) (k : Held) (ks : List Held) → AreApart (k ∷ ks) → All IsHeld (k ∷ ks) → bound ≤ k.from → All (λ p. bound ≤ p.from) (k ∷ ks)
 from_on bound k [] apart held le = All-cons (λ (p : Held). bound ≤ p.from) k [] le (All-nil (λ (p : Held). bound ≤ p.from))
 from_on bound k (p ∷ ks) apart held le =
     let bounds = (All-head IsHeld k (p ∷ ks) held).bounds in
@@ -151,7 +151,7 @@ module _ (number : ℕ) (task : Task) (taken left : List Held) (takes : Takes nu
   input : flat task.runs ≡ versions_in taken
   input = ap flat takes.runs ∙ flat_runs taken
 
-  own_clears : clears ≡ clears_in taken
+  pub own_clears : clears ≡ clears_in taken
   own_clears = made.clears_are ∙ takes.clears
 
   low : All (λ v. v.number ≤ number) (flat task.runs)
@@ -208,8 +208,8 @@ module _ (number : ℕ) (task : Task) (taken left : List Held) (takes : Takes nu
   )
 
   -- its versions are beyond the record's and its clears ascend behind them, where each part begins beyond the persisted number
-  pub follows : (last : Fields) → number < 2 ^ 63 → IsRecord last → ClearsAreWithin last → All (λ h. is_beyond last.persisted h.from ≡ true) taken → Follows f made.lists last
-  follows last small is within beyond = record {
+  pub follows_from : (last : Fields) → number < 2 ^ 63 → Ascends last.clears → ClearsAreWithin last → All (λ h. is_beyond last.persisted h.from ≡ true) taken → Follows f made.lists last
+  follows_from last small up within beyond = record {
     small = small;
     made = made.made;
     versions = made_of (λ v. v.number ≤ number) task.watermark task.clears (flat task.runs) (flat made.lists) made.kept low;
@@ -218,10 +218,13 @@ module _ (number : ℕ) (task : Task) (taken left : List Held) (takes : Takes nu
     once = ordered_once (flat made.lists) made.ordered;
     clears = low_clears;
     ascend = rises (last.clears ++ clears) (subst (λ (l : List ℕ). Ascends (last.clears ++ l)) (sym own_clears)
-        (parts_ascend last.clears taken (ascends last.clears is.consistent.ascending) held (apart_front taken left takes.apart)
+        (parts_ascend last.clears taken up held (apart_front taken left takes.apart)
         (All-weaker (λ (h : Held). is_beyond last.persisted h.from ≡ true) (λ h. All (λ n. n < h.from) last.clears)
         (λ h starts. All-weaker (λ n. is_beyond last.persisted n ≡ false) (λ n. n < h.from) (λ n in_it. beyond_is_later last.persisted n h.from in_it starts) last.clears within) taken beyond)));
   }
+
+  pub follows : (last : Fields) → number < 2 ^ 63 → IsRecord last → ClearsAreWithin last → All (λ h. is_beyond last.persisted h.from ≡ true) taken → Follows f made.lists last
+  follows last small is within beyond = follows_from last small (ascends last.clears is.consistent.ascending) within beyond
 
 -- ---- a flush of a tree
 
@@ -230,7 +233,7 @@ pub parts_parted : (count : ℕ) (memory : Memory) → parts_of memory ≡ take 
 parts_parted count memory =
     ap (λ (l : List Held). l ++ memory.active ∷ []) (sym (take-append-drop count memory.sealed)) ∙ append_assoc (take count memory.sealed) (drop count memory.sealed) (memory.active ∷ [])
 
-apart_behind : (front behind : List Held) → AreApart (front ++ behind) → AreApart behind
+pub apart_behind : (front behind : List Held) → AreApart (front ++ behind) → AreApart behind
 apart_behind [] behind apart = apart
 apart_behind (h ∷ front) behind apart = apart_behind front behind (apart_tail h (front ++ behind) apart)
 

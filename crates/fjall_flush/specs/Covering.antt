@@ -1,5 +1,5 @@
 -- What a flush covers: what it takes out of memory, and which batches of the journals that is.
-use Rattle.std.specs.Prelude.{◌≡◌, ℕ, ◌+◌, ◌<◌, ◌≤◌, ◌^◌, List, [], ◌++◌, All, map, true}
+use Rattle.std.specs.Prelude.{◌≡◌, ℕ, ◌+◌, ◌<◌, ◌≤◌, ◌^◌, List, ◌++◌, All, map, true}
 use Rattle.fjall_base.specs.Pairs.{Bytes}
 use Rattle.fjall_contents.specs.Contents.{Stored, clears_held, is_beyond, versions_held}
 use Rattle.fjall_journal.specs.Batches.{Shown, shown}
@@ -13,7 +13,6 @@ use Rattle.fjall_recovery.specs.Places.{Journaling, journals_with}
 use Rattle.fjall_home.specs.Homes.{Home}
 use Rattle.fjall_sorted.specs.Sorted.{flat}
 use Rattle.fjall_table.specs.Blocks.{Entry}
-use Rattle.fjall_versions.specs.Replays.{least_after}
 use Rattle.fjall_views.specs.Jobs.{OnceEach, Same, flushed}
 use Rattle.fjall_views.specs.Views.{value_at}
 use Rattle.fjall_flush.specs.Flushes.{Flush, HasAt}
@@ -44,10 +43,9 @@ pub record Takes (number : ℕ) (task : Task) (taken left : List Held) : Type 0 
   pub until : All (λ h. h.until ≤ number + 1) taken
   pub from : All (λ h. number < h.from) left
 
--- All up to the number was synced: the synced batches reach it, and those behind them are numbered above it.
-pub record IsSyncedTo (number : ℕ) (j : Journaling) : Type 0 where
-  pub reached : number < least_after 0 (map shown (batches_in (journals_with j [])))
-  pub later : All (λ b. number < b.number) j.later
+-- All up to the number was synced: the batches behind the synced ones are numbered above it.
+abbrev pub IsSyncedTo : ℕ → Journaling → Type 0
+IsSyncedTo number j = All (λ b. number < b.number) j.later
 
 -- The record of a flush of the keyspace of this id may count now. The keyspace has that home, with these versions in its tables;
 -- the flush's number is beyond the persisted one, and all up to it was synced; memory shows what all batches make; and the flush

@@ -1,3 +1,4 @@
 pub mod Flushes
 pub mod Plans
 pub mod Covering
+pub mod Finishing

@@ -1,17 +1,18 @@
 //! What holds of a flush that counts.
 
-ghost use Rattle.std.specs.Prelude.{◌≡◌, ◌≢◌, ◌⊎◌, ◌<◌, ◌^◌, ◌++◌, ◌∷◌, ◌+◌, ◌≤◌, [], ℕ, All, List, drop, map, take, true};
+ghost use Rattle.std.specs.Prelude.{◌≡◌, ◌⊎◌, ◌<◌, ◌^◌, ◌++◌, ◌∷◌, ◌+◌, ◌≤◌, [], ℕ, All, List, drop, is_some, map, max, take, true};
 ghost use Rattle.fjall_base.specs.Disk.{Image, LeavesOnly, Meaning, state_in};
 ghost use Rattle.fjall_base.specs.Store.{Store, kept};
 ghost use Rattle.fjall_contents.specs.Contents.{is_beyond, journal_beyond};
 ghost use Rattle.fjall_files.specs.Names.{keyspace_folder};
 ghost use Rattle.fjall_files.specs.Regions.{Within};
-ghost use Rattle.fjall_home.specs.Homes.{Home, IsFree};
+ghost use Rattle.fjall_home.specs.Homes.{Home};
 ghost use Rattle.fjall_jobs.specs.declared.made_table.MadeTable.{MadeTable};
 ghost use Rattle.fjall_jobs.specs.Tasks.{IsFlushed, Task};
 ghost use Rattle.fjall_journal.specs.Batches.{Written, shown};
 ghost use Rattle.fjall_lsm.specs.Jobs.{IsFlushing};
 ghost use Rattle.fjall_lsm.specs.Trees.{Shape, first_from};
+ghost use Rattle.fjall_meta.specs.Keyspaces.{keyspace_at};
 ghost use Rattle.fjall_parts.specs.Parts.{AreApart, Held, IsHeld, clears_in, parts_of, versions_in};
 ghost use Rattle.fjall_recovery.specs.Amid.{StandsAmid};
 ghost use Rattle.fjall_recovery.specs.Folders.{AreMade, number_of, store_of};
@@ -25,16 +26,20 @@ ghost use Rattle.fjall_tree.specs.Records.{Fields, Fits, IsRecord};
 ghost use Rattle.fjall_flush.specs.Covering.{IsSyncedTo, MayCount, ShowsBatches, Takes};
 ghost use Rattle.fjall_flush.specs.Flushes.{Flush, Follows, HasAt, home_after, record_after, tree_after};
 
-/// A flush keeps the store, whatever beginning of the later batches stands behind the synced ones. So does the greatest number
-/// of the folder stay, and what is pending; and to each view what stays in memory shows what all batches make beyond what is
-/// stored then.
+/// A flush keeps the store, whatever beginning of the later batches stands behind the synced ones, and what is pending; and to each
+/// view what stays in memory shows what all batches make beyond what is stored then. Where the keyspace lives, the greatest number
+/// of the folder becomes the greater of itself and the flush's; it never falls, nor goes beyond these two.
 pub fn a_flush_keeps_the_store()
     ensures store { (j : Journaling) (t : Tree) (id : ℕ) (f : Flush) (lists : List (List Entry)) (h : Home) (versions : List Entry) (behind rest : List Written)
         → MayCount j t id f lists h versions → behind ++ rest ≡ j.later
         → store_of (contents_with j (tree_after id f lists h versions t) behind) ≡ store_of (contents_with j t behind) }
     ensures number { (j : Journaling) (t : Tree) (id : ℕ) (f : Flush) (lists : List (List Entry)) (h : Home) (versions : List Entry) (behind rest : List Written)
+        → MayCount j t id f lists h versions → behind ++ rest ≡ j.later → is_some (keyspace_at id t.keyspaces.living) ≡ true
+        → number_of (contents_with j (tree_after id f lists h versions t) behind) ≡ max (f.number + 1) (number_of (contents_with j t behind)) }
+    ensures bounds { (j : Journaling) (t : Tree) (id : ℕ) (f : Flush) (lists : List (List Entry)) (h : Home) (versions : List Entry) (behind rest : List Written)
         → MayCount j t id f lists h versions → behind ++ rest ≡ j.later
-        → number_of (contents_with j (tree_after id f lists h versions t) behind) ≡ number_of (contents_with j t behind) }
+        → (number_of (contents_with j t behind) ≤ number_of (contents_with j (tree_after id f lists h versions t) behind))
+        × (number_of (contents_with j (tree_after id f lists h versions t) behind) ≤ max (f.number + 1) (number_of (contents_with j t behind))) }
     ensures pending { (j : Journaling) (t : Tree) (id : ℕ) (f : Flush) (lists : List (List Entry)) (h : Home) (versions : List Entry) → MayCount j t id f lists h versions
         → let next = tree_after id f lists h versions t in journal_beyond next.keyspaces (stored_in next.homes next.versions) (map shown j.later)
         ≡ journal_beyond t.keyspaces (stored_in t.homes t.versions) (map shown j.later) }
@@ -91,10 +96,4 @@ pub fn a_crash_keeps_what_was_synced()
         → MayCount j t id f lists h versions → kept base ≡ store_of (contents_with j t []) → LiesInRoot (state_in old) j → Within (keyspace_folder id) old new
         → LeavesOnly old new (λ image. HasTree image t ⊎ HasTree image (tree_after id f lists h versions t))
         → LeavesOnly old new (StandsAmid base [] (journal_beyond t.keyspaces (stored_in t.homes t.versions) (map shown j.later))) }
-{}
-
-/// A change within one keyspace's folder leaves the room that another keyspace has for new tables.
-pub fn other_keyspaces_keep_their_room()
-    ensures { (old new : Meaning) (id other next : ℕ) → id < 2 ^ 64 → other < 2 ^ 64 → other ≢ id → Within (keyspace_folder id) old new
-        → IsFree (state_in old) other next → IsFree (state_in new) other next }
 {}

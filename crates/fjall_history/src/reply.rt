@@ -1,5 +1,6 @@
 //! Replies to calls.
 
+use crate::job::JobId;
 use crate::ticket::Ticket;
 use fjall_base::{Error, KvPair, Slice, UserValue};
 
@@ -20,6 +21,10 @@ pub enum Reply {
     Flag(bool),
     /// The ticket of a snapshot that was opened.
     Opened(Ticket),
+    /// The job that was begun, where there was one to begin.
+    Began(Option<JobId>),
+    /// Ids of keyspaces, ascending.
+    Ids(Vec<u64>),
     /// It was refused.
     Refused(Error),
 }

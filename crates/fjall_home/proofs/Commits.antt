@@ -63,15 +63,15 @@ module _ (id : ℕ) (small : id < 2 ^ 64) (records : List Fields) (h next : Home
 
   -- ---- what a crash leaves meanwhile
 
-  module _ (state : State) (written : IsWritten state id records h next) (n : ℕ) (image : Image) (is : IsImageIn Survives anywhere (grown state n) image) where
+  module _ (state : State) (rests : Rests state id records h) (beside : AreSafe state id next.last.tables next.texts) (n : ℕ) (image : Image) (is : IsImageIn Survives anywhere (grown state n) image) where
     there : image (keyspace_folder id) ≡ Folder
-    there = folder_left id small anywhere (grown state n) image (usual_region anywhere (grown state n) image is) refl refl (keeps state n (codes "keyspaces") keyspaces_other ∙ written.rests.keyspaces_folder)
-        (keeps state n (keyspace_folder id) folder_other ∙ written.rests.folder)
+    there = folder_left id small anywhere (grown state n) image (usual_region anywhere (grown state n) image is) refl refl (keeps state n (codes "keyspaces") keyspaces_other ∙ rests.keyspaces_folder)
+        (keeps state n (keyspace_folder id) folder_other ∙ rests.folder)
 
     current : (m : ℕ) × (image file ≡ File (bytes ++ take m text) [])
     current =
         let at : grown state n file ≡ only (File bytes (take n text)) =
-        alter-same state file (appended (take n text)) ∙ ap (λ (p : Place). let q : Place = record { now = appended (take n text) p.now; older = p.older } in q) written.rests.current in
+        alter-same state file (appended (take n text)) ∙ ap (λ (p : Place). let q : Place = record { now = appended (take n text) p.now; older = p.older } in q) rests.current in
         let left = left_at anywhere (grown state n) image file (File bytes (take n text)) refl is at (inr (ap (λ (f : Name). image f) (folder_of-current id) ∙ there)) in
         let front = front_of_part [] text left.0 n in
         (front.0, left.1 ∙ ap (λ (l : List ℕ). File (bytes ++ l) []) front.1)
@@ -98,36 +98,36 @@ module _ (id : ℕ) (small : id < 2 ^ 64) (records : List Fields) (h next : Home
 
     pub either : P image
     either =
-        let rests = written.rests in
         elim (part_reads records next.last current.0 rests.each is_record) [
           | inl old ↦ inl (left records h (last_record state id records h rests) rests.tables old rests.last_is)
-          | inr new ↦ inr (left (records ++ next.last ∷ []) next is_record written.tables new (last_behind records next.last))
+          | inr new ↦ inr (left (records ++ next.last ∷ []) next is_record beside new (last_behind records next.last))
         ]
 
   -- ---- runs
 
-  pub begin : (old : Meaning) → IsWritten (state_in old) id records h next → LeavesOnly old old P
-  begin old written = started old P (λ image is. inl (crash_home (state_in old) image id records h small written.rests (image_wider (narrower usual) (state_in old) image is)))
-
-  pub in_part : (old new : Meaning) → IsWritten (state_in old) id records h next → TookPart old new file text → LeavesOnly old new P
-  in_part old new written took = steps_in_part old old new P file text (begin old written) took (λ n image is. either (state_in old) written n image (in_region anywhere (grown (state_in old) n) image is))
-
   whole : take (length text) text ≡ text
   whole = take_all (length text) text (omega arith)
 
-  pub appended_whole : (old mid : Meaning) → IsWritten (state_in old) id records h next → Took old mid (Append file text ∷ []) → LeavesOnly old mid P
-  appended_whole old mid written took = in_part old mid written (inr (length text, subst (λ (l : List ℕ). Took old mid (Append file l ∷ [])) (sym whole) took))
+  module _ (old : Meaning) (rests : Rests (state_in old) id records h) (beside : AreSafe (state_in old) id next.last.tables next.texts) where
+    begin : LeavesOnly old old P
+    begin = started old P (λ image is. inl (crash_home (state_in old) image id records h small rests (image_wider (narrower usual) (state_in old) image is)))
 
-  pub synced_or_not : (old mid new : Meaning) → IsWritten (state_in old) id records h next → Took old mid (Append file text ∷ []) → TookOrNot mid new (Sync file ∷ []) → LeavesOnly old new P
-  synced_or_not old mid new written took sync =
-      let at : state_in mid ≡ grown (state_in old) (length text) = took.state ∙ ap (λ (l : List ℕ). alter (state_in old) file (appended l)) (sym whole) in
-      perhaps_on old mid new P (Sync file) (appended_whole old mid written took) sync (λ image is.
-      let before : IsImageIn Survives anywhere (state_in mid) image = region_sync anywhere (state_in mid) file image (in_region anywhere (alter (state_in mid) file all_synced) image is) in
-      either (state_in old) written (length text) image (subst (λ (state : State). IsImageIn Survives anywhere state image) at before))
+    pub in_part : (new : Meaning) → TookPart old new file text → LeavesOnly old new P
+    in_part new took = steps_in_part old old new P file text begin took (λ n image is. either (state_in old) rests beside n image (in_region anywhere (grown (state_in old) n) image is))
 
-  pub committing : (old mid new : Meaning) (r : Result Unit Error) → IsWritten (state_in old) id records h next → Took old mid (Append file text ∷ []) → OnOk r (Took mid new (Sync file ∷ [])) → OnErr r (TookOrNot mid new (Sync file ∷ [])) → LeavesOnly old new P
-  committing old mid new (Ok done) written took ok err = synced_or_not old mid new written took (inr ok)
-  committing old mid new (Err e) written took ok err = synced_or_not old mid new written took err
+    appended_whole : (mid : Meaning) → Took old mid (Append file text ∷ []) → LeavesOnly old mid P
+    appended_whole mid took = in_part mid (inr (length text, subst (λ (l : List ℕ). Took old mid (Append file l ∷ [])) (sym whole) took))
+
+    synced_or_not : (mid new : Meaning) → Took old mid (Append file text ∷ []) → TookOrNot mid new (Sync file ∷ []) → LeavesOnly old new P
+    synced_or_not mid new took sync =
+        let at : state_in mid ≡ grown (state_in old) (length text) = took.state ∙ ap (λ (l : List ℕ). alter (state_in old) file (appended l)) (sym whole) in
+        perhaps_on old mid new P (Sync file) (appended_whole mid took) sync (λ image is.
+        let before : IsImageIn Survives anywhere (state_in mid) image = region_sync anywhere (state_in mid) file image (in_region anywhere (alter (state_in mid) file all_synced) image is) in
+        either (state_in old) rests beside (length text) image (subst (λ (state : State). IsImageIn Survives anywhere state image) at before))
+
+    pub committing : (mid new : Meaning) (r : Result Unit Error) → Took old mid (Append file text ∷ []) → OnOk r (Took mid new (Sync file ∷ [])) → OnErr r (TookOrNot mid new (Sync file ∷ [])) → LeavesOnly old new P
+    committing mid new (Ok done) took ok err = synced_or_not mid new took (inr ok)
+    committing mid new (Err e) took ok err = synced_or_not mid new took err
 
   -- ---- the next home
 
@@ -146,24 +146,35 @@ module _ (id : ℕ) (small : id < 2 ^ 64) (records : List Fields) (h next : Home
       (alter-same state file (appended text) ∙ ap (λ (p : Place). let q : Place = record { now = appended text p.now; older = p.older } in q) rests.current)
       ∙ ap (λ (l : List ℕ). only (File l [])) (sym (texts-more records next.last))
 
+  end_rests : (state : State) → Rests state id records h → AreSafe state id next.last.tables next.texts → Rests (ended state) id (records ++ next.last ∷ []) next
+  end_rests state rests beside = record {
+    keyspaces_folder = keeps_end state (codes "keyspaces") keyspaces_other ∙ rests.keyspaces_folder;
+    folder = keeps_end state (keyspace_folder id) folder_other ∙ rests.folder;
+    current = current_end state rests;
+    each = one_more IsRecord records next.last rests.each is_record;
+    last_is = last_behind records next.last;
+    tables = safe_still state (ended state) (keeps_end state) next.last.tables next.texts beside;
+  }
+
   end_ready : (state : State) → IsWritten state id records h next → IsReady (ended state) id (records ++ next.last ∷ []) next
   end_ready state written = record {
-    rests = record {
-      keyspaces_folder = keeps_end state (codes "keyspaces") keyspaces_other ∙ written.rests.keyspaces_folder;
-      folder = keeps_end state (keyspace_folder id) folder_other ∙ written.rests.folder;
-      current = current_end state written.rests;
-      each = one_more IsRecord records next.last written.rests.each is_record;
-      last_is = last_behind records next.last;
-      tables = safe_still state (ended state) (keeps_end state) next.last.tables next.texts written.tables;
-    };
+    rests = end_rests state written.rests written.tables;
     free = λ table above below. ap (λ (p : Place). p.now) (keeps_end state (table_name id table) (no_current id table)) ∙ written.free table above below;
   }
+
+  at_end : (old mid new : Meaning) → Took old mid (Append file text ∷ []) → Took mid new (Sync file ∷ []) → state_in new ≡ ended (state_in old)
+  at_end old mid new took sync = sync.state ∙ ap (λ (state : State). alter state file all_synced) took.state
+
+  pub rested : (old mid new : Meaning) (r : Result Unit Error) → Rests (state_in old) id records h → AreSafe (state_in old) id next.last.tables next.texts → Took old mid (Append file text ∷ [])
+      → OnOk r (Took mid new (Sync file ∷ [])) → OnOk r (Rests (state_in new) id (records ++ next.last ∷ []) next)
+  rested old mid new (Ok done) rests beside took sync =
+      subst (λ (state : State). Rests state id (records ++ next.last ∷ []) next) (sym (at_end old mid new took sync)) (end_rests (state_in old) rests beside)
+  rested old mid new (Err e) rests beside took sync = tt
 
   pub committed : (old mid new : Meaning) (r : Result Unit Error) → IsWritten (state_in old) id records h next → Took old mid (Append file text ∷ []) → OnOk r (Took mid new (Sync file ∷ []))
       → OnOk r (IsReady (state_in new) id (records ++ next.last ∷ []) next)
   committed old mid new (Ok done) written took sync =
-      let at : state_in new ≡ ended (state_in old) = sync.state ∙ ap (λ (state : State). alter state file all_synced) took.state in
-      subst (λ (state : State). IsReady state id (records ++ next.last ∷ []) next) (sym at) (end_ready (state_in old) written)
+      subst (λ (state : State). IsReady state id (records ++ next.last ∷ []) next) (sym (at_end old mid new took sync)) (end_ready (state_in old) written)
   committed old mid new (Err e) written took sync = tt
 
 -- the file of the records is there

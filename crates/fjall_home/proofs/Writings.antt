@@ -73,7 +73,7 @@ one_safe state id (t ∷ tables) (text ∷ texts) n bytes safe one =
     ⊎_elim (λ is. subst (λ (m : ℕ). IsSafe state (table_name id m) bytes) is.0 (subst (λ (l : List ℕ). IsSafe state (table_name id t.id) l) is.1 safe.0)) (λ later. one_safe state id tables texts n bytes safe.1 later) one
 
 module _ (state : State) (id : ℕ) (h : Home) (infos : List TableInfo) (texts : List (List ℕ)) (old_safe : AreSafe state id h.last.tables h.texts) (safe : AreSafe state id infos texts) where
-  all_safe : (tables : List TableInfo) (others : List (List ℕ)) → AreKeptOrNew h infos texts tables others → AreSafe state id tables others
+  pub all_safe : (tables : List TableInfo) (others : List (List ℕ)) → AreKeptOrNew h infos texts tables others → AreSafe state id tables others
   all_safe [] [] each = tt
   all_safe [] (bytes ∷ others) each = absurd each
   all_safe (t ∷ tables) [] each = absurd each

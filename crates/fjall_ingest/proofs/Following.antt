@@ -1,12 +1,11 @@
 -- An ingestion behind a flush of all that memory had of its keyspace.
-use Rattle.std.proofs.Common.{◌≡◌, ℕ, ◌<◌, ◌≤◌, ◌^◌, cond, List, [], ◌++◌, map, None, Some, true, ◌∙◌, ap, subst, sym}
+use Rattle.std.proofs.Common.{◌≡◌, ℕ, ◌<◌, ◌≤◌, ◌^◌, cond, List, [], ◌++◌, map, None, Some, true, ◌∙◌, ap, arith, subst}
 use Rattle.std.specs.FinMap.{FinMap, get, insert}
 use Rattle.std.specs.Ordering.{nat_cmp}
-use Rattle.std.proofs.lemmas.List.{append-nil}
 use Rattle.fjall_flush.specs.Covering.{MayCount, ShowsBatches}
 use Rattle.fjall_flush.specs.Flushes.{Flush, Follows, home_after, tree_after}
 use Rattle.fjall_flush.proofs.AfterHomes.{have_versions}
-use Rattle.fjall_flush.proofs.SameNumber.{same_number}
+use Rattle.fjall_flush.proofs.SameNumber.{between_numbers}
 use Rattle.fjall_flush.proofs.SameStore as SameStore
 use Rattle.fjall_home.specs.Homes.{Home}
 use Rattle.fjall_journal.specs.Batches.{shown}
@@ -36,15 +35,15 @@ module _ (j : Journaling) (t : Tree) (id : ℕ) (f : Flush) (lists : List (List 
       (SameStore.same_memory j t id f lists h versions may))
 
   pub may_follow : (number : ℕ) → Follows f lists h.last → may.rest_clears ≡ [] → may.rest ≡ [] → j.later ≡ []
-      → first_fault 0 (map shown (batches_in (journals_with j j.later))) ≡ None → counts t.keyspaces number id ≡ true → number < 2 ^ 63 → number_of (contents_with j t j.later) ≤ number
+      → first_fault 0 (map shown (batches_in (journals_with j j.later))) ≡ None → counts t.keyspaces number id ≡ true → number < 2 ^ 63 → f.number < number → number_of (contents_with j t j.later) ≤ number
       → MayIngestSynced j (tree_after id f lists h versions t) id number (home_after f h) (versions ++ flat lists)
-  may_follow number follows clears none synced sound lives small above = record {
+  may_follow number follows clears none synced sound lives small later above = record {
     come = record {
       at = record { home = there t.homes id (home_after f h); stored = there t.versions id (versions ++ flat lists) };
       have = have_versions t id f lists h versions may.at follows may.have;
       lives = lives;
       small = small;
-      above = subst (λ n. n ≤ number) (sym (same_number j t id f lists h versions may j.later [] (append-nil j.later))) above;
+      above = let most = between_numbers j t id f lists h versions may j.later in omega (arith, most, later, above);
       sound = sound;
     };
     synced = synced;

@@ -1,18 +1,17 @@
 -- The greatest number of the folder is the ingestion's.
-use Rattle.std.proofs.Common.{◌≡◌, ℕ, ◌+◌, ◌≤◌, ◌==◌, max, Bool, true, false, cond, List, [], ◌∷◌, ◌++◌, All, Option, Some, None, refl, sym, ◌∙◌, ap, subst, arith}
+use Rattle.std.proofs.Common.{◌≡◌, ℕ, ◌+◌, ◌≤◌, ◌==◌, max, Bool, true, false, cond, List, [], ◌∷◌, ◌++◌, Option, Some, None, refl, sym, ◌∙◌, ap, subst, arith}
 use Rattle.std.specs.FinMap.{get}
 use Rattle.std.proofs.lemmas.Bool.{lt-ltb}
-use Rattle.std.proofs.lemmas.List.Elements.{All-cons, All-nil, All-weaker}
 use Rattle.fjall_contents.specs.Contents.{is_beyond}
 use Rattle.fjall_flush.specs.Flushes.{raised}
-use Rattle.fjall_flush.proofs.SameNumber.{past_after}
+use Rattle.fjall_flush.proofs.SameNumber.{each_counts, past_after}
 use Rattle.fjall_home.specs.Homes.{Home}
 use Rattle.fjall_jobs.specs.declared.made_table.MadeTable.{MadeTable}
 use Rattle.fjall_journal.specs.Batches.{Written}
 use Rattle.fjall_meta.specs.declared.living.LivingKeyspace.{LivingKeyspace}
 use Rattle.fjall_recovery.specs.Folders.{number_of, past, past_record, past_records}
 use Rattle.fjall_recovery.specs.Halves.{Tree}
-use Rattle.fjall_recovery.specs.Homes.{Homes, last_in, lasts}
+use Rattle.fjall_recovery.specs.Homes.{last_in, lasts}
 use Rattle.fjall_recovery.specs.Places.{Journaling, contents_with}
 use Rattle.fjall_table.specs.Blocks.{Entry}
 use Rattle.fjall_versions.proofs.Ids.{living_has}
@@ -22,14 +21,6 @@ use Rattle.fjall_ingest.specs.Commands.{MayCome}
 use Rattle.fjall_ingest.specs.Ingests.{as_flush, home_with, tree_with}
 use Rattle.fjall_ingest.proofs.Silence.{itself}
 use Rattle.fjall_ingest.proofs.Storing as Storing
-
--- the last record of each keyspace is among all
-each_counts : (homes : Homes) (living : List LivingKeyspace) → All (λ k. past_record (last_in (get homes k.id)) ≤ past_records (lasts living homes)) living
-each_counts homes [] = All-nil (λ (k : LivingKeyspace). past_record (last_in (get homes k.id)) ≤ 0)
-each_counts homes (k ∷ living) =
-    All-cons (λ (i : LivingKeyspace). past_record (last_in (get homes i.id)) ≤ past_records (lasts (k ∷ living) homes)) k living (omega arith)
-    (All-weaker (λ (i : LivingKeyspace). past_record (last_in (get homes i.id)) ≤ past_records (lasts living homes))
-    (λ i. past_record (last_in (get homes i.id)) ≤ past_records (lasts (k ∷ living) homes)) (λ i le. omega (arith, le)) living (each_counts homes living))
 
 module _ (j : Journaling) (t : Tree) (id number : ℕ) (items : List KeyOp) (tables : List MadeTable) (h : Home) (versions : List Entry) (may : MayCome j t id number h versions) where
   abbrev next : Tree

@@ -91,8 +91,8 @@ record_at state records t id h versions lies at = let home = is_home state recor
 -- what holds of whatever tables are written holds of an ingestion
 pub on_ingest : (disk : Meaning) (plan : IngestPlan) (tables : List MadeTable) (read : tables ≡ plan.tables.items) (Holds : List Fields → Tree → ℕ → Home → Tree → Type 0)
     → ForTablesOn disk plan.writes tables Holds → ForIngestOn disk plan Holds
-on_ingest disk plan tables read Holds written records t id number items h versions lies at free small beyond is =
+on_ingest disk plan tables read Holds written records t id number items h versions lies at small beyond is =
     let last = record_at (state_in disk) records t id h versions lies at in
     let all : ForTablesOn disk plan.writes plan.tables.items Holds = subst (λ (l : List MadeTable). ForTablesOn disk plan.writes l Holds) read written in
     subst (λ (l : List Entry). Holds records t id h (with_home_at id (home_with number plan.tables.items h) (versions ++ l) t)) is.tables.3
-    (all records t id number [] h versions is.tables.0 lies at free is.planned (follows number items plan.tables.items h.last small beyond is.tables last))
+    (all records t id number [] h versions is.tables.0 lies at is.planned (follows number items plan.tables.items h.last small beyond is.tables last))

@@ -6,7 +6,7 @@ use Rattle.fjall_base.specs.Disk.{Meaning, state_in}
 use Rattle.fjall_contents.specs.Contents.{is_beyond}
 use Rattle.fjall_flush.specs.Flushes.{HasAt, record_after}
 use Rattle.fjall_flush.specs.Plans.{IsPlan}
-use Rattle.fjall_home.specs.Homes.{Home, IsFree}
+use Rattle.fjall_home.specs.Homes.{Home}
 use Rattle.fjall_jobs.specs.declared.made_table.MadeTable.{MadeTable}
 use Rattle.fjall_jobs.specs.Sequences.{Makes}
 use Rattle.fjall_recovery.specs.Halves.{Tree}
@@ -46,10 +46,10 @@ IsIngestRefusal number items last error = ⊥
 abbrev pub ForIngest : IngestPlan → (ℕ → Type 0) → Type 0
 ForIngest plan Holds = (id number : ℕ) (items : List KeyOp) (last : Fields) → IsIngestPlan id number items last plan → Holds id
 
--- for whichever tree lies on the disk with a keyspace that has room for a new table, and the tree after an ingestion into that
--- keyspace, under a number below 2^63 and beyond its persisted one
+-- for whichever tree lies on the disk, and the tree after an ingestion into one of its keyspaces, under a number below 2^63 and
+-- beyond the keyspace's persisted one
 abbrev pub ForIngestOn : Meaning → IngestPlan → (List Fields → Tree → ℕ → Home → Tree → Type 0) → Type 0
 ForIngestOn disk plan Holds = (records : List Fields) (t : Tree) (id number : ℕ) (items : List KeyOp) (h : Home) (versions : List Entry) → LiesInTree (state_in disk) records t → HasAt t id h versions
-    → IsFree (state_in disk) id h.last.next_table_id → number < 2 ^ 63 → is_beyond h.last.persisted number ≡ true
+    → number < 2 ^ 63 → is_beyond h.last.persisted number ≡ true
     → IsIngestPlan id number items h.last plan
     → Holds records t id h (tree_with id number items plan.tables.items h versions t)

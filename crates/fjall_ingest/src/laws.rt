@@ -53,12 +53,12 @@ pub fn an_ingestion_is_one_command()
         → ShowsBatches t.keyspaces (stored_of (home_with number tables h) (versions ++ versions_made number items)) id (map shown (batches_in (journals_with j j.later))) [] [] }
 {}
 
-/// After a flush that took all that memory had of the keyspace, and with nothing pending, an ingestion under a number above all may
-/// count.
+/// After a flush that took all that memory had of the keyspace, and with nothing pending, an ingestion may count under a number
+/// above the flush's and above all that the folder had before it.
 pub fn an_ingestion_may_follow_a_flush()
     ensures { (j : Journaling) (t : Tree) (id number : ℕ) (f : Flush) (lists : List (List Entry)) (h : Home) (versions : List Entry) (may : MayCount j t id f lists h versions)
         → Follows f lists h.last → may.rest_clears ≡ [] → may.rest ≡ [] → j.later ≡ [] → first_fault 0 (map shown (batches_in (journals_with j j.later))) ≡ None
-        → counts t.keyspaces number id ≡ true → number < 2 ^ 63 → number_of (contents_with j t j.later) ≤ number
+        → counts t.keyspaces number id ≡ true → number < 2 ^ 63 → f.number < number → number_of (contents_with j t j.later) ≤ number
         → MayIngestSynced j (tree_after id f lists h versions t) id number (home_after f h) (versions ++ flat lists) }
 {}
 

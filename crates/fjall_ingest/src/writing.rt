@@ -1,12 +1,11 @@
 //! An ingestion on the disk: its table, and the record that makes it count.
 
-ghost use Rattle.std.specs.Prelude.{◌⊎◌, ◌+◌, IsTrue, OnOk, length};
-ghost use Rattle.fjall_base.specs.Disk.{LeavesOnly, OnlyFaults, state_in};
+ghost use Rattle.std.specs.Prelude.{◌⊎◌, IsTrue, OnOk};
+ghost use Rattle.fjall_base.specs.Disk.{IsNoFolder, LeavesOnly, OnlyFaults, state_in};
 ghost use Rattle.fjall_files.specs.Calls.{AllServed};
-ghost use Rattle.fjall_files.specs.Names.{keyspace_folder};
+ghost use Rattle.fjall_files.specs.Names.{keyspace_folder, table_name};
 ghost use Rattle.fjall_files.specs.Regions.{Within};
 ghost use Rattle.fjall_files.specs.Tidy.{StaysTidy};
-ghost use Rattle.fjall_home.specs.Homes.{IsFree};
 ghost use Rattle.fjall_recovery.specs.Halves.{HasTree};
 ghost use Rattle.fjall_recovery.specs.Places.{LiesInTree};
 ghost use Rattle.fjall_ingest.specs.Plans.{ForIngest, ForIngestOn};
@@ -16,7 +15,8 @@ use fjall_base::{Disk, Result};
 use fjall_flush::write_tables;
 
 /// Writes an ingestion as it was planned: its table, which is synced with its name, and then the record, which is appended and
-/// synced: from then on all of it counts. It takes no memory.
+/// synced: from then on all of it counts. A file that nothing names, under the new table's id, is taken away first. It takes no
+/// memory.
 ///
 /// A call that fails may have done all of it.
 pub fn write_ingest<D: Disk>(disk: &mut D, plan: &IngestPlan) -> Result<()>
@@ -25,12 +25,12 @@ pub fn write_ingest<D: Disk>(disk: &mut D, plan: &IngestPlan) -> Result<()>
     // A crash at any moment of the call leaves the tree before or the one after, whole.
     ensures any_moment { IsTrue D.honest → ForIngestOn (D.meaning disk.old) plan.now (λ records t id h next.
         LeavesOnly (D.meaning disk.old) (D.meaning disk.new) (λ image. HasTree image t ⊎ HasTree image next)) }
-    // At Ok the one after lies there, and its keyspace has room for a new table again.
+    // At Ok the one after lies there.
     ensures ok { IsTrue D.honest → ForIngestOn (D.meaning disk.old) plan.now (λ records t id h next.
         OnOk result (LiesInTree (state_in (D.meaning disk.new)) records next)) }
-    ensures room { IsTrue D.honest → ForIngestOn (D.meaning disk.old) plan.now (λ records t id h next.
-        OnOk result (IsFree (state_in (D.meaning disk.new)) id (h.last.next_table_id + length plan.now.tables.items))) }
-    ensures served { IsTrue D.honest → ForIngestOn (D.meaning disk.old) plan.now (λ records t id h next. AllServed (D.meaning disk.old) (D.meaning disk.new)) }
+    // Where no folder has the table's name, each call was one that a disk can serve.
+    ensures served { IsTrue D.honest → ForIngestOn (D.meaning disk.old) plan.now (λ records t id h next.
+        IsNoFolder (state_in (D.meaning disk.old) (table_name id h.last.next_table_id)).now → AllServed (D.meaning disk.old) (D.meaning disk.new)) }
     ensures cause { OnlyFaults (D.meaning disk.old) (D.meaning disk.new) result }
     ensures kinds { IsTrue D.honest → ForIngest plan.now (λ id. StaysTidy (D.meaning disk.old) (D.meaning disk.new)) }
 {

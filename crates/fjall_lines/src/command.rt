@@ -75,6 +75,8 @@ pub enum Request {
     Gc,
     /// `rotate ID`: seals the active memtable of a keyspace.
     Rotate(u64),
+    /// `flush ID`: brings the sealed memtables of a keyspace to a table.
+    Flush(u64),
     /// `persist`: makes all that was written safe.
     Persist,
 }

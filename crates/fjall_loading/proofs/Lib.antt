@@ -1,3 +1,6 @@
+pub mod Maps
 pub mod Turns
 pub mod Opening
 pub mod Opened
+mod Named
+pub mod KnownHomes

@@ -1,11 +1,13 @@
 -- What the trees of homes that were read show, on the disk that they were read from.
-use Rattle.std.proofs.Common.{◌≡◌, ℕ, zero, suc, ◌<◌, ◌==◌, Bool, true, false, cond, List, [], ◌∷◌, ◌++◌, get_or, length, map, slice_get, All, AllPairs, Option, None, Some, is_some, refl, sym, ◌∙◌, ap, subst, arith}
+use Rattle.std.proofs.Common.{◌≡◌, ℕ, zero, suc, ◌<◌, ◌==◌, Bool, true, false, cond, List, [], ◌∷◌, ◌++◌, get_or, length, map, slice_get, All, AllPairs, Option, None, Some, is_some, unwrap_or, refl, sym, ◌∙◌, ap, subst, arith}
 use Rattle.std.specs.FinMap.{get}
 use Rattle.std.specs.Prelude.{IfSome}
 use Rattle.std.proofs.lemmas.Bool.{eq-eqb}
 use Rattle.std.proofs.lemmas.List.Elements.{All-cons, All-head, All-map, All-nil, All-tail, All-weaker}
 use Rattle.fjall_base.specs.Disk.{Image, Meaning}
 use Rattle.fjall_base.proofs.Codecs.{some_is}
+use Rattle.fjall_catalog.specs.Catalog.{fields, first_of}
+use Rattle.fjall_parts.specs.Parts.{Held, holds_nothing}
 use Rattle.fjall_blocks.specs.Readers.{AreRead, HoldsAWrongBlock, Reader, SomeTableIsWrong, unread}
 use Rattle.fjall_contents.specs.Contents.{IsWithin, Stored, clears_held, is_beyond, versions_held}
 use Rattle.fjall_files.specs.Calls.{seen}
@@ -17,7 +19,7 @@ use Rattle.fjall_lsm.specs.Trees.{Shape, floor_of}
 use Rattle.fjall_meta.specs.declared.living.LivingKeyspace.{LivingKeyspace}
 use Rattle.fjall_meta.specs.Keyspaces.{Keyspaces, keyspace_at}
 use Rattle.fjall_recovery.specs.Folders.{Contents, IsOpenable}
-use Rattle.fjall_recovery.specs.Homes.{AreHomesRead, HasHomeAt, HasOpenableHome, HasVersionsAt, HaveHomes, HaveVersions, Homes, IsRead, Versions, stored_at, stored_in, stored_of}
+use Rattle.fjall_recovery.specs.Homes.{AreHomesRead, HasHomeAt, HasOpenableHome, HasVersionsAt, HaveHomes, HaveVersions, Homes, IsRead, Versions, stored_at, stored_of}
 use Rattle.fjall_replay.specs.Beside.{AreReplayedWith, ShowsWith}
 use Rattle.fjall_replay.specs.Replayed.{past}
 use Rattle.fjall_sorted.specs.Sorted.{flat}
@@ -26,14 +28,15 @@ use Rattle.fjall_table.specs.Blocks.{Entry}
 use Rattle.fjall_table.specs.Files.{HoldsNoBlock, IsTableOf, bytes_in}
 use Rattle.fjall_table.specs.Tables.{Handle}
 use Rattle.fjall_table.proofs.FileScans.{wrong_block}
-use Rattle.fjall_tree.specs.Records.{Fields}
-use Rattle.fjall_trees.specs.Forests.{Forest, Planted, tree_at}
+use Rattle.fjall_tree.specs.Records.{Fields, view}
+use Rattle.fjall_trees.specs.Forests.{Forest, tree_at}
 use Rattle.fjall_versions.proofs.Ids.{each_lives}
 use Rattle.fjall_views.specs.Jobs.{AreBelow, OnceEach}
 use Rattle.fjall_views.specs.Views.{value_at}
-use Rattle.fjall_loading.specs.Opening.{AreReadersOf, AreTablesOf, HaveEntries, IsOpenedOn, ShowsEntries, ShowsStored, opened, stored_entries, stored_with, tree_of}
+use Rattle.fjall_loading.specs.Known.{GoesOnFrom, IsKnown, LastFields}
+use Rattle.fjall_loading.specs.Opening.{AreReadersOf, AreTablesOf, HaveEntries, IsOpenedOn, KnowsStored, ShowsEntries, ShowsStored, opened, record_read, stored_entries, stored_with, tree_of}
 use Rattle.fjall_loading.proofs.Turns.{home_at, same_bytes}
-use Rattle.fjall_loading.proofs.Opening.{below_past, its_readers, other_id, read_tree, readers_read, right_but}
+use Rattle.fjall_loading.proofs.Opening.{AreRecordsOf, below_past, its_readers, other_id, read_first, read_tree, readers_read, right_but}
 
 -- ---- each home that was read
 
@@ -52,22 +55,26 @@ at_first : (id : ℕ) (home : LoadedHome) (trees : Forest) (b : Bool) → (home.
 at_first id home trees true e = ap (λ (c : Bool). cond c (Some (opened home).shape) (tree_at id trees)) e
 at_first id home trees false e = ap (λ (c : Bool). cond c (Some (opened home).shape) (tree_at id trees)) e
 
-record IsFound (image : Image) (trees : Forest) (k : LivingKeyspace) : Type 0 where
+-- and so does its record
+record IsFound (image : Image) (homes : List LoadedHome) (k : LivingKeyspace) : Type 0 where
   home : LoadedHome
   read : IsRead image k.id home
-  at : tree_at k.id trees ≡ Some (opened home).shape
+  at : tree_at k.id (map opened homes) ≡ Some (opened home).shape
+  told : record_read homes k.id ≡ Some (view home.record)
 
 trees_found : (image : Image) (living : List LivingKeyspace) (homes : List LoadedHome) → AllPairs (λ j k. j.id < k.id) living → AreHomesRead image living homes
-    → All (IsFound image (map opened homes)) living
+    → All (IsFound image homes) living
 trees_found image [] [] up read = All-nil (IsFound image [])
 trees_found image [] (home ∷ homes) up read = absurd read
 trees_found image (k ∷ living) [] up read = absurd read
 trees_found image (k ∷ living) (home ∷ homes) up read =
-    All-cons (IsFound image (map opened (home ∷ homes))) k living
+    let own = eq-eqb home.id k.id read.0.loaded.named in
+    All-cons (IsFound image (home ∷ homes)) k living
     (record {
       home = home;
       read = read.0;
-      at = at_first k.id home (map opened homes) true (eq-eqb home.id k.id read.0.loaded.named);
+      at = at_first k.id home (map opened homes) true own;
+      told = read_first home homes k.id true own;
     })
     (λ i d lt.
     let j = get_or living i d in
@@ -78,6 +85,7 @@ trees_found image (k ∷ living) (home ∷ homes) up read =
       home = one.home;
       read = one.read;
       at = at_first j.id home (map opened homes) false (other_id home.id j.id less) ∙ one.at;
+      told = read_first home homes j.id false (other_id home.id j.id less) ∙ one.told;
     })
 
 -- ---- the entries of a sound folder's tables
@@ -97,6 +105,12 @@ lists_stored None None have = refl
 lists_none : (h : Option Home) (versions : Option (List Entry)) (have : HasVersionsAt h versions) → h ≡ None → lists_at h versions have ≡ []
 lists_none (Some h) versions have none = absurd cc
 lists_none None versions have none = refl
+
+-- these are its versions
+lists_versions : (o : Option Home) (versions : Option (List Entry)) (have : HasVersionsAt o versions) (h : Home) → o ≡ Some h → versions ≡ Some (flat (lists_at o versions have))
+lists_versions (Some g) (Some versions) have h is = ap Some have.all
+lists_versions (Some g) None have h is = absurd have
+lists_versions None versions have h is = absurd cc
 
 -- what is so of a home and its lists
 record AreLists (h : Home) (lists : List (List Entry)) : Type 0 where
@@ -147,6 +161,16 @@ entries_show s id None entries h is low readers = absurd cc
 entries_show s id (Some g) entries h is low readers = record {
   below = low;
   shows = λ key instant i. value_at key instant (ap (λ (x : Home). x.last.clears) (sym (some_is g h is)) i ++ []) (flat entries ++ []);
+}
+
+-- ---- what is known of a home that was read
+
+-- its tree goes on from the record that it tells
+goes_on : (home : LoadedHome) (h : Home) → view home.record ≡ h.last → GoesOnFrom h.last (opened home).shape
+goes_on home h is = record {
+  clears = ap (λ (f : Fields). f.clears) is;
+  beyond = let same = ap (λ (f : Fields). past f.persisted) is in omega (arith, same);
+  some = All-nil (λ (held : Held). holds_nothing held ≡ false);
 }
 
 -- ---- all trees
@@ -243,3 +267,26 @@ module _ (disk : Meaning) (c : Contents) (openable : IsOpenable (seen disk) c) (
           right = none_is_wrong;
           shown = subst (λ (stored : ℕ → Stored). AreReplayedWith entries_in c.keyspaces stored [] (map opened homes)) (λ i id. entries_are.stored id i) shown.shown;
         }
+
+    -- each home is known where these are the homes' records
+    pub homes_known : (records : LastFields) → AreRecordsOf homes records → AllPairs (λ j k. j.id < k.id) c.keyspaces.living
+        → All (IsKnown records (map opened homes) entries_in c.homes versions) c.keyspaces.living
+    homes_known records are up = λ i d lt.
+        let k : LivingKeyspace = get_or c.keyspaces.living i d in
+        let one = trees_found (seen disk) c.keyspaces.living homes up read i d lt in
+        let h = one.read.loaded.h in
+        let is : view one.home.record ≡ h.last = one.read.loaded.record_is in
+        let at = home_at (seen disk) c.keyspaces.living c.homes openable.homes k (each_lives c.keyspaces.living i d lt) one.home one.read in
+        record {
+          h = h;
+          home = at;
+          stored = lists_versions (get c.homes k.id) (get versions k.id) (have k.id) h at;
+          last = ap (λ (o : Option Fields). unwrap_or o (fields (first_of k.number))) (are k.id ∙ one.told) ∙ is;
+          shape = (opened one.home).shape;
+          tree = one.at;
+          goes_on = goes_on one.home h is;
+        }
+
+    pub knows_stored : (records : LastFields) → AreRecordsOf homes records → AllPairs (λ j k. j.id < k.id) c.keyspaces.living → KnowsStored disk c versions records (map opened homes)
+    unfolding shows_stored
+    knows_stored records are up = record { stored = shows_stored up; known = homes_known records are up }

@@ -1,14 +1,17 @@
 -- Homes that were read, as trees over their tables.
 use Rattle.std.proofs.Common.{◌≡◌, ℕ, zero, suc, ◌+◌, ◌<◌, ◌≤◌, ◌^◌, ◌==◌, max, Bool, true, false, cond, List, [], ◌∷◌, ◌++◌, length, take, get_or, map, All, AllPairs}
-use Rattle.std.proofs.Common.{Option, None, Some, find, slice_get, unwrap_or, add-one, refl, sym, ◌∙◌, ap, subst, arith}
+use Rattle.std.proofs.Common.{Option, None, Some, find, is_some, slice_get, unwrap_or, add-one, refl, sym, ◌∙◌, ap, subst, arith}
+use Rattle.std.specs.Cmp.{nat_cmp_total}
+use Rattle.std.specs.FinMap.{get, get-insert, insert}
+use Rattle.std.specs.Ordering.{eq_by_cmp, nat_cmp}
 use Rattle.std.specs.Prelude.{IfSome}
 use Rattle.std.specs.List.Sorted.{IsStrictlyIncreasing}
 use Rattle.std.specs.Option.{option_map}
-use Rattle.std.proofs.lemmas.Bool.{eq-eqb}
+use Rattle.std.proofs.lemmas.Bool.{eq-eqb, eqb-true}
 use Rattle.std.proofs.lemmas.Bool.Decides.{nat_tests}
 use Rattle.std.proofs.lemmas.List.{get_or_default, map-append}
 use Rattle.std.proofs.Math.Seq.{take-suc}
-use Rattle.std.proofs.lemmas.List.Elements.{All-cons, All-head, All-map, All-nil, All-tail}
+use Rattle.std.proofs.lemmas.List.Elements.{All-cons, All-head, All-map, All-nil, All-tail, All-weaker}
 use Rattle.fjall_base.specs.Disk.{Image, Meaning}
 use Rattle.fjall_blocks.specs.Readers.{AreRead, Reader, Reads, none_kept, unread}
 use Rattle.fjall_blocks.proofs.Readers.{but_none}
@@ -30,11 +33,12 @@ use Rattle.fjall_table.specs.Blocks.{Entry}
 use Rattle.fjall_table.specs.Files.{HoldsTable, IsIndexed, IsTableOf, bytes_in}
 use Rattle.fjall_table.specs.Tables.{Handle, handles_of}
 use Rattle.fjall_table.proofs.TableBlocks.{one_index}
-use Rattle.fjall_tree.specs.Records.{Fields, IsRecord}
+use Rattle.fjall_tree.specs.Records.{Fields, IsRecord, view}
 use Rattle.fjall_trees.specs.Forests.{AreBefore, Forest, Planted}
 use Rattle.fjall_versions.specs.Replays.{persisted_at}
 use Rattle.fjall_versions.specs.declared.recovery.Persisted.{Persisted}
-use Rattle.fjall_loading.specs.Opening.{AreReadersOf, HaveEntriesBut, IsOpenedTree, IsReaderOf, MayOpen, MayOpenAll, opened, reader_of, told_by, tree_of}
+use Rattle.fjall_loading.specs.Known.{LastFields}
+use Rattle.fjall_loading.specs.Opening.{AreReadersOf, HaveEntriesBut, IsOpenedTree, IsReaderOf, MayOpen, MayOpenAll, opened, reader_of, record_read, told_by, tree_of}
 use Rattle.fjall_loading.proofs.Turns.{same_bytes}
 
 -- ---- readers of a home's tables
@@ -109,7 +113,7 @@ right_but image id (t ∷ tables) (b ∷ texts) (es ∷ lists) hold right =
 -- ---- a home that was read
 
 module _ (image : Image) (id : ℕ) (home : LoadedHome) (read : IsRead image id home) where
-  last_is_record : IsRecord read.loaded.h.last
+  pub last_is_record : IsRecord read.loaded.h.last
   last_is_record = last_has IsRecord read.loaded.records read.loaded.h.last read.loaded.openable.files.whole.each read.loaded.openable.files.last_is
 
   -- it tells of a tree
@@ -205,6 +209,85 @@ opened_ended ids homes up may =
     let home = get_or homes i d in
     subst (λ (p : Option ℕ). past home.record.persisted ≤ max (past p) 0) (sym (told_at ids homes up may i d lt)) (omega arith))
 
+-- ---- the records that are kept
+
+-- the record under an id is that of the first home of it
+pub read_first : (home : LoadedHome) (homes : List LoadedHome) (id : ℕ) (b : Bool) → (home.id == id) ≡ b → record_read (home ∷ homes) id ≡ cond b (Some (view home.record)) (record_read homes id)
+read_first home homes id true e = ap (λ (c : Bool). option_map (λ (h : LoadedHome). view h.record) (cond c (Some home) (find (λ (h : LoadedHome). h.id == id) homes))) e
+read_first home homes id false e = ap (λ (c : Bool). option_map (λ (h : LoadedHome). view h.record) (cond c (Some home) (find (λ (h : LoadedHome). h.id == id) homes))) e
+
+-- homes of lesser ids have none under it
+none_read : (homes : List LoadedHome) (id : ℕ) → All (λ h. h.id < id) homes → record_read homes id ≡ None
+none_read [] id low = refl
+none_read (home ∷ homes) id low =
+    read_first home homes id false (other_id home.id id (All-head (λ (h : LoadedHome). h.id < id) home homes low))
+    ∙ none_read homes id (All-tail (λ (h : LoadedHome). h.id < id) home homes low)
+
+-- the record of a home behind others of lesser ids
+read_behind : (homes : List LoadedHome) (home : LoadedHome) (id : ℕ) → (home.id == id) ≡ true → All (λ h. h.id < id) homes → record_read (homes ++ home ∷ []) id ≡ Some (view home.record)
+read_behind [] home id own low = read_first home [] id true own
+read_behind (h ∷ homes) home id own low =
+    read_first h (homes ++ home ∷ []) id false (other_id h.id id (All-head (λ (g : LoadedHome). g.id < id) h homes low))
+    ∙ read_behind homes home id own (All-tail (λ (g : LoadedHome). g.id < id) h homes low)
+
+-- and that of another id stays
+read_before : (homes : List LoadedHome) (home : LoadedHome) (id : ℕ) → (home.id == id) ≡ false → record_read (homes ++ home ∷ []) id ≡ record_read homes id
+read_before [] home id other = read_first home [] id false other
+read_before (h ∷ homes) home id other = elim (h.id == id) as (λ b. (h.id == id) ≡ b → record_read ((h ∷ homes) ++ home ∷ []) id ≡ record_read (h ∷ homes) id) [
+  | true ↦ λ e. read_first h (homes ++ home ∷ []) id true e ∙ sym (read_first h homes id true e)
+  | false ↦ λ e. read_first h (homes ++ home ∷ []) id false e ∙ read_before homes home id other ∙ sym (read_first h homes id false e)
+] refl
+
+-- these are the records of homes
+abbrev pub AreRecordsOf : List LoadedHome → LastFields → Type 0
+AreRecordsOf homes records = (id : ℕ) → get records id ≡ record_read homes id
+
+tied : (q id : ℕ) → eq_by_cmp nat_cmp q id ≡ true → (id == q) ≡ true
+tied q id e = grind (arith, nat_tests)
+
+apart : (q id : ℕ) → eq_by_cmp nat_cmp q id ≡ false → (id == q) ≡ false
+apart q id e = grind (arith, nat_tests)
+
+pub records_push : (homes : List LoadedHome) (home : LoadedHome) (records : LastFields) → All (λ h. h.id < home.id) homes → AreRecordsOf homes records
+    → AreRecordsOf (homes ++ home ∷ []) (insert records home.id (view home.record))
+records_push homes home records low are q =
+    get-insert nat_cmp_total records home.id (view home.record) q
+    ∙ elim (eq_by_cmp nat_cmp q home.id) as (λ b. eq_by_cmp nat_cmp q home.id ≡ b → cond b (Some (view home.record)) (get records q) ≡ record_read (homes ++ home ∷ []) q) [
+      | true ↦ λ e.
+          let own = tied q home.id e in
+          sym (read_behind homes home q own (subst (λ (n : ℕ). All (λ (h : LoadedHome). h.id < n) homes) (eqb-true home.id q own) low))
+      | false ↦ λ e. are q ∙ sym (read_before homes home q (apart q home.id e))
+    ] refl
+
+-- each keyspace has one
+has_read : (homes : List LoadedHome) (home : LoadedHome) (id : ℕ) → is_some (record_read homes id) ≡ true → is_some (record_read (home ∷ homes) id) ≡ true
+has_read homes home id has = elim (home.id == id) as (λ b. (home.id == id) ≡ b → is_some (record_read (home ∷ homes) id) ≡ true) [
+  | true ↦ λ e. ap is_some (read_first home homes id true e)
+  | false ↦ λ e. ap is_some (read_first home homes id false e) ∙ has
+] refl
+
+all_read : (living : List LivingKeyspace) (homes : List LoadedHome) → MayOpenAll (map (λ k. k.id) living) homes → All (λ k. is_some (record_read homes k.id) ≡ true) living
+all_read [] homes may = All-nil (λ (k : LivingKeyspace). is_some (record_read homes k.id) ≡ true)
+all_read (k ∷ living) [] may = absurd may
+all_read (k ∷ living) (home ∷ homes) may =
+    All-cons (λ (j : LivingKeyspace). is_some (record_read (home ∷ homes) j.id) ≡ true) k living
+    (ap is_some (read_first home homes k.id true (eq-eqb home.id k.id may.0.named)))
+    (All-weaker (λ (j : LivingKeyspace). is_some (record_read homes j.id) ≡ true) (λ (j : LivingKeyspace). is_some (record_read (home ∷ homes) j.id) ≡ true)
+    (λ j has. has_read homes home j.id has) living (all_read living homes may.1))
+
+pub all_recorded : (living : List LivingKeyspace) (homes : List LoadedHome) (records : LastFields) → MayOpenAll (map (λ k. k.id) living) homes → AreRecordsOf homes records
+    → All (λ k. is_some (get records k.id) ≡ true) living
+all_recorded living homes records may are i d lt = ap is_some (are (get_or living i d).id) ∙ all_read living homes may i d lt
+
+-- and an id that isn't given out has none
+pub none_recorded : (next : ℕ) (ids : List ℕ) (homes : List LoadedHome) (records : LastFields) → All (λ id. id < next) ids → MayOpenAll ids homes → AreRecordsOf homes records → (id : ℕ) → next ≤ id
+    → get records id ≡ None
+none_recorded next ids homes records given may are id le =
+    are id
+    ∙ none_read homes id (λ i d lt. let low : (get_or homes i d).id < next = named_all (λ n. n < next) ids homes may given i d lt in omega (arith, low, le))
+
+-- ---- one after another
+
 -- the ids of keyspaces ascend
 pub ids_ascend : (living : List LivingKeyspace) → AllPairs (λ j k. j.id < k.id) living → Ascends (map (λ k. k.id) living)
 ids_ascend [] up = tt
@@ -252,6 +335,16 @@ module _ (living : List LivingKeyspace) (homes : List LoadedHome) (n m : ℕ) (k
       (sym (ap (λ (i : ℕ). map (λ (j : LivingKeyspace). j.id) (take i living)) (sym next) ∙ ap (map (λ (j : LivingKeyspace). j.id)) front ∙ map-append (λ (j : LivingKeyspace). j.id)
       (take n living) (k ∷ [])))
       (may_push (map (λ j. j.id) (take n living)) (take n homes) k.id home may one))
+
+  -- so do the records, where ids ascend
+  pub records_more : (old new : LastFields) → All (λ j. j.id < k.id) (take n living) → MayOpenAll (map (λ j. j.id) (take n living)) (take n homes) → MayOpen k.id home
+      → AreRecordsOf (take n homes) old → new ≡ insert old k.id (view home.record) → AreRecordsOf (take m homes) new
+  records_more old new low may one are is =
+      let own : home.id ≡ k.id = one.named in
+      let below = named_all (λ i. i < k.id) (map (λ (j : LivingKeyspace). j.id) (take n living)) (take n homes) may (All-map (λ i. i < k.id) (λ (j : LivingKeyspace). j.id) (take n living) low) in
+      subst (λ (hs : List LoadedHome). AreRecordsOf hs new) (sym homes_more)
+      (subst (AreRecordsOf (take n homes ++ home ∷ [])) (sym (is ∙ ap (λ (i : ℕ). insert old i (view home.record)) (sym own)))
+      (records_push (take n homes) home old (subst (λ (i : ℕ). All (λ (h : LoadedHome). h.id < i) (take n homes)) (sym own) below) are))
 
   pub opened_more : (old new : Forest) → old ≡ map opened (take n homes) → new ≡ old ++ opened home ∷ [] → new ≡ map opened (take m homes)
   opened_more old new so_far one =

@@ -1,5 +1,6 @@
 -- Trees over tables that stay on the disk, as an opening plants them: no block of a table is read.
-use Rattle.std.specs.Prelude.{◌≡◌, ℕ, ◌<◌, ◌^◌, List, [], ◌∷◌, map, All, IfSome, Option, None, Some}
+use Rattle.std.specs.Prelude.{◌≡◌, ◌==◌, ℕ, ◌<◌, ◌^◌, List, [], ◌∷◌, find, map, All, IfSome, Option, None, Some}
+use Rattle.std.specs.Option.{option_map}
 use Rattle.std.specs.FinMap.{get}
 use Rattle.std.specs.List.Sorted.{IsStrictlyIncreasing}
 use Rattle.fjall_base.specs.Disk.{Image, Meaning}
@@ -26,6 +27,7 @@ use Rattle.fjall_trees.specs.Forests.{Forest, Planted}
 use Rattle.fjall_trees.specs.Tables.{AreReadOn}
 use Rattle.fjall_views.specs.Jobs.{OnceEach}
 use Rattle.fjall_versions.specs.declared.recovery.Persisted.{Persisted}
+use Rattle.fjall_loading.specs.Known.{IsKnown, LastFields}
 
 -- ---- one tree
 
@@ -61,6 +63,10 @@ abbrev pub MayOpenAll : List ℕ → List LoadedHome → Type 0
 MayOpenAll [] [] = Unit {0}
 MayOpenAll (id ∷ ids) (home ∷ homes) = MayOpen id home × MayOpenAll ids homes
 MayOpenAll ids homes = ⊥
+
+-- the record of the home of this id, where one was read
+abbrev pub record_read : List LoadedHome → ℕ → Option Fields
+record_read homes id = option_map (λ home. view home.record) (find (λ home. home.id == id) homes)
 
 -- the persisted number that a home tells
 abbrev pub told_by : LoadedHome → Persisted
@@ -140,3 +146,8 @@ pub record ShowsStored (disk : Meaning) (c : Contents) (versions : Versions) (tr
   pub on : AreReadOn disk trees entries
   pub right : All (λ k. SomeTableIsWrong disk k.shape.tables → ⊥) trees
   pub shown : AreReplayedWith entries c.keyspaces (stored_in c.homes versions) [] trees
+
+-- And of each keyspace the home is known: its last record is the one that is kept, and its tree goes on from that.
+pub record KnowsStored (disk : Meaning) (c : Contents) (versions : Versions) (records : LastFields) (trees : Forest) : Type 0 where
+  pub stored : ShowsStored disk c versions trees
+  pub known : All (IsKnown records trees stored.entries c.homes versions) c.keyspaces.living

@@ -2,7 +2,9 @@
 #![tactic(auto)]
 
 mod laws;
+mod records;
 mod tables;
 
 pub use laws::opened_trees_show_the_store;
-pub use tables::open_homes;
+pub use records::LastRecords;
+pub use tables::{OpenedHomes, open_homes};

@@ -1,12 +1,14 @@
 //! Trees over the tables of the keyspaces that live, which stay on the disk.
 
-ghost use Rattle.std.specs.Prelude.{◌≡◌, ◌⊎◌, ◌↔◌, ◌++◌, ◌∷◌, ℕ, ◌<◌, ◌^◌, [], All, List, IfErr, IfOk, IfSome, IsTrue, OnOk, IsOkUnless, map};
+ghost use Rattle.std.specs.Prelude.{◌≡◌, ◌⊎◌, ◌↔◌, ◌++◌, ◌∷◌, ℕ, ◌<◌, ◌≤◌, ◌^◌, [], All, List, IfErr, IfOk, IfSome, IsTrue, None, OnOk, IsOkUnless, is_some, map, true};
+ghost use Rattle.std.specs.FinMap.{get, insert};
 ghost use Rattle.std.specs.List.Sorted.{IsStrictlyIncreasing};
 ghost use Rattle.fjall_base.specs.declared.error.Error.TheVariants.{Storage};
 ghost use Rattle.fjall_base.specs.declared.error.StorageError.TheVariants.{RecordDamaged};
 ghost use Rattle.fjall_base.specs.Disk.{Image, Meaning};
 ghost use Rattle.fjall_files.specs.Calls.{seen};
-ghost use Rattle.fjall_loading.specs.Opening.{HaveEntries, IsOpenedOn, MayOpen, MayOpenAll, ShowsEntries, ShowsStored, opened, reader_of, told_by};
+ghost use Rattle.fjall_loading.specs.Known.{AreAtHome};
+ghost use Rattle.fjall_loading.specs.Opening.{HaveEntries, IsOpenedOn, KnowsStored, MayOpen, MayOpenAll, ShowsEntries, opened, reader_of, record_read, told_by};
 ghost use Rattle.fjall_recovery.specs.Folders.{Contents, IsOpenable};
 ghost use Rattle.fjall_recovery.specs.Homes.{AreHomesRead, ClearsAreWithin, HaveVersions, Versions};
 ghost use Rattle.fjall_replay.specs.Beside.{AreEndedBy};
@@ -16,6 +18,7 @@ ghost use Rattle.fjall_tree.specs.Records.{view};
 ghost use Rattle.fjall_trees.specs.Forests.{AreBefore};
 ghost use Rattle.fjall_trees.specs.Views.{forest_of};
 
+use crate::records::LastRecords;
 use fjall_base::{Error, Result, StorageError};
 use fjall_blocks::TableReader;
 use fjall_home::LoadedHome;
@@ -95,10 +98,17 @@ fn readers_of(alloc: Global, files: Vec<TableFile>) -> Result<Vec<TableReader>>
     Ok(readers)
 }
 
-/// Plants the tree of a home behind all others. The keyspace has this id.
-fn open_home(alloc: Global, id: u64, home: LoadedHome, trees: &mut Trees) -> Result<()>
+/// Plants the tree of a home behind all others, and keeps the home's record. The keyspace has this id.
+fn open_home(
+    alloc: Global,
+    id: u64,
+    home: LoadedHome,
+    trees: &mut Trees,
+    records: &mut LastRecords,
+) -> Result<()>
     requires { All (λ k. k.id < id) (forest_of trees.old) }
     ensures ok { OnOk result (forest_of trees.new ≡ forest_of trees.old ++ opened home ∷ []) }
+    ensures kept { OnOk result (records.new ≡ insert records.old id (view home.record)) }
     ensures may { OnOk result (MayOpen id home) }
     ensures cause { IfErr result (λ e. (e ≡ Error.OutOfMemory) ⊎ ((e ≡ Storage RecordDamaged) × (MayOpen id home → ⊥))) }
 {
@@ -107,34 +117,54 @@ fn open_home(alloc: Global, id: u64, home: LoadedHome, trees: &mut Trees) -> Res
     }
     let LoadedHome { record, tables, .. } = home;
     let readers = readers_of(alloc, tables)?;
-    let from = past(record.persisted);
-    let tree = Tree::new(alloc, readers, record.clears, from);
+    let mut clears = Vec::new(alloc);
+    clears.extend_from_slice(&record.clears)?;
+    let tree = Tree::new(alloc, readers, clears, past(record.persisted));
     trees.add(id, tree)?;
-    Ok(())
+    records.insert(id, record)
 }
 
-/// Plants a tree of each keyspace that lives, over the tables that its home's last record names. They have these homes, one by
-/// one. The trees' clears are those of the records, nothing is in memory, and memory begins one past the persisted number. No
-/// block is read, and the disk isn't asked.
+/// The keyspaces that live, as an opening plants them.
+#[derive(Drop)]
+pub struct OpenedHomes {
+    /// A tree of each, over its tables, which stay on the disk.
+    pub trees: Trees,
+    /// The last record of each.
+    pub records: LastRecords,
+}
+
+/// Plants a tree of each keyspace that lives, over the tables that its home's last record names, and keeps that record. They have
+/// these homes, one by one. The trees' clears are those of the records, nothing is in memory, and memory begins one past the
+/// persisted number. No block is read, and the disk isn't asked.
 ///
 /// Refuses for want of memory; and with `Storage(RecordDamaged)` where the homes aren't those of the keyspaces, or a record
 /// tells of no tree, which no home is that was read of a disk.
-pub fn open_homes(alloc: Global, keyspaces: &MetaKeyspace, homes: Vec<LoadedHome>) -> Result<Trees>
-    ensures trees { IfOk result (λ trees. forest_of trees ≡ map opened homes.items) }
-    ensures live { IfOk result (λ trees. ids_of (forest_of trees) ≡ map (λ k. k.id) keyspaces.now.living) }
+pub fn open_homes(
+    alloc: Global,
+    keyspaces: &MetaKeyspace,
+    homes: Vec<LoadedHome>,
+) -> Result<OpenedHomes>
+    ensures trees { IfOk result (λ o. forest_of o.trees ≡ map opened homes.items) }
+    ensures live { IfOk result (λ o. ids_of (forest_of o.trees) ≡ map (λ k. k.id) keyspaces.now.living) }
     ensures theirs { OnOk result (MayOpenAll (map (λ k. k.id) keyspaces.now.living) homes.items) }
-    ensures before { (bound : ℕ) → All (λ home. IfSome home.record.persisted (λ n. n < bound)) homes.items → IfOk result (λ trees. AreBefore bound (forest_of trees)) }
+    ensures before { (bound : ℕ) → All (λ home. IfSome home.record.persisted (λ n. n < bound)) homes.items → IfOk result (λ o. AreBefore bound (forest_of o.trees)) }
     // The first journal's batches go on behind what is persisted.
-    ensures ended { IfOk result (λ trees. AreEndedBy (map told_by homes.items) 0 (forest_of trees)) }
+    ensures ended { IfOk result (λ o. AreEndedBy (map told_by homes.items) 0 (forest_of o.trees)) }
+    // The records are those of the homes: of each keyspace that lives one, and none of an id that isn't given out.
+    ensures records { IfOk result (λ o. (id : ℕ) → get o.records id ≡ record_read homes.items id) }
+    ensures recorded { IfOk result (λ o. All (λ k. is_some (get o.records k.id) ≡ true) keyspaces.now.living) }
+    ensures kept { IfOk result (λ o. (id : ℕ) → keyspaces.now.next ≤ id → get o.records id ≡ None) }
     // Over a disk from which the homes were read, each tree is over the tables there, also where a block of them is wrong.
     ensures opened { (disk : Meaning) (c : Contents) → IsOpenable (seen disk) c → c.keyspaces ≡ keyspaces.now → AreHomesRead (seen disk) keyspaces.now.living homes.items
-        → IfOk result (λ trees. All (IsOpenedOn disk c) (forest_of trees)) }
+        → IfOk result (λ o. All (IsOpenedOn disk c) (forest_of o.trees)) }
+    // Each table is one of its keyspace's, and its id was given out.
+    ensures named { (image : Image) → AreHomesRead image keyspaces.now.living homes.items → IfOk result (λ o. AreAtHome o.records (forest_of o.trees)) }
     // Where the tables have some entries, but for wrong blocks, they are read there as tables of these.
     ensures reads { (disk : Meaning) (c : Contents) → IsOpenable (seen disk) c → c.keyspaces ≡ keyspaces.now → AreHomesRead (seen disk) keyspaces.now.living homes.items
-        → (entries : ℕ → List (List Entry)) → HaveEntries disk c entries → IfOk result (λ trees. ShowsEntries disk c entries (forest_of trees)) }
-    // Where the folder is sound, the tables are read there as what they are, and the trees show what is stored.
+        → (entries : ℕ → List (List Entry)) → HaveEntries disk c entries → IfOk result (λ o. ShowsEntries disk c entries (forest_of o.trees)) }
+    // Where the folder is sound, the tables are read there as what they are, the trees show what is stored, and each home is known.
     ensures sound { (disk : Meaning) (c : Contents) → IsOpenable (seen disk) c → c.keyspaces ≡ keyspaces.now → AreHomesRead (seen disk) keyspaces.now.living homes.items
-        → (versions : Versions) → HaveVersions c.homes versions → IfOk result (λ trees. ShowsStored disk c versions (forest_of trees)) }
+        → (versions : Versions) → HaveVersions c.homes versions → IfOk result (λ o. KnowsStored disk c versions o.records (forest_of o.trees)) }
     ensures cause { IfErr result (λ e. (e ≡ Error.OutOfMemory) ⊎ ((e ≡ Storage RecordDamaged) × (MayOpenAll (map (λ k. k.id) keyspaces.now.living) homes.items → ⊥))) }
     ensures only { (image : Image) → AreHomesRead image keyspaces.now.living homes.items → IsOkUnless result Error.OutOfMemory }
 {
@@ -144,10 +174,12 @@ pub fn open_homes(alloc: Global, keyspaces: &MetaKeyspace, homes: Vec<LoadedHome
         return Err(DAMAGED);
     }
     let mut trees = Trees::new(alloc);
+    let mut records = LastRecords::new(alloc);
     let mut place = 0;
     for home in homes {
-        open_home(alloc, living[place].id, home, &mut trees)?;
+        let id = living[place].id;
+        open_home(alloc, id, home, &mut trees, &mut records)?;
         place += 1;
     }
-    Ok(trees)
+    Ok(OpenedHomes { trees, records })
 }

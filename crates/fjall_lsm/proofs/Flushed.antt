@@ -1,5 +1,5 @@
 -- A tree whose flush is finished.
-use Rattle.std.proofs.Common.{◌≡◌, ℕ, zero, suc, ◌<◌, ◌≤◌, List, [], ◌∷◌, ◌++◌, length, take, drop, sym, ap, subst, ◌∙◌, append_assoc, arith}
+use Rattle.std.proofs.Common.{◌≡◌, ℕ, zero, suc, ◌<◌, ◌≤◌, List, [], ◌∷◌, ◌++◌, length, get_or, take, drop, refl, sym, ap, subst, ◌∙◌, append_assoc, arith}
 use Rattle.std.proofs.Math.Logic.{∥∥₁_elim}
 use Rattle.std.proofs.Props.{props}
 use Rattle.std.specs.List.{All, flat_map}
@@ -39,6 +39,12 @@ ascends_both bound (x ∷ xs) ys up also low high =
 next_from : (h : Held) (hs : List Held) (last : Held) → AreApart (h ∷ (hs ++ last ∷ [])) → h.until ≤ first_from hs last
 next_from h [] last apart = apart.0
 next_from h (k ∷ hs) last apart = apart.0
+
+-- where the parts behind so many begin
+pub from_behind : (n : ℕ) (sealed : List Held) (active h : Held) → n < length sealed → first_from (drop n sealed) active ≡ (get_or sealed n h).from
+from_behind n [] active h lt = absurd (omega arith)
+from_behind zero (part ∷ sealed) active h lt = refl
+from_behind (suc n) (part ∷ sealed) active h lt = from_behind n sealed active h (omega arith)
 
 -- the clears of the oldest part come into the record
 one_flushed : (clears : List ℕ) (h : Held) (hs : List Held) (active : Held) → IsHeld h → AreApart (h ∷ (hs ++ active ∷ [])) → IsShape clears (record { sealed = h ∷ hs; active = active })

@@ -8,7 +8,7 @@ use Rattle.fjall_blocks.specs.Readers.{Reader}
 use Rattle.fjall_parts.specs.Parts.{Held, Memory, clears_in}
 use Rattle.fjall_jobs.specs.Tasks.{Task}
 use Rattle.fjall_lsm.specs.declared.tree.Tree.{Tree}
-use Rattle.fjall_lsm.specs.Trees.{Flushing, Merging, Shape, floor_of, is_l0}
+use Rattle.fjall_lsm.specs.Trees.{Flushing, Merging, Shape, first_from, floor_of, is_l0}
 
 -- ---- what a job is begun with
 
@@ -28,6 +28,19 @@ flush_begun id watermark shape = record shape { flush = Some (record { id = id; 
 abbrev pub merge_begun : (id watermark : ℕ) → Shape → Shape
 merge_begun id watermark shape =
     record shape { merge = Some (record { id = id; watermark = watermark; tables = length shape.tables; clears = length shape.clears; bound = floor_of shape.memory }) }
+
+-- how many sealed parts a flush that is out was begun with; none where none is out
+abbrev pub count_out : Option Flushing → ℕ
+count_out None = 0
+count_out (Some out) = out.count
+
+-- where the parts of memory begin that a flush that is out leaves: all that it takes is numbered below
+abbrev pub flush_end : Shape → ℕ
+flush_end shape = first_from (drop (count_out shape.flush) shape.memory.sealed) shape.memory.active
+
+-- the tree with no flush out
+abbrev pub flush_dropped : Shape → Shape
+flush_dropped shape = record shape { flush = None }
 
 -- nothing is there to be merged, or too little, or a merge is out
 abbrev pub MergesNothing : ℕ → Shape → Type 0

@@ -1,6 +1,6 @@
 //! Jobs of a tree: begun, and finished without memory.
 
-ghost use Rattle.std.specs.Prelude.{◌≡◌, ◌≢◌, ◌+◌, ◌-◌, ◌++◌, ◌<◌, ◌≤◌, ◌^◌, ◌⊎◌, ◌↔◌, [], List, length, drop, take, nat_le, ⊤, IsTrue, IfOk, IfErr, IfSome, IsOkUnless, OnOk, OnErr, IsOk, vec_len, vec_capacity, Ok, Some, None, true, false};
+ghost use Rattle.std.specs.Prelude.{◌≡◌, ◌≢◌, ◌+◌, ◌-◌, ◌++◌, ◌<◌, ◌≤◌, ◌^◌, ◌⊎◌, ◌↔◌, [], List, length, drop, take, nat_le, nat_lt, ⊤, IsTrue, IfOk, IfErr, IfSome, IsOkUnless, OnOk, OnErr, IsOk, vec_len, vec_capacity, Ok, Some, None, true, false};
 ghost use Rattle.fjall_table.specs.Blocks.{Entry};
 ghost use Rattle.fjall_table.specs.Files.{IsRefused};
 ghost use Rattle.fjall_blocks.specs.Readers.{LooksOn, SomeTableIsWrong};
@@ -9,7 +9,7 @@ ghost use Rattle.fjall_parts.specs.Parts.{Ascends, clears_in};
 ghost use Rattle.fjall_jobs.specs.Flushes.{flush_task};
 ghost use Rattle.fjall_jobs.specs.Merges.{merge_task};
 ghost use Rattle.fjall_lsm.specs.Trees.{IsSameShape, ReadsAll, floor_of};
-ghost use Rattle.fjall_lsm.specs.Jobs.{HasRoom, IsFlushing, IsMerging, MergesNothing, flush_begun, flush_finished, flush_of, is_flush_out, is_merge_out, merge_begun, merge_finished, merge_of};
+ghost use Rattle.fjall_lsm.specs.Jobs.{HasRoom, count_out, IsFlushing, IsMerging, MergesNothing, flush_begun, flush_dropped, flush_end, flush_finished, flush_of, is_flush_out, is_merge_out, merge_begun, merge_finished, merge_of};
 
 use crate::input::all_blocks;
 use crate::out::{FlushOut, MergeOut};
@@ -26,6 +26,27 @@ impl Tree {
         ensures { IsTrue result ↔ ((shape_of self.now).memory.sealed ≢ []) × ((shape_of self.now).flush ≡ None) }
     {
         self.parts.sealed_count() > 0 && self.flush.is_none()
+    }
+
+    /// Whether the flush of this number is out.
+    pub fn is_flushing(&self, id: u64) -> bool
+        ensures { result ≡ is_flush_out id (shape_of self.now).flush }
+    {
+        match &self.flush {
+            Some(out) => id == out.id,
+            None => false,
+        }
+    }
+
+    /// Whether a sealed memtable stands that no flush that is out takes.
+    pub fn waits_for_flush(&self) -> bool
+        ensures { result ≡ nat_lt (count_out (shape_of self.now).flush) (length (shape_of self.now).memory.sealed) }
+    {
+        let taken = match &self.flush {
+            Some(out) => out.count,
+            None => 0,
+        };
+        taken < self.parts.sealed_count()
     }
 
     /// Whether a merge is out.
@@ -65,6 +86,29 @@ impl Tree {
             clears: job.clears(self.alloc)?,
         });
         Ok(Some(job))
+    }
+
+    /// Where the memtables begin that a flush that is out leaves, or where memory begins where none is out: all that the flush
+    /// takes is numbered below.
+    pub fn flush_end(&self) -> u64
+        ensures { result ≡ flush_end (shape_of self.now) }
+    {
+        let count = match &self.flush {
+            Some(out) => out.count,
+            None => 0,
+        };
+        match self.parts.sealed().get(count) {
+            Some(part) => part.from(),
+            None => self.parts.active().from(),
+        }
+    }
+
+    /// Forgets the flush that is out, where one is: what it was begun with stays in memory, and its finish is stale. It takes no
+    /// memory.
+    pub fn drop_flush(&mut self)
+        ensures { shape_of self.new ≡ flush_dropped (shape_of self.old) }
+    {
+        self.flush.take();
     }
 
     /// Makes room for so many tables and clears more, so that a flush that adds no more of them is finished without memory.

@@ -4,3 +4,4 @@ pub mod Evictions
 pub mod Rotations
 pub mod Telling
 pub mod Places
+pub mod Reaching

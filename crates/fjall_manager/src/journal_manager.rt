@@ -64,6 +64,13 @@ impl JournalManager {
         self.journals.clear();
     }
 
+    /// The sealed journals, the oldest first.
+    pub fn journals(&self) -> &[SealedJournal]
+        ensures { result.now ≡ self.now }
+    {
+        &self.journals
+    }
+
     /// How many journals there are: the sealed ones and the active one.
     pub fn journal_count(&self) -> usize
         ensures { result ≡ length self.now + 1 }

@@ -4,6 +4,7 @@ ghost use Rattle.std.specs.Prelude.{◌≡◌, [], ◌∷◌, ◌++◌, List, le
 ghost use Rattle.std.specs.List.Sorted.{IsStrictlyIncreasing};
 ghost use Rattle.fjall_journal.specs.Batches.{Shown, view};
 ghost use Rattle.fjall_manager.specs.Marks.{IsAscending, IsRaised, all_flushed, lsn_of, unflushed, watermark_of};
+ghost use Rattle.fjall_manager.specs.Reaching.{reaches};
 ghost use Rattle.fjall_manager.specs.Telling.{AreMarksOf, NoneFell};
 
 use crate::flushed::Flushed;
@@ -101,6 +102,13 @@ impl Watermarks {
         ensures ascending { IsAscending self.now }
     {
         self.lsns.get(&keyspace_id).copied()
+    }
+
+    /// Whether one of them is this number or a greater one.
+    pub fn reaches(&self, number: u64) -> bool
+        ensures { result ≡ reaches self.now number }
+    {
+        self.lsns.iter().any(|(_, lsn)| number <= *lsn)
     }
 
     /// How many keyspaces have one.

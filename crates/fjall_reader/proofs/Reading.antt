@@ -5,7 +5,7 @@ use Rattle.std.specs.Result.{result_err}
 use Rattle.std.specs.declared.alloc.Global.{Global}
 use Rattle.fjall_base.specs.Pairs.{Bytes, KeyRange, Pairs, lookup, page, pairs_between}
 use Rattle.fjall_base.specs.declared.error.Error.{Error}
-use Rattle.fjall_base.specs.declared.error.Error.TheVariants.{Io, OutOfMemory, Storage, ValueTooLong}
+use Rattle.fjall_base.specs.declared.error.Error.TheVariants.{Io, NumbersUsedUp, OutOfMemory, Poisoned, Storage, TooManyItems, ValueTooLong}
 use Rattle.fjall_blocks.specs.Readers.{Reader}
 use Rattle.fjall_trees.specs.Forests.{Forest}
 use Rattle.fjall_trees.specs.Tables.{AreSameTrees}
@@ -36,10 +36,14 @@ looks_at old new (t ∷ tables) looks = looks
 
 looked_by : (old new : Held) (view : View) (id : ℕ) (query : Query) (error : Error) → OwesFailure old (OfRead view id query) error new → Looks old new
 looked_by old new view id query (Io kind) (inl fault) = absurd fault.0
-looked_by old new view id query (Io kind) (inr (has, looks, rose)) = looks
+looked_by old new view id query (Io kind) (inr (inl (has, looks, rose))) = looks
+looked_by old new view id query (Io kind) (inr (inr work)) = absurd work
 looked_by old new view id query OutOfMemory owed = looks_at old new (tables_of old id) owed.1
 looked_by old new view id query (Storage told) owed = owed.2
 looked_by old new view id query ValueTooLong owed = absurd owed.0
+looked_by old new view id query Poisoned owed = absurd owed.0
+looked_by old new view id query NumbersUsedUp owed = absurd owed.0
+looked_by old new view id query TooManyItems owed = absurd owed.0
 looked_by old new view id query error owed = absurd owed
 
 refusal_looks : (old new : Held) (view : View) (id : ℕ) (query : Query) (first : Option Error) (error : Error) → OwesRefusal first old (OfRead view id query) error new → Looks old new
@@ -59,13 +63,17 @@ page_looks old new view id range back max (Err error) owes = refusal_looks old n
 
 fails : (old new : Held) (view : View) (id : ℕ) (query : Query) (tables : List Reader) (error : Error) → tables_of old id ≡ tables → OwesFailure old (OfRead view id query) error new → reads.ReadFails ⊤ tables old.disk new.disk error
 fails old new view id query tables (Io kind) is (inl fault) = absurd fault.0
-fails old new view id query [] (Io kind) is (inr (has, looks, rose)) = absurd (has is)
-fails old new view id query (t ∷ tables) (Io kind) is (inr (has, looks, rose)) = rose
+fails old new view id query [] (Io kind) is (inr (inl (has, looks, rose))) = absurd (has is)
+fails old new view id query (t ∷ tables) (Io kind) is (inr (inl (has, looks, rose))) = rose
+fails old new view id query tables (Io kind) is (inr (inr work)) = absurd work
 fails old new view id query [] OutOfMemory is owed = refl
 fails old new view id query (t ∷ tables) OutOfMemory is owed = tt
 fails old new view id query [] (Storage told) is owed = absurd (owed.1 is)
 fails old new view id query (t ∷ tables) (Storage told) is owed = (owed.0, tt)
 fails old new view id query tables ValueTooLong is owed = absurd owed.0
+fails old new view id query tables Poisoned is owed = absurd owed.0
+fails old new view id query tables NumbersUsedUp is owed = absurd owed.0
+fails old new view id query tables TooManyItems is owed = absurd owed.0
 fails old new view id query tables error is owed = absurd owed
 
 refused_for : (old new : Held) (view : View) (id : ℕ) (query : Query) (first : Option Error) (error : Error) → OwesRefusal first old (OfRead view id query) error new
@@ -122,12 +130,16 @@ page_shown honest old new view id range back max (Ok found) owes serves map (inr
 -- ---- what it goes on to show
 
 fails_still : (s t : State) (view : View) (id : ℕ) (query : Query) (error : Error) → MayFail (OfRead view id query) error s t → t ≡ s
-fails_still s t view id query (Io kind) (inl fault) = absurd fault.0
-fails_still s t view id query (Io kind) (inr (reads, same)) = same
-fails_still s t view id query OutOfMemory fails = fails.1
-fails_still s t view id query (Storage told) fails = fails.2
-fails_still s t view id query ValueTooLong fails = absurd fails.0
-fails_still s t view id query error fails = absurd fails
+fails_still s t view id query (Io kind) (inl changed) = absurd changed.0
+fails_still s t view id query (Io kind) (inr (inl (reads, same))) = same
+fails_still s t view id query (Io kind) (inr (inr work)) = absurd work
+fails_still s t view id query OutOfMemory out = out.1
+fails_still s t view id query (Storage told) damage = damage.2
+fails_still s t view id query ValueTooLong long = absurd long.0
+fails_still s t view id query Poisoned late = absurd late.0
+fails_still s t view id query NumbersUsedUp used = absurd used.0
+fails_still s t view id query TooManyItems room = absurd room.0
+fails_still s t view id query error fault = absurd fault
 
 refused_still : (s t : State) (view : View) (id : ℕ) (query : Query) (first : Option Error) (error : Error) → Refuses first (OfRead view id query) error s t → t ≡ s
 refused_still s t view id query (Some first) error refused = refused.1

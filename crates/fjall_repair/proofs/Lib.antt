@@ -50,6 +50,7 @@ pub mod Repairing
 pub mod Numbering
 pub mod Fitting
 pub mod Replayed
+pub mod Sealings
 pub mod OpenedTrees
 pub mod Openings
 pub mod Amid

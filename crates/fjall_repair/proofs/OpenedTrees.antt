@@ -1,45 +1,44 @@
 -- The trees of what was opened: their tables stay on the disk, which an opening leaves them on as they were.
-use Rattle.std.proofs.Common.{◌≡◌, ℕ, ◌<◌, ◌≤◌, Bool, true, false, cond, List, [], ◌∷◌, get_or, map, All, Option, None, Some, refl, sym, ◌∙◌, ap, subst, arith}
+use Rattle.std.proofs.Common.{◌≡◌, ℕ, ◌<◌, ◌≤◌, Bool, true, false, cond, List, [], ◌∷◌, get_or, map, All, Option, None, Some, unwrap_or, refl, sym, ◌∙◌, ap, subst, arith}
 use Rattle.std.proofs.lemmas.List.Elements.{All-cons, All-head, All-nil, All-tail}
 use Rattle.std.proofs.lemmas.Option.{get_or_from_slice_get, slice_get_within}
 use Rattle.std.specs.FinMap.{get}
 use Rattle.fjall_base.specs.Disk as disk
 use Rattle.fjall_base.specs.Disk.{Image, Meaning, Name, State, state_in}
-use Rattle.fjall_base.specs.Store.{Store}
 use Rattle.fjall_files.specs.Calls.{seen}
-use Rattle.fjall_files.specs.Names.{keyspace_folder, table_name}
-use Rattle.fjall_files.specs.Regions.{is_under}
+use Rattle.fjall_files.specs.Names.{table_name}
 use Rattle.fjall_journal.specs.Batches.{Shown, shown, view}
 use Rattle.fjall_table.specs.declared.table_info.TableInfo.{TableInfo}
 use Rattle.fjall_table.specs.Blocks.{Entry}
 use Rattle.fjall_table.specs.Files.{entry_at}
 use Rattle.fjall_blocks.specs.Readers.{HoldsAWrongBlock, Reader, SomeTableIsWrong}
 use Rattle.fjall_home.specs.Homes.{Home}
-use Rattle.fjall_home.proofs.Naming.{table_under}
 use Rattle.fjall_meta.specs.declared.living.LivingKeyspace.{LivingKeyspace}
 use Rattle.fjall_meta.specs.Keyspaces.{Keyspaces, keyspace_at, no_keyspaces}
 use Rattle.fjall_catalog.specs.Catalog.{first_catalog}
 use Rattle.fjall_lsm.specs.Trees.{ReadsAll, Shape}
 use Rattle.fjall_contents.specs.Contents.{AreWithin, IsWithin, Stored, is_beyond, store_held as store_beyond}
 use Rattle.fjall_versions.specs.declared.recovery.Persisted.{Persisted}
-use Rattle.fjall_versions.specs.Replays.{bare}
 use Rattle.fjall_trees.specs.Forests.{Forest, Planted}
 use Rattle.fjall_trees.specs.Tables.{AreReadOn}
 use Rattle.fjall_trees.specs.Views.{forest_of}
 use Rattle.fjall_trees.proofs.Reading.{all_files_read}
 use Rattle.fjall_maps.specs.Tables.{store_with}
-use Rattle.fjall_replay.specs.Beside.{AreReplayedWith, all_at_rest}
+use Rattle.fjall_replay.specs.Beside.{AreReplayedWith}
+use Rattle.fjall_replay.specs.Parted.{all_unwritten}
 use Rattle.fjall_replay.specs.Replayed.{AreTold}
 use Rattle.fjall_replay.proofs.Behind.{replayed_store_beside}
 use Rattle.fjall_recovery.specs.declared.folder.RecoveredFolder.{RecoveredFolder}
 use Rattle.fjall_recovery.specs.Folders.{Contents, IsFinished, IsOpenable, Shows, store_of}
-use Rattle.fjall_recovery.specs.Homes.{HasHomeAt, HaveVersions, Homes, stored_in}
+use Rattle.fjall_recovery.specs.Homes.{HasHomeAt, HaveVersions, Homes, no_fields, stored_in}
 use Rattle.fjall_recovery.specs.Journals.{batches_in}
 use Rattle.fjall_recovery.proofs.Shown.{all_within}
 use Rattle.fjall_loading.specs.Opening.{AreReadersOf, HaveEntries, IsOpenedOn, stored_entries, stored_with}
+use Rattle.fjall_loading.specs.Known.{AreAtHome, IsGiven, IsKnown}
+use Rattle.fjall_loading.proofs.KnownHomes.{known_still}
 use Rattle.fjall_loading.proofs.Opening.{other_id}
 use Rattle.fjall_repair.specs.declared.opened.Opened.{Opened}
-use Rattle.fjall_repair.specs.Opened.{AreAtHome, KeepsNamed, ReadsFrom, Takes}
+use Rattle.fjall_repair.specs.Opened.{KeepsNamed, ReadsFrom, Takes, nothing}
 use Rattle.fjall_repair.specs.Readings.{TakesRead, persisted_of}
 use Rattle.fjall_repair.proofs.Replayed.{rest_tables, told_sound, told_with}
 
@@ -59,13 +58,6 @@ readers_named image id (t ∷ tables) (r ∷ readers) P are all =
 tables_named : (disk : Meaning) (c : Contents) (k : Planted) (P : Name → Type 0) (one : IsOpenedOn disk c k) → All (λ t. P (table_name k.id t.id)) one.h.last.tables → All (λ r. P r.name) k.shape.tables
 tables_named disk c k P one all =
     subst (λ (shape : Shape). All (λ (r : Reader). P r.name) shape.tables) (sym one.tree.is) (readers_named (seen disk) k.id one.h.last.tables one.tree.readers P one.tree.tables all)
-
--- they lie in their keyspaces' folders
-at_home : (disk : Meaning) (c : Contents) (loaded : Forest) → All (IsOpenedOn disk c) loaded → AreAtHome loaded
-at_home disk c loaded each = λ i d lt.
-    let k = get_or loaded i d in
-    let one = each i d lt in
-    tables_named disk c k (λ (q : Name). is_under (keyspace_folder k.id) q ≡ true) one (λ j t less. table_under k.id (get_or one.h.last.tables j t).id)
 
 -- the tables' files stand as they did
 abbrev FilesStay : Meaning → Meaning → Forest → Type 0
@@ -138,16 +130,20 @@ takes_contents found contents o active loaded shows takes = record {
       (subst (λ (s : Keyspaces). Replays s (persisted_of found) loaded (map view found.journals.batches.items) (forest_of o.trees)) shows.keyspaces takes.trees);
   reads = takes.reads;
   rest = takes.rest;
+  parted = takes.parted;
 }
 
--- The trees are over tables on the disk that have these entries and no wrong block, and show the store with them.
-pub record ShowStore (disk : Meaning) (o : Opened) (store : Store) : Type 0 where
+-- The trees are over tables on the disk that have these entries and no wrong block, and show the contents' store with them; each
+-- home is known.
+pub record ShowStore (disk : Meaning) (o : Opened) (c : Contents) : Type 0 where
   pub entries : ℕ → List (List Entry)
   pub on : AreReadOn disk (forest_of o.trees) entries
-  pub named : AreAtHome (forest_of o.trees)
+  pub named : AreAtHome o.records (forest_of o.trees)
   pub right : All (λ k. SomeTableIsWrong disk k.shape.tables → ⊥) (forest_of o.trees)
   pub unused : (id : ℕ) → o.keyspaces.next ≤ id → entries id ≡ []
-  pub made : store_with entries o.keyspaces (forest_of o.trees) ≡ store
+  pub made : store_with entries o.keyspaces (forest_of o.trees) ≡ store_of c
+  pub shows : AreReplayedWith entries c.keyspaces (stored_in c.homes c.versions) (map shown (batches_in c.journals)) (forest_of o.trees)
+  pub known : All (IsKnown o.records (forest_of o.trees) entries c.homes c.versions) c.keyspaces.living
 
 module _ (old new : Meaning) (found : RecoveredFolder) (c : Contents) (active : Name) (o : Opened) (read : IsFinished (seen old) found) (shows : Shows found c) (openable : IsOpenable (seen old) c)
     (takes : TakesRead old o active found) (kept : KeepsNamed old new c.homes) where
@@ -160,8 +156,8 @@ module _ (old new : Meaning) (found : RecoveredFolder) (c : Contents) (active : 
   stay : FilesStay old new takes.loaded
   stay = files_stay old new c takes.loaded kept each
 
-  named : AreAtHome (forest_of o.trees)
-  named = rest_tables (λ id tables. All (λ t. is_under (keyspace_folder id) t.name ≡ true) tables) takes.loaded (forest_of o.trees) takes.takes.rest (at_home old c takes.loaded each)
+  named : AreAtHome o.records (forest_of o.trees)
+  named = rest_tables (λ id tables. All (IsGiven id (unwrap_or (get o.records id) no_fields).next_table_id) tables) takes.loaded (forest_of o.trees) takes.takes.rest takes.named
 
   unused : (entries : ℕ → List (List Entry)) → ((id : ℕ) → get c.homes id ≡ None → entries id ≡ []) → (id : ℕ) → o.keyspaces.next ≤ id → entries id ≡ []
   unused entries none id le = none id (no_home (seen old) c openable id (subst (λ (s : Keyspaces). s.next ≤ id) (takes.takes.keyspaces ∙ shows.keyspaces) le))
@@ -189,9 +185,12 @@ module _ (old new : Meaning) (found : RecoveredFolder) (c : Contents) (active : 
   }
 
   -- of a sound folder they show the store
-  pub makes_sound : HaveVersions c.homes c.versions → ShowStore new o (store_of c)
+  pub makes_sound : HaveVersions c.homes c.versions → ShowStore new o c
   makes_sound have =
-      let sound = takes.sound c openable shows c.versions have in
+      let knows = takes.sound c openable shows c.versions have in
+      let sound = knows.stored in
+      let told = told_sound (seen old) found c c.versions read shows have in
+      let within = all_within c.homes c.versions have c.keyspaces in
       record {
         entries = sound.entries;
         on = read_on sound.entries sound.on;
@@ -199,25 +198,30 @@ module _ (old new : Meaning) (found : RecoveredFolder) (c : Contents) (active : 
         right = rest_tables (λ id tables. SomeTableIsWrong new tables → ⊥) takes.loaded (forest_of o.trees) takes.takes.rest
             (λ i d lt. still_right old new (get_or takes.loaded i d).shape.tables (stay i d lt) (sound.right i d lt));
         unused = unused sound.entries sound.are.none;
-        made = store_is sound.entries (stored_in c.homes c.versions) (told_sound (seen old) found c c.versions read shows have) (all_within c.homes c.versions have c.keyspaces) sound.shown;
+        made = store_is sound.entries (stored_in c.homes c.versions) told within sound.shown;
+        shows = own.trees sound.entries (stored_in c.homes c.versions) told within sound.shown;
+        known = λ i d lt. known_still o.records takes.loaded (forest_of o.trees) sound.entries c.homes c.versions (get_or c.keyspaces.living i d) takes.takes.rest
+            (λ j e less. (takes.takes.parted j e less).some) (knows.known i d lt);
       }
 
 -- ---- a database without keyspaces
 
 -- where nothing was loaded there is no tree
-pub no_trees : (trees : Forest) → all_at_rest trees ≡ [] → trees ≡ []
+pub no_trees : (trees : Forest) → all_unwritten trees ≡ [] → trees ≡ []
 no_trees [] same = refl
 no_trees (k ∷ trees) same = absurd cc
 
 -- it shows the store that holds nothing
-pub makes_nothing : (disk : Meaning) (active : Name) (o : Opened) → Takes o active 0 first_catalog no_keyspaces [] [] [] → ShowStore disk o (bare no_keyspaces)
+pub makes_nothing : (disk : Meaning) (active : Name) (o : Opened) → Takes o active 0 first_catalog no_keyspaces [] [] [] → ShowStore disk o nothing
 makes_nothing disk active o takes =
     let none : [] ≡ forest_of o.trees = sym (no_trees (forest_of o.trees) takes.rest) in
     record {
       entries = λ id. [];
       on = subst (λ (trees : Forest). AreReadOn disk trees (λ id. [])) none (All-nil (λ (k : Planted). ReadsAll disk k.shape []));
-      named = subst AreAtHome none (All-nil (λ (k : Planted). All (λ t. is_under (keyspace_folder k.id) t.name ≡ true) k.shape.tables));
+      named = subst (AreAtHome o.records) none (All-nil (λ (k : Planted). All (IsGiven k.id (unwrap_or (get o.records k.id) no_fields).next_table_id) k.shape.tables));
       right = subst (All (λ k. SomeTableIsWrong disk k.shape.tables → ⊥)) none (All-nil (λ (k : Planted). SomeTableIsWrong disk k.shape.tables → ⊥));
       unused = λ id le. refl;
       made = ap (λ (s : Keyspaces). store_with (λ id. []) s (forest_of o.trees)) takes.keyspaces;
+      shows = λ i d lt. absurd (omega (arith, lt));
+      known = All-nil (IsKnown o.records (forest_of o.trees) (λ id. []) nothing.homes nothing.versions);
     }

@@ -1,9 +1,10 @@
 -- What was opened, and the disk until then.
-use Rattle.std.proofs.Common.{◌≡◌, inl, inr, ℕ, zero, suc, ◌<◌, ◌≤◌, ◌^◌, ◌==◌, Bool, true, false, if◌then◌else◌, max, List, [], ◌∷◌, length, get_or, map, All, Option, None, Some, Result, Ok, Err, refl, sym, ◌∙◌, ap, subst, arith}
+use Rattle.std.proofs.Common.{◌≡◌, inl, inr, ℕ, zero, suc, ◌<◌, ◌≤◌, ◌^◌, ◌==◌, Bool, true, false, if◌then◌else◌, max, List, [], ◌∷◌, length, get_or, map, All, Option, None, Some, unwrap_or, Result, Ok, Err, refl, sym, ◌∙◌, ap, subst, arith}
 use Rattle.std.specs.List.{AllByRecursion}
 use Rattle.std.proofs.lemmas.List.{get_or-map, length-map}
 use Rattle.std.proofs.lemmas.List.Elements.{All-from_recursion, All-nil}
 use Rattle.std.specs.Prelude.{IfOk, IfErr, IfSome}
+use Rattle.std.specs.FinMap.{get}
 use Rattle.fjall_base.specs.Disk.{Name, State, Image, Survives, LeavesBy, LeavesOnly, Meaning, Took, standing, state_in}
 use Rattle.fjall_base.specs.declared.error.Error.{Error}
 use Rattle.fjall_base.specs.declared.error.Error.TheVariants.{Io, OutOfMemory}
@@ -12,15 +13,15 @@ use Rattle.fjall_files.proofs.Made.{took_both}
 use Rattle.fjall_journal.specs.Batches.{Shown, Written, shown, view}
 use Rattle.fjall_meta.specs.Keyspaces.{Keyspaces, no_keyspaces}
 use Rattle.fjall_journal.specs.Writer.{Journal}
-use Rattle.fjall_files.specs.Names.{journal_name, keyspace_folder}
+use Rattle.fjall_files.specs.Names.{journal_name}
 use Rattle.fjall_versions.specs.declared.recovery.Persisted.{Persisted}
 use Rattle.fjall_versions.specs.Replays.{first_fault, least_after}
 use Rattle.fjall_contents.specs.Contents.{store_held as store_beyond}
 use Rattle.fjall_maps.specs.Tables.{store_with}
 use Rattle.fjall_table.specs.Blocks.{Entry}
-use Rattle.fjall_files.specs.Regions.{is_under}
 use Rattle.fjall_lsm.specs.Trees.{ReadsAll}
 use Rattle.fjall_loading.specs.Opening.{HaveEntriesBut}
+use Rattle.fjall_replay.specs.Beside.{AreReplayedWith}
 use Rattle.fjall_trees.specs.Forests.{Forest, Planted}
 use Rattle.fjall_trees.specs.Tables.{AreReadOn}
 use Rattle.fjall_repair.proofs.OpenedTrees.{ShowStore}
@@ -36,7 +37,8 @@ use Rattle.fjall_home.proofs.Resting.{last_has}
 use Rattle.fjall_recovery.specs.Folders.{Contents, IsFinished, IsOpenable, IsSound, IsUnfinished, Shows, StandsFor, number_of, past, past_record, past_records, store_of}
 use Rattle.fjall_recovery.specs.declared.folder.RecoveredFolder.{RecoveredFolder}
 use Rattle.fjall_home.specs.declared.reading.LoadedHome.{LoadedHome}
-use Rattle.fjall_recovery.specs.Homes.{AreHomesRead, lasts, stored_in}
+use Rattle.fjall_recovery.specs.Homes.{AreHomesRead, lasts, no_fields, stored_in}
+use Rattle.fjall_loading.specs.Known.{AreAtHome, IsGiven}
 use Rattle.fjall_recovery.specs.Refusals.{FolderRefuses, HasRisen, IsDue}
 use Rattle.fjall_journal.proofs.Writing.{took_none}
 use Rattle.fjall_files.specs.declared.marker.Marker.TheVariants.{Whole, Unfinished}
@@ -55,7 +57,7 @@ use Rattle.fjall_repair.specs.Readings.{names_read}
 use Rattle.fjall_repair.specs.declared.opened.Opened.{Opened}
 use Rattle.fjall_repair.specs.Sweeps.{AreHomesOf, IsSwept, names_of, no_names}
 use Rattle.fjall_manager.specs.Places.{told as told_in}
-use Rattle.fjall_repair.specs.Opened.{AreAtHome, ComesBack, HasNumbers, HaveEntriesIn, IsHeldUp, IsOpenedFrom, IsRepaired, IsUnopened, IsSomeFolder, Opens, ReadsFrom, Takes, TellsBelow, records_of}
+use Rattle.fjall_repair.specs.Opened.{ComesBack, HasNumbers, HaveEntriesIn, IsHeldUp, IsOpenedFrom, IsRepaired, IsUnopened, IsSomeFolder, Opens, ReadsFrom, Takes, TellsBelow, records_of}
 
 -- ---- before the first change
 
@@ -91,7 +93,7 @@ module _ (disk : Meaning) (contents : Contents) (journals : List FoundJournal) (
 
   pub opens_of : (folder : Option Contents) (persisted : List Persisted) (loaded : Forest) (o : Opened)
       → Takes o active end contents.last contents.keyspaces persisted loaded (map shown (batches_in contents.journals)) → TellOf journals o.sealed (told_in o.watermarks) → o.active ≡ active_of (ids_of journals)
-      → ShowStore disk o (store_of contents) → store_of contents ≡ store_held folder → o.number ≡ number_of contents → number_of contents ≡ number_held folder → Opens disk folder o
+      → ShowStore disk o contents → store_of contents ≡ store_held folder → o.number ≡ number_of contents → number_of contents ≡ number_held folder → Opens disk folder o
   opens_of folder persisted loaded o takes tell active_told shows store number held = record {
     j = is.j;
     records = is.records;
@@ -111,6 +113,8 @@ module _ (disk : Meaning) (contents : Contents) (journals : List FoundJournal) (
     right = shows.right;
     unused = shows.unused;
     made = shows.made ∙ sym same_store;
+    shown = subst (λ (b : List Written). AreReplayedWith shows.entries contents.keyspaces (stored_in contents.homes contents.versions) (map shown b) (forest_of o.trees)) (sym is.batches) shows.shows;
+    known = shows.known;
     store = same_store ∙ store;
     number = number ∙ sym same_number;
     same = number ∙ held;
@@ -249,7 +253,7 @@ begun_from old new (Ok o) is keyspaces trees number = record {
   folder = None;
   is = is;
   number = number;
-  named = subst AreAtHome (sym trees) (All-nil (λ (k : Planted). All (λ t. is_under (keyspace_folder k.id) t.name ≡ true) k.shape.tables));
+  named = subst (AreAtHome o.records) (sym trees) (All-nil (λ (k : Planted). All (IsGiven k.id (unwrap_or (get o.records k.id) no_fields).next_table_id) k.shape.tables));
   reads = λ entries none. record {
     on = subst (λ (f : Forest). AreReadOn new f entries) (sym trees) (All-nil (λ (k : Planted). ReadsAll new k.shape (entries k.id)));
     store = ap (λ (s : Keyspaces). store_with entries s (forest_of o.trees)) keyspaces;

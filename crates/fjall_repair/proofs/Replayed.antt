@@ -26,7 +26,7 @@ use Rattle.fjall_home.specs.Homes.{Home}
 use Rattle.fjall_table.specs.Blocks.{Entry}
 use Rattle.fjall_loading.specs.Opening.{stored_entries, stored_with}
 use Rattle.fjall_blocks.specs.Readers.{Reader}
-use Rattle.fjall_replay.specs.Beside.{all_at_rest, at_rest}
+use Rattle.fjall_replay.specs.Parted.{all_unwritten, unwritten}
 use Rattle.fjall_repair.specs.Readings.{persisted_in, persisted_of}
 
 -- ---- the trees of the keyspaces that live
@@ -72,12 +72,18 @@ module _ (s : Keyspaces) (trees : Forest) (ids : ids_of trees ≡ map (λ (k : L
       unmapped (λ (id : ℕ). 0 < id) (λ (k : Planted). k.id) trees
       (subst (All (λ (id : ℕ). 0 < id)) (sym ids) (All-map (λ (id : ℕ). 0 < id) (λ (k : LivingKeyspace). k.id) s.living are.ids))
 
--- a tree with nothing in its active memtable
+-- a tree with nothing in its memory
 abbrev resting : Planted → Planted
-resting k = record { id = k.id; shape = at_rest k.shape }
+resting k = record { id = k.id; shape = unwritten k.shape }
 
--- trees that differ in their active memtables alone have the same tables
-pub rest_tables : (Q : ℕ → List Reader → Type 0) (old new : Forest) → all_at_rest new ≡ all_at_rest old → All (λ k. Q k.id k.shape.tables) old → All (λ k. Q k.id k.shape.tables) new
+-- trees that differ in memory alone have the same flushes out
+pub rest_flushes : (old new : Forest) → all_unwritten new ≡ all_unwritten old → All (λ k. k.shape.flush ≡ None) old → All (λ k. k.shape.flush ≡ None) new
+rest_flushes old new same all =
+    unmapped (λ (k : Planted). k.shape.flush ≡ None) resting new
+    (subst (All (λ (k : Planted). k.shape.flush ≡ None)) (sym same) (All-map (λ (k : Planted). k.shape.flush ≡ None) resting old all))
+
+-- and the same tables
+pub rest_tables : (Q : ℕ → List Reader → Type 0) (old new : Forest) → all_unwritten new ≡ all_unwritten old → All (λ k. Q k.id k.shape.tables) old → All (λ k. Q k.id k.shape.tables) new
 rest_tables Q old new same all =
     unmapped (λ (k : Planted). Q k.id k.shape.tables) resting new
     (subst (All (λ (k : Planted). Q k.id k.shape.tables)) (sym same) (All-map (λ (k : Planted). Q k.id k.shape.tables) resting old all))

@@ -8,13 +8,13 @@ use Rattle.fjall_base.specs.declared.error.Error.{Error}
 use Rattle.fjall_base.specs.declared.error.Error.TheVariants.{Io, OutOfMemory}
 use Rattle.fjall_base.specs.Store.{Store}
 use Rattle.fjall_files.specs.Calls.{seen}
-use Rattle.fjall_files.specs.Names.{journal_name, keyspace_folder, table_name}
-use Rattle.fjall_files.specs.Regions.{is_under}
+use Rattle.fjall_files.specs.Names.{journal_name, table_name}
 use Rattle.fjall_journal.specs.declared.batch.Batch.{Batch}
 use Rattle.fjall_journal.specs.declared.batch.ReadBatchItem.{ReadBatchItem}
 use Rattle.fjall_journal.specs.Batches.{Shown, shown}
 use Rattle.fjall_manager.specs.Journals.{Sealed}
 use Rattle.fjall_manager.specs.Marks.{Marks}
+use Rattle.fjall_manager.specs.Reaching.{some_reaches}
 use Rattle.fjall_manager.specs.Telling.{AreMarksOf}
 use Rattle.fjall_tree.specs.Records.{Fields}
 use Rattle.fjall_tree.specs.Records as records
@@ -27,8 +27,10 @@ use Rattle.fjall_blocks.specs.Readers.{SomeTableIsWrong}
 use Rattle.fjall_home.specs.Homes.{Home}
 use Rattle.fjall_contents.specs.Contents.{AreWithin, Stored, store_held as store_beyond}
 use Rattle.fjall_maps.specs.Tables.{store_with}
-use Rattle.fjall_replay.specs.Beside.{AreReplayedWith, all_at_rest}
+use Rattle.fjall_replay.specs.Beside.{AreReplayedWith}
+use Rattle.fjall_replay.specs.Parted.{ArePartedBy, all_unwritten}
 use Rattle.fjall_replay.specs.Replayed.{AreTold}
+use Rattle.fjall_loading.specs.Known.{AreAtHome, IsKnown}
 use Rattle.fjall_loading.specs.Opening.{HaveEntries, stored_with}
 use Rattle.fjall_trees.specs.Forests.{AreBefore, Forest, IsForest, tree_at}
 use Rattle.fjall_trees.specs.Views.{forest_of}
@@ -41,7 +43,7 @@ use Rattle.fjall_recovery.specs.Journals.{Journal, batches_in}
 use Rattle.fjall_recovery.specs.Told.{TellsOf}
 use Rattle.fjall_recovery.specs.Refusals.{FolderRefuses, IsDue}
 use Rattle.fjall_recovery.specs.Halves.{Tree}
-use Rattle.fjall_recovery.specs.Homes.{Homes}
+use Rattle.fjall_recovery.specs.Homes.{Homes, stored_in}
 use Rattle.fjall_recovery.specs.Held.{IsOpenFolder, number_held, store_held}
 use Rattle.fjall_recovery.specs.Places.{Journaling, LiesInRoot, LiesInTree, contents_with, journals_with, texts_of}
 use Rattle.fjall_repair.specs.Making.{ComesBackUnfinished}
@@ -50,12 +52,9 @@ use Rattle.fjall_repair.specs.declared.opened.Opened.{Opened}
 
 -- ---- what was opened
 
--- each tree is a keyspace's, and its tables lie in the keyspace's folder
-abbrev pub AreAtHome : Forest → Type 0
-AreAtHome trees = All (λ k. All (λ t. is_under (keyspace_folder k.id) t.name ≡ true) k.shape.tables) trees
-
 -- The database lies on the disk, all of it synced, and is what was opened; it stands for the store that the folder stood for. The
--- tables of its trees lie in their keyspaces' folders, have these entries on the disk, and no wrong block.
+-- tables of its trees lie in their keyspaces' folders, have these entries on the disk, and no wrong block. The trees show what the
+-- files hold and what the batches make beyond that, and each keyspace's home is known.
 pub record Opens (disk : Meaning) (folder : Option Contents) (o : Opened) : Type 0 where
   pub j : Journaling
   pub records : List Fields
@@ -71,17 +70,21 @@ pub record Opens (disk : Meaning) (folder : Option Contents) (o : Opened) : Type
   pub keyspaces : t.keyspaces ≡ o.keyspaces
   pub entries : ℕ → List (List Entry)
   pub on : AreReadOn disk (forest_of o.trees) entries
-  pub named : AreAtHome (forest_of o.trees)
+  pub named : AreAtHome o.records (forest_of o.trees)
   pub right : All (λ k. SomeTableIsWrong disk k.shape.tables → ⊥) (forest_of o.trees)
   pub unused : (id : ℕ) → o.keyspaces.next ≤ id → entries id ≡ []
   pub made : store_with entries o.keyspaces (forest_of o.trees) ≡ store_of (contents_with j t [])
+  pub shown : AreReplayedWith entries t.keyspaces (stored_in t.homes t.versions) (map shown (batches_in (journals_with j []))) (forest_of o.trees)
+  pub known : All (IsKnown o.records (forest_of o.trees) entries t.homes t.versions) t.keyspaces.living
   pub store : store_of (contents_with j t []) ≡ store_held folder
   pub number : o.number ≡ number_of (contents_with j t [])
   pub same : o.number ≡ number_held folder
 
 -- Keyspaces were made, and all in memory was changed, under lesser numbers than the next one, which is at most 2^63. The trees are
 -- of ids that were given out, and each keyspace that lives has one. The numbers of the sealed journals ascend, and the active one's
--- is greater.
+-- is greater. Of each keyspace that lives the last record is kept, and none of an id that isn't given out. No flush is out of a tree.
+-- What the sealed journals have of it is sealed: all in its sealed memtables is numbered up to some watermark of theirs, and nothing in
+-- the active one is.
 pub record IsLawful (o : Opened) : Type 0 where
   pub keyspaces : AreKeyspaces o.keyspaces
   pub made : All (λ k. k.number < o.number) o.keyspaces.living
@@ -92,10 +95,14 @@ pub record IsLawful (o : Opened) : Type 0 where
   pub below : AreBefore o.number (forest_of o.trees)
   pub small : o.number ≤ 2 ^ 63
   pub numbered : IsStrictlyIncreasing (map (λ journal. journal.id) o.sealed ++ o.active ∷ [])
+  pub recorded : All (λ k. is_some (get o.records k.id) ≡ true) o.keyspaces.living
+  pub kept : (id : ℕ) → o.keyspaces.next ≤ id → get o.records id ≡ None
+  pub still : All (λ k. k.shape.flush ≡ None) (forest_of o.trees)
+  pub parted : ArePartedBy (some_reaches o.sealed) (forest_of o.trees)
 
 -- This is opened: a writer at the end of the active journal, what the last record of tree 0 says, the keyspaces that live, and
 -- trees over the tables of those that were loaded, into whose memory the batches were replayed: they show what files hold and what
--- the batches make beyond that, where those that were loaded show what files hold.
+-- the batches make beyond that, where those that were loaded show what files hold. What the sealed journals have is sealed.
 pub record Takes (o : Opened) (active : Name) (end : ℕ) (last : Catalog) (s : Keyspaces) (persisted : List Persisted) (loaded : Forest) (batches : List Shown) : Type 0 where
   pub journal : o.journal ≡ record { name = active; buffer = []; len = end }
   pub last_is : o.catalog ≡ last
@@ -103,7 +110,8 @@ pub record Takes (o : Opened) (active : Name) (end : ℕ) (last : Catalog) (s : 
   pub trees : (entries : ℕ → List (List Entry)) (stored : ℕ → Stored) → AreTold s stored persisted → AreWithin s stored → AreReplayedWith entries s stored [] loaded
       → AreReplayedWith entries s stored batches (forest_of o.trees)
   pub reads : (disk : Meaning) (entries : ℕ → List (List Entry)) → AreReadOn disk loaded entries → AreReadOn disk (forest_of o.trees) entries
-  pub rest : all_at_rest (forest_of o.trees) ≡ all_at_rest loaded
+  pub rest : all_unwritten (forest_of o.trees) ≡ all_unwritten loaded
+  pub parted : ArePartedBy (some_reaches o.sealed) (forest_of o.trees)
 
 -- these are its sealed journals, the number of its active one, and the watermarks of that
 pub record HasJournals (o : Opened) (sealed : List Sealed) (active : ℕ) (marks : Marks) : Type 0 where
@@ -133,7 +141,7 @@ pub record ReadsEntries (disk : Meaning) (folder : Option Contents) (entries : �
 
 -- So it is of a folder with these contents, where the disk held it and is now another.
 pub record ReadsFrom (old new : Meaning) (c : Contents) (o : Opened) : Type 0 where
-  pub named : AreAtHome (forest_of o.trees)
+  pub named : AreAtHome o.records (forest_of o.trees)
   pub reads : (entries : ℕ → List (List Entry)) → HaveEntriesIn old (Some c) entries → ReadsEntries new (Some c) entries o
 
 -- What was opened is what the disk held, a folder that opens: one past the greatest number in it, and with whatever entries its
@@ -142,7 +150,7 @@ pub record IsOpenedFrom (old new : Meaning) (o : Opened) : Type 0 where
   pub folder : Option Contents
   pub is : IsOpenFolder (seen old) folder
   pub number : o.number ≡ number_held folder
-  pub named : AreAtHome (forest_of o.trees)
+  pub named : AreAtHome o.records (forest_of o.trees)
   pub reads : (entries : ℕ → List (List Entry)) → HaveEntriesIn old folder entries → ReadsEntries new folder entries o
 
 -- the tables that the homes' last records name stand in sight as they did

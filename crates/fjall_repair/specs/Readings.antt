@@ -11,7 +11,8 @@ use Rattle.fjall_recovery.specs.declared.folder.RecoveredFolder.{RecoveredFolder
 use Rattle.fjall_recovery.specs.Folders.{Contents, IsFinished, IsOpenable, IsSound, Shows}
 use Rattle.fjall_table.specs.Blocks.{Entry}
 use Rattle.fjall_recovery.specs.Homes.{HaveVersions, Versions}
-use Rattle.fjall_loading.specs.Opening.{HaveEntries, IsOpenedOn, ShowsEntries, ShowsStored}
+use Rattle.fjall_loading.specs.Known.{AreAtHome}
+use Rattle.fjall_loading.specs.Opening.{HaveEntries, IsOpenedOn, KnowsStored, ShowsEntries}
 use Rattle.fjall_repair.specs.declared.opened.Opened.{Opened}
 use Rattle.fjall_repair.specs.declared.plan.SweepPlan.{SweepPlan}
 use Rattle.fjall_repair.specs.Opened.{HasJournals, Takes}
@@ -60,5 +61,6 @@ pub record TakesRead (disk : Meaning) (o : Opened) (active : Name) (found : Reco
   pub takes : Takes o active found.journals.end found.catalog.catalog found.catalog.keyspaces (persisted_of found) loaded (map view found.journals.batches.items)
   pub journals : HasJournals o found.journals.sealed (active_of found.journal_ids.items) found.journals.watermarks
   pub opened : (c : Contents) → IsOpenable (seen disk) c → Shows found c → All (IsOpenedOn disk c) loaded
+  pub named : AreAtHome o.records loaded
   pub reads : (c : Contents) → IsOpenable (seen disk) c → Shows found c → (entries : ℕ → List (List Entry)) → HaveEntries disk c entries → ShowsEntries disk c entries loaded
-  pub sound : (c : Contents) → IsOpenable (seen disk) c → Shows found c → (versions : Versions) → HaveVersions c.homes versions → ShowsStored disk c versions loaded
+  pub sound : (c : Contents) → IsOpenable (seen disk) c → Shows found c → (versions : Versions) → HaveVersions c.homes versions → KnowsStored disk c versions o.records loaded

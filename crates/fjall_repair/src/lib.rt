@@ -11,6 +11,7 @@ mod opening;
 mod plan;
 mod ready;
 mod repair;
+mod replaying;
 mod sizes;
 mod sweeping;
 

@@ -2,6 +2,7 @@
 
 use fjall_catalog::Catalog;
 use fjall_journal::Writer;
+use fjall_loading::LastRecords;
 use fjall_manager::{ActiveWatermarks, JournalManager};
 use fjall_meta::MetaKeyspace;
 use fjall_trees::Trees;
@@ -12,6 +13,8 @@ pub struct Opened {
     /// A tree of each keyspace that lives, over its tables, which stay on the disk, with what the journals hold beyond them in
     /// memory.
     pub trees: Trees,
+    /// The last record of each keyspace that lives.
+    pub records: LastRecords,
     /// A writer that goes on at the end of the active journal.
     pub journal: Writer,
     /// The journals before the active one, the oldest first.

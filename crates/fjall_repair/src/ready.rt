@@ -1,22 +1,13 @@
 //! All that opening a folder takes, in memory before the disk is changed.
 
-ghost use Rattle.std.specs.Prelude.{◌≡◌, ◌<◌, ◌≤◌, [], ◌∷◌, ◌++◌, ℕ, List, All, IfErr, IfOk, IsOkUnless, IsTrue, None, map, max, string_bytes};
+ghost use Rattle.std.specs.Prelude.{◌≡◌, ◌≤◌, [], ◌∷◌, ◌++◌, ℕ, List, All, IfErr, IfOk, IsOkUnless, IsTrue, map, max, string_bytes};
 ghost use Rattle.std.specs.List.{AllZip};
 ghost use Rattle.std.specs.List.Sorted.{IsStrictlyIncreasing};
 ghost use Rattle.fjall_base.specs.Disk.{Image, Meaning, Took, state_in};
-ghost use Rattle.fjall_journal.specs.Batches.{view};
-ghost use Rattle.fjall_meta.specs.Keyspaces.{AreKeyspaces, no_keyspaces};
+ghost use Rattle.fjall_meta.specs.Keyspaces.{no_keyspaces};
 ghost use Rattle.fjall_catalog.specs.Catalog.{first_catalog, listed};
 ghost use Rattle.fjall_files.specs.Calls.{seen, AllServed};
 ghost use Rattle.fjall_files.specs.Names.{journal_name};
-ghost use Rattle.fjall_contents.specs.Contents.{AreWithin, Stored};
-ghost use Rattle.fjall_replay.specs.Beside.{AreEndedBy, AreReplayedWith, all_at_rest};
-ghost use Rattle.fjall_replay.specs.Replayed.{AreTold, MayReplay, ids_of};
-ghost use Rattle.fjall_table.specs.Blocks.{Entry};
-ghost use Rattle.fjall_trees.specs.Tables.{AreReadOn};
-ghost use Rattle.fjall_trees.specs.Forests.{AreBefore};
-ghost use Rattle.fjall_trees.specs.Views.{forest_of};
-ghost use Rattle.fjall_versions.specs.Replays.{first_fault};
 ghost use Rattle.fjall_recovery.specs.Folders.{IsFinished, IsNumbered, IsUnfinished, past_records};
 ghost use Rattle.fjall_recovery.specs.Places.{journals_with};
 ghost use Rattle.fjall_manager.specs.Places.{told};
@@ -33,18 +24,19 @@ use crate::mending::active_id;
 use crate::numbers::{check_made, check_small, check_told, number_of};
 use crate::opened::Opened;
 use crate::plan::{SweepPlan, plan_sweep};
+use crate::replaying::replayed;
 use crate::sizes::check_sizes;
 use crate::{BeginPlan, MendPlan, plan_beginning, plan_mending};
 use fjall_base::{Disk, Error, Result};
 use fjall_catalog::Catalog;
 use fjall_files::journal_name;
 use fjall_home::LoadedHome;
-use fjall_journal::{Batch, Writer};
-use fjall_loading::open_homes;
+use fjall_journal::Writer;
+use fjall_loading::{LastRecords, open_homes};
 use fjall_manager::{ActiveWatermarks, JournalManager, SealedJournal, Watermarks};
 use fjall_meta::MetaKeyspace;
 use fjall_recovery::{RecoveredFolder, list_keyspaces};
-use fjall_replay::{Persisted, replay_journal};
+use fjall_replay::Persisted;
 use fjall_table::TableInfo;
 use fjall_trees::Trees;
 use fjall_versions::check_batches;
@@ -99,6 +91,7 @@ fn new_database(alloc: Global, sealed: &[u64], active: u64) -> Result<Opened>
     let name = journal_name(alloc, active)?;
     Ok(Opened {
         trees: Trees::new(alloc),
+        records: LastRecords::new(alloc),
         journal: Writer::from_file(alloc, name.as_str(), 0)?,
         sealed: empty_journals(alloc, sealed)?,
         active,
@@ -164,37 +157,8 @@ fn persisted_of(alloc: Global, homes: &[LoadedHome]) -> Result<Vec<Persisted>>
     Ok(persisted)
 }
 
-/// These trees of the keyspaces that live, with what the batches of the journals make, each beyond its keyspace's persisted
-/// number.
-fn replayed(
-    keyspaces: &MetaKeyspace,
-    persisted: &[Persisted],
-    loaded: Trees,
-    batches: &[Batch],
-) -> Result<Trees>
-    requires fits { All (λ b. MayReplay (view b)) batches.now }
-    requires sound { first_fault 0 (map view batches.now) ≡ None }
-    requires ended { AreEndedBy persisted.now 0 (forest_of loaded) }
-    ensures ok { (entries : ℕ → List (List Entry)) (stored : ℕ → Stored) → AreTold keyspaces.now stored persisted.now → AreWithin keyspaces.now stored
-        → AreReplayedWith entries keyspaces.now stored [] (forest_of loaded)
-        → IfOk result (λ trees. AreReplayedWith entries keyspaces.now stored (map view batches.now) (forest_of trees)) }
-    ensures reads { (disk : Meaning) (entries : ℕ → List (List Entry)) → AreReadOn disk (forest_of loaded) entries
-        → IfOk result (λ trees. AreReadOn disk (forest_of trees) entries) }
-    ensures rest { IfOk result (λ trees. all_at_rest (forest_of trees) ≡ all_at_rest (forest_of loaded)) }
-    ensures ids { IfOk result (λ trees. ids_of (forest_of trees) ≡ ids_of (forest_of loaded)) }
-    ensures below { (bound : ℕ) → AreBefore bound (forest_of loaded) → All (λ b. b.seqno < bound) batches.now
-        → IfOk result (λ trees. AreBefore bound (forest_of trees)) }
-    ensures lawful { AreKeyspaces keyspaces.now }
-    ensures only { IsOkUnless result Error.OutOfMemory }
-{
-    prove!(0 < keyspaces.next_id());
-    let mut trees = loaded;
-    replay_journal(keyspaces, persisted, batches, &mut trees)?;
-    Ok(trees)
-}
-
 /// What a folder opens as that was read, and whose journal goes on at the end of this file: trees over the tables of its homes,
-/// into whose memory its journals are replayed.
+/// into whose memory its journals are replayed, which is sealed behind each but the active one, and the homes' last records.
 fn database_of(alloc: Global, found: RecoveredFolder, active: &str) -> Result<Opened>
     requires numbered { IsNumbered found }
     ensures opened { (disk : Meaning) → IsFinished (seen disk) found → IfOk result (λ o. TakesRead disk o active.now found) }
@@ -221,9 +185,16 @@ fn database_of(alloc: Global, found: RecoveredFolder, active: &str) -> Result<Op
     } = found;
     let persisted = persisted_of(alloc, &homes)?;
     let loaded = open_homes(alloc, &catalog.keyspaces, homes)?;
-    let trees = replayed(&catalog.keyspaces, &persisted, loaded, &journals.batches)?;
+    let trees = replayed(
+        &catalog.keyspaces,
+        &persisted,
+        loaded.trees,
+        &journals.sealed,
+        &journals.batches,
+    )?;
     Ok(Opened {
         trees,
+        records: loaded.records,
         journal,
         sealed: journals.sealed,
         active: id,

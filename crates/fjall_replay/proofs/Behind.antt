@@ -100,7 +100,7 @@ absent_from v n xs is low =
     (λ w less e. let same : w.number ≡ v.number = ap (λ (s : Stamp). s.number) e in omega (arith, less, same, is)) xs low
 
 -- To each view the batch's clear and its versions come behind all others, where it counts for the tree.
-stepped_beside : (counted : Bool) (id : ℕ) (b : Shown) (shape : Shape) (entries : List (List Entry)) (clears : List ℕ) (versions : List Entry) → MayReplay b → IsTree shape
+pub stepped_beside : (counted : Bool) (id : ℕ) (b : Shown) (shape : Shape) (entries : List (List Entry)) (clears : List ℕ) (versions : List Entry) → MayReplay b → IsTree shape
     → (counted ≡ true → shape.memory.active.until ≤ b.number) → (counted ≡ true → All (λ n. n < b.number) clears) → (counted ≡ true → AreBelow b.number versions)
     → ShowsWith entries clears versions shape → ShowsWith entries (clears ++ clear_where counted id b) (versions ++ entries_where counted id b) (stepped counted id b shape)
 stepped_beside false id b shape entries clears versions may is until low below with = record {
@@ -170,6 +170,36 @@ stepped_tree true id b shape may is until = put_all_tree (entries_where true id 
 
 -- ---- one keyspace
 
+-- what is held of it behind one batch more
+clears_behind : (s : Keyspaces) (h : Stored) (id : ℕ) (front : List Shown) (b : Shown)
+    → clears_held s h id (front ++ b ∷ []) ≡ clears_held s h id front ++ clear_where (counts s b.number id && is_beyond h.persisted b.number) id b
+clears_behind s h id front b =
+    clears_more s h id front (b ∷ [])
+    ∙ ap (λ l. clears_held s h id front ++ l) (ap (filter (is_beyond h.persisted)) (append-nil (clear_in s id b)) ∙ clear_beyond (is_beyond h.persisted) s id b)
+
+versions_behind : (s : Keyspaces) (h : Stored) (id : ℕ) (front : List Shown) (b : Shown)
+    → versions_held s h id (front ++ b ∷ []) ≡ versions_held s h id front ++ entries_where (counts s b.number id && is_beyond h.persisted b.number) id b
+versions_behind s h id front b =
+    versions_more s h id front (b ∷ [])
+    ∙ ap (λ l. versions_held s h id front ++ l) (ap (filter (λ v. is_beyond h.persisted v.number)) (append-nil (entries_in s id b)) ∙ entries_beyond (is_beyond h.persisted) s id b)
+
+-- its tree shows that once it took the batch, as far as it counts
+pub batch_beside : (s : Keyspaces) (h : Stored) (id : ℕ) (entries : List (List Entry)) (front : List Shown) (b : Shown) (shape : Shape) → IsWithin h → All (λ c. c.number < b.number) front
+    → MayReplay b → IsTree shape → ((counts s b.number id && is_beyond h.persisted b.number) ≡ true → shape.memory.active.until ≤ b.number)
+    → ShowsWith entries (clears_held s h id front) (versions_held s h id front) shape
+    → ShowsWith entries (clears_held s h id (front ++ b ∷ [])) (versions_held s h id (front ++ b ∷ [])) (stepped (counts s b.number id && is_beyond h.persisted b.number) id b shape)
+batch_beside s h id entries front b shape within before may tree until shown =
+    subst (λ (ms : List ℕ). ShowsWith entries ms (versions_held s h id (front ++ b ∷ [])) (stepped c id b shape)) (sym (clears_behind s h id front b))
+    (subst (λ (vs : List Entry). ShowsWith entries (clears_held s h id front ++ clear_where c id b) vs (stepped c id b shape)) (sym (versions_behind s h id front b))
+    (stepped_beside c id b shape entries (clears_held s h id front) (versions_held s h id front) may tree until
+    (λ e. clears_are_below s h id front b.number within (beyond e) before) (λ e. versions_are_below s h id front b.number within (beyond e) before) shown))
+  where
+    c : Bool
+    c = counts s b.number id && is_beyond h.persisted b.number
+
+    beyond : c ≡ true → is_beyond h.persisted b.number ≡ true
+    beyond e = (and_parts (counts s b.number id) (is_beyond h.persisted b.number) e).1
+
 -- Behind these batches the keyspace's tree shows what is held of it, and ends where nothing is beyond its persisted number or
 -- below the least that may come.
 record IsStage (s : Keyspaces) (h : Stored) (id : ℕ) (entries : List (List Entry)) (least : ℕ) (front : List Shown) (trees : Forest) : Type 0 where
@@ -191,10 +221,7 @@ one_more s h id entries least front b trees counted is within before may from st
   shape = stepped c id b stage.shape;
   at = at_batch counted b id trees ∙ ap (option_map (stepped (counted id) id b)) stage.at ∙ ap (λ t. Some (stepped t id b stage.shape)) is;
   tree = stepped_tree c id b stage.shape may stage.tree until;
-  shown = subst (λ (ms : List ℕ). ShowsWith entries ms (versions_held s h id (front ++ b ∷ [])) (stepped c id b stage.shape)) (sym clears)
-      (subst (λ (vs : List Entry). ShowsWith entries (clears_held s h id front ++ clear_where c id b) vs (stepped c id b stage.shape)) (sym versions)
-      (stepped_beside c id b stage.shape entries (clears_held s h id front) (versions_held s h id front) may stage.tree until
-      (λ e. clears_are_below s h id front b.number within (beyond e) before) (λ e. versions_are_below s h id front b.number within (beyond e) before) stage.shown));
+  shown = batch_beside s h id entries front b stage.shape within before may stage.tree until stage.shown;
   low = stepped_until c id b stage.shape (max (past h.persisted) (b.number + 1)) (λ e. omega arith) (let le = stage.low in omega (arith, le));
 }
   where
@@ -206,16 +233,6 @@ one_more s h id entries least front b trees counted is within before may from st
 
     until : c ≡ true → stage.shape.memory.active.until ≤ b.number
     until e = let le = stage.low in let out = beyond_past h.persisted b.number (beyond e) in omega (arith, le, out)
-
-    clears : clears_held s h id (front ++ b ∷ []) ≡ clears_held s h id front ++ clear_where c id b
-    clears =
-        clears_more s h id front (b ∷ [])
-        ∙ ap (λ l. clears_held s h id front ++ l) (ap (filter (is_beyond h.persisted)) (append-nil (clear_in s id b)) ∙ clear_beyond (is_beyond h.persisted) s id b)
-
-    versions : versions_held s h id (front ++ b ∷ []) ≡ versions_held s h id front ++ entries_where c id b
-    versions =
-        versions_more s h id front (b ∷ [])
-        ∙ ap (λ l. versions_held s h id front ++ l) (ap (filter (λ v. is_beyond h.persisted v.number)) (append-nil (entries_in s id b)) ∙ entries_beyond (is_beyond h.persisted) s id b)
 
 -- Behind these batches too.
 abbrev IsShown : Keyspaces → Stored → ℕ → List (List Entry) → List Shown → Forest → Type 0
@@ -257,12 +274,12 @@ replay_beside s stored persisted entries first front batches trees are within so
 
 -- ---- what may be taken at each step
 
-un_map : {X Y : Type 0} (P : Y → Type 0) (f : X → Y) (xs : List X) → All P (map f xs) → All (λ x. P (f x)) xs
+pub un_map : {X Y : Type 0} (P : Y → Type 0) (f : X → Y) (xs : List X) → All P (map f xs) → All (λ x. P (f x)) xs
 un_map P f [] all = All-nil (λ x. P (f x))
 un_map P f (x ∷ xs) all = All-cons (λ y. P (f y)) x xs (All-head P (f x) (map f xs) all) (un_map P f xs (All-tail P (f x) (map f xs) all))
 
 -- the batches are numbered from the least number on
-numbers_from : (least : ℕ) (batches : List Shown) → first_fault least batches ≡ None → All (λ b. least ≤ b.number) batches
+pub numbers_from : (least : ℕ) (batches : List Shown) → first_fault least batches ≡ None → All (λ b. least ≤ b.number) batches
 numbers_from least [] sound = All-nil (λ (b : Shown). least ≤ b.number)
 numbers_from least (b ∷ batches) sound =
     let parts = no_fault (fault_of least b) (first_fault (b.number + 1) batches) sound in

@@ -7,3 +7,6 @@ pub mod Storing
 pub mod Resting
 pub mod Behind
 pub mod Sealing
+pub mod Parting
+pub mod Following
+pub mod Staying

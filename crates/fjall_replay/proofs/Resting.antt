@@ -199,7 +199,7 @@ batches_rest counted (b ∷ batches) trees =
     ∙ items_rest (counted b.number) b.number b.items (with_clears (counted b.number) b.number b.clears trees) ∙ clears_rest (counted b.number) b.number b.clears trees
 
 -- so where memory begins stays
-floor_at_rest : (shape : Shape) → floor_of (at_rest shape).memory ≡ floor_of shape.memory
+pub floor_at_rest : (shape : Shape) → floor_of (at_rest shape).memory ≡ floor_of shape.memory
 floor_at_rest shape = first_same shape.memory.sealed shape.memory.active (empty_from shape.memory.active.from) refl
 
 pub same_floor : (old new : Shape) → at_rest new ≡ at_rest old → floor_of new.memory ≡ floor_of old.memory

@@ -26,7 +26,7 @@ use Rattle.fjall_replay.specs.Replayed.{ids_of, past}
 -- ---- one tree
 
 -- what a tree has that holds nothing in its active memtable, and what it has once that is sealed, it has
-sealed_has : (P : Shape → Type 0) (shape : Shape) → (holds_nothing shape.memory.active ≡ true → P shape) → P (sealed_off shape) → P (sealed_once shape)
+pub sealed_has : (P : Shape → Type 0) (shape : Shape) → (holds_nothing shape.memory.active ≡ true → P shape) → P (sealed_off shape) → P (sealed_once shape)
 unfolding sealed_once
 sealed_has P shape same made = by (holds_nothing shape.memory.active) refl
   where

@@ -1,5 +1,5 @@
 -- What the trees of keyspaces show beside their tables, while the journals are replayed one after another.
-use Rattle.std.specs.Prelude.{◌≡◌, Bool, true, ℕ, ◌≤◌, max, List, All, Some, None, map}
+use Rattle.std.specs.Prelude.{◌≡◌, Bool, true, ℕ, ◌<◌, ◌≤◌, ◌^◌, max, List, [], All, Some, None, map}
 use Rattle.fjall_base.specs.Pairs.{Bytes}
 use Rattle.fjall_journal.specs.Batches.{Shown}
 use Rattle.fjall_meta.specs.Keyspaces.{Keyspaces}
@@ -10,9 +10,9 @@ use Rattle.fjall_sorted.specs.Sorted.{flat}
 use Rattle.fjall_parts.specs.Parts.{empty_from, with_active}
 use Rattle.fjall_versions.specs.declared.recovery.Persisted.{Persisted}
 use Rattle.fjall_versions.specs.Replays.{first_fault, persisted_at}
-use Rattle.fjall_contents.specs.Contents.{Stored, clears_held, versions_held}
+use Rattle.fjall_contents.specs.Contents.{AreWithin, Stored, clears_held, is_beyond, versions_held}
 use Rattle.fjall_lsm.specs.Trees.{Shape, clears_of, floor_of, versions_of, with_memory}
-use Rattle.fjall_trees.specs.Forests.{Forest, tree_at}
+use Rattle.fjall_trees.specs.Forests.{AreBefore, Forest, IsForest, tree_at}
 use Rattle.fjall_replay.specs.Replayed.{past}
 
 -- ---- what is shown
@@ -42,6 +42,25 @@ pub record MayFollow (persisted : List Persisted) (batches : List Shown) (trees 
   pub least : ℕ
   pub sound : first_fault least batches ≡ None
   pub ended : AreEndedBy persisted least trees
+
+-- ---- a change that comes next
+
+-- A change may come next under this number: all that is in memory is numbered below it, as are these batches, and as are the keyspaces
+-- that live when they were made. It is beyond what is stored of each of them, which is within its persisted number.
+pub record MayComeNext (s : Keyspaces) (stored : ℕ → Stored) (batches : List Shown) (number : ℕ) (trees : Forest) : Type 0 where
+  pub forest : IsForest trees
+  pub before : AreBefore number trees
+  pub small : number < 2 ^ 63
+  pub within : AreWithin s stored
+  pub older : All (λ b. b.number < number) batches
+  pub made : All (λ k. k.number < number) s.living
+  pub beyond : All (λ k. is_beyond (stored k.id).persisted number ≡ true) s.living
+
+-- Nothing of the keyspace of this id is stored, and no table of it has an entry.
+pub record IsUnstored (entries : ℕ → List (List Entry)) (stored : ℕ → Stored) (id : ℕ) : Type 0 where
+  pub tables : entries id ≡ []
+  pub versions : (stored id).versions ≡ []
+  pub clears : (stored id).clears ≡ []
 
 -- ---- what a replay takes of trees
 

@@ -1,3 +1,4 @@
 pub mod Beside
+pub mod Parted
 pub mod Replayed
 pub mod Steps

@@ -1,12 +1,13 @@
 //! Journals replayed one after another into trees over tables.
 
-ghost use Rattle.std.specs.Prelude.{◌≡◌, ◌++◌, ◌<◌, ℕ, List, All, IsTrue, None, map, OnErr, OnOk, IsOkUnless};
+ghost use Rattle.std.specs.Prelude.{◌≡◌, ◌++◌, ◌<◌, ℕ, Bool, true, List, All, IsTrue, None, map, OnErr, OnOk, IsOkUnless};
 ghost use Rattle.fjall_base.specs.Disk.{Meaning};
 ghost use Rattle.fjall_contents.specs.Contents.{AreWithin, Stored};
 ghost use Rattle.fjall_journal.specs.Batches.{Shown, view};
 ghost use Rattle.fjall_meta.specs.Keyspaces.{Keyspaces};
 ghost use Rattle.fjall_parts.specs.Parts.{holds_nothing};
 ghost use Rattle.fjall_replay.specs.Beside.{AreEndedBy, AreReplayedWith, MayFollow, all_at_rest};
+ghost use Rattle.fjall_replay.specs.Parted.{ActivesPass};
 ghost use Rattle.fjall_replay.specs.Replayed.{AreTold, MayReplay, ids_of};
 ghost use Rattle.fjall_table.specs.Blocks.{Entry};
 ghost use Rattle.fjall_trees.specs.Forests.{AreBefore};
@@ -43,6 +44,9 @@ pub fn replay_journal(
     ensures ids { OnOk result (ids_of (forest_of trees.new) ≡ ids_of (forest_of trees.old)) }
     ensures reads { (disk : Meaning) (entries : ℕ → List (List Entry)) → AreReadOn disk (forest_of trees.old) entries
         → OnOk result (AreReadOn disk (forest_of trees.new) entries) }
+    // All that comes into active memtables has a batch's number.
+    ensures numbered { (test : ℕ → Bool) → ActivesPass test (forest_of trees.old) → All (λ b. test b.seqno ≡ true) batches.now
+        → OnOk result (ActivesPass test (forest_of trees.new)) }
     // The next journal's batches go on behind these.
     ensures ended { (least : ℕ) → AreEndedBy persisted.now least (forest_of trees.old) → first_fault least (map view batches.now) ≡ None
         → OnOk result (AreEndedBy persisted.now (least_after least (map view batches.now)) (forest_of trees.new)) }

@@ -11,23 +11,25 @@ use Rattle.fjall_base.specs.declared.error.Error.{Error}
 use Rattle.fjall_base.specs.declared.error.Error.TheVariants.{Io}
 use Rattle.fjall_base.specs.Errors.{number_of, name_of}
 use Rattle.fjall_blocks.specs.Readers.{Reader}
+use Rattle.fjall_history.specs.declared.job.JobId.{JobId}
 use Rattle.fjall_history.specs.declared.ticket.View.{View}
 use Rattle.fjall_history.specs.declared.ticket.View.TheVariants.{Present, At}
 use Rattle.fjall_history.specs.Queries as queries
 use Rattle.fjall_history.specs.Queries.{Query}
 use Rattle.fjall_history.specs.declared.reply.Reply.{Reply}
-use Rattle.fjall_history.specs.declared.reply.Reply.TheVariants.{Done, Value, Pairs, Number, Names, Flag, Opened, Refused}
+use Rattle.fjall_history.specs.declared.reply.Reply.TheVariants.{Began, Done, Ids, Value, Pairs, Number, Names, Flag, Opened, Refused}
 use Rattle.fjall_state.specs.declared.call.Call.{Call}
-use Rattle.fjall_state.specs.Places.{id_opened, resolved, resolved_behind, view_at}
-use Rattle.fjall_state.specs.Shapes.{Shape, shape_of}
+use Rattle.fjall_state.specs.declared.call.Call.TheVariants.{FlushBegin, FlushFinish}
+use Rattle.fjall_state.specs.Places.{resolved, resolved_behind, view_at}
+use Rattle.fjall_state.specs.Shapes.{OfFlushBegin, OfFlushFinish, Shape, shape_of}
 use Rattle.fjall_lines.specs.declared.command.Command.{Command}
 use Rattle.fjall_lines.specs.declared.command.Command.TheVariants.{Ask, Crash, Reopen}
 use Rattle.fjall_lines.specs.declared.command.Request.{Request}
-use Rattle.fjall_lines.specs.declared.command.Request.TheVariants.{Keyspace, Delete, Insert, Remove, RemoveWeak, Clear, Batch, Get, Len, Scan, Snapshot, GetAt, CloseSnapshot, Gc, Rotate, Persist}
-use Rattle.fjall_script.specs.Answers.{bad_line, ok_line, reply_text}
+use Rattle.fjall_lines.specs.declared.command.Request.TheVariants.{Keyspace, Delete, Insert, Remove, RemoveWeak, Clear, Batch, Get, Len, Scan, Snapshot, GetAt, CloseSnapshot, Gc, Rotate, Flush, Persist}
+use Rattle.fjall_script.specs.Answers.{bad_line, flushed, ok_line, reply_text, reply_to}
 use Rattle.fjall_core.specs.Holding.{Held}
-use Rattle.fjall_core.specs.Standing.{Gives, GivesRead, IsOfKind, Owes, OwesAll, tables_of}
-use Rattle.fjall_script.specs.Requests.{IsCallOf, asked_with, is_stop, named, requests_of, snapshots_before}
+use Rattle.fjall_core.specs.Standing.{Gives, GivesRead, IsOfKind, Owes, OwesAll, OwesBegin, OwesFinish, tables_of}
+use Rattle.fjall_script.specs.Requests.{AreCallsFrom, IsCallOf, asked_with, begun_at, calls_in, finish_of, flushes, is_stop, named, place_of, requests_of, snapshots_before}
 use Rattle.fjall_script.specs.Sessions.{answers_to, IsAnswer, IsReplyTo, Session, begun, run, restarted, Restarts}
 
 -- no refusal has the number 0
@@ -68,6 +70,7 @@ pairs_are_named n (GetAt number id key) pairs first = omega arith
 pairs_are_named n (CloseSnapshot number) pairs first = omega arith
 pairs_are_named n Gc pairs first = omega arith
 pairs_are_named n (Rotate id) pairs first = omega arith
+pairs_are_named n (Flush id) pairs first = omega arith
 pairs_are_named n Persist pairs first = omega arith
 
 numbers_are_named : (number : ℕ) (request : Request) (count : ℕ) → first_of (reply_text number request (Number count)) ≡ 101 → ⊥
@@ -86,6 +89,7 @@ numbers_are_named n (GetAt number id key) count first = omega arith
 numbers_are_named n (CloseSnapshot number) count first = omega arith
 numbers_are_named n Gc count first = omega arith
 numbers_are_named n (Rotate id) count first = omega arith
+numbers_are_named n (Flush id) count first = omega arith
 numbers_are_named n Persist count first = omega arith
 
 -- no answer to a call is the one for bad lines
@@ -99,6 +103,9 @@ not_bad n request (Names names) h = let first = ap first_of h in omega arith
 not_bad n request (Flag true) h = let first = ap first_of h in omega arith
 not_bad n request (Flag false) h = let first = ap first_of h in omega arith
 not_bad n request (Opened ticket) h = let first = ap first_of h in omega arith
+not_bad n request (Began (Some job)) h = let first = ap first_of h in omega arith
+not_bad n request (Began None) h = let first = ap first_of h in omega arith
+not_bad n request (Ids ids) h = let first = ap first_of h in omega arith
 not_bad n request (Refused error) h = refusal_is_named n request error h
 
 ok_is_good : ok_line ≡ bad_line → ⊥
@@ -113,6 +120,8 @@ owed shape (Number count) old new owes = inr owes.1
 owed shape (Names names) old new owes = inr owes.1
 owed shape (Flag flag) old new owes = inr owes.1
 owed shape (Opened ticket) old new owes = inr owes.1
+owed shape (Began job) old new owes = inr owes.1
+owed shape (Ids ids) old new owes = inr owes.1
 owed shape (Refused error) old new owes = inl (error, refl)
 
 -- what a read gives is an answer to its query
@@ -121,61 +130,135 @@ read_fits [] view id (queries.Get key) reply old gives = (_, gives)
 read_fits [] view id (queries.Page range back max) reply old gives = (gives.0, gives.1)
 read_fits (t ∷ tables) view id query reply old gives = gives
 
--- what the call of a request gives is a reply to it
-abbrev Given : List (Option ℕ) → Reply → Held → Held → Call → Type 0
-Given ids reply old new call = Gives old (shape_of (resolved ids call)) reply new
+-- what the call of a request gives, behind others that got these replies
+abbrev Given : List Reply → Reply → Held → Held → Call → Type 0
+Given before reply old new call = Gives old (shape_of (resolved before call)) reply new
 
 -- the query for all pairs
 abbrev all : Query
 all = queries.Page (Unbounded, Unbounded) false (2 ^ 64 - 1)
 
-fits : (request : Request) (place : ℕ → ℕ) (ids : List (Option ℕ)) (call : Call) (reply : Reply) (old new : Held) → IsCallOf place request call → Given ids reply old new call → IsReplyTo request reply
-fits (Keyspace name) place ids call reply old new is gives = subst (IsReplyTo (Keyspace name)) (sym (subst (Given ids reply old new) is gives).1) tt
-fits (Delete id) place ids call reply old new is gives = subst (IsReplyTo (Delete id)) (sym (subst (Given ids reply old new) is gives).0) tt
-fits (Insert id key value) place ids call reply old new is gives = subst (IsReplyTo (Insert id key value)) (sym (subst (Given ids reply old new) is gives).0) tt
-fits (Remove id key) place ids call reply old new is gives = subst (IsReplyTo (Remove id key)) (sym (subst (Given ids reply old new) is gives).0) tt
-fits (RemoveWeak id key) place ids call reply old new is gives = subst (IsReplyTo (RemoveWeak id key)) (sym (subst (Given ids reply old new) is gives).0) tt
-fits (Clear id) place ids call reply old new is gives = subst (IsReplyTo (Clear id)) (sym (subst (Given ids reply old new) is gives).0) tt
-fits (Batch writes) place ids call reply old new is gives = subst (IsReplyTo (Batch writes)) (sym (subst (Given ids reply old new) is.is gives).0) tt
-fits (Get id key) place ids call reply old new is gives = subst (IsReplyTo (Get id key)) (sym (read_fits (tables_of old id) Present id (queries.Get key) reply old (subst (Given ids reply old new) is gives).0).1) tt
-fits (Len id) place ids call reply old new is gives = subst (IsReplyTo (Len id)) (sym (read_fits (tables_of old id) Present id all reply old (subst (Given ids reply old new) is gives).0).1) tt
-fits (Scan id) place ids call reply old new is gives = subst (IsReplyTo (Scan id)) (sym (read_fits (tables_of old id) Present id all reply old (subst (Given ids reply old new) is gives).0).1) tt
-fits Snapshot place ids call reply old new is gives = subst (IsReplyTo Snapshot) (sym (subst (Given ids reply old new) is gives).0.0) tt
-fits (GetAt number id key) place ids call reply old new is gives =
-    let gives = (subst (Given ids reply old new) is gives).0 in
-    subst (IsReplyTo (GetAt number id key)) (sym (read_fits (tables_of old id) (view_at ids (At (named (place number)))) id (queries.Get key) reply old gives).1) tt
-fits (CloseSnapshot number) place ids call reply old new is gives = subst (IsReplyTo (CloseSnapshot number)) (sym (subst (Given ids reply old new) is gives).0.0) tt
-fits Gc place ids call reply old new is gives = subst (IsReplyTo Gc) (sym (subst (Given ids reply old new) is gives).0.0) tt
-fits (Rotate id) place ids call reply old new is gives = subst (IsReplyTo (Rotate id)) (sym (subst (Given ids reply old new) is gives).0) tt
-fits Persist place ids call reply old new is gives = subst (IsReplyTo Persist) (sym (subst (Given ids reply old new) is gives).0) tt
+-- it is a reply to the request, where that makes one call
+fits : (request : Request) (place : ℕ → ℕ) (before : List Reply) (call : Call) (reply : Reply) (old new : Held) → flushes request ≡ false → IsCallOf place request call → Given before reply old new call → IsReplyTo request reply
+fits (Keyspace name) place before call reply old new one is gives = subst (IsReplyTo (Keyspace name)) (sym (subst (Given before reply old new) is gives).1) tt
+fits (Delete id) place before call reply old new one is gives = subst (IsReplyTo (Delete id)) (sym (subst (Given before reply old new) is gives).0) tt
+fits (Insert id key value) place before call reply old new one is gives = subst (IsReplyTo (Insert id key value)) (sym (subst (Given before reply old new) is gives).0) tt
+fits (Remove id key) place before call reply old new one is gives = subst (IsReplyTo (Remove id key)) (sym (subst (Given before reply old new) is gives).0) tt
+fits (RemoveWeak id key) place before call reply old new one is gives = subst (IsReplyTo (RemoveWeak id key)) (sym (subst (Given before reply old new) is gives).0) tt
+fits (Clear id) place before call reply old new one is gives = subst (IsReplyTo (Clear id)) (sym (subst (Given before reply old new) is gives).0) tt
+fits (Batch writes) place before call reply old new one is gives = subst (IsReplyTo (Batch writes)) (sym (subst (Given before reply old new) is.is gives).0) tt
+fits (Get id key) place before call reply old new one is gives = subst (IsReplyTo (Get id key)) (sym (read_fits (tables_of old id) Present id (queries.Get key) reply old (subst (Given before reply old new) is gives).0).1) tt
+fits (Len id) place before call reply old new one is gives = subst (IsReplyTo (Len id)) (sym (read_fits (tables_of old id) Present id all reply old (subst (Given before reply old new) is gives).0).1) tt
+fits (Scan id) place before call reply old new one is gives = subst (IsReplyTo (Scan id)) (sym (read_fits (tables_of old id) Present id all reply old (subst (Given before reply old new) is gives).0).1) tt
+fits Snapshot place before call reply old new one is gives = subst (IsReplyTo Snapshot) (sym (subst (Given before reply old new) is gives).0.0) tt
+fits (GetAt number id key) place before call reply old new one is gives =
+    let gives = (subst (Given before reply old new) is gives).0 in
+    subst (IsReplyTo (GetAt number id key)) (sym (read_fits (tables_of old id) (view_at before (At (named (place number)))) id (queries.Get key) reply old gives).1) tt
+fits (CloseSnapshot number) place before call reply old new one is gives = subst (IsReplyTo (CloseSnapshot number)) (sym (subst (Given before reply old new) is gives).0.0) tt
+fits Gc place before call reply old new one is gives = subst (IsReplyTo Gc) (sym (subst (Given before reply old new) is gives).0.0) tt
+fits (Rotate id) place before call reply old new one is gives = subst (IsReplyTo (Rotate id)) (sym (subst (Given before reply old new) is gives).0) tt
+fits (Flush id) place before call reply old new one is gives = absurd (true≢false one)
+fits Persist place before call reply old new one is gives = subst (IsReplyTo Persist) (sym (subst (Given before reply old new) is gives).0) tt
 
 refusal_fits : (request : Request) (error : Error) → IsReplyTo request (Refused error)
 refusal_fits request error = tt
 
-replies_so : (request : Request) (place : ℕ → ℕ) (ids : List (Option ℕ)) (call : Call) (reply : Reply) (old new : Held) → IsCallOf place request call → Owes old (shape_of (resolved ids call)) reply new → IsReplyTo request reply
-replies_so request place ids call reply old new is owes =
-    elim (owed (shape_of (resolved ids call)) reply old new owes) [
+replies_so : (request : Request) (place : ℕ → ℕ) (before : List Reply) (call : Call) (reply : Reply) (old new : Held) → flushes request ≡ false → IsCallOf place request call → Owes old (shape_of (resolved before call)) reply new
+    → IsReplyTo request reply
+replies_so request place before call reply old new one is owes =
+    elim (owed (shape_of (resolved before call)) reply old new owes) [
       | inl refused ↦ subst (IsReplyTo request) (sym refused.1) (refusal_fits request refused.0)
-      | inr gives ↦ fits request place ids call reply old new is gives
+      | inr gives ↦ fits request place before call reply old new one is gives
     ]
+
+-- ---- the two calls of a flush
+
+finish_gives : (id : ℕ) (out lives : Bool) (job : JobId) (finished : Reply) (old new : Held) → OwesFinish out lives old job finished new → IsReplyTo (Flush id) finished
+finish_gives id true true job finished old new gives = subst (IsReplyTo (Flush id)) (sym gives.0) tt
+finish_gives id true false job finished old new gives = subst (IsReplyTo (Flush id)) (sym gives.0) tt
+finish_gives id false lives job finished old new gives = subst (IsReplyTo (Flush id)) (sym gives.0) tt
+
+-- a finish gives a reply to the flush
+finish_fits : (id : ℕ) (job : JobId) (finished : Reply) (old new : Held) → Owes old (OfFlushFinish job) finished new → IsReplyTo (Flush id) finished
+finish_fits id job finished old new owes =
+    elim (owed (OfFlushFinish job) finished old new owes) [
+      | inl refused ↦ subst (IsReplyTo (Flush id)) (sym refused.1) (refusal_fits (Flush id) refused.0)
+      | inr gives ↦ finish_gives id _ _ job finished old new gives
+    ]
+
+begin_gives : (id : ℕ) (begins : Bool) (first finished : Reply) (old new : Held) → OwesBegin begins old id first new → IsReplyTo (Flush id) finished → IsReplyTo (Flush id) (flushed first finished)
+begin_gives id true first finished old new gives fit = subst (λ (r : Reply). IsReplyTo (Flush id) (flushed r finished)) (sym gives.0) fit
+begin_gives id false first finished old new gives fit = subst (λ (r : Reply). IsReplyTo (Flush id) (flushed r finished)) (sym gives.0) tt
+
+-- and so does the flush that it begins
+begin_fits : (id : ℕ) (first finished : Reply) (old new : Held) → Owes old (OfFlushBegin id) first new → IsReplyTo (Flush id) finished → IsReplyTo (Flush id) (flushed first finished)
+begin_fits id first finished old new owes fit =
+    elim (owed (OfFlushBegin id) first old new owes) [
+      | inl refused ↦ subst (λ (r : Reply). IsReplyTo (Flush id) (flushed r finished)) (sym refused.1) (refusal_fits (Flush id) refused.0)
+      | inr gives ↦ begin_gives id _ first finished old new gives fit
+    ]
+
+-- ---- the calls of a list
+
+-- A request was replied to by its calls, and these are the calls behind them: what is left of the replies is owed to those.
+record IsRepliedBy (request : Request) (told : Reply × List Reply) (later : List Call) (new : Held) : Type 0 where
+  fit : IsReplyTo request told.0
+  mid : Held
+  before : List Reply
+  owes : OwesAll mid (resolved_behind before later told.1) told.1 new
+
+by_one : (request : Request) (place : ℕ → ℕ) (at : ℕ) (before : List Reply) (call : Call) (calls later : List Call) (reply : Reply) (replies : List Reply) (old new : Held) → flushes request ≡ false
+    → IsCallOf place request call → calls ≡ finish_of at request ++ later
+    → OwesAll old (resolved_behind before (call ∷ calls) (reply ∷ replies)) (reply ∷ replies) new → IsRepliedBy request (reply_to request reply replies) later new
+by_one request place at before call calls later reply replies old new one is split owes =
+    let told : reply_to request reply replies ≡ (reply, replies) = rw one refl in
+    let behind : calls ≡ later = rw one at split in
+    subst (λ (t : Reply × List Reply). IsRepliedBy request t later new) (sym told)
+    (record {
+      fit = replies_so request place before call reply old owes.0 one is owes.1;
+      mid = owes.0;
+      before = before ++ reply ∷ [];
+      owes = subst (λ (l : List Call). OwesAll owes.0 (resolved_behind (before ++ reply ∷ []) l replies) replies new) behind owes.2;
+    })
+
+by_two : (id : ℕ) (place : ℕ → ℕ) (at : ℕ) (before : List Reply) (later : List Call) (first : Reply) (replies : List Reply) (old new : Held)
+    → OwesAll old (resolved_behind before (FlushBegin id ∷ FlushFinish (begun_at at) ∷ later) (first ∷ replies)) (first ∷ replies) new → IsRepliedBy (Flush id) (reply_to (Flush id) first replies) later new
+by_two id place at before later first [] old new owes = absurd owes.2
+by_two id place at before later first (finished ∷ replies) old new owes =
+    let behind = owes.2 in
+    record {
+      fit = begin_fits id first finished old owes.0 owes.1 (finish_fits id _ finished owes.0 behind.0 behind.1);
+      mid = behind.0;
+      before = (before ++ first ∷ []) ++ finished ∷ [];
+      owes = behind.2;
+    }
+
+replied : (request : Request) (place : ℕ → ℕ) (at : ℕ) (before : List Reply) (call : Call) (calls later : List Call) (reply : Reply) (replies : List Reply) (old new : Held)
+    → IsCallOf place request call → calls ≡ finish_of at request ++ later
+    → OwesAll old (resolved_behind before (call ∷ calls) (reply ∷ replies)) (reply ∷ replies) new → IsRepliedBy request (reply_to request reply replies) later new
+replied (Flush id) place at before call calls later reply replies old new is split owes =
+    let both : call ∷ calls ≡ FlushBegin id ∷ FlushFinish (begun_at at) ∷ later = cc (is, split) in
+    by_two id place at before later reply replies old new (subst (λ (l : List Call). OwesAll old (resolved_behind before l (reply ∷ replies)) (reply ∷ replies) new) both owes)
+replied request place at before call calls later reply replies old new is split owes = by_one request place at before call calls later reply replies old new refl is split owes
 
 abbrev IsCall : Option Command → Type 0
 IsCall found = is_stop found ≡ false
 
 -- the calls of a run
-front_answers : (lines : List (Option Command)) (place : ℕ → ℕ) (ids : List (Option ℕ)) (earlier : ℕ) (calls : List Call) (replies : List Reply) (old new : Held) → All IsCall lines → AllZip (IsCallOf place) (requests_of lines) calls
-    → OwesAll old (resolved_behind ids calls replies) replies new → AllZip IsAnswer lines (answers_to earlier lines replies)
-front_answers [] place ids earlier calls replies old new alone are owes = tt
-front_answers (None ∷ rest) place ids earlier calls replies old new alone are owes =
-    (record { said = refl; bad = λ h. refl }, front_answers rest place ids earlier calls replies old new (All-tail IsCall None rest alone) are owes)
-front_answers (Some (Crash keep) ∷ rest) place ids earlier calls replies old new alone are owes = absurd (true≢false (All-head IsCall (Some (Crash keep)) rest alone))
-front_answers (Some Reopen ∷ rest) place ids earlier calls replies old new alone are owes = absurd (true≢false (All-head IsCall (Some Reopen) rest alone))
-front_answers (Some (Ask request) ∷ rest) place ids earlier [] replies old new alone are owes = absurd are
-front_answers (Some (Ask request) ∷ rest) place ids earlier (call ∷ calls) [] old new alone are owes = absurd owes
-front_answers (Some (Ask request) ∷ rest) place ids earlier (call ∷ calls) (reply ∷ replies) old new alone are owes =
-    let fit = replies_so request place ids call reply old owes.0 are.0 owes.1 in (
-      record { said = record { number = earlier + 1; reply = reply; fits = fit; is = refl }; bad = λ h. absurd (not_bad (earlier + 1) request reply h) },
-      front_answers rest place (ids ++ id_opened reply ∷ []) (asked_with earlier request) calls replies owes.0 new (All-tail IsCall (Some (Ask request)) rest alone) are.1 owes.2,
+front_answers : (lines : List (Option Command)) (place : ℕ → ℕ) (at : ℕ) (before : List Reply) (earlier : ℕ) (calls : List Call) (replies : List Reply) (old new : Held) → All IsCall lines → AreCallsFrom at place (requests_of lines) calls
+    → OwesAll old (resolved_behind before calls replies) replies new → AllZip IsAnswer lines (answers_to earlier lines replies)
+front_answers [] place at before earlier calls replies old new alone are owes = tt
+front_answers (None ∷ rest) place at before earlier calls replies old new alone are owes =
+    (record { said = refl; bad = λ h. refl }, front_answers rest place at before earlier calls replies old new (All-tail IsCall None rest alone) are owes)
+front_answers (Some (Crash keep) ∷ rest) place at before earlier calls replies old new alone are owes = absurd (true≢false (All-head IsCall (Some (Crash keep)) rest alone))
+front_answers (Some Reopen ∷ rest) place at before earlier calls replies old new alone are owes = absurd (true≢false (All-head IsCall (Some Reopen) rest alone))
+front_answers (Some (Ask request) ∷ rest) place at before earlier [] replies old new alone are owes = absurd are
+front_answers (Some (Ask request) ∷ rest) place at before earlier (call ∷ calls) [] old new alone are owes = absurd owes
+front_answers (Some (Ask request) ∷ rest) place at before earlier (call ∷ calls) (reply ∷ replies) old new alone are owes =
+    let told = reply_to request reply replies in
+    let r = replied request place at before call calls are.1 reply replies old new are.0 are.2 owes in (
+      record { said = record { number = earlier + 1; reply = told.0; fits = r.fit; is = refl }; bad = λ h. absurd (not_bad (earlier + 1) request told.0 h) },
+      front_answers rest place (at + calls_in request) r.before (asked_with earlier request) are.1 told.1 r.mid new (All-tail IsCall (Some (Ask request)) rest alone) are.3 r.owes,
     )
 
 AllZip-append : (a b : List (Option Command)) (x y : List (List ℕ)) → AllZip IsAnswer a x → AllZip IsAnswer b y → AllZip IsAnswer (a ++ b) (x ++ y)
@@ -198,7 +281,7 @@ answered honest commands _ _ _ _ (begun core h) = ([], refl, tt)
 answered honest commands _ _ _ _ (run old new printed lines rest calls replies s alone stop are runs) =
     let so_far = answered honest commands (lines ++ rest) false old printed s in
     let earlier = snapshots_before commands (lines ++ rest) in
-    let here = front_answers lines _ [] earlier calls replies old new alone are runs.owes in
+    let here = front_answers lines (place_of earlier (requests_of lines)) 0 [] earlier calls replies old new alone are runs.owes in
     (so_far.0 ++ lines, so_far.1 ∙ sym (append_assoc so_far.0 lines rest), AllZip-append so_far.0 lines printed (answers_to earlier lines replies) so_far.2 here)
 answered honest commands _ _ _ _ (restarted old new printed stop rest s r) =
     let so_far = answered honest commands (stop ∷ rest) true old printed s in

@@ -1,11 +1,12 @@
 -- A session over a disk that returns what it holds comes to lives of engines one after another.
-use Rattle.std.proofs.Common.{◌≡◌, ℕ, suc, ◌+◌, Bool, true, false, IsTrue, List, [], ◌∷◌, ◌++◌, length, length-append, Option, Some, None, Result, Ok, Err, refl, sym, ◌∙◌, ap, subst, append_assoc, arith, map}
+use Rattle.std.proofs.Common.{◌≡◌, ℕ, suc, ◌+◌, Bool, true, false, IsTrue, List, [], ◌∷◌, ◌++◌, length, length-append, if◌then◌else◌, ◌≤◌, Option, Some, None, Result, Ok, Err, refl, sym, ◌∙◌, ap, subst, append_assoc, arith, map}
 use Rattle.std.proofs.lemmas.Bool.{true≢false}
 use Rattle.std.proofs.lemmas.List.{append-nil, map-append}
 use Rattle.std.proofs.lemmas.List.Elements.{All-nil, filter_map-append}
 use Rattle.std.proofs.lemmas.List.Splits.{slice_split_at, slice_split_none}
+use Rattle.std.proofs.lemmas.List.Sums.{sum_by-append, sum_by-cons}
 use Rattle.std.proofs.lemmas.Grind.{flat_map-append}
-use Rattle.std.specs.List.{AllZip, flat_map, slice_split}
+use Rattle.std.specs.List.{flat_map, slice_split, sum_by}
 use Rattle.std.specs.Prelude.{All}
 use Rattle.fjall_base.specs.Store.{Store, fold, kept}
 use Rattle.fjall_base.specs.Store as store
@@ -18,7 +19,7 @@ use Rattle.fjall_recovery.specs.Amid.{HoldsAmid}
 use Rattle.fjall_history.specs.declared.reply.Reply.{Reply}
 use Rattle.fjall_state.specs.declared.call.Call.{Call}
 use Rattle.fjall_state.specs.Machine.{present}
-use Rattle.fjall_state.specs.Places.{id_opened, resolved_all, resolved_behind}
+use Rattle.fjall_state.specs.Places.{resolved_all, resolved_behind}
 use Rattle.fjall_core.specs.Holding.{Held}
 use Rattle.fjall_core.specs.Lives.{Closed, CutBehind, Ended, Life, Lives, NoLife, OneMore, Opened, Served, Unclosed, begun, start_of}
 use Rattle.fjall_core.specs.Openings.{OpensAmid}
@@ -31,12 +32,13 @@ use Rattle.fjall_core.proofs.RunsOverCrashes.{no_run, runs_behind}
 use Rattle.fjall_lines.specs.declared.command.Command.{Command}
 use Rattle.fjall_lines.specs.declared.command.Command.TheVariants.{Ask, Crash, Reopen}
 use Rattle.fjall_lines.specs.declared.command.Request.{Request}
-use Rattle.fjall_script.specs.Answers.{bad_line, ok_line, reply_text}
+use Rattle.fjall_script.specs.Answers.{bad_line, flushed_by, ok_line, reply_text, reply_to}
 use Rattle.fjall_script.specs.Lived.{AreServed, HasLived, IsServed, served_in}
 use Rattle.fjall_script.specs.Machine.{Begins, Closes, Crashes, OpenedOn, RunsCalls, new_disk}
-use Rattle.fjall_script.specs.Requests.{AreCalls, asked_with, asks_snapshot, is_stop, request_of, requests_of, snapshots_before, snapshots_in}
+use Rattle.fjall_script.specs.Requests.{AreCalls, AreCallsFrom, asked_with, asks_snapshot, calls_in, finish_of, flushes, is_stop, request_of, requests_of, snapshots_before, snapshots_in}
 use Rattle.fjall_script.specs.Sessions as sessions
 use Rattle.fjall_script.specs.Sessions.{Restarts, Session, answers_to}
+use Rattle.fjall_script.proofs.Calling.{finish_is}
 use Rattle.fjall_script.proofs.Counts.{asked_before, counted, none_asked, one_asked, stops_ask_none}
 use Rattle.fjall_script.proofs.Restarting.{bare_holds}
 
@@ -45,7 +47,34 @@ IsCall found = is_stop found ≡ false
 
 -- ---- what is printed
 
-through-append : (earlier : ℕ) (front more : List (Option Command)) (replies others : List Reply) → length (requests_of front) ≡ length replies
+-- how many calls requests make
+abbrev made_by : List Request → ℕ
+made_by requests = sum_by calls_in requests
+
+-- that a request makes two calls or one, as a flag says
+abbrev calls_if : Bool → ℕ
+calls_if b = if b then 2 else 1
+
+abbrev told_if : Bool → Reply → List Reply → Reply × List Reply
+told_if b first behind = if b then flushed_by first behind else (first, behind)
+
+some_if : (b : Bool) → 1 ≤ calls_if b
+some_if true = omega arith
+some_if false = omega arith
+
+-- replies behind those to a request stay as they are
+told-append : (b : Bool) (first : Reply) (behind others : List Reply) → calls_if b ≤ suc (length behind) → told_if b first (behind ++ others) ≡ ((told_if b first behind).0, (told_if b first behind).1 ++ others)
+told-append true first [] others enough = absurd (omega (arith, enough))
+told-append true first (finished ∷ later) others enough = refl
+told-append false first behind others enough = refl
+
+-- each call takes one
+told_left : (b : Bool) (first : Reply) (behind : List Reply) → calls_if b ≤ suc (length behind) → calls_if b + length (told_if b first behind).1 ≡ suc (length behind)
+told_left true first [] enough = absurd (omega (arith, enough))
+told_left true first (finished ∷ later) enough = omega arith
+told_left false first behind enough = omega arith
+
+through-append : (earlier : ℕ) (front more : List (Option Command)) (replies others : List Reply) → made_by (requests_of front) ≡ length replies
     → answers_to earlier (front ++ more) (replies ++ others) ≡ answers_to earlier front replies ++ answers_to (earlier + snapshots_in front) more others
 through-append k [] more [] others all = ap (λ (n : ℕ). answers_to n more others) (omega arith)
 through-append k [] more (reply ∷ replies) others all = absurd (omega (arith, all))
@@ -55,23 +84,38 @@ through-append k (Some (Crash keep) ∷ front) more replies others all =
     ap (λ (l : List (List ℕ)). ok_line ∷ l) (through-append k front more replies others all ∙ ap (λ (n : ℕ). answers_to k front replies ++ answers_to (k + n) more others) (sym (none_asked (Some (Crash keep)) front refl)))
 through-append k (Some Reopen ∷ front) more replies others all =
     ap (λ (l : List (List ℕ)). ok_line ∷ l) (through-append k front more replies others all ∙ ap (λ (n : ℕ). answers_to k front replies ++ answers_to (k + n) more others) (sym (none_asked (Some Reopen) front refl)))
-through-append k (Some (Ask request) ∷ front) more [] others all = absurd (omega (arith, all))
+through-append k (Some (Ask request) ∷ front) more [] others all =
+    let count = sum_by-cons calls_in request (requests_of front) in
+    let some = some_if (flushes request) in
+    absurd (omega (arith, all, count, some))
 through-append k (Some (Ask request) ∷ front) more (reply ∷ replies) others all =
-    ap (λ (l : List (List ℕ)). reply_text (k + 1) request reply ∷ l)
-    (through-append (asked_with k request) front more replies others (omega (arith, all)) ∙ ap (λ (n : ℕ). answers_to (asked_with k request) front replies ++ answers_to n more others) (one_asked k request front))
+    let told = reply_to request reply replies in
+    let count = sum_by-cons calls_in request (requests_of front) in
+    let enough : calls_in request ≤ suc (length replies) = omega (arith, all, count) in
+    let left : calls_in request + length told.1 ≡ suc (length replies) = told_left (flushes request) reply replies enough in
+    ap (λ (t : Reply × List Reply). reply_text (k + 1) request t.0 ∷ answers_to (asked_with k request) (front ++ more) t.1) (told-append (flushes request) reply replies others enough)
+    ∙ ap (λ (l : List (List ℕ)). reply_text (k + 1) request told.0 ∷ l)
+    (through-append (asked_with k request) front more told.1 others (omega (arith, all, count, left))
+    ∙ ap (λ (n : ℕ). answers_to (asked_with k request) front told.1 ++ answers_to n more others) (one_asked k request front))
 
 -- each call has a reply
-replied : (ids : List (Option ℕ)) (old new : Held) (calls : List Call) (replies : List Reply) → OwesAll old (resolved_behind ids calls replies) replies new → length calls ≡ length replies
-replied ids old new [] [] owes = refl
-replied ids old new [] (reply ∷ replies) owes = absurd owes
-replied ids old new (call ∷ calls) [] owes = absurd owes
-replied ids old new (call ∷ calls) (reply ∷ replies) owes = ap suc (replied (ids ++ id_opened reply ∷ []) owes.0 new calls replies owes.2)
+replied : (before : List Reply) (old new : Held) (calls : List Call) (replies : List Reply) → OwesAll old (resolved_behind before calls replies) replies new → length calls ≡ length replies
+replied before old new [] [] owes = refl
+replied before old new [] (reply ∷ replies) owes = absurd owes
+replied before old new (call ∷ calls) [] owes = absurd owes
+replied before old new (call ∷ calls) (reply ∷ replies) owes = ap suc (replied (before ++ reply ∷ []) owes.0 new calls replies owes.2)
 
-as_many : {X Y : Type 0} (P : X → Y → Type 0) (xs : List X) (ys : List Y) → AllZip P xs ys → length xs ≡ length ys
-as_many P [] [] h = refl
-as_many P [] (y ∷ ys) h = absurd h
-as_many P (x ∷ xs) [] h = absurd h
-as_many P (x ∷ xs) (y ∷ ys) h = ap suc (as_many P xs ys h.1)
+-- and each request its calls
+as_many : (at : ℕ) (place : ℕ → ℕ) (requests : List Request) (calls : List Call) → AreCallsFrom at place requests calls → made_by requests ≡ length calls
+as_many at place [] [] are = refl
+as_many at place [] (call ∷ calls) are = absurd are
+as_many at place (request ∷ rest) [] are = absurd are
+as_many at place (request ∷ rest) (call ∷ calls) are =
+    let count = sum_by-cons calls_in request rest in
+    let mine = finish_is at request in
+    let others = as_many (at + calls_in request) place rest are.1 are.3 in
+    let all = ap length are.2 ∙ length-append (finish_of at request) are.1 in
+    omega (arith, count, mine, others, all)
 
 -- ---- lives so far
 
@@ -203,7 +247,7 @@ record LivedSo (commands rest : List (Option Command)) (ran : Bool) (printed : L
   pub parts : Parts front lives calls replies
   pub fresh : ran ≡ false → IsFresh parts.running calls replies
   pub printed_are : printed ≡ answers_to 0 front (flat_map (λ life. life.replies) lives ++ replies)
-  pub all : length (requests_of front) ≡ length (flat_map (λ life. life.replies) lives ++ replies)
+  pub all : made_by (requests_of front) ≡ length (flat_map (λ life. life.replies) lives ++ replies)
 
 start_holds : HoldsAmid (state_in new_disk) (bare no_keyspaces) []
 start_holds = holds_store_amid (state_in new_disk) (bare no_keyspaces) bare_holds
@@ -251,8 +295,8 @@ runs commands lines rest old new printed made replies s alone are run =
     let earlier = asked_before commands s.front (lines ++ rest) s.split in
     let whole = runs_behind s.first old new (start_of s.first store opens) (begun s.first store) s.calls calls s.replies replies opens.base s.run (run.safe refl) in
     let behind = subst (λ (r : List Reply). Served s.first store opens (s.calls ++ calls) (r ++ replies) new) fresh.no_replies whole in
-    let each : length (requests_of lines) ≡ length replies = as_many _ (requests_of lines) made are ∙ replied [] old new made replies run.owes in
-    let all : length (requests_of s.front) ≡ length lived = s.all ∙ ap length so_far in
+    let each : made_by (requests_of lines) ≡ length replies = as_many 0 _ (requests_of lines) made are ∙ replied [] old new made replies run.owes in
+    let all : made_by (requests_of s.front) ≡ length lived = s.all ∙ ap length so_far in
     record {
       front = s.front ++ lines;
       split = s.split ∙ sym (append_assoc s.front lines rest);
@@ -271,8 +315,8 @@ runs commands lines rest old new printed made replies s alone are run =
       printed_are = ap (λ (l : List (List ℕ)). l ++ answers_to (snapshots_before commands (lines ++ rest)) lines replies) (s.printed_are ∙ ap (answers_to 0 s.front) so_far)
           ∙ ap (λ (n : ℕ). answers_to 0 s.front lived ++ answers_to n lines replies) (earlier ∙ omega arith)
           ∙ sym (through-append 0 s.front lines lived replies all);
-      all = ap length (filter_map-append request_of s.front lines) ∙ length-append (requests_of s.front) (requests_of lines)
-          ∙ ap (λ n. n + length (requests_of lines)) all ∙ ap (λ n. length lived + n) each ∙ sym (length-append lived replies);
+      all = ap made_by (filter_map-append request_of s.front lines) ∙ sum_by-append calls_in (requests_of s.front) (requests_of lines)
+          ∙ ap (λ n. n + made_by (requests_of lines)) all ∙ ap (λ n. length lived + n) each ∙ sym (length-append lived replies);
     }
 
 -- the life that ended with the old core's
@@ -313,7 +357,7 @@ again commands stop rest printed old new s stops synced end next waits ended dis
           ∙ ap (λ (l : List (List ℕ)). answers_to 0 s.front (lived ++ s.replies) ++ l) (sym (ok_said (0 + snapshots_in s.front) stop stops))
           ∙ sym (through-append 0 s.front (stop ∷ []) (lived ++ s.replies) [] s.all)
           ∙ ap (answers_to 0 (s.front ++ stop ∷ [])) (append-nil (lived ++ s.replies) ∙ replies);
-      all = ap length none ∙ s.all ∙ ap length replies;
+      all = ap made_by none ∙ s.all ∙ ap length replies;
     }
   where
     no_call : (found : Option Command) → is_stop found ≡ true → requests_of (found ∷ []) ≡ []

@@ -5,7 +5,7 @@ use Rattle.fjall_history.specs.declared.reply.Reply.{Reply}
 use Rattle.fjall_lines.specs.declared.command.Command.{Command}
 use Rattle.fjall_lines.specs.declared.command.Command.TheVariants.{Ask, Crash, Reopen}
 use Rattle.fjall_lines.specs.declared.command.Request.{Request}
-use Rattle.fjall_script.specs.Answers.{reply_text, bad_line, ok_line, text_of}
+use Rattle.fjall_script.specs.Answers.{reply_text, reply_to, bad_line, ok_line, text_of}
 use Rattle.fjall_script.specs.Requests.{asked_with}
 use Rattle.fjall_script.specs.Sessions.{answers_to}
 
@@ -40,11 +40,13 @@ crash_said earlier found left keep is rest = ap (λ (f : Option Command). answer
 pub reopen_said : (earlier : ℕ) (found : Option Command) (left : List Reply) → found ≡ Some Reopen → (rest : List (Option Command)) → answers_to earlier (found ∷ rest) left ≡ ok_line ∷ answers_to earlier rest left
 reopen_said earlier found left is rest = ap (λ (f : Option Command). answers_to earlier (f ∷ rest) left) is
 
-pub reply_step : (earlier asked number : ℕ) (commands : List (Option Command)) (i : ℕ) (found : Option Command) (request : Request) (left later : List Reply) (reply : Reply) (text mid after whole : List ℕ)
-    → i < length commands → found ≡ get_or commands i found → found ≡ Some (Ask request) → left ≡ reply ∷ later → number ≡ earlier + 1 → asked ≡ asked_with earlier request → mid ≡ text ++ reply_text number request reply → after ≡ mid ++ 10 ∷ []
+pub reply_step : (earlier asked number : ℕ) (commands : List (Option Command)) (i : ℕ) (found : Option Command) (request : Request) (left behind later : List Reply) (begun reply : Reply) (text mid after whole : List ℕ)
+    → i < length commands → found ≡ get_or commands i found → found ≡ Some (Ask request) → left ≡ begun ∷ behind → reply ≡ (reply_to request begun behind).0 → later ≡ (reply_to request begun behind).1
+    → number ≡ earlier + 1 → asked ≡ asked_with earlier request → mid ≡ text ++ reply_text number request reply → after ≡ mid ++ 10 ∷ []
     → text ++ text_of (answers_to earlier (drop i commands) left) ≡ whole
     → after ++ text_of (answers_to asked (drop (i + 1) commands) later) ≡ whole
-reply_step earlier asked number commands i found request left later reply text mid after whole lt at some split counted more first last h =
+reply_step earlier asked number commands i found request left behind later begun reply text mid after whole lt at some split told others counted more first last h =
     let next = next_is commands i found lt at in
-    let here : text ++ text_of (answers_to earlier (Some (Ask request) ∷ drop (i + 1) commands) (reply ∷ later)) ≡ whole = rw (next, some, split) at h in
-    rw (last, first, counted, more) (add_line text (reply_text (earlier + 1) request reply) (text_of (answers_to (asked_with earlier request) (drop (i + 1) commands) later)) ∙ here)
+    let here : text ++ text_of (answers_to earlier (Some (Ask request) ∷ drop (i + 1) commands) (begun ∷ behind)) ≡ whole = rw (next, some, split) at h in
+    rw (last, first, counted, more, told, others)
+    (add_line text (reply_text (earlier + 1) request (reply_to request begun behind).0) (text_of (answers_to (asked_with earlier request) (drop (i + 1) commands) (reply_to request begun behind).1)) ∙ here)

@@ -1,14 +1,15 @@
 -- What is printed.
-use Rattle.std.specs.Prelude.{ℕ, List, [], ◌∷◌, ◌++◌, length, codes, decimal, Some, None, true, false}
+use Rattle.std.specs.Prelude.{ℕ, List, [], ◌∷◌, ◌++◌, if◌then◌else◌, length, codes, decimal, Some, None, true, false}
 use Rattle.std.specs.List.{flat_map}
 use Rattle.fjall_base.specs.declared.error.Error.{Error}
 use Rattle.fjall_base.specs.Errors.{number_of, name_of}
 use Rattle.fjall_base.specs.Pairs.{Bytes}
 use Rattle.fjall_history.specs.declared.reply.Reply.{Reply}
-use Rattle.fjall_history.specs.declared.reply.Reply.TheVariants.{Done, Value, Pairs, Number, Names, Flag, Opened, Refused}
+use Rattle.fjall_history.specs.declared.reply.Reply.TheVariants.{Began, Done, Ids, Value, Pairs, Number, Names, Flag, Opened, Refused}
 use Rattle.fjall_lines.specs.declared.command.Request.{Request}
 use Rattle.fjall_lines.specs.declared.command.Request.TheVariants.{Gc, Keyspace, Len}
 use Rattle.fjall_lines.specs.Lines.{hex_word}
+use Rattle.fjall_script.specs.Requests.{flushes}
 
 -- a refusal: its number and its name
 abbrev pub refusal_text : Error → List ℕ
@@ -29,8 +30,22 @@ pairs_text pairs = codes "pairs" ++ flat_map (λ pair. codes " " ++ pair_word pa
 abbrev pub count_text : ℕ → List ℕ
 count_text count = codes "count " ++ decimal count
 
--- the answer to a request, by the reply to its call, where a snapshot that it opens gets this number: `keyspace` tells an id,
--- `len` how many pairs there are, `scan` the pairs, and `gc` the watermark
+-- the reply to a flush, by those to its two calls: where a job was begun, that to its finish
+abbrev pub flushed : Reply → Reply → Reply
+flushed (Began (Some job)) finished = finished
+flushed begun finished = begun
+
+-- the same of the reply to its first call and those behind it, and what is left of these
+abbrev pub flushed_by : Reply → List Reply → Reply × List Reply
+flushed_by begun [] = (begun, [])
+flushed_by begun (finished ∷ later) = (flushed begun finished, later)
+
+-- The reply to a request, by that to its first call and those behind it, and what is left of these for later requests.
+abbrev pub reply_to : Request → Reply → List Reply → Reply × List Reply
+reply_to request first behind = if flushes request then flushed_by first behind else (first, behind)
+
+-- the answer to a request, by its reply, where a snapshot that it opens gets this number: `keyspace` tells an id,
+-- `len` how many pairs there are, `scan` the pairs, `gc` the watermark, and `flush` whether one was begun and finished
 abbrev pub reply_text : ℕ → Request → Reply → List ℕ
 reply_text number request Done = codes "ok"
 reply_text number request (Value None) = codes "none"
@@ -44,6 +59,9 @@ reply_text number request (Names names) = count_text (length names.items)
 reply_text number request (Flag true) = codes "true"
 reply_text number request (Flag false) = codes "false"
 reply_text number request (Opened ticket) = codes "snapshot " ++ decimal number
+reply_text number request (Began (Some job)) = codes "true"
+reply_text number request (Began None) = codes "false"
+reply_text number request (Ids ids) = count_text (length ids.items)
 reply_text number request (Refused error) = refusal_text error
 
 -- the answer to a line that is no command

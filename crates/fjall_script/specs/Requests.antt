@@ -1,6 +1,6 @@
 -- The calls that lines make, and the snapshots that they name.
-use Rattle.std.specs.Prelude.{◌≡◌, ℕ, ◌+◌, ◌-◌, ◌^◌, Bool, true, false, if◌then◌else◌, List, [], ◌∷◌, map, Option, Some, None, slice_get, unwrap_or, Vec}
-use Rattle.std.specs.List.{AllZip, count_by, filter_map}
+use Rattle.std.specs.Prelude.{◌≡◌, ℕ, ◌+◌, ◌-◌, ◌^◌, Bool, true, false, if◌then◌else◌, List, [], ◌∷◌, ◌++◌, length, map, Option, Some, None, slice_get, unwrap_or, Vec}
+use Rattle.std.specs.List.{count_by, filter_map}
 use Rattle.std.specs.declared.alloc.Global.{Global}
 use Rattle.std.specs.declared.ops.Bound.TheVariants.{Unbounded}
 use Rattle.fjall_base.specs.Pairs.{Bytes}
@@ -9,6 +9,7 @@ use Rattle.fjall_journal.specs.declared.op.Op.{Op}
 use Rattle.fjall_journal.specs.declared.op.Op.TheVariants as ops
 use Rattle.fjall_journal.specs.declared.persist_mode.PersistMode.TheVariants.{Buffer, SyncAll}
 use Rattle.fjall_options.specs.Options.{default_options}
+use Rattle.fjall_history.specs.declared.job.JobId.{JobId}
 use Rattle.fjall_history.specs.declared.ticket.Ticket.{Ticket}
 use Rattle.fjall_history.specs.declared.ticket.View.TheVariants.{At, Present}
 use Rattle.fjall_state.specs.declared.call.Call.{Call}
@@ -16,7 +17,7 @@ use Rattle.fjall_state.specs.declared.call.Call.TheVariants as calls
 use Rattle.fjall_lines.specs.declared.command.Command.{Command}
 use Rattle.fjall_lines.specs.declared.command.Command.TheVariants.{Ask, Crash, Reopen}
 use Rattle.fjall_lines.specs.declared.command.Request.{Request}
-use Rattle.fjall_lines.specs.declared.command.Request.TheVariants.{Keyspace, Delete, Insert, Remove, RemoveWeak, Clear, Batch, Get, Len, Scan, Snapshot, GetAt, CloseSnapshot, Gc, Rotate, Persist}
+use Rattle.fjall_lines.specs.declared.command.Request.TheVariants.{Keyspace, Delete, Insert, Remove, RemoveWeak, Clear, Batch, Get, Len, Scan, Snapshot, GetAt, CloseSnapshot, Gc, Rotate, Flush, Persist}
 use Rattle.fjall_lines.specs.Lines.{Write}
 
 -- what a line asks of the engine; none for one that is no command, a crash or a reopening
@@ -59,17 +60,26 @@ snapshots_before script rest = snapshots_in script - snapshots_in rest
 
 -- ---- calls
 
+-- it makes two calls: a flush is begun, and then finished
+abbrev pub flushes : Request → Bool
+flushes (Flush id) = true
+flushes request = false
+
+-- how many calls it makes
+abbrev pub calls_in : Request → ℕ
+calls_in request = if flushes request then 2 else 1
+
 -- the place of no call
 abbrev pub nowhere : ℕ
 nowhere = 2 ^ 64 - 1
 
--- the places of those that open a snapshot, where the first request has this one
+-- the places of the calls that open a snapshot, where that of the first request has this one
 abbrev pub openings_from : ℕ → List Request → List ℕ
 openings_from place [] = []
-openings_from place (request ∷ rest) = if opens request then place ∷ openings_from (place + 1) rest else openings_from (place + 1) rest
+openings_from place (request ∷ rest) = if opens request then place ∷ openings_from (place + calls_in request) rest else openings_from (place + calls_in request) rest
 
--- The place of the request that opened the snapshot of a number, among these places, and among the requests of one list, where
--- so many snapshots were asked for before it. One that another list asked for, or none did, stands nowhere.
+-- The place of the call that opened the snapshot of a number, among these places, and among the calls for the requests of one list,
+-- where so many snapshots were asked for before it. One that another list asked for, or none did, stands nowhere.
 abbrev pub place_in : List ℕ → ℕ → ℕ → ℕ
 place_in places earlier number = unwrap_or (slice_get places (number - earlier)) nowhere
 
@@ -98,7 +108,7 @@ pub record IsBatch (writes : List Write) (call : Call) : Type 0 where
   pub is : call ≡ calls.CommitBatch items (Some Buffer)
   pub same : items.items ≡ map item_of writes
 
--- the call that a request makes, where snapshots of these numbers were opened at these places
+-- the call that a request makes, for a flush the first of two, where snapshots of these numbers were opened at these places
 abbrev pub IsCallOf : (ℕ → ℕ) → Request → Call → Type 0
 IsCallOf place (Keyspace name) call = call ≡ calls.Keyspace name default_options
 IsCallOf place (Delete id) call = call ≡ calls.DeleteKeyspace id
@@ -115,8 +125,29 @@ IsCallOf place (GetAt number id key) call = call ≡ calls.GetAt (At (named (pla
 IsCallOf place (CloseSnapshot number) call = call ≡ calls.CloseSnapshot (named (place number))
 IsCallOf place Gc call = call ≡ calls.Gc
 IsCallOf place (Rotate id) call = call ≡ calls.RotateMemtable id
+IsCallOf place (Flush id) call = call ≡ calls.FlushBegin id
 IsCallOf place Persist call = call ≡ calls.Persist SyncAll
+
+-- within a list of calls a job is named by the place of the call that began it
+abbrev pub begun_at : ℕ → JobId
+begun_at place = record { number = place; keyspace_id = 0 }
+
+-- the calls behind the first of a request, which has this place: the job that a flush began is finished
+abbrev pub finish_of : ℕ → Request → List Call
+finish_of place request = if flushes request then calls.FlushFinish (begun_at place) ∷ [] else []
+
+-- the calls of requests one after another, where the first call has this place
+abbrev pub AreCallsFrom : ℕ → (ℕ → ℕ) → List Request → List Call → Type 0
+AreCallsFrom at place [] [] = Unit {0}
+AreCallsFrom at place (request ∷ rest) (call ∷ calls) =
+    IsCallOf place request call × (later : List Call) × (calls ≡ finish_of at request ++ later) × AreCallsFrom (at + calls_in request) place rest later
+AreCallsFrom at place requests calls = ⊥
+
+-- A line added its calls to those of the lines before it: those of its request, where it has one.
+abbrev pub AddsCalls : (ℕ → ℕ) → Option Request → List Call → List Call → Type 0
+AddsCalls place None old new = new ≡ old
+AddsCalls place (Some request) old new = (call : Call) × IsCallOf place request call × (new ≡ old ++ call ∷ finish_of (length old) request)
 
 -- the calls of one list of lines, where so many snapshots were asked for before it
 abbrev pub AreCalls : ℕ → List (Option Command) → List Call → Type 0
-AreCalls earlier lines calls = AllZip (IsCallOf (place_of earlier (requests_of lines))) (requests_of lines) calls
+AreCalls earlier lines calls = AreCallsFrom 0 (place_of earlier (requests_of lines)) (requests_of lines) calls

@@ -9,12 +9,12 @@ use Rattle.fjall_core.specs.Holding.{Held}
 use Rattle.fjall_state.specs.declared.call.Call.{Call}
 use Rattle.fjall_state.specs.Places.{resolved_all}
 use Rattle.fjall_history.specs.declared.reply.Reply.{Reply}
-use Rattle.fjall_history.specs.declared.reply.Reply.TheVariants.{Done, Flag, Value, Pairs, Number, Opened, Refused}
+use Rattle.fjall_history.specs.declared.reply.Reply.TheVariants.{Began, Done, Flag, Value, Pairs, Number, Opened, Refused}
 use Rattle.fjall_lines.specs.declared.command.Command.{Command}
 use Rattle.fjall_lines.specs.declared.command.Command.TheVariants.{Ask, Crash, Reopen}
 use Rattle.fjall_lines.specs.declared.command.Request.{Request}
-use Rattle.fjall_lines.specs.declared.command.Request.TheVariants.{Keyspace, Delete, Insert, Remove, RemoveWeak, Clear, Batch, Get, Len, Scan, Snapshot, GetAt, CloseSnapshot, Gc, Rotate, Persist}
-use Rattle.fjall_script.specs.Answers.{reply_text, bad_line, ok_line, text_of}
+use Rattle.fjall_lines.specs.declared.command.Request.TheVariants.{Keyspace, Delete, Insert, Remove, RemoveWeak, Clear, Batch, Get, Len, Scan, Snapshot, GetAt, CloseSnapshot, Gc, Rotate, Flush, Persist}
+use Rattle.fjall_script.specs.Answers.{reply_text, reply_to, bad_line, ok_line, text_of}
 use Rattle.fjall_script.specs.Outputs.{AppendsFront, IsIo}
 use Rattle.fjall_script.specs.Requests.{AreCalls, asked_with, is_stop, snapshots_before, snapshots_in}
 use Rattle.fjall_script.specs.Machine.{RunsCalls, Begins, Closes, Crashes, IsNoDisk, RefusedOn, Reopens, IsClosed}
@@ -25,11 +25,12 @@ abbrev pub answers_to : ℕ → List (Option Command) → List Reply → List (L
 answers_to earlier [] replies = []
 answers_to earlier (None ∷ rest) replies = bad_line ∷ answers_to earlier rest replies
 answers_to earlier (Some (Ask request) ∷ rest) [] = []
-answers_to earlier (Some (Ask request) ∷ rest) (reply ∷ replies) = reply_text (earlier + 1) request reply ∷ answers_to (asked_with earlier request) rest replies
+answers_to earlier (Some (Ask request) ∷ rest) (reply ∷ replies) =
+    let told = reply_to request reply replies in reply_text (earlier + 1) request told.0 ∷ answers_to (asked_with earlier request) rest told.1
 answers_to earlier (Some (Crash keep) ∷ rest) replies = ok_line ∷ answers_to earlier rest replies
 answers_to earlier (Some Reopen ∷ rest) replies = ok_line ∷ answers_to earlier rest replies
 
--- what the call of a request may reply: what the request asks for, or a refusal
+-- what the reply to a request may be: what the request asks for, or a refusal
 abbrev pub IsReplyTo : Request → Reply → Type 0
 IsReplyTo request (Refused error) = Unit {0}
 IsReplyTo (Keyspace name) (Number id) = Unit {0}
@@ -47,17 +48,19 @@ IsReplyTo (GetAt number id key) (Value found) = Unit {0}
 IsReplyTo (CloseSnapshot number) Done = Unit {0}
 IsReplyTo Gc (Number watermark) = Unit {0}
 IsReplyTo (Rotate id) (Flag is_sealed) = Unit {0}
+IsReplyTo (Flush id) (Flag is_finished) = Unit {0}
+IsReplyTo (Flush id) (Began None) = Unit {0}
 IsReplyTo Persist Done = Unit {0}
 IsReplyTo request reply = ⊥
 
--- the answer by a reply to the call of a request, where a snapshot that it opens gets some number
+-- the answer by a reply to a request, where a snapshot that it opens gets some number
 pub record IsReplied (request : Request) (answer : List ℕ) : Type 0 where
   pub number : ℕ
   pub reply : Reply
   pub fits : IsReplyTo request reply
   pub is : answer ≡ reply_text number request reply
 
--- what a line may be answered: the reply to its call, ok for a crash or a reopening
+-- what a line may be answered: the reply to its request, ok for a crash or a reopening
 abbrev pub IsSaid : Option Command → List ℕ → Type 0
 IsSaid None answer = answer ≡ bad_line
 IsSaid (Some (Crash keep)) answer = answer ≡ ok_line

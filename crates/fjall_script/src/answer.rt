@@ -2,8 +2,9 @@
 
 ghost use Rattle.std.specs.Prelude.{◌≡◌, IfOk, Some, string_bytes};
 ghost use Rattle.fjall_lines.specs.Lines.{hex_word};
-ghost use Rattle.fjall_script.specs.Answers.{pairs_text, refusal_text, reply_text};
+ghost use Rattle.fjall_script.specs.Answers.{flushed, pairs_text, refusal_text, reply_text, reply_to};
 
+use crate::calls::flushes;
 use fjall_base::{Error, KvPair, Slice};
 use fjall_core::Reply;
 use fjall_lines::Request;
@@ -51,7 +52,32 @@ fn pairs_text(alloc: Global, pairs: &[KvPair]) -> Result<String, AllocError>
     Ok(text)
 }
 
-/// What a request is answered, by the reply to its call, where a snapshot that it opens gets this number.
+// The reply to a flush, by those to its two calls: where a job was begun, that to its finish.
+fn flushed<'a>(begun: &'a Reply, finished: &'a Reply) -> &'a Reply
+    ensures { result.now ≡ flushed begun.now finished.now }
+{
+    match begun {
+        Reply::Began(Some(_)) => finished,
+        _ => begun,
+    }
+}
+
+/// The reply to a request, by that to its first call and those behind it, and what is left of these for later requests.
+pub fn reply_to<'a>(
+    request: &Request,
+    first: &'a Reply,
+    behind: &'a [Reply],
+) -> (&'a Reply, &'a [Reply])
+    ensures reply { result.0.now ≡ (reply_to request.now first.now behind.now).0 }
+    ensures left { result.1.now ≡ (reply_to request.now first.now behind.now).1 }
+{
+    match behind {
+        [finished, later @ ..] if flushes(request) => (flushed(first, finished), later),
+        _ => (first, behind),
+    }
+}
+
+/// What a request is answered, by its reply, where a snapshot that it opens gets this number.
 pub fn answer(
     alloc: Global,
     request: &Request,
@@ -86,6 +112,12 @@ pub fn answer(
         Reply::Flag(true) => String::from_str(alloc, "true"),
         Reply::Flag(false) => String::from_str(alloc, "false"),
         Reply::Opened(_) => format!(in alloc; "snapshot {number}"),
+        Reply::Began(Some(_)) => String::from_str(alloc, "true"),
+        Reply::Began(None) => String::from_str(alloc, "false"),
+        Reply::Ids(ids) => {
+            let count = ids.len();
+            format!(in alloc; "count {count}")
+        }
         Reply::Refused(error) => Refusal(*error).to_string(alloc),
     }
 }

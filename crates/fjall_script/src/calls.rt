@@ -1,10 +1,10 @@
 //! The calls that lines make, and the snapshots that they name.
 
-ghost use Rattle.std.specs.Prelude.{◌≡◌, ◌<◌, ◌+◌, ◌∷◌, ◌^◌, IfOk, IsOkUnless, length, map};
-ghost use Rattle.fjall_script.specs.Requests.{all_pairs, AreCalls, asked_with, IsCallOf, item_of, named, nowhere, op_of, openings_from, opens, place_in, requests_of, snapshots_in};
+ghost use Rattle.std.specs.Prelude.{◌≡◌, ◌<◌, ◌+◌, ◌∷◌, ◌^◌, IfOk, IsOkUnless, OnOk, length, map};
+ghost use Rattle.fjall_script.specs.Requests.{AddsCalls, all_pairs, AreCalls, asked_with, calls_in, flushes, IsCallOf, item_of, named, nowhere, op_of, openings_from, opens, place_in, request_of, requests_of, snapshots_in};
 
 use fjall_base::{Error, Result, UserValue};
-use fjall_core::{BatchItem, Call, Op, PersistMode, Ticket, View};
+use fjall_core::{BatchItem, Call, JobId, Op, PersistMode, Ticket, View};
 use fjall_lines::{Command, Request, Write};
 use fjall_options::KeyspaceCreateOptions;
 use std::alloc::{AllocError, Global};
@@ -14,6 +14,20 @@ fn opens(request: &Request) -> bool
     ensures { result ≡ opens request.now }
 {
     matches!(request, Request::Snapshot)
+}
+
+/// Whether a request makes two calls: a flush is begun, and then finished.
+pub(crate) fn flushes(request: &Request) -> bool
+    ensures { result ≡ flushes request.now }
+{
+    matches!(request, Request::Flush(_))
+}
+
+// How many calls a request makes.
+fn calls_in(request: &Request) -> u64
+    ensures { result ≡ calls_in request.now }
+{
+    if flushes(request) { 2 } else { 1 }
 }
 
 // How many snapshots were asked for, where so many were before this request.
@@ -38,7 +52,7 @@ pub(crate) fn asked_in(earlier: usize, commands: &[Option<Command>]) -> usize
     asked
 }
 
-// The places of the requests that open a snapshot, behind one that stands nowhere.
+// The places of the calls that open a snapshot, behind one that stands nowhere.
 fn openings(
     alloc: Global,
     commands: &[Option<Command>],
@@ -53,7 +67,7 @@ fn openings(
             if opens(request) {
                 places.push(place)?;
             }
-            place += 1;
+            place += calls_in(request);
         }
     }
     Ok(places)
@@ -101,7 +115,7 @@ fn items_of(alloc: Global, writes: &[Write]) -> Result<Vec<BatchItem>>
     Ok(items)
 }
 
-// The call that a request makes, where the snapshots of this list were opened at these places.
+// The call that a request makes, for a flush the first of two, where the snapshots of this list were opened at these places.
 fn call_of(alloc: Global, request: &Request, places: &[u64], earlier: usize) -> Result<Call>
     ensures ok { IfOk result (λ call. IsCallOf (place_in places.now earlier) request.now call) }
     ensures only { IsOkUnless result Error.OutOfMemory }
@@ -132,8 +146,31 @@ fn call_of(alloc: Global, request: &Request, places: &[u64], earlier: usize) -> 
         }
         Request::Gc => Ok(Call::Gc),
         Request::Rotate(id) => Ok(Call::RotateMemtable(*id)),
+        Request::Flush(id) => Ok(Call::FlushBegin(*id)),
         Request::Persist => Ok(Call::Persist(PersistMode::SyncAll)),
     }
+}
+
+// Adds the calls that a line makes to those of the lines before it.
+fn add_calls(
+    alloc: Global,
+    found: &Option<Command>,
+    places: &[u64],
+    earlier: usize,
+    calls: &mut Vec<Call>,
+) -> Result<()>
+    ensures ok { OnOk result (AddsCalls (place_in places.now earlier) (request_of found.now) calls.old.items calls.new.items) }
+    ensures only { IsOkUnless result Error.OutOfMemory }
+{
+    let Some(Command::Ask(request)) = found else {
+        return Ok(());
+    };
+    let place = calls.len() as u64;
+    calls.push(call_of(alloc, request, places, earlier)?)?;
+    if flushes(request) {
+        calls.push(Call::FlushFinish(JobId::of_call(place)))?;
+    }
+    Ok(())
 }
 
 // The calls of one list of lines, where so many snapshots were asked for before it.
@@ -148,9 +185,7 @@ pub(crate) fn calls_of(
     let places = openings(alloc, commands)?;
     let mut calls = Vec::new(alloc);
     for found in commands {
-        if let Some(Command::Ask(request)) = found {
-            calls.push(call_of(alloc, request, &places, earlier)?)?;
-        }
+        add_calls(alloc, found, &places, earlier, &mut calls)?;
     }
     Ok(calls)
 }

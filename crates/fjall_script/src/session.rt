@@ -7,7 +7,7 @@ ghost use Rattle.fjall_script.specs.Machine.{Begins, NotBegun, OpenedOn, Refused
 ghost use Rattle.fjall_script.specs.Requests.{is_stop};
 ghost use Rattle.fjall_script.specs.Sessions.{AnsweredFront, answers_to, FrontFails, NotRestarted, PrintsAll, PrintsUntil, Restarts, RunsFront};
 
-use crate::answer::{BAD_LINE, answer};
+use crate::answer::{BAD_LINE, answer, reply_to};
 use crate::calls::{asked_in, asked_with, calls_of};
 use crate::output::write_text;
 use crate::place::Place;
@@ -48,12 +48,13 @@ fn answers_to(
             None => text.push_str(BAD_LINE)?,
             Some(command) => match command {
                 Command::Ask(request) => {
-                    let Some((reply, more)) = left.split_first() else {
+                    let Some((first, behind)) = left.split_first() else {
                         return Ok(text);
                     };
+                    let (reply, later) = reply_to(request, first, behind);
                     text.push_str(answer(alloc, request, reply, asked + 1)?.as_str())?;
                     asked = asked_with(asked, request);
-                    left = more;
+                    left = later;
                 }
                 Command::Crash(_) => text.push_str("ok")?,
                 Command::Reopen => text.push_str("ok")?,

@@ -24,15 +24,15 @@ is_so : (b : Bool) → not b ≡ false → b ≡ true
 is_so true e = refl
 is_so false e = absurd (true≢false e)
 
-neither : (a b : Bool) → (a || b) ≡ false → (a ≡ false) × (b ≡ false)
+pub neither : (a b : Bool) → (a || b) ≡ false → (a ≡ false) × (b ≡ false)
 neither true b e = absurd (true≢false e)
 neither false b e = (refl, e)
 
-behind_true : (a b : Bool) → a ≡ true → (a && b) ≡ false → b ≡ false
+pub behind_true : (a b : Bool) → a ≡ true → (a && b) ≡ false → b ≡ false
 behind_true true b e f = f
 behind_true false b e f = absurd (true≢false (sym e))
 
-below : (a b : ℕ) → nat_le b a ≡ false → a < b
+pub below : (a b : ℕ) → nat_le b a ≡ false → a < b
 below a b e = grind (arith, nat_tests)
 
 differs : (a b : ℕ) → (a == b) ≡ false → a ≢ b

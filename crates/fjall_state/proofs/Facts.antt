@@ -22,7 +22,8 @@ unknown_is s trees id next is other = ap (λ n. nat_le n id) is ∙ ap (λ b. b 
 pub living_names : (s : Keyspaces) (trees : Forest) (id : ℕ) → is_living (store_of s trees) id ≡ is_some (keyspace_at id s.living)
 living_names s trees id = bare_names s [] id
 
-any_named : (b later : Bool) (k : LivingKeyspace) (found : Option LivingKeyspace) → later ≡ is_some (option_map (λ (j : LivingKeyspace). j.id) found) → (b || later) ≡ is_some (option_map (λ (j : LivingKeyspace). j.id) (cond b (Some k) found))
+any_named : (b later : Bool) (k : LivingKeyspace) (found : Option LivingKeyspace) → later ≡ is_some (option_map (λ (j : LivingKeyspace). j.id) found)
+    → (b || later) ≡ is_some (option_map (λ (j : LivingKeyspace). j.id) (cond b (Some k) found))
 any_named true later k found same = refl
 any_named false later k found same = same
 

@@ -1,11 +1,12 @@
 -- What is held stays lawful.
-use Rattle.std.proofs.Common.{◌≡◌, ◌≢◌, inl, inr, ℕ, zero, suc, ◌+◌, ◌-◌, ◌<◌, ◌≤◌, ◌^◌, ◌==◌, ◌&&◌, max, not, Bool, true, false, cond, if◌then◌else◌, List, [], ◌∷◌, All, Option, None, Some, Result, Ok, Err, IfOk, OnOk, OnErr, refl, sym, ap, subst, ◌∙◌, arith}
+use Rattle.std.proofs.Common.{◌≡◌, ◌≢◌, inl, inr, ℕ, zero, suc, ◌+◌, ◌-◌, ◌<◌, ◌≤◌, ◌^◌, ◌==◌, ◌&&◌, max, not, Bool, true, false, cond, if◌then◌else◌, List, [], ◌∷◌, All, Option, None, Some, Result, Ok, Err, IfOk, OnOk, OnErr, refl}
+use Rattle.std.proofs.Common.{sym, ap, subst, ◌∙◌, arith}
 use Rattle.std.proofs.lemmas.Bool.{true≢false}
 use Rattle.std.proofs.lemmas.Bool.Decides.{nat_tests}
 use Rattle.std.proofs.lemmas.Option.{none-some}
 use Rattle.std.proofs.lemmas.List.Elements.{All-cons, All-filter, All-nil, All-push, All-weaker}
 use Rattle.std.specs.Cmp.{nat_cmp_total}
-use Rattle.std.specs.FinMap.{get, get-remove, remove, values}
+use Rattle.std.specs.FinMap.{get, get-remove, insert, remove, values}
 use Rattle.std.specs.List.{slice_index_or}
 use Rattle.std.specs.Option.{is_some}
 use Rattle.std.specs.Ordering.{eq_by_cmp, nat_cmp}
@@ -18,8 +19,11 @@ use Rattle.fjall_meta.specs.Keyspaces.{AreKeyspaces, Keyspaces, id_of, is_name, 
 use Rattle.fjall_meta.proofs.Changes.{none_named, one_more_are, some_are}
 use Rattle.fjall_options.specs.Options.{AreOptions}
 use Rattle.fjall_versions.proofs.Found.{found_has, found_passes}
-use Rattle.fjall_versions.proofs.Slots.{get_put, same_id}
-use Rattle.fjall_lsm.specs.Trees.{emptied, sealed_off}
+use Rattle.fjall_versions.proofs.Slots.{get_put, same_id, same_maps, ties}
+use Rattle.fjall_catalog.specs.Catalog.{fields, first_of}
+use Rattle.fjall_loading.specs.Known.{LastFields}
+use Rattle.fjall_tree.specs.Records.{Fields}
+use Rattle.fjall_lsm.specs.Trees.{Flushing, emptied, sealed_off}
 use Rattle.fjall_trees.specs.Forests.{AreBefore, Forest, Planted, altered_at, tree_at}
 use Rattle.fjall_trees.specs.Forests as forests
 use Rattle.fjall_lsm.specs.Puts.{bare_tree}
@@ -30,10 +34,10 @@ use Rattle.fjall_history.specs.Tickets.{Tickets, Tracked, closed, collected, lea
 use Rattle.fjall_history.proofs.Values.{all_inserted, all_removed, of_value}
 use Rattle.fjall_state.specs.Allowed.{FitsBatch}
 use Rattle.fjall_state.specs.Machine.{handles_of, is_living, one_less, without}
-use Rattle.fjall_state.specs.Remembered.{IsLawful, IsReadAt, Remembered, is_last, let_go, poisoned, released, retained, rotated, with_change, with_creation, with_deletion, with_tickets, with_trees}
+use Rattle.fjall_state.specs.Remembered.{IsBegun, IsLawful, IsReadAt, Remembered, is_last, let_go, poisoned, released, retained, rotated, with_change, with_creation, with_deletion, with_tickets, with_trees}
 use Rattle.fjall_state.proofs.Facts.{living_names, some_there}
 use Rattle.fjall_trees.specs.Tables.{AreSameTrees}
-use Rattle.fjall_state.proofs.SameTrees.{all_same}
+use Rattle.fjall_state.proofs.SameTrees.{all_alike, all_same, altered_flushes, pushed_flushes}
 use Rattle.fjall_maps.proofs.Alike.{same_before, same_forest, same_has}
 use Rattle.fjall_maps.proofs.Emptied.{emptied_before, emptied_forest, emptied_has, emptied_ids}
 use Rattle.fjall_maps.proofs.Pushed.{pushed_before, pushed_forest, pushed_has, pushed_ids}
@@ -42,9 +46,9 @@ use Rattle.fjall_maps.proofs.Changed.{changed_has}
 use Rattle.fjall_maps.proofs.Dropped.{dropped_each, dropped_forest, dropped_has}
 use Rattle.fjall_maps.proofs.Rotated.{rotated_before, rotated_forest, rotated_has}
 
--- the same, with these keyspaces, trees, next number and tickets
+-- the same, with these keyspaces, trees, numbers, tickets and last records
 abbrev standing_as : Remembered → Remembered → Remembered
-standing_as a b = record b { keyspaces = a.keyspaces; trees = a.trees; next = a.next; tickets = a.tickets }
+standing_as a b = record b { keyspaces = a.keyspaces; trees = a.trees; next = a.next; tickets = a.tickets; records = a.records; next_job = a.next_job }
 
 -- what is lawful depends on these alone
 as_lawful : (a b : Remembered) → IsLawful a → IsLawful (standing_as a b)
@@ -58,13 +62,29 @@ as_lawful a b is = record {
   small = is.small;
   reached = is.reached;
   spared = is.spared;
+  above = is.above;
+  recorded = is.recorded;
+  kept = is.kept;
+  begun = is.begun;
+  jobs = is.jobs;
 }
 
-pub alike : (a b : Remembered) → IsLawful a → b.keyspaces ≡ a.keyspaces → b.trees ≡ a.trees → b.next ≡ a.next → b.tickets ≡ a.tickets → IsLawful b
-alike a b is keyspaces trees next tickets = subst IsLawful (sym same) (as_lawful a b is)
+pub alike : (a b : Remembered) → IsLawful a → b.keyspaces ≡ a.keyspaces → b.trees ≡ a.trees → b.next ≡ a.next → b.tickets ≡ a.tickets → b.records ≡ a.records → b.next_job ≡ a.next_job → IsLawful b
+alike a b is keyspaces trees next tickets records next_job = subst IsLawful (sym same) (as_lawful a b is)
   where
     same : b ≡ standing_as a b
-    same = λ i. record { keyspaces = keyspaces i; trees = trees i; next = next i; poisoned = b.poisoned; handles = b.handles; lasting = b.lasting; tickets = tickets i; journals = b.journals }
+    same = λ i. record {
+      keyspaces = keyspaces i;
+      trees = trees i;
+      next = next i;
+      poisoned = b.poisoned;
+      handles = b.handles;
+      lasting = b.lasting;
+      tickets = tickets i;
+      journals = b.journals;
+      records = records i;
+      next_job = next_job i;
+    }
 
 module _ (m : Remembered) (is : IsLawful m) where
   later : All (λ k. k.number < m.next + 1) m.keyspaces.living
@@ -79,13 +99,58 @@ module _ (m : Remembered) (is : IsLawful m) where
   spared_later : 0 < m.tickets.watermark → m.tickets.watermark < m.next + 1
   spared_later some = let lt = is.spared some in omega (arith, lt)
 
--- ---- what holds of trees
+-- ---- last records
 
-both_all : {X : Type 0} (P Q R : X → Type 0) → ((x : X) → P x → Q x → R x) → (xs : List X) → All P xs → All Q xs → All R xs
-both_all P Q R f xs ps qs = λ k d lt. f (slice_index_or xs k d) (ps k d lt) (qs k d lt)
+-- one that is kept is kept when another comes
+pub still_kept : (records : LastFields) (id : ℕ) (last : Fields) (other : ℕ) → is_some (get records other) ≡ true → is_some (get (insert records id last) other) ≡ true
+still_kept records id last other there = ap (λ (o : Option Fields). is_some o) (get_put records id last other) ∙ by (other == id)
+  where
+    by : (b : Bool) → is_some (cond b (Some last) (get records other)) ≡ true
+    by true = refl
+    by false = there
 
 pub itself : (id : ℕ) → (id == id) ≡ true
 itself id = grind (arith, nat_tests)
+
+pub others : (a b : ℕ) → a ≢ b → (a == b) ≡ false
+others a b differ = grind (arith, nat_tests)
+
+pub put_here : (records : LastFields) (id : ℕ) (last : Fields) → get (insert records id last) id ≡ Some last
+put_here records id last = get_put records id last id ∙ ap (λ (b : Bool). cond b (Some last) (get records id)) (itself id)
+
+kept_here : (records : LastFields) (id : ℕ) (last : Fields) → is_some (get (insert records id last) id) ≡ true
+kept_here records id last = ap (λ (o : Option Fields). is_some o) (put_here records id last)
+
+pub other_kept : (records : LastFields) (id : ℕ) (last : Fields) (other : ℕ) → other ≢ id → get (insert records id last) other ≡ get records other
+other_kept records id last other differ = get_put records id last other ∙ ap (λ (b : Bool). cond b (Some last) (get records other)) (others other id differ)
+
+get_left : (records : LastFields) (id other : ℕ) → get (remove records id) other ≡ cond (other == id) None (get records other)
+get_left records id other = get-remove nat_cmp_total records id other ∙ ap (λ (b : Bool). cond b None (get records other)) (ties other id)
+
+pub other_left : (records : LastFields) (id other : ℕ) → other ≢ id → get (remove records id) other ≡ get records other
+other_left records id other differ = get_left records id other ∙ ap (λ (b : Bool). cond b None (get records other)) (others other id differ)
+
+none_left : (records : LastFields) (id other : ℕ) → get records other ≡ None → get (remove records id) other ≡ None
+none_left records id other none = get_left records id other ∙ by (other == id)
+  where
+    by : (b : Bool) → cond b None (get records other) ≡ None
+    by true = refl
+    by false = none
+
+-- where none was kept, a record that is put is taken out again
+pub put_back : (records : LastFields) (id : ℕ) (last : Fields) → get records id ≡ None → remove (insert records id last) id ≡ records
+put_back records id last none =
+    same_maps (remove (insert records id last) id) records (λ other. get_left (insert records id last) id other ∙ by other (other == id) refl (get_put records id last other))
+  where
+    by : (other : ℕ) (b : Bool) → (other == id) ≡ b → get (insert records id last) other ≡ cond (other == id) (Some last) (get records other)
+        → cond b None (get (insert records id last) other) ≡ get records other
+    by other true e put = sym (ap (get records) (same_id other id e) ∙ none)
+    by other false e put = put ∙ ap (λ (b : Bool). cond b (Some last) (get records other)) e
+
+-- ---- what holds of trees
+
+pub both_all : {X : Type 0} (P Q R : X → Type 0) → ((x : X) → P x → Q x → R x) → (xs : List X) → All P xs → All Q xs → All R xs
+both_all P Q R f xs ps qs = λ k d lt. f (slice_index_or xs k d) (ps k d lt) (qs k d lt)
 
 -- where each keyspace that lives has a tree, one of a living id has one
 pub tree_there : (s : Keyspaces) (trees : Forest) → All (λ k. is_some (tree_at k.id trees) ≡ true) s.living → (id : ℕ) → is_some (keyspace_at id s.living) ≡ true → is_some (tree_at id trees) ≡ true
@@ -111,6 +176,11 @@ items_are_lawful items m is small fits =
       small = omega (arith, small);
       reached = reached_later m is;
       spared = spared_later m is;
+      above = is.above;
+      recorded = is.recorded;
+      kept = is.kept;
+      begun = pushed_flushes (IsBegun m.next_job m.tickets.watermark) m.trees is.begun m.next items;
+      jobs = is.jobs;
     }
 
 pub clear_is_lawful : (id : ℕ) (m : Remembered) → IsLawful m → m.next < 2 ^ 63 → IsLawful (with_change (Emptied id) m)
@@ -126,6 +196,11 @@ clear_is_lawful id m is small = record {
   small = omega (arith, small);
   reached = reached_later m is;
   spared = spared_later m is;
+  above = is.above;
+  recorded = is.recorded;
+  kept = is.kept;
+  begun = altered_flushes (IsBegun m.next_job m.tickets.watermark) m.trees is.begun id (emptied m.next) (λ shape. refl);
+  jobs = is.jobs;
 }
 
 pub change_is_lawful : (change : Change) (m : Remembered) → IsLawful m → m.next < 2 ^ 63 → FitsBatch change → IsLawful (with_change change m)
@@ -137,6 +212,7 @@ made_is_lawful name options m is small are =
     let k : LivingKeyspace = record { id = m.keyspaces.next; number = m.next; name = name; options = options } in
     let id = m.keyspaces.next in
     let new = with_tree id m.next m.trees in
+    let first = fields (first_of m.next) in
     record {
       keyspaces = are;
       made = All-push (λ j. j.number < m.next + 1) m.keyspaces.living k (later m is) (omega arith);
@@ -151,12 +227,21 @@ made_is_lawful name options m is small are =
       small = omega (arith, small);
       reached = reached_later m is;
       spared = spared_later m is;
+      above = is.above;
+      recorded =
+          All-push (λ j. is_some (get (insert m.records id first) j.id) ≡ true) m.keyspaces.living k
+          (All-weaker (λ j. is_some (get m.records j.id) ≡ true) (λ j. is_some (get (insert m.records id first) j.id) ≡ true) (λ j h. still_kept m.records id first j.id h) m.keyspaces.living is.recorded)
+          (kept_here m.records id first);
+      kept = λ other le. other_kept m.records id first other (λ same. let gap : id + 1 ≤ other = le in omega (arith, gap, same)) ∙ is.kept other (omega (arith, le));
+      begun = All-push (λ (j : Planted). IsBegun m.next_job m.tickets.watermark j.shape.flush) m.trees (record { id = id; shape = bare_tree m.next }) is.begun tt;
+      jobs = is.jobs;
     }
 
 not_last : (n : ℕ) → n < 2 ^ 64 → n ≢ 2 ^ 64 - 1 → n + 1 < 2 ^ 64
 not_last n fits other = grind (arith, nat_tests, fits, other)
 
-pub creation_is_lawful : (name : Bytes) (options : List Bytes) (m : Remembered) → IsLawful m → is_name name ≡ true → id_of name m.keyspaces.living ≡ None → AreOptions options → m.keyspaces.next ≢ 2 ^ 64 - 1 → m.next < 2 ^ 63 → IsLawful (with_creation name options m)
+pub creation_is_lawful : (name : Bytes) (options : List Bytes) (m : Remembered) → IsLawful m → is_name name ≡ true → id_of name m.keyspaces.living ≡ None → AreOptions options → m.keyspaces.next ≢ 2 ^ 64 - 1
+    → m.next < 2 ^ 63 → IsLawful (with_creation name options m)
 creation_is_lawful name options m is named fresh are free small =
     let k : LivingKeyspace = record { id = m.keyspaces.next; number = m.next; name = name; options = options } in
     let fits : m.keyspaces.next < 2 ^ 64 = is.keyspaces.fits in
@@ -173,16 +258,21 @@ deletion_is_lawful id m is small = record {
   small = omega (arith, small);
   reached = reached_later m is;
   spared = spared_later m is;
+  above = is.above;
+  recorded = All-filter (λ k. not (k.id == id)) (λ k. is_some (get m.records k.id) ≡ true) m.keyspaces.living is.recorded;
+  kept = is.kept;
+  begun = is.begun;
+  jobs = is.jobs;
 }
 
 pub retained_is_lawful : (id : ℕ) (m : Remembered) → IsLawful m → IsLawful (retained id m)
-retained_is_lawful id m is = alike m (retained id m) is refl refl refl refl
+retained_is_lawful id m is = alike m (retained id m) is refl refl refl refl refl refl
 
 pub poisoned_is_lawful : (m : Remembered) → IsLawful m → IsLawful (poisoned m)
-poisoned_is_lawful m is = alike m (poisoned m) is refl refl refl refl
+poisoned_is_lawful m is = alike m (poisoned m) is refl refl refl refl refl refl
 
 -- where no keyspace of an id lives, each that lives has another id
-others_live : (living : List LivingKeyspace) (id : ℕ) → keyspace_at id living ≡ None → All (λ k. k.id ≢ id) living
+pub others_live : (living : List LivingKeyspace) (id : ℕ) → keyspace_at id living ≡ None → All (λ k. k.id ≢ id) living
 others_live [] id none = All-nil (λ (k : LivingKeyspace). k.id ≢ id)
 others_live (k ∷ living) id none = either (k.id == id) refl none (others_live living id)
   where
@@ -211,6 +301,13 @@ let_go_is_lawful id m is gone = record {
   small = is.small;
   reached = is.reached;
   spared = is.spared;
+  above = is.above;
+  recorded =
+      both_all (λ k. is_some (get m.records k.id) ≡ true) (λ k. k.id ≢ id) (λ k. is_some (get (remove m.records id) k.id) ≡ true)
+      (λ k there other. ap (λ (o : Option Fields). is_some o) (other_left m.records id k.id other) ∙ there) m.keyspaces.living is.recorded (others_live m.keyspaces.living id (gone_is_none m id gone));
+  kept = λ other le. none_left m.records id other (is.kept other le);
+  begun = dropped_each (λ k. IsBegun m.next_job m.tickets.watermark k.shape.flush) id m.trees is.begun;
+  jobs = is.jobs;
 }
 
 -- a keyspace whose last handle is counted is deleted
@@ -221,24 +318,46 @@ last_gone m id = first (is_living (store_of m.keyspaces m.trees) id) (handles_of
     first true one e = absurd (true≢false (sym e))
     first false one e = refl
 
--- one handle less is counted, and the tree is dropped where that was the last one
+-- one handle less is counted, and the tree and the record are dropped where that was the last one
 abbrev pub after_release : Remembered → ℕ → Bool → Remembered
-after_release m id last = record m { handles = one_less m.handles id; lasting = if last then without m.lasting id else m.lasting; trees = if last then forests.without id m.trees else m.trees }
+after_release m id last = record m {
+  handles = one_less m.handles id;
+  lasting = if last then without m.lasting id else m.lasting;
+  trees = if last then forests.without id m.trees else m.trees;
+  records = if last then remove m.records id else m.records;
+}
 
 pub released_is_lawful : (id : ℕ) (m : Remembered) → IsLawful m → IsLawful (released id m)
 released_is_lawful id m is = either (is_last m id) (λ e. last_gone m id e)
   where
     either : (last : Bool) → (last ≡ true → is_living (store_of m.keyspaces m.trees) id ≡ false) → IsLawful (after_release m id last)
-    either true gone = alike (let_go id m) (after_release m id true) (let_go_is_lawful id m is (gone refl)) refl refl refl refl
-    either false gone = alike m (after_release m id false) is refl refl refl refl
+    either true gone = alike (let_go id m) (after_release m id true) (let_go_is_lawful id m is (gone refl)) refl refl refl refl refl refl
+    either false gone = alike m (after_release m id false) is refl refl refl refl refl refl
 
 -- ---- tickets
 
--- These tickets read where something read before, and above their watermark.
+-- These tickets read where something read before, and above their watermark, which hasn't fallen.
 pub record IsTime (m : Remembered) (tickets : Tickets) : Type 0 where
   pub reads : (ticket instant : ℕ) → get tickets.instants ticket ≡ Some instant → IsReadAt m instant
   pub reached : All (λ i. i ≤ m.next) (values tickets.instants)
   pub spared : 0 < tickets.watermark → tickets.watermark < m.next
+  pub above : All (λ i. 0 < tickets.watermark → tickets.watermark < i) (values tickets.instants)
+  pub risen : m.tickets.watermark ≤ tickets.watermark
+
+-- a flush that was begun was begun when more has come
+pub begun_later : (job later watermark risen : ℕ) (flush : Option Flushing) → job ≤ later → watermark ≤ risen → IsBegun job watermark flush → IsBegun later risen flush
+begun_later job later watermark risen None le up is = tt
+begun_later job later watermark risen (Some out) le up is = let id = is.0 in let low = is.1 in (omega (arith, id, le), omega (arith, low, up))
+
+-- where none is out, each was begun
+pub still_begun : (job watermark : ℕ) (trees : Forest) → All (λ k. k.shape.flush ≡ None) trees → All (λ k. IsBegun job watermark k.shape.flush) trees
+still_begun job watermark trees still =
+    All-weaker (λ (k : Planted). k.shape.flush ≡ None) (λ k. IsBegun job watermark k.shape.flush) (λ k none. subst (IsBegun job watermark) (sym none) tt) trees still
+
+pub all_begun_later : (job later watermark risen : ℕ) (trees : Forest) → job ≤ later → watermark ≤ risen → All (λ k. IsBegun job watermark k.shape.flush) trees
+    → All (λ k. IsBegun later risen k.shape.flush) trees
+all_begun_later job later watermark risen trees le up all =
+    All-weaker (λ (k : Planted). IsBegun job watermark k.shape.flush) (λ k. IsBegun later risen k.shape.flush) (λ k is. begun_later job later watermark risen k.shape.flush le up is) trees all
 
 pub tickets_are_lawful : (m : Remembered) (tickets : Tickets) → IsLawful m → IsTime m tickets → IsLawful (with_tickets tickets m)
 tickets_are_lawful m tickets is times = record {
@@ -251,6 +370,11 @@ tickets_are_lawful m tickets is times = record {
   small = is.small;
   reached = times.reached;
   spared = times.spared;
+  above = times.above;
+  recorded = is.recorded;
+  kept = is.kept;
+  begun = all_begun_later m.next_job m.next_job m.tickets.watermark tickets.watermark m.trees (omega arith) times.risen is.begun;
+  jobs = is.jobs;
 }
 
 module _ (m : Remembered) (is : IsLawful m) where
@@ -258,11 +382,18 @@ module _ (m : Remembered) (is : IsLawful m) where
   up_to instant (inl same) = omega (arith, same)
   up_to instant (inr (ticket, there)) = of_value (λ i. i ≤ m.next) m.tickets.instants ticket instant there is.reached
 
+  -- the watermark is below each instant at which something reads
+  pub read_above : (instant : ℕ) → IsReadAt m instant → 0 < m.tickets.watermark → m.tickets.watermark < instant
+  read_above instant (inl same) some = let lt = is.spared some in omega (arith, lt, same)
+  read_above instant (inr (ticket, there)) some = of_value (λ i. 0 < m.tickets.watermark → m.tickets.watermark < i) m.tickets.instants ticket instant there is.above some
+
   pub time_opened : (instant : ℕ) → IsReadAt m instant → IsTime m (opened instant m.tickets)
   time_opened instant at = record {
     reads = λ ticket i there. either ticket i (ticket == m.tickets.next) (sym (get_put m.tickets.instants m.tickets.next instant ticket) ∙ there);
     reached = all_inserted (λ i. i ≤ m.next) m.tickets.instants m.tickets.next instant (up_to instant at) is.reached;
     spared = is.spared;
+    above = all_inserted (λ i. 0 < m.tickets.watermark → m.tickets.watermark < i) m.tickets.instants m.tickets.next instant (read_above instant at) is.above;
+    risen = omega arith;
   }
     where
       either : (ticket i : ℕ) (b : Bool) → cond b (Some instant) (get m.tickets.instants ticket) ≡ Some i → IsReadAt m i
@@ -273,15 +404,37 @@ module _ (m : Remembered) (is : IsLawful m) where
   least_upto n [] = omega arith
   least_upto n (instant ∷ instants) = let le = least_upto n instants in omega (arith, le)
 
+  -- the least of instants is at most each of them
+  least_each : (n : ℕ) (instants : List ℕ) → All (λ i. least n instants ≤ i) instants
+  least_each n [] = All-nil (λ (i : ℕ). least n [] ≤ i)
+  least_each n (instant ∷ instants) =
+      All-cons (λ (i : ℕ). least n (instant ∷ instants) ≤ i) instant instants (omega arith)
+      (All-weaker (λ i. least n instants ≤ i) (λ i. least n (instant ∷ instants) ≤ i) (λ i le. omega (arith, le)) instants (least_each n instants))
+
+  still_above : (w l i : ℕ) → (0 < w → w < i) → l ≤ i → 0 < max w (l - 1) → max w (l - 1) < i
+  still_above zero l i spared le some = omega (arith, le, some)
+  still_above (suc w) l i spared le some = let lt = spared (omega arith) in omega (arith, lt, le)
+
   raised : (w l : ℕ) → (0 < w → w < m.next) → l ≤ m.next → 0 < max w (l - 1) → max w (l - 1) < m.next
   raised zero l spared le some = omega (arith, le, some)
   raised (suc w) l spared le some = let lt = spared (omega arith) in omega (arith, lt, le)
 
   pub time_collected_of : (tickets : Tickets) → IsTime m tickets → IsTime m (collected m.next tickets)
-  time_collected_of tickets times = record { reads = times.reads; reached = times.reached; spared = raised tickets.watermark (least m.next (values tickets.instants)) times.spared (least_upto m.next (values tickets.instants)) }
+  time_collected_of tickets times =
+      let l = least m.next (values tickets.instants) in
+      let risen = times.risen in
+      record {
+        reads = times.reads;
+        reached = times.reached;
+        spared = raised tickets.watermark l times.spared (least_upto m.next (values tickets.instants));
+        above =
+            both_all (λ i. 0 < tickets.watermark → tickets.watermark < i) (λ i. l ≤ i) (λ i. 0 < max tickets.watermark (l - 1) → max tickets.watermark (l - 1) < i)
+            (λ i spared le. still_above tickets.watermark l i spared le) (values tickets.instants) times.above (least_each m.next (values tickets.instants));
+        risen = omega (arith, risen);
+      }
 
   as_it_is : IsTime m m.tickets
-  as_it_is = record { reads = λ ticket instant there. inr (ticket, there); reached = is.reached; spared = is.spared }
+  as_it_is = record { reads = λ ticket instant there. inr (ticket, there); reached = is.reached; spared = is.spared; above = is.above; risen = omega arith }
 
   pub time_collected : IsTime m (collected m.next m.tickets)
   time_collected = time_collected_of m.tickets as_it_is
@@ -294,9 +447,18 @@ module _ (m : Remembered) (is : IsLawful m) where
       left ticket i false e = inr (ticket, e)
 
       gone : (n : ℕ) → IsTime m (record m.tickets { instants = remove m.tickets.instants id; closings = n })
-      gone n = record { reads = λ ticket i there. left ticket i (eq_by_cmp nat_cmp ticket id) (sym (get-remove nat_cmp_total m.tickets.instants id ticket) ∙ there); reached = all_removed (λ i. i ≤ m.next) m.tickets.instants id is.reached; spared = is.spared }
+      gone n = record {
+        reads = λ ticket i there. left ticket i (eq_by_cmp nat_cmp ticket id) (sym (get-remove nat_cmp_total m.tickets.instants id ticket) ∙ there);
+        reached = all_removed (λ i. i ≤ m.next) m.tickets.instants id is.reached;
+        spared = is.spared;
+        above = all_removed (λ i. 0 < m.tickets.watermark → m.tickets.watermark < i) m.tickets.instants id is.above;
+        risen = omega arith;
+      }
 
-      counting : (b : Bool) → IsTime m (if b then collected m.next (record m.tickets { instants = remove m.tickets.instants id; closings = 0 }) else record m.tickets { instants = remove m.tickets.instants id; closings = m.tickets.closings + 1 })
+      counting : (b : Bool) → IsTime m (if b then collected m.next (record m.tickets { instants = remove m.tickets.instants id; closings = 0 }) else record m.tickets {
+        instants = remove m.tickets.instants id;
+        closings = m.tickets.closings + 1;
+      })
       counting true = time_collected_of (record m.tickets { instants = remove m.tickets.instants id; closings = 0 }) (gone 0)
       counting false = gone (m.tickets.closings + 1)
 
@@ -317,6 +479,13 @@ rotated_is_lawful id m is =
       small = is.small;
       reached = times.reached;
       spared = times.spared;
+      above = times.above;
+      recorded = is.recorded;
+      kept = is.kept;
+      begun =
+          altered_flushes (IsBegun m.next_job (collected m.next m.tickets).watermark) m.trees
+          (all_begun_later m.next_job m.next_job m.tickets.watermark (collected m.next m.tickets).watermark m.trees (omega arith) times.risen is.begun) id sealed_off (λ shape. refl);
+      jobs = is.jobs;
     }
 
 -- ---- tickets as calls leave them
@@ -331,7 +500,8 @@ module _ (m : Remembered) (is : IsLawful m) (new : Tracked) where
   pub unturned : new ≡ record { visible = m.next; tickets = m.tickets } → IsLawful (with_tracked new m)
   unturned same = at_tickets m.tickets (as_it_is m is) same
 
-  pub opening_is_lawful : (result : Result Ticket Error) → OnOk result (new ≡ record { visible = m.next; tickets = opened m.next m.tickets }) → OnErr result (new ≡ record { visible = m.next; tickets = m.tickets }) → IsLawful (with_tracked new m)
+  pub opening_is_lawful : (result : Result Ticket Error) → OnOk result (new ≡ record { visible = m.next; tickets = opened m.next m.tickets })
+      → OnErr result (new ≡ record { visible = m.next; tickets = m.tickets }) → IsLawful (with_tracked new m)
   opening_is_lawful (Ok ticket) done refused = at_tickets (opened m.next m.tickets) (time_opened m is m.next (inl refl)) done
   opening_is_lawful (Err error) done refused = unturned refused
 
@@ -341,7 +511,8 @@ module _ (m : Remembered) (is : IsLawful m) (new : Tracked) where
   cloning_is_lawful id (Ok ticket) (at, there, done) refused = at_tickets (opened ticket.instant m.tickets) (time_opened m is ticket.instant (inr (id, there))) done
   cloning_is_lawful id (Err error) done refused = unturned refused
 
-  pub closing_is_lawful : (id : ℕ) (result : Result Unit Error) → OnOk result (new ≡ record { visible = m.next; tickets = closed m.next id m.tickets }) → OnErr result (new ≡ record { visible = m.next; tickets = m.tickets }) → IsLawful (with_tracked new m)
+  pub closing_is_lawful : (id : ℕ) (result : Result Unit Error) → OnOk result (new ≡ record { visible = m.next; tickets = closed m.next id m.tickets })
+      → OnErr result (new ≡ record { visible = m.next; tickets = m.tickets }) → IsLawful (with_tracked new m)
   closing_is_lawful id (Ok _) done refused = at_tickets (closed m.next id m.tickets) (time_closed m is id) done
   closing_is_lawful id (Err error) done refused = unturned refused
 
@@ -371,4 +542,9 @@ read_is_lawful trees m same is = record {
   small = is.small;
   reached = is.reached;
   spared = is.spared;
+  above = is.above;
+  recorded = is.recorded;
+  kept = is.kept;
+  begun = all_alike (λ id shape. IsBegun m.next_job m.tickets.watermark shape.flush) (λ id a b alike here. subst (IsBegun m.next_job m.tickets.watermark) (sym alike.flush) here) m.trees trees same is.begun;
+  jobs = is.jobs;
 }

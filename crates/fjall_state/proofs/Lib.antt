@@ -1,4 +1,5 @@
 pub mod Counting
+pub mod Inside
 pub mod Taking
 pub mod Showing
 pub mod Writing
@@ -11,4 +12,11 @@ pub mod Dues
 pub mod Refusing
 pub mod Moving
 pub mod ByHand
+pub mod Older
+pub mod Flushing
+pub mod Knowing
+pub mod Evicting
+pub mod Planning
+pub mod Finishing
 pub mod Sizes
+pub mod Working

@@ -4,17 +4,20 @@ use Rattle.std.proofs.lemmas.Option.{none-some}
 use Rattle.fjall_base.specs.Pairs.{Bytes}
 use Rattle.fjall_base.specs.Store.{Create, Delete}
 use Rattle.fjall_base.specs.declared.error.Error.{Error}
-use Rattle.fjall_base.specs.declared.error.Error.TheVariants.{Io, OutOfMemory, SnapshotClosed, Storage, ValueTooLong}
+use Rattle.fjall_base.specs.declared.error.Error.TheVariants.{Io, NumbersUsedUp, OutOfMemory, Poisoned, SnapshotClosed, Storage, TooManyItems, ValueTooLong}
 use Rattle.fjall_journal.specs.Changes.{Emptied, Items, command_of}
 use Rattle.fjall_versions.specs.Replays.{option_pairs}
+use Rattle.fjall_history.specs.declared.job.JobId.{JobId}
 use Rattle.fjall_history.specs.declared.reply.Reply.{Reply}
 use Rattle.fjall_history.specs.declared.reply.Reply.TheVariants.{Refused}
 use Rattle.fjall_history.specs.Histories.{number, plain}
 use Rattle.fjall_history.specs.Moves.{Accepts, Closes, Collects, Moves, MovesOn, NoMove, OneMove, Opens, Rests}
 use Rattle.fjall_history.specs.Tickets.{Tickets, closing_refusal, is_open}
 use Rattle.fjall_state.specs.declared.call.Call.{Call}
-use Rattle.fjall_state.specs.Shapes.{Clone, Close, Collect, OfChange, OfCount, OfCreation, OfDeletion, OfHandle, OfJournalRotation, OfPersist, OfRead, OfRotation, OfTickets, OneLess, OneMore, Open, Shape, TicketCall, shape_of}
-use Rattle.fjall_state.specs.Machine.{Answers, CreatesOrFinds, MayFail, Refuses, Run, State, Step, StepOf, TurnsTickets, at_fault, deleted, due, is_living, present, rotated, rotates, ticket_refusal, times}
+use Rattle.fjall_state.specs.Shapes.{Clone, Close, Collect, OfChange, OfCount, OfCreation, OfDeletion, OfFlushBegin, OfFlushFinish, OfHandle, OfJournalRotation, OfMaintenance, OfPersist, OfRead, OfRotation, OfTickets, OneLess, OneMore}
+use Rattle.fjall_state.specs.Shapes.{Open, Shape, TicketCall, shape_of}
+use Rattle.fjall_state.specs.Machine.{Answers, BeginsFlush, CreatesOrFinds, EvictsSome, FinishesFlush, IsPoisoned, MayFail, Refuses, Run, State, Step, StepOf, TurnsTickets, WorkFails, at_fault, begins_flush, deleted, due, is_flushing}
+use Rattle.fjall_state.specs.Machine.{is_living, is_long, journal_rotated, journal_synced, present, rotated, rotates, ticket_refusal, times, written_out}
 
 still : (s t : State) → times t ≡ times s → Moves (times s) (times t)
 still s t same = Rests same
@@ -31,17 +34,44 @@ fault_times s (OfHandle OneMore id) = refl
 fault_times s (OfHandle OneLess id) = refl
 fault_times s (OfRotation id) = refl
 fault_times s OfJournalRotation = refl
+fault_times s (OfFlushBegin id) = refl
+fault_times s (OfFlushFinish job) = refl
+fault_times s OfMaintenance = refl
 fault_times s (OfRead view id query) = refl
 fault_times s (OfTickets call) = refl
 fault_times s (OfPersist mode) = refl
 fault_times s (OfCount count) = refl
 
+-- a worker's step that fails leaves them too
+evicted_times : (s mid t : State) → EvictsSome s mid → IsPoisoned mid t → times t ≡ times s
+evicted_times s mid t (gone, left, all, may, is) poisoned = ap times poisoned.is ∙ ap times is
+
+work_times : (s t : State) (shape : Shape) → WorkFails shape s t → times t ≡ times s
+work_times s t (OfFlushBegin id) (begins, left, poisoned) = ap times poisoned.is
+work_times s t (OfFlushFinish job) (due, well, inl poisoned) = ap times poisoned.is
+work_times s t (OfFlushFinish job) (due, well, inr (parts, mid, flushed, evicts, poisoned)) = evicted_times (record s { parts = parts }) mid t evicts poisoned
+work_times s t OfMaintenance (mid, evicts, poisoned) = evicted_times s mid t evicts poisoned
+work_times s t (OfChange change how) fails = absurd fails
+work_times s t (OfCreation name options) fails = absurd fails
+work_times s t (OfDeletion id) fails = absurd fails
+work_times s t (OfHandle call id) fails = absurd fails
+work_times s t (OfRotation id) fails = absurd fails
+work_times s t OfJournalRotation fails = absurd fails
+work_times s t (OfRead view id query) fails = absurd fails
+work_times s t (OfTickets call) fails = absurd fails
+work_times s t (OfPersist mode) fails = absurd fails
+work_times s t (OfCount count) fails = absurd fails
+
 failure_moves : (s t : State) (shape : Shape) (error : Error) → MayFail shape error s t → Moves (times s) (times t)
 failure_moves s t shape (Io kind) (inl (changes, fault)) = still s t (ap times fault.is ∙ fault_times s shape)
-failure_moves s t shape (Io kind) (inr (reads, same)) = as_it_was s t same
+failure_moves s t shape (Io kind) (inr (inl (reads, same))) = as_it_was s t same
+failure_moves s t shape (Io kind) (inr (inr fails)) = still s t (work_times s t shape fails)
 failure_moves s t shape OutOfMemory (takes, same) = as_it_was s t same
 failure_moves s t shape (Storage told) (is, damaged, same) = as_it_was s t same
 failure_moves s t shape ValueTooLong (long, same) = as_it_was s t same
+failure_moves s t shape Poisoned (late, same) = as_it_was s t same
+failure_moves s t shape NumbersUsedUp (used_up, same) = as_it_was s t same
+failure_moves s t shape TooManyItems (none_left, same) = as_it_was s t same
 failure_moves s t shape error none = absurd none
 
 refusal_moves : (s t : State) (shape : Shape) (error : Error) (first : Option Error) → Refuses first shape error s t → Moves (times s) (times t)
@@ -59,6 +89,23 @@ deleted_moves s t id false is = as_it_was s t is
 rotated_moves : (s t : State) (id : ℕ) (seals : Bool) → t ≡ (if seals then rotated s id else s) → Moves (times s) (times t)
 rotated_moves s t id true is = Collects (ap times is)
 rotated_moves s t id false is = as_it_was s t is
+
+-- a synced journal leaves them, whether it is sealed or not
+synced_times : (s : State) → times (journal_synced s) ≡ times s
+synced_times s = by (is_long s.parts)
+  where
+    by : (b : Bool) → times (if b then journal_rotated s else record s { parts = written_out s.parts 0 }) ≡ times s
+    by true = refl
+    by false = refl
+
+begun_moves : (s t : State) (id : ℕ) (reply : Reply) (begins : Bool) → BeginsFlush begins s id reply t → Moves (times s) (times t)
+begun_moves s t id reply true (told, left, is) = still s t (ap times is ∙ synced_times s)
+begun_moves s t id reply false (told, same) = as_it_was s t same
+
+finished_moves : (s t : State) (job : JobId) (reply : Reply) (out lives : Bool) → FinishesFlush out lives s job reply t → Moves (times s) (times t)
+finished_moves s t job reply true true (told, well, parts, flushed, is) = still s t (ap times is)
+finished_moves s t job reply true false (told, is) = still s t (ap times is)
+finished_moves s t job reply false lives (told, same) = as_it_was s t same
 
 -- a ticket whose closing nothing refuses is open
 pub open_there : (t : Tickets) (id : ℕ) → closing_refusal id t ≡ None → is_open t id ≡ true
@@ -84,6 +131,9 @@ answer_moves s t (OfHandle OneMore id) reply none (told, is) = still s t (ap tim
 answer_moves s t (OfHandle OneLess id) reply none (told, is) = still s t (ap times is)
 answer_moves s t (OfRotation id) reply none (told, is) = rotated_moves s t id (rotates s.parts.trees id) is
 answer_moves s t OfJournalRotation reply none (told, is) = still s t (ap times is)
+answer_moves s t (OfFlushBegin id) reply none begun = begun_moves s t id reply (begins_flush s.parts.trees id) begun
+answer_moves s t (OfFlushFinish job) reply none finished = finished_moves s t job reply (is_flushing s.parts.trees job) (is_living (present s) job.keyspace_id) finished
+answer_moves s t OfMaintenance reply none (told, is) = still s t (ap times is)
 answer_moves s t (OfRead view id query) reply none (told, same) = as_it_was s t same
 answer_moves s t (OfTickets call) reply none (turns, same) = tickets_move s t call reply none turns same
 answer_moves s t (OfPersist mode) reply none (told, is) = still s t (ap times is)

@@ -32,7 +32,7 @@ read_refuses : (first : Option Error) (s : State) (view : View) (id : ℕ) (quer
     → IsReadRefusal first (is_among s.damaged id ≡ true) tables old new error → Refuses first (OfRead view id query) error s s
 read_refuses (Some first) s view id query tables old new error has is = (is, refl)
 read_refuses None s view id query [] old new error has is = subst (λ e. MayFail (OfRead view id query) e s s) (sym is) (tt, refl)
-read_refuses None s view id query (t ∷ tables) old new (Io kind) has is = inr (has (λ none. let bad : ⊥ = cc in bad), refl)
+read_refuses None s view id query (t ∷ tables) old new (Io kind) has is = inr (inl (has (λ none. let bad : ⊥ = cc in bad), refl))
 read_refuses None s view id query (t ∷ tables) old new OutOfMemory has is = (tt, refl)
 read_refuses None s view id query (t ∷ tables) old new (Storage told) has (same, wrong) = (same, (has (λ none. let bad : ⊥ = cc in bad), wrong), refl)
 read_refuses None s view id query (t ∷ tables) old new error has is = absurd is

@@ -1,20 +1,18 @@
 -- The same trees but for what is kept of their tables: what changes of them leave the same, and what of them is the same.
-use Rattle.std.proofs.Common.{◌≡◌, ℕ, ◌==◌, not, Bool, true, false, cond, List, [], ◌∷◌, ◌++◌, length, map, filter, unwrap_or, All, Option, None, Some, refl, sym, ap, subst, ◌∙◌}
+use Rattle.std.proofs.Common.{◌≡◌, ℕ, ◌==◌, not, Bool, true, false, cond, List, [], ◌∷◌, map, unwrap_or, All, Option, Some, refl, sym, ap, subst, ◌∙◌}
 use Rattle.std.proofs.lemmas.List.Elements.{All-cons, All-head, All-map, All-nil, All-tail, All-weaker}
 use Rattle.fjall_journal.specs.Changes.{Change, Emptied, Items}
 use Rattle.fjall_journal.specs.Ops.{BatchItem}
-use Rattle.fjall_parts.specs.Parts.{Memory}
 use Rattle.fjall_table.specs.Blocks.{Entry}
-use Rattle.fjall_blocks.specs.Readers.{AreSameTables, IsSameTable, Reader}
-use Rattle.fjall_blocks.proofs.Several.{all_same_none}
+use Rattle.fjall_blocks.specs.Readers.{AreSameTables, Reader}
 use Rattle.fjall_lsm.specs.Puts.{bare_tree, has_stamp, put, put_all}
-use Rattle.fjall_lsm.specs.Trees.{Flushing, IsSameShape, Merging, Shape, emptied, sealed_off, written}
+use Rattle.fjall_lsm.specs.Trees.{Flushing, IsSameShape, Shape, emptied, sealed_off, written}
 use Rattle.fjall_lsm.proofs.Outstanding.{same_shape}
 use Rattle.fjall_trees.specs.Forests.{Forest, Planted, altered_at, tree_at, without}
 use Rattle.fjall_trees.specs.Tables.{AreSameTrees, shape_in}
 use Rattle.fjall_trees.specs.Writes.{entries_of, pushed, with_tree}
+use Rattle.fjall_trees.proofs.Changing.{one_keeps, pushed_keeps}
 use Rattle.fjall_trees.proofs.Places.{each_by}
-use Rattle.fjall_trees.proofs.Same.{same_trees}
 use Rattle.fjall_maps.proofs.Pushed.{put_all_tables}
 use Rattle.fjall_state.specs.Machine.{changed}
 
@@ -47,6 +45,12 @@ counts_same [] [] same = refl
 counts_same [] (u ∷ b) same = absurd same
 counts_same (t ∷ a) [] same = absurd same
 counts_same (t ∷ a) (u ∷ b) same = λ i. (same.0.info i).entry_count ∷ counts_same a b same.1 i
+
+pub infos_same : (a b : List Reader) → AreSameTables a b → map (λ t. t.info) b ≡ map (λ t. t.info) a
+infos_same [] [] same = refl
+infos_same [] (u ∷ b) same = absurd same
+infos_same (t ∷ a) [] same = absurd same
+infos_same (t ∷ a) (u ∷ b) same = λ i. same.0.info i ∷ infos_same a b same.1 i
 
 -- ---- one tree
 
@@ -148,6 +152,31 @@ same_dropped id (j ∷ a) (k ∷ b) same = by (j.id == id) (k.id == id) (ap (λ 
     by true false e rest = let bad : ⊥ = cc in absurd bad
     by false true e rest = let bad : ⊥ = cc in absurd bad
 
+-- a change of one tree, whatever is kept of its tables
+pub same_altered_by : (id : ℕ) (change : Shape → Shape) → ((a b : Shape) → IsSameShape a b → IsSameShape (change a) (change b)) → (a b : Forest) → AreSameTrees a b
+    → AreSameTrees (altered_at id change a) (altered_at id change b)
+same_altered_by id change keeps [] [] same = tt
+same_altered_by id change keeps [] (k ∷ b) same = absurd same
+same_altered_by id change keeps (j ∷ a) [] same = absurd same
+same_altered_by id change keeps (j ∷ a) (k ∷ b) same = (same.0, by (j.id == id) (k.id == id) (ap (λ (n : ℕ). n == id) same.0), same_altered_by id change keeps a b same.2)
+  where
+    by : (x y : Bool) → y ≡ x → IsSameShape (cond x (change j.shape) j.shape) (cond y (change k.shape) k.shape)
+    by true true e = keeps j.shape k.shape same.1
+    by false false e = same.1
+    by true false e = let bad : ⊥ = cc in absurd bad
+    by false true e = let bad : ⊥ = cc in absurd bad
+
+-- what holds of each tree by its id, but for its tables, holds of the same
+pub all_alike : (P : ℕ → Shape → Type 0) → ((id : ℕ) (a b : Shape) → IsSameShape a b → P id a → P id b) → (old new : Forest) → AreSameTrees old new
+    → All (λ k. P k.id k.shape) old → All (λ k. P k.id k.shape) new
+all_alike P keeps [] [] same all = All-nil (λ (k : Planted). P k.id k.shape)
+all_alike P keeps [] (k ∷ new) same all = absurd same
+all_alike P keeps (j ∷ old) [] same all = absurd same
+all_alike P keeps (j ∷ old) (k ∷ new) same all =
+    All-cons (λ (x : Planted). P x.id x.shape) k new
+    (keeps k.id j.shape k.shape same.1 (subst (λ (n : ℕ). P n j.shape) (sym same.0) (All-head (λ (x : Planted). P x.id x.shape) j old all)))
+    (all_alike P keeps old new same.2 (All-tail (λ (x : Planted). P x.id x.shape) j old all))
+
 -- ---- the tree of a keyspace
 
 pub same_in : (id : ℕ) (a b : Forest) → AreSameTrees a b → IsSameShape (shape_in id a) (shape_in id b)
@@ -169,13 +198,7 @@ memory_in id a b same = (same_in id a b same).memory
 -- what holds of each tree by its id, its tables but for what is kept of them, holds of the same
 pub all_same : (P : ℕ → List Reader → Type 0) → ((id : ℕ) (a b : List Reader) → AreSameTables a b → P id a → P id b) → (old new : Forest) → AreSameTrees old new
     → All (λ k. P k.id k.shape.tables) old → All (λ k. P k.id k.shape.tables) new
-all_same P keeps [] [] same all = All-nil (λ (k : Planted). P k.id k.shape.tables)
-all_same P keeps [] (k ∷ new) same all = absurd same
-all_same P keeps (j ∷ old) [] same all = absurd same
-all_same P keeps (j ∷ old) (k ∷ new) same all =
-    All-cons (λ (x : Planted). P x.id x.shape.tables) k new
-    (keeps k.id j.shape.tables k.shape.tables same.1.tables (subst (λ (n : ℕ). P n j.shape.tables) (sym same.0) (All-head (λ (x : Planted). P x.id x.shape.tables) j old all)))
-    (all_same P keeps old new same.2 (All-tail (λ (x : Planted). P x.id x.shape.tables) j old all))
+all_same P keeps old new same all = all_alike (λ id shape. P id shape.tables) (λ id a b alike here. keeps id a.tables b.tables alike.tables here) old new same all
 
 -- ---- tables under changes in memory
 
@@ -198,3 +221,24 @@ module _ (Q : ℕ → List Reader → Type 0) (trees : Forest) (all : All (λ k.
   pub changed_tables : (n : ℕ) (change : Change) → All (λ k. Q k.id k.shape.tables) (changed n change trees)
   changed_tables n (Items items) = pushed_tables n items
   changed_tables n (Emptied id) = altered_tables id (emptied n) (λ shape. refl)
+
+-- ---- flushes that are out, under changes in memory
+
+-- a change that leaves the flush that is out
+abbrev pub LeavesFlush : (Shape → Shape) → Type 0
+LeavesFlush change = (shape : Shape) → (change shape).flush ≡ shape.flush
+
+module _ (Q : Option Flushing → Type 0) (trees : Forest) (all : All (λ k. Q k.shape.flush) trees) where
+  -- no table has a say in it
+  no_entries : ℕ → List (List Entry)
+  no_entries id = []
+
+  pub pushed_flushes : (n : ℕ) (items : List BatchItem) → All (λ k. Q k.shape.flush) (pushed n items trees)
+  pushed_flushes n items = pushed_keeps (λ shape entries. Q shape.flush) trees no_entries all (λ v shape entries here. here) n items
+
+  pub altered_flushes : (id : ℕ) (change : Shape → Shape) → LeavesFlush change → All (λ k. Q k.shape.flush) (altered_at id change trees)
+  altered_flushes id change leaves = one_keeps (λ shape entries. Q shape.flush) trees no_entries all change (λ shape entries here. subst Q (sym (leaves shape)) here) id
+
+  -- or gives one for which the same holds
+  pub given_flushes : (id : ℕ) (change : Shape → Shape) → ((shape : Shape) → Q (change shape).flush) → All (λ k. Q k.shape.flush) (altered_at id change trees)
+  given_flushes id change gives = one_keeps (λ shape entries. Q shape.flush) trees no_entries all change (λ shape entries here. gives shape) id

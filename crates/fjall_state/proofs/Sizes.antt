@@ -1,7 +1,7 @@
 -- Sizes of memtables, and the settings that they are held against.
-use Rattle.std.proofs.Common.{◌≡◌, ◌↔◌, ℕ, ◌+◌, ◌==◌, ◌&&◌, not, nat_lt, length, Bool, true, false, cond, codes, List, [], ◌∷◌, map, Option, None, Some, unwrap_or, refl, sym, ap, ◌∙◌}
+use Rattle.std.proofs.Common.{◌≡◌, ◌↔◌, ℕ, ◌+◌, ◌==◌, ◌&&◌, not, nat_lt, is_none, length, Bool, true, false, cond, codes, List, [], ◌∷◌, map, Option, None, Some, unwrap_or, refl, sym, ap, ◌∙◌}
 use Rattle.std.specs.FinMap.{contains_key, entries, get, get-retain_keys, nat_cmp-IsAntisymmetric}
-use Rattle.std.specs.List.{fold, sum_by}
+use Rattle.std.specs.List.{count_by, fold, sum_by}
 use Rattle.std.specs.Option.{is_some, option_map}
 use Rattle.byteorder.specs.Endian.{little_number}
 use Rattle.fjall_base.specs.Pairs.{Bytes}
@@ -14,16 +14,24 @@ use Rattle.fjall_options.specs.Options.{effective_settings, value_at, value_of}
 use Rattle.fjall_versions.specs.Replays.{option_pairs}
 use Rattle.fjall_versions.proofs.Naming.{named_in_order, settings}
 use Rattle.fjall_memtable.specs.Entries.{size_of}
-use Rattle.fjall_blocks.specs.Readers.{Reader}
+use Rattle.fjall_blocks.specs.Readers.{AreSameTables, Reader}
+use Rattle.fjall_history.specs.declared.job.JobId.{JobId}
+use Rattle.fjall_lsm.specs.Jobs.{count_out, is_flush_out}
+use Rattle.fjall_lsm.specs.Trees.{IsSameShape, is_l0}
+use Rattle.fjall_lsm.proofs.Outstanding.{same_count}
+use Rattle.fjall_manager.specs.Journals.{waited_for}
+use Rattle.fjall_table.specs.declared.table_info.TableInfo.{TableInfo}
 use Rattle.fjall_parts.specs.Parts.{Memory, holds_nothing, parts_of, versions_in}
 use Rattle.fjall_trees.specs.Forests.{Forest, tree_at}
 use Rattle.fjall_trees.specs.Tables.{AreSameTrees, shape_in}
 use Rattle.fjall_maps.specs.Maps.{store_of}
 use Rattle.fjall_maps.specs.Tables.{store_with}
-use Rattle.fjall_state.specs.Machine.{HasTables, State, active_size, buffer_size, holds_some, is_living, max_memtable_size, memtable_size, present, rotates, version_count, wants_rotation}
-use Rattle.fjall_state.specs.Remembered.{Remembered, StandsFor}
+use Rattle.fjall_state.specs.Machine.{HasTables, State, active_size, begins_flush, buffer_size, flush_count, holds_some, is_flushed, is_flushing, is_living, max_memtable_size, memtable_size, present, rotates, table_space, tables_space}
+use Rattle.fjall_state.specs.Machine.{version_count, waits_for_flush, wants_rotation}
+use Rattle.fjall_state.specs.Remembered.{Remembered, StandsFor, flushed_by}
 use Rattle.fjall_state.proofs.Facts.{living_names}
-use Rattle.fjall_state.proofs.SameTrees.{counts_same, memory_in, none_before, none_same, same_in}
+use Rattle.fjall_state.proofs.Flushing.{flushed_agree}
+use Rattle.fjall_state.proofs.SameTrees.{counts_same, infos_same, memory_in, none_before, none_same, same_in}
 
 -- ---- all memtables
 
@@ -127,3 +135,60 @@ rotates_by (j ∷ old) (k ∷ new) id same = by (j.id == id) (k.id == id) (ap (�
 
 pub rotations_agree : (m : Remembered) (table : ℕ) (s : State) → StandsFor m table s → (id : ℕ) → rotates s.parts.trees id ≡ rotates m.trees id
 rotations_agree m table s stands id = rotates_by s.parts.trees m.trees id stands.trees
+
+-- ---- tables
+
+-- what is added up of the infos of tables is so of the same tables
+infos_sum : (f : TableInfo → ℕ) (a b : List Reader) → AreSameTables a b → sum_by (λ t. f t.info) a ≡ sum_by (λ t. f t.info) b
+infos_sum f a b same = sym (sum_map f (λ (t : Reader). t.info) a) ∙ ap (sum_by f) (sym (infos_same a b same)) ∙ sum_map f (λ (t : Reader). t.info) b
+
+module _ (m : Remembered) (table : ℕ) (s : State) (stands : StandsFor m table s) where
+  same_at : (id : ℕ) → IsSameShape (shape_in id s.parts.trees) (shape_in id m.trees)
+  same_at id = same_in id s.parts.trees m.trees stands.trees
+
+  pub table_counts_agree : (id : ℕ) → length (shape_in id s.parts.trees).tables ≡ length (shape_in id m.trees).tables
+  table_counts_agree id = same_count (shape_in id s.parts.trees).tables (shape_in id m.trees).tables (same_at id).tables
+
+  pub l0_counts_agree : (id : ℕ) → count_by (λ t. is_l0 t.info.level) (shape_in id s.parts.trees).tables ≡ count_by (λ t. is_l0 t.info.level) (shape_in id m.trees).tables
+  l0_counts_agree id = infos_sum (λ (t : TableInfo). cond (is_l0 t.level) 1 0) (shape_in id s.parts.trees).tables (shape_in id m.trees).tables (same_at id).tables
+
+  pub space_agrees : (id : ℕ) → table_space (shape_in id s.parts.trees) ≡ table_space (shape_in id m.trees)
+  space_agrees id = ap counted (infos_sum (λ (t : TableInfo). t.file_len) (shape_in id s.parts.trees).tables (shape_in id m.trees).tables (same_at id).tables)
+
+  pub spaces_agree : tables_space (present s) s.parts.trees ≡ tables_space (store_of m.keyspaces m.trees) m.trees
+  spaces_agree = λ i. sum_by (λ e. space_agrees e.0 i) (entries ((stands.present i).names))
+
+  -- ---- flushes
+
+  pub wait_agrees : (id : ℕ) → waits_for_flush (shape_in id s.parts.trees) ≡ waits_for_flush (shape_in id m.trees)
+  wait_agrees id = λ i. nat_lt (count_out (sym (same_at id).flush i)) (length (sym (same_at id).memory i).sealed)
+
+  pub waits_agree : flush_count (present s) s.parts.trees ≡ flush_count (store_of m.keyspaces m.trees) m.trees
+  waits_agree = λ i. sum_by (λ e. cond (wait_agrees e.0 i) 1 0) (entries ((stands.present i).names))
+
+  pub beginning_agrees : (id : ℕ) → begins_flush s.parts.trees id ≡ begins_flush m.trees id
+  beginning_agrees id = λ i. nat_lt 0 (length (sym (same_at id).memory i).sealed) && is_none (sym (same_at id).flush i)
+
+  pub out_agrees : (job : JobId) → is_flushing s.parts.trees job ≡ is_flushing m.trees job
+  out_agrees job = λ i. is_flush_out job.number (sym (same_at job.keyspace_id).flush i)
+
+  pub awaited_agree : waited_for (is_flushed s) s.parts.journals.sealed ≡ waited_for (flushed_by m.keyspaces m.records) m.journals.sealed
+  awaited_agree = λ i. waited_for (λ id lsn. flushed_agree m table s stands id lsn i) (stands.journals i).sealed
+
+-- the tables of the keyspaces that live are those of the store's
+abbrev pub space_in : Forest → LivingKeyspace → ℕ
+space_in trees k = table_space (shape_in k.id trees)
+
+pub spaces_of_living : (s : Keyspaces) → AreKeyspaces s → (trees others : Forest) → tables_space (store_of s trees) others ≡ sum_by (space_in others) s.living
+spaces_of_living s all trees others =
+    ap (sum_by (λ (e : ℕ × Bytes). table_space (shape_in e.0 others))) (named_in_order s all)
+    ∙ sum_map (λ (e : ℕ × Bytes). table_space (shape_in e.0 others)) (λ (k : LivingKeyspace). (k.id, k.name)) s.living
+
+-- the keyspaces that live and wait for a flush are those of the store's
+abbrev pub waits_in : Forest → LivingKeyspace → Bool
+waits_in trees k = waits_for_flush (shape_in k.id trees)
+
+pub waits_of_living : (s : Keyspaces) → AreKeyspaces s → (trees others : Forest) → flush_count (store_of s trees) others ≡ count_by (waits_in others) s.living
+waits_of_living s all trees others =
+    ap (count_by (λ (e : ℕ × Bytes). waits_for_flush (shape_in e.0 others))) (named_in_order s all)
+    ∙ sum_map (λ (e : ℕ × Bytes). cond (waits_for_flush (shape_in e.0 others)) 1 0) (λ (k : LivingKeyspace). (k.id, k.name)) s.living

@@ -1,9 +1,10 @@
 -- What calls make of what is held stands for what they make of states.
-use Rattle.std.proofs.Common.{◌≡◌, ◌≢◌, ◌⊎◌, ⊎_elim, inl, inr, ℕ, ◌+◌, ◌-◌, ◌<◌, ◌≤◌, ◌^◌, ◌==◌, ◌||◌, ◌&&◌, ◌↔◌, not, nat_le, Bool, true, false, cond, if◌then◌else◌, List, [], ◌∷◌, ◌++◌, length, map, All, Option, None, Some, unwrap_or, refl, sym, ap, subst, ◌∙◌, arith}
+use Rattle.std.proofs.Common.{◌≡◌, ◌≢◌, ◌⊎◌, ⊎_elim, inl, inr, ℕ, ◌+◌, ◌-◌, ◌<◌, ◌≤◌, ◌^◌, ◌==◌, ◌||◌, ◌&&◌, ◌↔◌, not, nat_le, Bool, true, false, cond, if◌then◌else◌, List, [], ◌∷◌, ◌++◌, length, map, All, Option, None, Some, unwrap_or}
+use Rattle.std.proofs.Common.{refl, sym, ap, subst, ◌∙◌, arith}
 use Rattle.std.proofs.lemmas.Bool.{true≢false, false_from_ne_true}
-use Rattle.std.proofs.lemmas.List.Elements.{All-push, All-weaker}
+use Rattle.std.proofs.lemmas.List.Elements.{All-filter, All-push, All-weaker}
 use Rattle.std.proofs.lemmas.Option.{none-some}
-use Rattle.std.specs.FinMap.{FinMap, contains_key, empty, get, get-empty, insert, len, values}
+use Rattle.std.specs.FinMap.{FinMap, contains_key, empty, get, get-empty, insert, len, remove, values}
 use Rattle.std.specs.Ordering.{nat_cmp}
 use Rattle.std.specs.Option.{is_some, option_map}
 use Rattle.fjall_base.specs.Pairs.{Bytes, Pairs}
@@ -20,6 +21,9 @@ use Rattle.fjall_versions.proofs.Kept.{kept_along}
 use Rattle.fjall_versions.proofs.Living.{found_other, found_without, none_found}
 use Rattle.fjall_versions.proofs.Naming.{names_answer}
 use Rattle.fjall_versions.proofs.Slots.{get_put, same_id}
+use Rattle.fjall_catalog.specs.Catalog.{fields, first_of}
+use Rattle.fjall_loading.specs.Known.{last_known}
+use Rattle.fjall_tree.specs.Records.{Fields}
 use Rattle.fjall_trees.specs.Forests.{Forest, Planted}
 use Rattle.fjall_trees.specs.Forests as forests
 use Rattle.fjall_trees.specs.Writes.{MayPush, with_tree}
@@ -34,15 +38,18 @@ use Rattle.fjall_history.specs.declared.ticket.View.{View}
 use Rattle.fjall_history.specs.declared.ticket.View.TheVariants.{Present, At}
 use Rattle.fjall_history.specs.Histories.{grown, latest, number, plain, view}
 use Rattle.fjall_history.specs.Tickets.{Tickets, closed, collected, is_open, no_tickets, opened}
-use Rattle.fjall_state.specs.Shapes.{OfChange, OfCount, OfCreation, OfDeletion, OfHandle, OfJournalRotation, OfPersist, OfRead, OfRotation, OfTickets, OneLess, OneMore, Persistence, Shape}
+use Rattle.fjall_state.specs.Shapes.{OfChange, OfCount, OfCreation, OfDeletion, OfFlushBegin, OfFlushFinish, OfHandle, OfJournalRotation, OfMaintenance, OfPersist, OfRead, OfRotation, OfTickets, OneLess, OneMore, Persistence, Shape}
 use Rattle.fjall_state.specs.Allowed.{FitsBatch, IsOfLiving}
 use Rattle.fjall_journal.specs.Writer.{counted}
 use Rattle.fjall_manager.specs.Journals.{next_journal}
 use Rattle.fjall_state.specs.Machine as machine
-use Rattle.fjall_state.specs.Machine.{Facts, IsPoisoned, Parts, State, accepted, changed, created, deleted, HasLongOption, due, due_in, facts, first_due, handles_of, has_name, instant_of, is_among, is_deleted, is_living, is_read, is_unknown, maps_in, one_less, one_more, opened_state, present, read_refusals, rotates, view_refusals, with_marks, without}
-use Rattle.fjall_state.specs.Remembered.{AreBeside, IsLawful, IsReadAt, Remembered, StandsFor, facts_of, instant_in, is_held, is_last, journal_rotated, poisoned, released, retained, rotated, with_change, with_creation, with_deletion, with_tickets, with_trees}
+use Rattle.fjall_state.specs.Machine.{Facts, IsPoisoned, Parts, State, accepted, changed, created, deleted, HasLongOption, due, due_in, facts, first_due, handles_of, has_name, instant_of, is_among, is_deleted, is_living, is_read}
+use Rattle.fjall_state.specs.Machine.{is_unknown, maps_in, one_less, one_more, opened_state, present, read_refusals, records_with, rotates, view_refusals, with_marks, without}
+use Rattle.fjall_state.specs.Remembered.{AreBeside, IsLawful, IsReadAt, Remembered, StandsFor, facts_of, instant_in, is_held, is_last, journal_rotated, poisoned, released, retained, rotated, with_change, with_creation, with_deletion}
+use Rattle.fjall_state.specs.Remembered.{with_tickets, with_trees}
 use Rattle.fjall_state.proofs.Facts.{counted_is, living_names, named_is, names_are, none_named, some_there}
-use Rattle.fjall_state.proofs.Lawful.{after_release, alike, change_is_lawful, creation_is_lawful, deletion_is_lawful, gone_is_none, itself, last_gone, may_push, poisoned_is_lawful, read_is_lawful, released_is_lawful, retained_is_lawful, rotated_is_lawful, tickets_are_lawful, IsTime, time_closed, time_collected, time_opened, tree_there}
+use Rattle.fjall_state.proofs.Lawful.{after_release, alike, both_all, change_is_lawful, creation_is_lawful, deletion_is_lawful, gone_is_none, itself, last_gone, may_push, other_kept, other_left, others, others_live, put_here}
+use Rattle.fjall_state.proofs.Lawful.{poisoned_is_lawful, read_is_lawful, released_is_lawful, retained_is_lawful, rotated_is_lawful, tickets_are_lawful, IsTime, time_closed, time_collected, time_opened, tree_there}
 use Rattle.fjall_maps.proofs.Commands.{deleted_by}
 use Rattle.fjall_maps.proofs.Alike.{same_older, same_pairs, same_store_with}
 use Rattle.fjall_maps.proofs.Reading.{above_with, nothing_with}
@@ -73,6 +80,9 @@ names_due f (OfHandle OneMore id) = refl
 names_due f (OfHandle OneLess id) = refl
 names_due f (OfRotation id) = refl
 names_due f OfJournalRotation = refl
+names_due f (OfFlushBegin id) = refl
+names_due f (OfFlushFinish job) = refl
+names_due f OfMaintenance = refl
 names_due f (OfRead Present id query) = refl
 names_due f (OfRead (At ticket) id query) = refl
 names_due f (OfTickets call) = refl
@@ -144,8 +154,8 @@ after_change m table s stands change on store is journal buffer = record {
   handles = stands.handles;
   lasting = stands.lasting;
   tickets = stands.tickets;
-  jobs = stands.jobs;
   next_job = stands.next_job;
+  records = stands.records;
   next_table = stands.next_table;
   trees = subst (λ n. AreSameTrees (changed n change s.parts.trees) (changed m.next change m.trees)) (sym stands.number) (same_changed m.next change s.parts.trees m.trees stands.trees);
   beside = changed_beside m s.parts.entries change stands.beside;
@@ -190,7 +200,8 @@ change_made : (m : Remembered) (table : ℕ) (s : State) → StandsFor m table s
 change_made m table s stands (Items items) how living fits small =
     let may = may_push items m stands.lawful small fits in
     let store = write_with s.parts.entries m.next items m.trees may stands.beside.older m.keyspaces stands.lawful.planted (living_items m table s stands items living may) in
-    after_change m table s stands (Items items) (items_go_on m table s stands items living may) store (change_is_lawful (Items items) m stands.lawful small fits) (machine.made s (Items items) how).parts.journal (machine.made s (Items items) how).parts.buffer
+    after_change m table s stands (Items items) (items_go_on m table s stands items living may) store (change_is_lawful (Items items) m stands.lawful small fits)
+    (machine.made s (Items items) how).parts.journal (machine.made s (Items items) how).parts.buffer
 change_made m table s stands (Emptied id) how living fits small =
     let is = stands.lawful in
     let store = clear_with s.parts.entries m.next id m.trees is.forest stands.beside.older is.below small m.keyspaces in
@@ -214,8 +225,8 @@ a_rotation_stands m table s stands id = record {
   handles = stands.handles;
   lasting = stands.lasting;
   tickets = λ i. collected (stands.number i) (stands.tickets i);
-  jobs = stands.jobs;
   next_job = stands.next_job;
+  records = stands.records;
   next_table = stands.next_table;
   trees = same_rotated id s.parts.trees m.trees stands.trees;
   beside = record {
@@ -271,7 +282,24 @@ module _ (m : Remembered) (table : ℕ) (s : State) (stands : StandsFor m table 
             ∙ still_shown m s.parts.entries is stands.beside.older id ∙ sym (planted_with s.parts.entries m.keyspaces.next m.next m.trees unused id (m.next + 1));
       }
 
-  pub a_creation_stands : is_name name ≡ true → has_name (store_of m.keyspaces m.trees) name ≡ false → AreOptions options → m.keyspaces.next ≢ 2 ^ 64 - 1 → m.next < 2 ^ 63 → StandsFor (with_creation name options m) (table + 1) (created s name options)
+  -- the keyspace's record is its first, and the others stay
+  created_records : All (λ j. records_with (present s).next (fields (first_of (number s.history))) s.parts.records j.id ≡ last_known (insert m.records m.keyspaces.next (fields (first_of m.next))) j)
+      (with_creation name options m).keyspaces.living
+  created_records =
+      let first = fields (first_of m.next) in
+      let at = λ (i : ℕ) (n : ℕ) (j : LivingKeyspace). records_with i (fields (first_of n)) s.parts.records j.id ≡ last_known (insert m.records m.keyspaces.next first) j in
+      let old = All-weaker (λ (j : LivingKeyspace). (s.parts.records j.id ≡ last_known m.records j) × (j.id ≢ m.keyspaces.next)) (at m.keyspaces.next m.next)
+      (λ j both. ap (λ (b : Bool). cond b first (s.parts.records j.id)) (others j.id m.keyspaces.next both.1) ∙ both.0 ∙ ap (λ (o : Option Fields). unwrap_or o (fields (first_of j.number)))
+      (sym (other_kept m.records m.keyspaces.next first j.id both.1)))
+      m.keyspaces.living
+      (both_all (λ j. s.parts.records j.id ≡ last_known m.records j) (λ j. j.id < m.keyspaces.next) (λ j. (s.parts.records j.id ≡ last_known m.records j) × (j.id ≢ m.keyspaces.next))
+      (λ j known lt. (known, λ same. absurd (omega (arith, lt, same)))) m.keyspaces.living stands.records stands.lawful.keyspaces.given) in
+      let new : at m.keyspaces.next m.next k =
+      ap (λ (b : Bool). cond b first (s.parts.records m.keyspaces.next)) (itself m.keyspaces.next) ∙ ap (λ (o : Option Fields). unwrap_or o first) (sym (put_here m.records m.keyspaces.next first)) in
+      subst (λ (n : ℕ × ℕ). All (at n.0 n.1) (with_creation name options m).keyspaces.living) (sym (λ i. ((stands.present i).next, stands.number i))) (All-push (at m.keyspaces.next m.next) m.keyspaces.living k old new)
+
+  pub a_creation_stands : is_name name ≡ true → has_name (store_of m.keyspaces m.trees) name ≡ false → AreOptions options → m.keyspaces.next ≢ 2 ^ 64 - 1 → m.next < 2 ^ 63
+      → StandsFor (with_creation name options m) (table + 1) (created s name options)
   a_creation_stands named fresh are free small =
       let is = stands.lawful in
       let c = Create name (option_pairs options) in
@@ -284,8 +312,8 @@ module _ (m : Remembered) (table : ℕ) (s : State) (stands : StandsFor m table 
         handles = stands.handles;
         lasting = stands.lasting;
         tickets = stands.tickets;
-        jobs = stands.jobs;
         next_job = stands.next_job;
+        records = created_records;
         next_table = ap (λ n. n + 1) stands.next_table;
         journals = stands.journals;
         trees = subst (λ (at : ℕ × ℕ). AreSameTrees (with_tree at.0 at.1 s.parts.trees) (with_tree m.keyspaces.next m.next m.trees)) (sym (λ i. ((stands.present i).next, stands.number i)))
@@ -333,8 +361,8 @@ module _ (m : Remembered) (table : ℕ) (s : State) (stands : StandsFor m table 
         handles = stands.handles;
         lasting = ap (λ l. l ++ id ∷ []) stands.lasting;
         tickets = stands.tickets;
-        jobs = stands.jobs;
         next_job = stands.next_job;
+        records = All-filter (λ (j : LivingKeyspace). not (j.id == id)) (λ j. s.parts.records j.id ≡ last_known m.records j) m.keyspaces.living stands.records;
         next_table = λ i. if nat_le 2 (len (names i)) then stands.next_table i + 1 else stands.next_table i;
         trees = stands.trees;
         beside = record { older = stands.beside.older; none = stands.beside.none; unused = stands.beside.unused };
@@ -353,8 +381,8 @@ a_retained_stands m table s stands id = record {
   handles = ap (λ h. one_more h id) stands.handles;
   lasting = stands.lasting;
   tickets = stands.tickets;
-  jobs = stands.jobs;
   next_job = stands.next_job;
+  records = stands.records;
   next_table = stands.next_table;
   trees = stands.trees;
   beside = record { older = stands.beside.older; none = stands.beside.none; unused = stands.beside.unused };
@@ -400,6 +428,13 @@ module _ (m : Remembered) (table : ℕ) (s : State) (stands : StandsFor m table 
   }
   beside_left false = record { older = stands.beside.older; none = stands.beside.none; unused = stands.beside.unused }
 
+  records_left : (last : Bool) → (last ≡ true → is_living (store_of m.keyspaces m.trees) id ≡ false) → All (λ k. s.parts.records k.id ≡ last_known (after_release m id last).records k) m.keyspaces.living
+  records_left false gone = stands.records
+  records_left true gone =
+      both_all (λ k. s.parts.records k.id ≡ last_known m.records k) (λ k. k.id ≢ id) (λ k. s.parts.records k.id ≡ last_known (remove m.records id) k)
+      (λ k known other. known ∙ ap (λ (o : Option Fields). unwrap_or o (fields (first_of k.number))) (sym (other_left m.records id k.id other))) m.keyspaces.living stands.records
+      (others_live m.keyspaces.living id (gone_is_none m id (gone refl)))
+
   abbrev released_as : Bool → State
   released_as last = record s {
     handles = one_less s.handles id;
@@ -416,8 +451,8 @@ module _ (m : Remembered) (table : ℕ) (s : State) (stands : StandsFor m table 
     handles = ap (λ h. one_less h id) stands.handles;
     lasting = ap (λ l. if last then without l id else l) stands.lasting;
     tickets = stands.tickets;
-    jobs = stands.jobs;
     next_job = stands.next_job;
+    records = records_left last gone;
     next_table = stands.next_table;
     trees = trees_left last;
     beside = beside_left last;
@@ -445,8 +480,8 @@ with_tickets_stands m table s stands tickets times = record {
   handles = stands.handles;
   lasting = stands.lasting;
   tickets = refl;
-  jobs = stands.jobs;
   next_job = stands.next_job;
+  records = stands.records;
   next_table = stands.next_table;
   trees = stands.trees;
   beside = record { older = stands.beside.older; none = stands.beside.none; unused = stands.beside.unused };
@@ -458,13 +493,15 @@ with_tickets_stands m table s stands tickets times = record {
     where_read instant (inl is) = inl is
     where_read instant (inr (ticket, there)) = times.reads ticket instant there
 
-on_state : (m : Remembered) (table : ℕ) (s : State) (f : Tickets → Tickets) → StandsFor m table s → StandsFor (with_tickets (f m.tickets) m) table (record s { tickets = f m.tickets }) → StandsFor (with_tickets (f m.tickets) m) table (record s { tickets = f s.tickets })
+on_state : (m : Remembered) (table : ℕ) (s : State) (f : Tickets → Tickets) → StandsFor m table s → StandsFor (with_tickets (f m.tickets) m) table (record s { tickets = f m.tickets })
+    → StandsFor (with_tickets (f m.tickets) m) table (record s { tickets = f s.tickets })
 on_state m table s f stands after = subst (λ t. StandsFor (with_tickets (f m.tickets) m) table (record s { tickets = f t })) (sym stands.tickets) after
 
 pub opened_stands : (m : Remembered) (table : ℕ) (s : State) → StandsFor m table s → StandsFor (with_tickets (opened m.next m.tickets) m) table (record s { tickets = opened m.next s.tickets })
 opened_stands m table s stands = on_state m table s (opened m.next) stands (with_tickets_stands m table s stands (opened m.next m.tickets) (time_opened m stands.lawful m.next (inl refl)))
 
-pub cloned_stands : (m : Remembered) (table : ℕ) (s : State) → StandsFor m table s → (id instant : ℕ) → get m.tickets.instants id ≡ Some instant → StandsFor (with_tickets (opened instant m.tickets) m) table (record s { tickets = opened instant s.tickets })
+pub cloned_stands : (m : Remembered) (table : ℕ) (s : State) → StandsFor m table s → (id instant : ℕ) → get m.tickets.instants id ≡ Some instant
+    → StandsFor (with_tickets (opened instant m.tickets) m) table (record s { tickets = opened instant s.tickets })
 cloned_stands m table s stands id instant there = on_state m table s (opened instant) stands (with_tickets_stands m table s stands (opened instant m.tickets) (time_opened m stands.lawful instant (inr (id, there))))
 
 pub closed_stands : (m : Remembered) (table : ℕ) (s : State) → StandsFor m table s → (id : ℕ) → StandsFor (with_tickets (closed m.next id m.tickets) m) table (record s { tickets = closed m.next id s.tickets })
@@ -475,17 +512,25 @@ collected_stands m table s stands = on_state m table s (collected m.next) stands
 
 -- ---- faults, and the journal
 
--- parts that say the same of trees, of what tables hold and of journals
+-- parts that say the same of trees, of what tables hold, of last records and of journals
 abbrev with_said : Parts → Parts → Parts
-with_said said parts = record parts { trees = said.trees; entries = said.entries; journals = said.journals }
+with_said said parts = record parts { trees = said.trees; entries = said.entries; records = said.records; journals = said.journals }
 
-said_same : (said parts : Parts) → parts.trees ≡ said.trees → parts.entries ≡ said.entries → parts.journals ≡ said.journals → parts ≡ with_said said parts
-said_same said parts trees entries journals = λ i. record { journals = journals i; journal = parts.journal; buffer = parts.buffer; table = parts.table; trees = trees i; entries = entries i }
+said_same : (said parts : Parts) → parts.trees ≡ said.trees → parts.entries ≡ said.entries → parts.records ≡ said.records → parts.journals ≡ said.journals → parts ≡ with_said said parts
+said_same said parts trees entries records journals = λ i. record {
+  journals = journals i;
+  journal = parts.journal;
+  buffer = parts.buffer;
+  table = parts.table;
+  trees = trees i;
+  entries = entries i;
+  records = records i;
+}
 
-pub a_fault_stands : (m : Remembered) (table : ℕ) (s : State) → StandsFor m table s → (parts : Parts) → parts.trees ≡ s.parts.trees → parts.entries ≡ s.parts.entries → parts.journals ≡ s.parts.journals
+pub a_fault_stands : (m : Remembered) (table : ℕ) (s : State) → StandsFor m table s → (parts : Parts) → parts.trees ≡ s.parts.trees → parts.entries ≡ s.parts.entries → parts.records ≡ s.parts.records → parts.journals ≡ s.parts.journals
     → StandsFor (poisoned m) parts.table (record s { poisoned = true; parts = parts })
-a_fault_stands m table s stands parts trees entries journals =
-    subst (λ p. StandsFor (poisoned m) parts.table (record s { poisoned = true; parts = p })) (sym (said_same s.parts parts trees entries journals)) (record {
+a_fault_stands m table s stands parts trees entries records journals =
+    subst (λ p. StandsFor (poisoned m) parts.table (record s { poisoned = true; parts = p })) (sym (said_same s.parts parts trees entries records journals)) (record {
       present = stands.present;
       views = stands.views;
       number = stands.number;
@@ -493,8 +538,8 @@ a_fault_stands m table s stands parts trees entries journals =
       handles = stands.handles;
       lasting = stands.lasting;
       tickets = stands.tickets;
-      jobs = stands.jobs;
       next_job = stands.next_job;
+      records = stands.records;
       next_table = refl;
       trees = stands.trees;
       beside = record { older = stands.beside.older; none = stands.beside.none; unused = stands.beside.unused };
@@ -502,13 +547,15 @@ a_fault_stands m table s stands parts trees entries journals =
       lawful = poisoned_is_lawful m stands.lawful;
     })
 
-pub a_fault_poisons : (s : State) (parts : Parts) → parts.trees ≡ s.parts.trees → parts.entries ≡ s.parts.entries → parts.journals ≡ s.parts.journals → IsPoisoned s (record s { poisoned = true; parts = parts })
-a_fault_poisons s parts trees entries journals = record { is = refl; trees = trees; entries = entries; journals = journals }
+pub a_fault_poisons : (s : State) (parts : Parts) → parts.trees ≡ s.parts.trees → parts.entries ≡ s.parts.entries → parts.records ≡ s.parts.records → parts.journals ≡ s.parts.journals
+    → IsPoisoned s (record s { poisoned = true; parts = parts })
+a_fault_poisons s parts trees entries records journals = record { is = refl; trees = trees; entries = entries; records = records; journals = journals }
 
-pub other_parts_stand : (m : Remembered) (table : ℕ) (s : State) → StandsFor m table s → (parts : Parts) → parts.table ≡ table → parts.trees ≡ s.parts.trees → parts.entries ≡ s.parts.entries → parts.journals ≡ s.parts.journals
+pub other_parts_stand : (m : Remembered) (table : ℕ) (s : State) → StandsFor m table s → (parts : Parts) → parts.table ≡ table → parts.trees ≡ s.parts.trees → parts.entries ≡ s.parts.entries
+    → parts.records ≡ s.parts.records → parts.journals ≡ s.parts.journals
     → StandsFor m table (record s { parts = parts })
-other_parts_stand m table s stands parts is trees entries journals =
-    subst (λ p. StandsFor m table (record s { parts = p })) (sym (said_same s.parts parts trees entries journals)) (record {
+other_parts_stand m table s stands parts is trees entries records journals =
+    subst (λ p. StandsFor m table (record s { parts = p })) (sym (said_same s.parts parts trees entries records journals)) (record {
       present = stands.present;
       views = stands.views;
       number = stands.number;
@@ -516,8 +563,8 @@ other_parts_stand m table s stands parts is trees entries journals =
       handles = stands.handles;
       lasting = stands.lasting;
       tickets = stands.tickets;
-      jobs = stands.jobs;
       next_job = stands.next_job;
+      records = stands.records;
       next_table = is;
       trees = stands.trees;
       beside = record { older = stands.beside.older; none = stands.beside.none; unused = stands.beside.unused };
@@ -536,8 +583,8 @@ a_read_stands m table s stands trees same = record {
   handles = stands.handles;
   lasting = stands.lasting;
   tickets = stands.tickets;
-  jobs = stands.jobs;
   next_job = stands.next_job;
+  records = stands.records;
   next_table = stands.next_table;
   trees = along s.parts.trees m.trees trees stands.trees same;
   beside = record {
@@ -559,13 +606,13 @@ a_journal_rotation_stands m table s stands len is = record {
   handles = stands.handles;
   lasting = stands.lasting;
   tickets = stands.tickets;
-  jobs = stands.jobs;
   next_job = stands.next_job;
+  records = stands.records;
   next_table = stands.next_table;
   trees = stands.trees;
   beside = record { older = stands.beside.older; none = stands.beside.none; unused = stands.beside.unused };
   journals = λ i. next_journal (sym is i) (stands.journals i);
-  lawful = alike m (journal_rotated len m) stands.lawful refl refl refl refl;
+  lawful = alike m (journal_rotated len m) stands.lawful refl refl refl refl refl refl;
 }
 
 -- ---- reads
@@ -596,7 +643,8 @@ reads_there m id there = some (get m.tickets.instants id) there
     some (Some instant) e = refl
     some None e = absurd (true≢false (sym e))
 
-pub pairs_agree : (m : Remembered) (table : ℕ) (s : State) → StandsFor m table s → (view : View) (id : ℕ) → first_due (view_refusals (facts_of m table) view id) ≡ None → pairs_with s.parts.entries id (instant_in m view) m.trees ≡ map_at (maps_in s view) id
+pub pairs_agree : (m : Remembered) (table : ℕ) (s : State) → StandsFor m table s → (view : View) (id : ℕ) → first_due (view_refusals (facts_of m table) view id) ≡ None
+    → pairs_with s.parts.entries id (instant_in m view) m.trees ≡ map_at (maps_in s view) id
 pairs_agree m table s stands Present id none =
     let n = stands.number in
     sym (stands.views m.next (inl refl) id (read_held m table id none)) ∙ ap (λ (t : Store). map_at t.maps id) (view_latest s.history m.next (omega (arith, n)))
@@ -653,10 +701,10 @@ opened_map m entries older is lasting id (it_waits le) =
     ap (λ slot. unwrap_or slot empty) (stored_by (λ q. pairs_with entries q (2 ^ 63) m.trees) m.keyspaces id ∙ ap (λ found. option_map (λ (k : LivingKeyspace). pairs_with entries id (2 ^ 63) m.trees) found) none)
     ∙ sym (waits_empty m entries m.trees is.given id m.next le)
 
-pub an_opening_stands : (m : Remembered) → IsLawful m → m.handles ≡ empty → m.lasting ≡ [] → m.poisoned ≡ false → m.tickets ≡ no_tickets
-    → (table : ℕ) (parts : Parts) → parts.table ≡ table → parts.trees ≡ m.trees → parts.journals ≡ m.journals → AreBeside m parts.entries → (damaged : List ℕ)
-    → StandsFor m table (opened_state (store_with parts.entries m.keyspaces m.trees) damaged m.next parts)
-an_opening_stands m is handles lasting well tickets table parts at trees journals beside damaged = record {
+pub an_opening_stands : (m : Remembered) → IsLawful m → m.handles ≡ empty → m.lasting ≡ [] → m.poisoned ≡ false → m.tickets ≡ no_tickets → m.next_job ≡ 0
+    → (table : ℕ) (parts : Parts) → parts.table ≡ table → parts.trees ≡ m.trees → parts.journals ≡ m.journals → All (λ k. parts.records k.id ≡ last_known m.records k) m.keyspaces.living
+    → AreBeside m parts.entries → (damaged : List ℕ) → StandsFor m table (opened_state (store_with parts.entries m.keyspaces m.trees) damaged m.next parts)
+an_opening_stands m is handles lasting well tickets none table parts at trees journals records beside damaged = record {
   present = refl;
   views = shown;
   number = omega arith;
@@ -664,8 +712,8 @@ an_opening_stands m is handles lasting well tickets table parts at trees journal
   handles = sym handles;
   lasting = sym lasting;
   tickets = sym tickets;
-  jobs = refl;
-  next_job = refl;
+  next_job = sym none;
+  records = records;
   next_table = at;
   trees = subst (λ t. AreSameTrees t m.trees) (sym trees) (same_trees m.trees);
   beside = beside;
@@ -673,7 +721,8 @@ an_opening_stands m is handles lasting well tickets table parts at trees journal
   lawful = is;
 }
   where
-    shown : (instant : ℕ) → IsReadAt m instant → (id : ℕ) → is_held m id ≡ true → map_at (view (opened_state (store_with parts.entries m.keyspaces m.trees) damaged m.next parts).history instant).maps id ≡ pairs_with parts.entries id instant m.trees
+    shown : (instant : ℕ) → IsReadAt m instant → (id : ℕ) → is_held m id ≡ true
+        → map_at (view (opened_state (store_with parts.entries m.keyspaces m.trees) damaged m.next parts).history instant).maps id ≡ pairs_with parts.entries id instant m.trees
     shown instant (inl same) id held =
         ap (λ (t : Store). map_at t.maps id) (view_latest (opened_state (store_with parts.entries m.keyspaces m.trees) damaged m.next parts).history instant (omega (arith, same)))
         ∙ opened_map m parts.entries beside.older is lasting id (ways m id held) ∙ ap (λ i. pairs_with parts.entries id i m.trees) (sym same)

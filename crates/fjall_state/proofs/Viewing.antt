@@ -92,7 +92,8 @@ among-append [] last id e = inr (same_id last id (alone (last == id) e))
     alone : (b : Bool) → (b || false) ≡ true → b ≡ true
     alone true e = refl
     alone false e = e
-among-append (other ∷ ids) last id e = ⊎_elim (λ f. inl (first_or (other == id) (is_among ids id) f)) (λ f. ⊎_elim (λ g. inl (second_or (other == id) (is_among ids id) g)) (λ g. inr g) (among-append ids last id f)) (some_or (other == id) _ e)
+among-append (other ∷ ids) last id e = ⊎_elim (λ f. inl (first_or (other == id) (is_among ids id) f)) (λ f. ⊎_elim (λ g. inl (second_or (other == id) (is_among ids id) g)) (λ g. inr g)
+    (among-append ids last id f)) (some_or (other == id) _ e)
 
 pub among_without : (ids : List ℕ) (gone id : ℕ) → is_among (without ids gone) id ≡ true → (is_among ids id ≡ true) × ((id == gone) ≡ false)
 among_without [] gone id e = absurd (true≢false (sym e))
@@ -102,4 +103,8 @@ among_without (other ∷ ids) gone id e = either (other == gone) refl e (among_w
         → ((other == id || is_among ids id) ≡ true) × ((id == gone) ≡ false)
     either true same there rest = let more = rest there in (second_or (other == id) _ more.0, more.1)
     either false apart there rest =
-        ⊎_elim (λ f. (first_or (other == id) (is_among ids id) f, ap (λ i. i == gone) (sym (same_id other id f)) ∙ apart)) (λ f. let more = rest f in (second_or (other == id) (is_among ids id) more.0, more.1)) (some_or (other == id) (is_among (without ids gone) id) there)
+        ⊎_elim (λ f. (first_or (other == id) (is_among ids id) f, ap (λ i. i == gone) (sym (same_id other id f)) ∙ apart)) (λ f. let more = rest f in (
+          second_or (other == id)
+              (is_among ids id) more.0,
+          more.1,
+        )) (some_or (other == id) (is_among (without ids gone) id) there)

@@ -1,7 +1,8 @@
 pub mod Shapes
-pub mod Jobs
 pub mod Machine
 pub mod Remembered
 pub mod Allowed
 pub mod Places
 pub mod Reads
+pub mod Finishing
+pub mod Evicting

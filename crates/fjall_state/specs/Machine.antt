@@ -1,6 +1,7 @@
 -- The engine as a machine: what each call may answer, and the state after it.
-use Rattle.std.specs.Prelude.{◌≡◌, ◌≢◌, ◌⊎◌, ℕ, ◌+◌, ◌-◌, ◌≤◌, Any, Bool, true, false, nat_le, nat_lt, not, ◌==◌, ◌||◌, ◌&&◌, ◌^◌, if◌then◌else◌, List, [], ◌∷◌, ◌++◌, codes, filter, length, Option, None, Some, is_none, unwrap_or, IsPermutation, IsSorted, Vec}
-use Rattle.std.specs.List.{list_any, sum_by}
+use Rattle.std.specs.Prelude.{◌≡◌, ◌≢◌, ◌⊎◌, ℕ, ◌+◌, ◌-◌, ◌≤◌, Any, Bool, IsTrue, count_by, map, take, true, false, nat_le, nat_lt, not, ◌==◌, ◌||◌, ◌&&◌, ◌^◌, if◌then◌else◌, List, [], ◌∷◌, ◌++◌, codes, filter, length, Option, None}
+use Rattle.std.specs.Prelude.{Some, is_none, unwrap_or, IsPermutation, IsSorted, Vec}
+use Rattle.std.specs.List.{list_all, list_any, sum_by}
 use Rattle.byteorder.specs.Endian.{little_number}
 use Rattle.std.specs.Str.{bytes_eq}
 use Rattle.std.specs.Ordering.{nat_cmp}
@@ -10,44 +11,55 @@ use Rattle.fjall_base.specs.Pairs.{Bytes, Pairs, byte_order}
 use Rattle.fjall_base.specs.Store.{Store, Options, Create, Delete, apply, kept, map_at}
 use Rattle.fjall_base.specs.declared.error.Error.{Error}
 use Rattle.fjall_base.specs.declared.error.Error.TheVariants.{Io, Storage, Poisoned, KeyspaceDeleted, KeyEmpty, KeyTooLong, ValueTooLong, InvalidName, OutOfMemory, NumbersUsedUp, UnknownKeyspace, SnapshotClosed, TooManyItems}
-use Rattle.fjall_base.specs.declared.error.StorageError.{StorageError}
 use Rattle.fjall_base.specs.declared.error.StorageError.TheVariants.{TableDamaged}
 use Rattle.fjall_journal.specs.declared.persist_mode.PersistMode.{PersistMode}
 use Rattle.fjall_journal.specs.declared.persist_mode.PersistMode.TheVariants.{Buffer}
 use Rattle.fjall_journal.specs.Writer.{counted, goes_out}
 use Rattle.fjall_journal.specs.Changes.{Change, Items, Emptied, change_text, command_of}
 use Rattle.fjall_journal.specs.Ops.{BatchItem, are_too_many, some_key_empty, some_key_too_long, some_value_too_long}
-use Rattle.fjall_manager.specs.Journals.{Journals, bytes_of, next_journal}
+use Rattle.fjall_manager.specs.Journals.{Journals, Sealed, bytes_of, may_go, next_journal, staying, waited_for}
 use Rattle.fjall_manager.specs.Places.{marked}
 use Rattle.fjall_table.specs.Blocks.{Entry}
 use Rattle.fjall_memtable.specs.Entries.{size_of}
-use Rattle.fjall_parts.specs.Parts.{holds_nothing, parts_of, versions_in}
+use Rattle.fjall_parts.specs.Parts.{clears_in, holds_nothing, parts_of, versions_in}
 use Rattle.fjall_lsm.specs.Trees as lsm
-use Rattle.fjall_lsm.specs.Trees.{emptied, sealed_off}
+use Rattle.fjall_lsm.specs.Jobs.{count_out, flush_begun, flush_dropped, flush_end, flush_finished, flush_of, is_flush_out}
+use Rattle.fjall_lsm.specs.Trees.{Flushing, emptied, is_l0, sealed_off}
 use Rattle.fjall_trees.specs.Forests.{Forest, altered_at, tree_at}
 use Rattle.fjall_trees.specs.Forests as forests
-use Rattle.fjall_trees.specs.Tables.{shape_in}
+use Rattle.fjall_trees.specs.Tables.{entries_with, shape_in}
 use Rattle.fjall_trees.specs.Writes.{pushed, with_tree}
+use Rattle.fjall_blocks.specs.Readers.{Reader}
+use Rattle.fjall_catalog.specs.Catalog.{fields, first_of}
+use Rattle.fjall_contents.specs.Contents.{is_beyond}
+use Rattle.fjall_flush.specs.Flushes.{infos_from, record_after}
+use Rattle.fjall_flush.specs.Flushes as flushes
+use Rattle.fjall_jobs.specs.declared.made_table.MadeTable.{MadeTable}
+use Rattle.fjall_jobs.specs.Tasks.{IsFlushed, Task}
+use Rattle.fjall_tree.specs.Records.{Fields, body}
 use Rattle.fjall_options.specs.Options.{is_set, value_of}
 use Rattle.fjall_meta.specs.Keyspaces.{is_name}
 use Rattle.fjall_versions.specs.Replays.{option_pairs}
+use Rattle.fjall_history.specs.declared.job.JobId.{JobId}
 use Rattle.fjall_history.specs.declared.ticket.View.{View}
 use Rattle.fjall_history.specs.declared.ticket.View.TheVariants.{Present, At}
 use Rattle.fjall_history.specs.declared.reply.Reply.{Reply}
-use Rattle.fjall_history.specs.declared.reply.Reply.TheVariants.{Done, Number, Names, Flag, Opened, Refused}
+use Rattle.fjall_history.specs.declared.reply.Reply.TheVariants.{Began, Done, Ids, Number, Names, Flag, Opened, Refused}
 use Rattle.fjall_history.specs.Histories.{History, grown, latest, number, plain, view}
 use Rattle.fjall_history.specs.Tickets.{Tickets, cloning_refusal, closed, closing_refusal, collected, is_open, no_tickets, opened, opening_refusal}
 use Rattle.fjall_history.specs.Moves.{Times}
 use Rattle.fjall_history.specs.Queries.{Tells}
 use Rattle.fjall_state.specs.declared.call.Call.{Call}
-use Rattle.fjall_state.specs.Shapes.{AsKeyspace, ByMode, Clone, Close, Collect, Count, Exists, HandleCall, JournalSpace, Keyspaces, Next, OfChange, OfCount, OfCreation, OfDeletion, OfHandle, OfJournalRotation, OfPersist, OfRead, OfRotation, OfTickets, OneLess, OneMore, Open, OpenTickets, Persistence, Entries, SealedMemtables, Shape, TicketCall, Visible, WriteBuffer, shape_of}
+use Rattle.fjall_state.specs.Shapes.{AsKeyspace, ByMode, Clone, Close, Collect, Count, DiskSpace, Exists, Flushes, HandleCall, JournalSpace, Keyspaces, Next, OfChange, OfCount, OfCreation, OfDeletion, OfFlushBegin, OfFlushFinish}
+use Rattle.fjall_state.specs.Shapes.{OfHandle, OfJournalRotation, OfMaintenance, OfPersist, OfRead, OfRotation, OfTickets, OneLess, OneMore, Open, OpenTickets, Persistence, Entries, SealedMemtables, Shape, Tables, TablesL0, TicketCall}
+use Rattle.fjall_state.specs.Shapes.{ToFlush, Visible, WriteBuffer, shape_of}
 use Rattle.fjall_state.specs.Shapes as shapes
-use Rattle.fjall_state.specs.Jobs.{Job}
 
 -- The journals, the sealed ones and the active one: of each its number, up to which number each keyspace has changes in it, and
 -- of a sealed one how many bytes its file has. How many bytes the active journal's file has, how many wait in the buffer, the id
--- that tree 0's next table gets, and the trees of the keyspaces that are read: of each its tables, and its memtables, sealed ones
--- and an active one. By their ids, what the tables of keyspaces hold, table by table.
+-- that tree 0's next table gets, and the trees of the keyspaces that are read: of each its tables, its memtables, sealed ones and an
+-- active one, and the flush that is out of it, where one is. By their ids, what the tables of keyspaces hold, table by table, and
+-- what the last record of each keyspace that lives says.
 pub record Parts : Type 0 where
   pub journals : Journals
   pub journal : ℕ
@@ -55,11 +67,12 @@ pub record Parts : Type 0 where
   pub table : ℕ
   pub trees : Forest
   pub entries : ℕ → List (List Entry)
+  pub records : ℕ → Fields
 
 -- The history, whether a fault of the disk has poisoned the engine, how many handles of each keyspace are counted, the
--- deleted keyspaces whose last maps are still read, the keyspaces that have a table with a wrong block, the tickets, the jobs that
--- are out, in the order in which they began, with the next one's id, and the parts that its counts and reads speak of. No call
--- changes which keyspaces are damaged: an id is never given anew.
+-- deleted keyspaces whose last maps are still read, the keyspaces that have a table with a wrong block, the tickets, the number
+-- that the next job gets, and the parts that its counts, its reads and its jobs speak of. No call changes which keyspaces are
+-- damaged: an id is never given anew.
 pub record State : Type 0 where
   pub history : History
   pub poisoned : Bool
@@ -67,7 +80,6 @@ pub record State : Type 0 where
   pub lasting : List ℕ
   pub damaged : List ℕ
   pub tickets : Tickets
-  pub jobs : List Job
   pub next_job : ℕ
   pub parts : Parts
 
@@ -80,7 +92,6 @@ opened_state store damaged base parts = record {
   lasting = [];
   damaged = damaged;
   tickets = no_tickets;
-  jobs = [];
   next_job = 0;
   parts = parts;
 }
@@ -210,7 +221,7 @@ abbrev pub change_refusals : Facts → Change → List (Bool × Error)
 change_refusals f (Items items) = items_refusals f items
 change_refusals f (Emptied id) = clear_refusals f id
 
--- the refusals of a rotation of a keyspace's memtable
+-- the refusals of a rotation of a keyspace's memtable, and of a flush that is to begin
 abbrev pub rotation_refusals : Facts → ℕ → List (Bool × Error)
 rotation_refusals f id = (is_unknown f.store id, UnknownKeyspace) ∷ (is_deleted f.store id, KeyspaceDeleted) ∷ (f.poisoned, Poisoned) ∷ []
 
@@ -275,6 +286,9 @@ due_in f (OfDeletion id) = first_due (deletion_refusals f id)
 due_in f (OfHandle call id) = first_due (handle_refusals f call id)
 due_in f (OfRotation id) = first_due (rotation_refusals f id)
 due_in f OfJournalRotation = first_due (journal_refusals f)
+due_in f (OfFlushBegin id) = first_due (rotation_refusals f id)
+due_in f (OfFlushFinish job) = None
+due_in f OfMaintenance = first_due ((f.poisoned, Poisoned) ∷ [])
 due_in f (OfRead view id query) = first_due (view_refusals f view id)
 due_in f (OfTickets call) = ticket_refusal f.tickets call
 due_in f (OfPersist mode) = first_due ((f.poisoned, Poisoned) ∷ [])
@@ -297,6 +311,11 @@ IsListed (Entries id) = ⊥
 IsListed (SealedMemtables id) = ⊥
 IsListed WriteBuffer = ⊥
 IsListed (shapes.WantsRotation id) = ⊥
+IsListed (Tables id) = ⊥
+IsListed (TablesL0 id) = ⊥
+IsListed (DiskSpace id) = ⊥
+IsListed Flushes = ⊥
+IsListed ToFlush = Unit {0}
 
 abbrev pub OpensTicket : TicketCall → Type 0
 OpensTicket Open = Unit {0}
@@ -314,6 +333,9 @@ TakesMemory (OfDeletion id) = Unit {0}
 TakesMemory (OfHandle call id) = Unit {0}
 TakesMemory (OfRotation id) = Unit {0}
 TakesMemory OfJournalRotation = Unit {0}
+TakesMemory (OfFlushBegin id) = Unit {0}
+TakesMemory (OfFlushFinish job) = Unit {0}
+TakesMemory OfMaintenance = ⊥
 TakesMemory (OfRead view id query) = Unit {0}
 TakesMemory (OfTickets call) = OpensTicket call
 TakesMemory (OfPersist mode) = ⊥
@@ -329,7 +351,7 @@ mode_in s (ByMode mode) = mode
 abbrev pub leaves_buffer : Facts → ℕ → Change → Persistence → Bool
 leaves_buffer f waiting change how = goes_out (is_none (mode_in f.store how)) (waiting + length (change_text change f.next))
 
--- a call that changes the disk, where so many bytes wait in the journal's buffer
+-- A call that changes the disk, where so many bytes wait in the journal's buffer. What flushes and maintenance change is said below.
 abbrev pub ChangesDisk : Facts → ℕ → Shape → Type 0
 ChangesDisk f waiting (OfChange (Items []) how) = ⊥
 ChangesDisk f waiting (OfChange (Items (item ∷ items)) how) = leaves_buffer f waiting (Items (item ∷ items)) how ≡ true
@@ -340,17 +362,21 @@ ChangesDisk f waiting (OfHandle OneMore id) = ⊥
 ChangesDisk f waiting (OfHandle OneLess id) = Unit {0}
 ChangesDisk f waiting (OfRotation id) = ⊥
 ChangesDisk f waiting OfJournalRotation = Unit {0}
+ChangesDisk f waiting (OfFlushBegin id) = ⊥
+ChangesDisk f waiting (OfFlushFinish job) = ⊥
+ChangesDisk f waiting OfMaintenance = ⊥
 ChangesDisk f waiting (OfRead view id query) = ⊥
 ChangesDisk f waiting (OfTickets call) = ⊥
 ChangesDisk f waiting (OfPersist mode) = Unit {0}
 ChangesDisk f waiting (OfCount count) = ⊥
 
--- The engine is poisoned, and of its parts the trees, what their tables hold and what is known of the journals are as before. How
--- many bytes are in the active one's file, and how many wait, is not known.
+-- The engine is poisoned, and of its parts the trees, what their tables hold, the last records and what is known of the journals are
+-- as before. How many bytes are in the active one's file, and how many wait, is not known.
 pub record IsPoisoned (old new : State) : Type 0 where
   pub is : new ≡ record old { poisoned = true; parts = new.parts }
   pub trees : new.parts.trees ≡ old.parts.trees
   pub entries : new.parts.entries ≡ old.parts.entries
+  pub records : new.parts.records ≡ old.parts.records
   pub journals : new.parts.journals ≡ old.parts.journals
 
 -- the settings of some keyspace have a value of 2^32 bytes or more, for which no table has room
@@ -365,6 +391,9 @@ TooLong s (OfDeletion id) = HasLongOption (kept (apply s (Delete id)))
 TooLong s (OfHandle call id) = ⊥
 TooLong s (OfRotation id) = ⊥
 TooLong s OfJournalRotation = ⊥
+TooLong s (OfFlushBegin id) = ⊥
+TooLong s (OfFlushFinish job) = ⊥
+TooLong s OfMaintenance = ⊥
 TooLong s (OfRead view id query) = ⊥
 TooLong s (OfTickets call) = ⊥
 TooLong s (OfPersist mode) = ⊥
@@ -399,12 +428,20 @@ accepted s (Items []) how = s
 accepted s (Items (item ∷ items)) how = made s (Items (item ∷ items)) how
 accepted s (Emptied id) how = made s (Emptied id) how
 
+-- what records say, with that of one keyspace changed
+abbrev pub records_with : ℕ → Fields → (ℕ → Fields) → ℕ → Fields
+records_with id new records other = if other == id then new else records other
+
 -- A keyspace of this name was made: that is the next command; the journal is written out, tree 0 has a new table, and the
--- keyspace has a tree of nothing.
+-- keyspace has a tree of nothing, and its first record.
 abbrev pub created : State → Bytes → List Bytes → State
 created s name options = record s {
   history = grown s.history (plain (Create name (option_pairs options)));
-  parts = record (written_out s.parts 0) { table = s.parts.table + 1; trees = with_tree (present s).next (number s.history) s.parts.trees };
+  parts = record (written_out s.parts 0) {
+    table = s.parts.table + 1;
+    trees = with_tree (present s).next (number s.history) s.parts.trees;
+    records = records_with (present s).next (fields (first_of (number s.history))) s.parts.records;
+  };
 }
 
 -- The keyspace was deleted: that is the next command. Its last map is still read. Where a keyspace is left, tree 0 has a
@@ -454,6 +491,110 @@ journal_rotated s = record s {
   parts = record s.parts { journals = next_journal (counted (s.parts.journal + s.parts.buffer)) s.parts.journals; journal = 0; buffer = 0 };
 }
 
+-- ---- flushes
+
+-- whether a sealed memtable stands that no flush that is out takes
+abbrev pub waits_for_flush : lsm.Shape → Bool
+waits_for_flush tree = nat_lt (count_out tree.flush) (length tree.memory.sealed)
+
+-- whether a flush of the keyspace begins: a sealed memtable stands, and no flush of it is out
+abbrev pub begins_flush : Forest → ℕ → Bool
+begins_flush trees id = nat_lt 0 (length (shape_in id trees).memory.sealed) && is_none (shape_in id trees).flush
+
+-- The active journal is longer than 64,000,000 bytes with what waits: a flush begins behind a rotation of it.
+abbrev pub is_long : Parts → Bool
+is_long parts = nat_lt 64000000 (parts.journal + parts.buffer)
+
+-- no number of a job is left, or none of a journal where the journal is rotated
+abbrev pub are_jobs_used_up : State → Bool
+are_jobs_used_up s = (s.next_job == 2 ^ 64 - 1) || (is_long s.parts && nat_le (2 ^ 64 - 2) s.parts.journals.active)
+
+-- all that waited is in the journal's file, which is sealed where it is long
+abbrev pub journal_synced : State → State
+journal_synced s = if is_long s.parts then journal_rotated s else record s { parts = written_out s.parts 0 }
+
+-- a flush of all sealed memtables of the keyspace is out, under the next number, and with the watermark of now
+abbrev pub flush_out : State → ℕ → State
+flush_out s id = record s {
+  next_job = s.next_job + 1;
+  parts = record s.parts { trees = altered_at id (flush_begun s.next_job s.tickets.watermark) s.parts.trees };
+}
+
+-- What comes of a flush that is to begin: all that was accepted is synced, and it is out; or there is none to begin.
+abbrev pub BeginsFlush : Bool → State → ℕ → Reply → State → Type 0
+BeginsFlush true old id reply new =
+    (reply ≡ Began (Some (record { number = old.next_job; keyspace_id = id }))) × (are_jobs_used_up old ≡ false) × (new ≡ flush_out (journal_synced old) id)
+BeginsFlush false old id reply new = (reply ≡ Began None) × (new ≡ old)
+
+-- whether the flush of this job is out
+abbrev pub is_flushing : Forest → JobId → Bool
+is_flushing trees job = is_flush_out job.number (shape_in job.keyspace_id trees).flush
+
+-- what a flush that is out of a keyspace's tree was begun with
+abbrev pub task_of : ℕ → lsm.Shape → Flushing → Task
+task_of id tree out = flush_of out.id id out.watermark (take out.count tree.memory.sealed)
+
+-- the flush of a keyspace's tree that is out, with these tables: it covers all changes below where the memtables begin that it leaves
+abbrev pub flush_with : lsm.Shape → Flushing → List MadeTable → flushes.Flush
+flush_with tree out tables = record { number = flush_end tree - 1; tables = tables; clears = clears_in (take out.count tree.memory.sealed) }
+
+-- the parts once the flush of a keyspace is finished that is out, which made these tables, of these entries and with these readers
+abbrev pub flushed : ℕ → Flushing → List MadeTable → List (List Entry) → List Reader → Parts → Parts
+flushed id out tables lists readers parts = record parts {
+  trees = altered_at id (flush_finished readers out) parts.trees;
+  entries = entries_with id (parts.entries id ++ lists) parts.entries;
+  records = records_with id (record_after (flush_with (shape_in id parts.trees) out tables) (parts.records id)) parts.records;
+}
+
+-- A flush that was out is finished: of its memtables one table was made, of exactly the versions that its watermark doesn't hide, and
+-- none where no version is left. It stands behind all other tables, at level 0 and under the next id, the clears stand in the record,
+-- and the memtables are gone.
+pub record FlushesOne (old : Parts) (id : ℕ) (out : Flushing) (new : Parts) : Type 0 where
+  pub tables : List MadeTable
+  pub made : IsFlushed (task_of id (shape_in id old.trees) out) tables (clears_in (take out.count (shape_in id old.trees).memory.sealed))
+  pub readers : List Reader
+  pub infos : map (λ t. t.info) readers ≡ infos_from (old.records id).next_table_id tables
+  pub is : new ≡ flushed id out tables made.lists readers old
+
+abbrev pub FlushesIn : Option Flushing → Parts → ℕ → Parts → Type 0
+FlushesIn None old id new = ⊥
+FlushesIn (Some out) old id new = FlushesOne old id out new
+
+-- the flush of the keyspace that is out is finished
+abbrev pub Flushed : Parts → ℕ → Parts → Type 0
+Flushed old id new = FlushesIn (shape_in id old.trees).flush old id new
+
+-- no flush of the keyspace is out any more
+abbrev pub flush_gone : State → ℕ → State
+flush_gone s id = record s { parts = record s.parts { trees = altered_at id flush_dropped s.parts.trees } }
+
+-- whether no journal is wanted for the changes of a keyspace up to a number: it doesn't live, or they stand in its tables
+abbrev pub is_flushed : State → ℕ → ℕ → Bool
+is_flushed s id lsn = not (is_living (present s) id) || not (is_beyond (s.parts.records id).persisted lsn)
+
+-- with these sealed journals
+abbrev pub with_sealed : List Sealed → State → State
+with_sealed sealed s = record s { parts = record s.parts { journals = record s.parts.journals { sealed = sealed } } }
+
+-- The oldest sealed journals are gone, up to the first that some keyspace that lives hasn't flushed.
+abbrev pub evicted : State → State
+evicted s = with_sealed (staying (is_flushed s) s.parts.journals.sealed) s
+
+-- What comes of a flush that is to be finished. Where it is out, and its keyspace lives, it takes effect, and journals that nobody
+-- wants any more are removed. Where it isn't out it is stale, and nothing changes; a deleted keyspace's is stale too, and out no more.
+abbrev pub FinishesFlush : (out lives : Bool) → State → JobId → Reply → State → Type 0
+FinishesFlush true true old job reply new =
+    (reply ≡ Flag true) × (old.poisoned ≡ false) × (parts : Parts) × Flushed old.parts job.keyspace_id parts × (new ≡ evicted (record old { parts = parts }))
+FinishesFlush true false old job reply new = (reply ≡ Flag false) × (new ≡ flush_gone old job.keyspace_id)
+FinishesFlush false lives old job reply new = (reply ≡ Flag false) × (new ≡ old)
+
+-- some of the oldest sealed journals that nobody wants are gone
+abbrev pub EvictsSome : State → State → Type 0
+EvictsSome old new =
+    (gone left : List Sealed) × (old.parts.journals.sealed ≡ gone ++ left) × IsTrue (list_all (may_go (is_flushed old)) gone) × (new ≡ with_sealed left old)
+
+-- ---- keyspaces that are made
+
 -- a name that a keyspace has answers its id; another one's keyspace gets the next id
 abbrev pub CreatesOrFinds : State → Bytes → List Bytes → ℕ → State → Type 0
 CreatesOrFinds old name options id new =
@@ -492,6 +633,23 @@ max_memtable_size options = little_number 8 (unwrap_or (value_of (codes "max_mem
 abbrev pub wants_rotation : Store → Forest → ℕ → Bool
 wants_rotation s trees id = is_living s id && nat_lt (max_memtable_size (unwrap_or (get s.options id) [])) (counted (active_size (shape_in id trees)))
 
+-- how many bytes the files of a tree's tables have
+abbrev pub table_space : lsm.Shape → ℕ
+table_space tree = counted (sum_by (λ t. t.info.file_len) tree.tables)
+
+-- the files of the tables of all keyspaces that live
+abbrev pub tables_space : Store → Forest → ℕ
+tables_space s trees = sum_by (λ e. table_space (shape_in e.0 trees)) (entries s.names)
+
+-- how many keyspaces that live have a sealed memtable that no flush that is out takes
+abbrev pub flush_count : Store → Forest → ℕ
+flush_count s trees = count_by (λ e. waits_for_flush (shape_in e.0 trees)) (entries s.names)
+
+-- of one keyspace, or of all that live with all journals
+abbrev pub space_of : State → Option ℕ → ℕ
+space_of s (Some id) = table_space (shape_in id s.parts.trees)
+space_of s None = counted (tables_space (present s) s.parts.trees + counted (bytes_of s.parts.journals.sealed + s.parts.journal))
+
 -- counts are functions of the state
 abbrev pub CountIs : State → Count → Reply → Type 0
 CountIs s Keyspaces reply = reply ≡ Number (len (present s).names)
@@ -506,6 +664,11 @@ CountIs s (Entries id) reply = reply ≡ Number (counted (version_count (shape_i
 CountIs s (SealedMemtables id) reply = reply ≡ Number (length (shape_in id s.parts.trees).memory.sealed)
 CountIs s WriteBuffer reply = reply ≡ Number (counted (buffer_size (present s) s.parts.trees))
 CountIs s (shapes.WantsRotation id) reply = reply ≡ Flag (wants_rotation (present s) s.parts.trees id)
+CountIs s (Tables id) reply = reply ≡ Number (length (shape_in id s.parts.trees).tables)
+CountIs s (TablesL0 id) reply = reply ≡ Number (count_by (λ t. is_l0 t.info.level) (shape_in id s.parts.trees).tables)
+CountIs s (DiskSpace id) reply = reply ≡ Number (space_of s id)
+CountIs s Flushes reply = reply ≡ Number (flush_count (present s) s.parts.trees)
+CountIs s ToFlush reply = (ids : Vec ℕ Global) × (reply ≡ Ids ids) × (ids.items ≡ waited_for (is_flushed s) s.parts.journals.sealed)
 
 -- where nothing refuses it, a call may give this reply, and leaves this
 abbrev pub Answers : State → Shape → Reply → State → Type 0
@@ -515,6 +678,9 @@ Answers old (OfDeletion id) reply new = (reply ≡ Done) × (new ≡ (if is_livi
 Answers old (OfHandle call id) reply new = (reply ≡ Done) × (new ≡ handled call old id)
 Answers old (OfRotation id) reply new = (reply ≡ Flag (rotates old.parts.trees id)) × (new ≡ (if rotates old.parts.trees id then rotated old id else old))
 Answers old OfJournalRotation reply new = (reply ≡ Done) × (new ≡ journal_rotated old)
+Answers old (OfFlushBegin id) reply new = BeginsFlush (begins_flush old.parts.trees id) old id reply new
+Answers old (OfFlushFinish job) reply new = FinishesFlush (is_flushing old.parts.trees job) (is_living (present old) job.keyspace_id) old job reply new
+Answers old OfMaintenance reply new = (reply ≡ Done) × (new ≡ evicted old)
 Answers old (OfRead view id query) reply new = Tells query (map_at (maps_in old view) id) reply × (new ≡ old)
 Answers old (OfTickets call) reply new = TurnsTickets (number old.history) old.tickets call reply new.tickets × (new ≡ record old { tickets = new.tickets })
 Answers old (OfPersist mode) reply new = (reply ≡ Done) × (new ≡ record old { parts = written_out old.parts 0 })
@@ -536,6 +702,9 @@ at_fault s (OfHandle OneMore id) = s
 at_fault s (OfHandle OneLess id) = released s id
 at_fault s (OfRotation id) = s
 at_fault s OfJournalRotation = s
+at_fault s (OfFlushBegin id) = s
+at_fault s (OfFlushFinish job) = s
+at_fault s OfMaintenance = s
 at_fault s (OfRead view id query) = s
 at_fault s (OfTickets call) = s
 at_fault s (OfPersist mode) = s
@@ -553,6 +722,9 @@ ReadsTables trees (OfDeletion id) = ⊥
 ReadsTables trees (OfHandle call id) = ⊥
 ReadsTables trees (OfRotation id) = ⊥
 ReadsTables trees OfJournalRotation = ⊥
+ReadsTables trees (OfFlushBegin id) = ⊥
+ReadsTables trees (OfFlushFinish job) = ⊥
+ReadsTables trees OfMaintenance = ⊥
 ReadsTables trees (OfRead view id query) = HasTables id trees
 ReadsTables trees (OfTickets call) = ⊥
 ReadsTables trees (OfPersist mode) = ⊥
@@ -566,19 +738,63 @@ ReadsDamaged s (OfDeletion id) = ⊥
 ReadsDamaged s (OfHandle call id) = ⊥
 ReadsDamaged s (OfRotation id) = ⊥
 ReadsDamaged s OfJournalRotation = ⊥
+ReadsDamaged s (OfFlushBegin id) = ⊥
+ReadsDamaged s (OfFlushFinish job) = ⊥
+ReadsDamaged s OfMaintenance = ⊥
 ReadsDamaged s (OfRead view id query) = HasTables id s.parts.trees × (is_among s.damaged id ≡ true)
 ReadsDamaged s (OfTickets call) = ⊥
 ReadsDamaged s (OfPersist mode) = ⊥
 ReadsDamaged s (OfCount count) = ⊥
 
--- Where none is due, the disk may fail, memory run out, a read meet a wrong block, or an option's value be too long to be stored. A
--- fault in a call that changes the disk poisons the engine; one in a read changes nothing.
+-- the flush of this job would take effect, but for a fault that has poisoned the engine, or for want of something
+abbrev pub IsDueToFinish : State → JobId → Type 0
+IsDueToFinish s job = (is_flushing s.parts.trees job ≡ true) × (is_living (present s) job.keyspace_id ≡ true)
+
+-- What a fault leaves of a worker's step, but that it poisons the engine: of a flush that begins nothing; a flush that is finished took
+-- effect or it didn't; and some journals may be gone that nobody wants.
+abbrev pub WorkFails : Shape → State → State → Type 0
+WorkFails (OfFlushBegin id) old new = (begins_flush old.parts.trees id ≡ true) × (are_jobs_used_up old ≡ false) × IsPoisoned old new
+WorkFails (OfFlushFinish job) old new =
+    IsDueToFinish old job × (old.poisoned ≡ false)
+    × (IsPoisoned old new ⊎ ((parts : Parts) × (mid : State) × Flushed old.parts job.keyspace_id parts × EvictsSome (record old { parts = parts }) mid × IsPoisoned mid new))
+WorkFails OfMaintenance old new = (mid : State) × EvictsSome old mid × IsPoisoned mid new
+WorkFails shape old new = ⊥
+
+-- A worker's step that needs a number of which none is left: a job's, a journal's, or that of a keyspace's next table.
+abbrev pub UsesUp : State → Shape → Type 0
+UsesUp s (OfFlushBegin id) = (begins_flush s.parts.trees id ≡ true) × (are_jobs_used_up s ≡ true)
+UsesUp s (OfFlushFinish job) = IsDueToFinish s job × (s.poisoned ≡ false) × ((s.parts.records job.keyspace_id).next_table_id ≡ 2 ^ 64 - 1)
+UsesUp s shape = ⊥
+
+-- A record has no room for the table, where one was made, and for the clears of the flush of this tree that is out.
+abbrev pub LacksRoom : lsm.Shape → Option Flushing → Fields → Type 0
+LacksRoom tree None last = ⊥
+LacksRoom tree (Some out) last = (tables : List MadeTable) × (length tables ≤ 1) × (2 ^ 32 ≤ length (body (record_after (flush_with tree out tables) last)))
+
+-- The record of a keyspace whose flush is to be finished has no room for its table and its clears.
+abbrev pub HasNoRoom : State → Shape → Type 0
+HasNoRoom s (OfFlushFinish job) =
+    let tree = shape_in job.keyspace_id s.parts.trees in
+    IsDueToFinish s job × (s.poisoned ≡ false) × LacksRoom tree tree.flush (s.parts.records job.keyspace_id)
+HasNoRoom s shape = ⊥
+
+-- a flush that is to be finished in a poisoned engine, and isn't stale
+abbrev pub FinishesLate : State → Shape → Type 0
+FinishesLate s (OfFlushFinish job) = IsDueToFinish s job × (s.poisoned ≡ true)
+FinishesLate s shape = ⊥
+
+-- Where none is due, the disk may fail, memory run out, a read meet a wrong block, an option's value be too long to be stored, or a
+-- worker's step find the engine poisoned, or no number or no room left. A fault in a call that changes the disk poisons the engine; one
+-- in a read changes nothing.
 abbrev pub MayFail : Shape → Error → State → State → Type 0
 MayFail shape (Io kind) old new =
-    (ChangesDisk (facts old) old.parts.buffer shape × IsPoisoned (at_fault old shape) new) ⊎ (ReadsTables old.parts.trees shape × (new ≡ let_go old shape))
+    (ChangesDisk (facts old) old.parts.buffer shape × IsPoisoned (at_fault old shape) new) ⊎ ((ReadsTables old.parts.trees shape × (new ≡ let_go old shape)) ⊎ WorkFails shape old new)
 MayFail shape OutOfMemory old new = TakesMemory shape × (new ≡ let_go old shape)
 MayFail shape (Storage told) old new = (told ≡ TableDamaged) × ReadsDamaged old shape × (new ≡ let_go old shape)
 MayFail shape ValueTooLong old new = TooLong (present old) shape × (new ≡ let_go old shape)
+MayFail shape Poisoned old new = FinishesLate old shape × (new ≡ let_go old shape)
+MayFail shape NumbersUsedUp old new = UsesUp old shape × (new ≡ let_go old shape)
+MayFail shape TooManyItems old new = HasNoRoom old shape × (new ≡ let_go old shape)
 MayFail shape error old new = ⊥
 
 -- a refusal is the one that is due, and changes nothing

@@ -5,11 +5,14 @@ use Rattle.fjall_journal.specs.Ops.{BatchItem}
 use Rattle.fjall_journal.specs.Changes.{Change, Items, Emptied}
 use Rattle.fjall_journal.specs.declared.op.Op.TheVariants as ops
 use Rattle.fjall_journal.specs.declared.persist_mode.PersistMode.{PersistMode}
+use Rattle.fjall_history.specs.declared.job.JobId.{JobId}
 use Rattle.fjall_history.specs.declared.ticket.View.{View}
 use Rattle.fjall_history.specs.Queries.{Query, Get, Page}
 use Rattle.fjall_state.specs.declared.call.Call.{Call}
 use Rattle.fjall_state.specs.declared.call.Call.TheVariants as calls
-use Rattle.fjall_state.specs.declared.call.Call.TheVariants.{Keyspace, DeleteKeyspace, Retain, Release, Insert, Remove, RemoveWeak, Clear, CommitBatch, RotateMemtable, RotateJournal, GetAt, PageAt, Snapshot, CloneSnapshot, CloseSnapshot, Gc, Persist, KeyspaceCount, ListKeyspaceNames, KeyspaceExists, Seqno, VisibleSeqno, JournalCount, JournalDiskSpace, OpenSnapshots, ApproximateLen, SealedMemtableCount, WriteBufferSize}
+use Rattle.fjall_state.specs.declared.call.Call.TheVariants.{Keyspace, DeleteKeyspace, Retain, Release, Insert, Remove, RemoveWeak, Clear, CommitBatch, RotateMemtable, RotateJournal, FlushBegin, FlushFinish, Maintenance, GetAt, PageAt}
+use Rattle.fjall_state.specs.declared.call.Call.TheVariants.{Snapshot, CloneSnapshot, CloseSnapshot, Gc, Persist, KeyspaceCount, ListKeyspaceNames, KeyspaceExists, Seqno, VisibleSeqno, JournalCount, JournalDiskSpace, OpenSnapshots}
+use Rattle.fjall_state.specs.declared.call.Call.TheVariants.{ApproximateLen, SealedMemtableCount, WriteBufferSize, TableCount, L0TableCount, OutstandingFlushes, KeyspacesToFlush}
 
 -- How a change is persisted: as the option of the keyspace of this id says, or by a mode or none that came with it.
 pub data Persistence : Type 0 where
@@ -42,9 +45,15 @@ pub data Count : Type 0 where
   SealedMemtables : (id : ℕ) → Count
   WriteBuffer : Count
   WantsRotation : (id : ℕ) → Count
+  Tables : (id : ℕ) → Count
+  TablesL0 : (id : ℕ) → Count
+  DiskSpace : (id : Option ℕ) → Count
+  Flushes : Count
+  ToFlush : Count
 
 -- A change is one command with its batch; a rotation seals a keyspace's active memtable, one of the journal the active journal; a
--- read is a query on a keyspace's map in a view.
+-- flush is begun of a keyspace, and finished by its job; maintenance removes sealed journals; a read is a query on a keyspace's map
+-- in a view.
 pub data Shape : Type 0 where
   OfChange : (change : Change) (how : Persistence) → Shape
   OfCreation : (name : Bytes) (options : List Bytes) → Shape
@@ -52,6 +61,9 @@ pub data Shape : Type 0 where
   OfHandle : (call : HandleCall) (id : ℕ) → Shape
   OfRotation : (id : ℕ) → Shape
   OfJournalRotation : Shape
+  OfFlushBegin : (id : ℕ) → Shape
+  OfFlushFinish : (job : JobId) → Shape
+  OfMaintenance : Shape
   OfRead : (view : View) (id : ℕ) (query : Query) → Shape
   OfTickets : (call : TicketCall) → Shape
   OfPersist : (mode : PersistMode) → Shape
@@ -77,6 +89,9 @@ shape_of (Clear id) = of_clear id
 shape_of (CommitBatch items mode) = OfChange (Items items.items) (ByMode mode)
 shape_of (RotateMemtable id) = OfRotation id
 shape_of RotateJournal = OfJournalRotation
+shape_of (FlushBegin id) = OfFlushBegin id
+shape_of (FlushFinish job) = OfFlushFinish job
+shape_of Maintenance = OfMaintenance
 shape_of (GetAt view id key) = OfRead view id (Get key)
 shape_of (PageAt view id range back max) = OfRead view id (Page range back max)
 shape_of Snapshot = OfTickets Open
@@ -96,3 +111,8 @@ shape_of (ApproximateLen id) = OfCount (Entries id)
 shape_of (SealedMemtableCount id) = OfCount (SealedMemtables id)
 shape_of WriteBufferSize = OfCount WriteBuffer
 shape_of (calls.WantsRotation id) = OfCount (WantsRotation id)
+shape_of (TableCount id) = OfCount (Tables id)
+shape_of (L0TableCount id) = OfCount (TablesL0 id)
+shape_of (calls.DiskSpace id) = OfCount (DiskSpace id)
+shape_of OutstandingFlushes = OfCount Flushes
+shape_of KeyspacesToFlush = OfCount ToFlush

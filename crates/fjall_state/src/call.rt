@@ -1,13 +1,13 @@
 //! The calls of a core as values.
 
 use fjall_base::{Slice, UserKey, UserValue};
-use fjall_history::{Ticket, View};
+use fjall_history::{JobId, Ticket, View};
 use fjall_journal::{BatchItem, PersistMode};
 use fjall_options::KeyspaceCreateOptions;
 use fjall_versions::KeyRange;
 
 /// One call of a core, for [`run`](crate::Core::run). Within a list of calls a ticket is named by the place of the call that
-/// opened it.
+/// opened it, and a job by the place of the call that began it.
 #[derive(Debug, Drop)]
 pub enum Call {
     /// `keyspace`: name and options.
@@ -32,6 +32,12 @@ pub enum Call {
     RotateMemtable(u64),
     /// `rotate_journal`.
     RotateJournal,
+    /// `flush_begin`: keyspace id.
+    FlushBegin(u64),
+    /// The job's `run`, and then `flush_finish`: job.
+    FlushFinish(JobId),
+    /// `maintenance`.
+    Maintenance,
     /// `get_at`: view, keyspace id and key.
     GetAt(View, u64, UserKey),
     /// `page_at`: view, keyspace id, range of keys, whether from behind, and how many pairs at most.
@@ -70,4 +76,14 @@ pub enum Call {
     WriteBufferSize,
     /// `wants_rotation`: keyspace id.
     WantsRotation(u64),
+    /// `table_count`: keyspace id.
+    TableCount(u64),
+    /// `l0_table_count`: keyspace id.
+    L0TableCount(u64),
+    /// `disk_space`: keyspace id, or none for the whole database.
+    DiskSpace(Option<u64>),
+    /// `outstanding_flushes`.
+    OutstandingFlushes,
+    /// `get_keyspaces_to_flush_for_oldest_journal_eviction`.
+    KeyspacesToFlush,
 }

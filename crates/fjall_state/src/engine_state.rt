@@ -1,12 +1,14 @@
 //! What an engine holds in memory: keyspaces that were made under lesser numbers than the next one, and the trees of
 //! keyspaces.
 
-ghost use Rattle.std.specs.Prelude.{◌≡◌, ◌≢◌, ◌<◌, ◌≤◌, ◌+◌, ◌-◌, ◌^◌, ◌++◌, ◌∷◌, [], List, All, None, is_some, not, true, false, length, map, IfOk, IfErr, OnOk, OnErr, IsOkUnless, IsPermutation, IsSorted};
+ghost use Rattle.std.specs.Prelude.{◌≡◌, ◌≢◌, ◌<◌, ◌≤◌, ◌+◌, ◌-◌, ◌^◌, ◌++◌, ◌∷◌, [], ℕ, List, All, None, is_some, not, true, false, length, map, IfOk, IfErr, OnOk, OnErr, IsOkUnless, IsPermutation, IsSorted};
 ghost use Rattle.std.specs.FinMap.{empty, from_entries, get, len, values};
 ghost use Rattle.fjall_base.specs.Pairs.{Bytes, byte_order};
 ghost use Rattle.fjall_base.specs.declared.error.Error.TheVariants.{KeyspaceDeleted, UnknownKeyspace};
+ghost use Rattle.fjall_catalog.specs.Catalog.{fields, first_of};
 ghost use Rattle.fjall_manager.specs.Journals.{bytes_of};
 ghost use Rattle.fjall_meta.specs.Keyspaces.{id_of, is_name};
+ghost use Rattle.fjall_tree.specs.Records.{view};
 ghost use Rattle.fjall_trees.specs.Forests.{AreBefore, tree_at};
 ghost use Rattle.fjall_trees.specs.Views.{forest_of};
 ghost use Rattle.fjall_maps.specs.Maps.{store_of};
@@ -17,9 +19,11 @@ ghost use Rattle.fjall_state.specs.Remembered.{IsDueOrMemory, IsLawful, Remember
 
 use fjall_base::{Error, Result, Slice};
 use fjall_history::{Ticket, Tickets, View};
+use fjall_loading::LastRecords;
 use fjall_manager::{ActiveWatermarks, JournalManager};
 use fjall_meta::{LivingKeyspace, MetaKeyspace};
 use fjall_options::KeyspaceCreateOptions;
+use fjall_tree::Record;
 use fjall_trees::Trees;
 use std::alloc::Global;
 use std::collections::BTreeMap;
@@ -27,10 +31,12 @@ use std::marker::Model;
 
 /// What an engine holds in memory: the keyspaces that live, the trees of these and of the deleted ones that are still read,
 /// the tickets of snapshots with the next number, at which a new one reads, whether a fault has poisoned it, how many handles
-/// of each keyspace are counted, the deleted keyspaces that are still read, and what is known of the journals: the sealed ones, and
-/// of the active one its number and up to which number each keyspace has changes in it.
+/// of each keyspace are counted, the deleted keyspaces that are still read, what is known of the journals: the sealed ones, and
+/// of the active one its number and up to which number each keyspace has changes in it; the last records of the keyspaces that
+/// have a tree, and the number that the next job gets.
 #[derive(Drop)]
 pub struct EngineState {
+    alloc: Global,
     pub(crate) keyspaces: MetaKeyspace,
     pub(crate) trees: Trees,
     pub(crate) tickets: Tickets,
@@ -40,17 +46,20 @@ pub struct EngineState {
     pub(crate) sealed: JournalManager,
     pub(crate) active: u64,
     pub(crate) watermarks: ActiveWatermarks,
+    pub(crate) records: LastRecords,
+    pub(crate) next_job: u64,
 }
 
 impl Model for EngineState {
     ghost use Rattle.std.specs.Coded.{codes};
     ghost use Rattle.std.specs.FinMap.{from_entries};
+    ghost use Rattle.fjall_loading.specs.Known.{records_code};
     ghost use Rattle.fjall_trees.specs.Views.{forest_of};
     ghost use Rattle.fjall_state.specs.Remembered.{IsLawful, Remembered, handles_code, journals_of};
 
     ghost Value = { Remembered };
 
-    ghost coded = { Prim.hlevel (codes, handles_code) };
+    ghost coded = { Prim.hlevel (codes, handles_code, records_code) };
 
     ghost view = { λ m. record {
       keyspaces = m.keyspaces;
@@ -61,6 +70,8 @@ impl Model for EngineState {
       lasting = m.lasting.items;
       tickets = m.tickets.tickets;
       journals = journals_of m.sealed m.active m.watermarks;
+      records = m.records;
+      next_job = m.next_job;
     } };
 
     ghost invariant = { λ m. IsLawful (record {
@@ -72,6 +83,8 @@ impl Model for EngineState {
       lasting = m.lasting.items;
       tickets = m.tickets.tickets;
       journals = journals_of m.sealed m.active m.watermarks;
+      records = m.records;
+      next_job = m.next_job;
     }) };
 }
 
@@ -96,8 +109,8 @@ fn count_less(handles: &mut BTreeMap<u64, u64>, id: u64)
 }
 
 impl EngineState {
-    /// These keyspaces, with these trees, whose next change takes this number. Before the active journal, of this number and with
-    /// these watermarks, there are these sealed ones.
+    /// These keyspaces, with these trees, no flush of which is out, and these last records, whose next change takes this number.
+    /// Before the active journal, of this number and with these watermarks, there are these sealed ones.
     pub fn new(
         alloc: Global,
         keyspaces: MetaKeyspace,
@@ -106,15 +119,20 @@ impl EngineState {
         sealed: JournalManager,
         active: u64,
         watermarks: ActiveWatermarks,
+        records: LastRecords,
     ) -> EngineState
         requires made { All (λ k. k.number < next) keyspaces.living }
         requires planted { All (λ k. is_some (tree_at k.id (forest_of trees)) ≡ true) keyspaces.living }
         requires given { All (λ k. k.id < keyspaces.next) (forest_of trees) }
         requires below { AreBefore next (forest_of trees) }
         requires small { next ≤ 2 ^ 63 }
-        ensures { result ≡ remembered keyspaces (forest_of trees) next (journals_of sealed active watermarks) }
+        requires recorded { All (λ k. is_some (get records k.id) ≡ true) keyspaces.living }
+        requires kept { (id : ℕ) → keyspaces.next ≤ id → get records id ≡ None }
+        requires still { All (λ k. k.shape.flush ≡ None) (forest_of trees) }
+        ensures { result ≡ remembered keyspaces (forest_of trees) next (journals_of sealed active watermarks) records }
     {
         EngineState {
+            alloc,
             keyspaces,
             trees,
             tickets: Tickets::new(alloc, next),
@@ -124,6 +142,8 @@ impl EngineState {
             sealed,
             active,
             watermarks,
+            records,
+            next_job: 0,
         }
     }
 
@@ -363,6 +383,20 @@ impl EngineState {
     }
 }
 
+/// What the first record of a keyspace says, which the change of this number made. It takes no memory.
+fn first_record(alloc: Global, number: u64) -> Record
+    ensures { view result ≡ fields (first_of number) }
+{
+    Record {
+        persisted: None,
+        highest: Some(number),
+        next_table_id: 1,
+        next_keyspace_id: 0,
+        tables: Vec::new(alloc),
+        clears: Vec::new(alloc),
+    }
+}
+
 impl EngineState {
     /// A fault has poisoned it.
     pub fn poison(&mut self)
@@ -371,8 +405,8 @@ impl EngineState {
         self.poisoned = true;
     }
 
-    /// Makes a keyspace of this name with these options, under the next number, with a tree that holds nothing, and answers
-    /// its id. After a refusal, for want of memory alone, nothing has changed.
+    /// Makes a keyspace of this name with these options, under the next number, with a tree that holds nothing and its first
+    /// record, and answers its id. After a refusal, for want of memory alone, nothing has changed.
     pub fn create(&mut self, name: Slice, options: KeyspaceCreateOptions) -> Result<u64>
         requires named { is_name name ≡ true }
         requires fresh { id_of name self.old.keyspaces.living ≡ None }
@@ -387,6 +421,10 @@ impl EngineState {
         let number = self.tickets.seqno();
         let next = self.keyspaces.next_id();
         self.trees.plant(next, number)?;
+        if let Err(error) = self.records.insert(next, first_record(self.alloc, number)) {
+            self.trees.let_go(next);
+            return Err(error);
+        }
         match self.keyspaces.create_keyspace(name, options, number) {
             Ok(id) => {
                 self.tickets.publish();
@@ -394,19 +432,22 @@ impl EngineState {
             }
             Err(error) => {
                 self.trees.let_go(next);
+                self.records.remove(next);
                 Err(error)
             }
         }
     }
 
     /// Takes back the keyspace that was made last, where that was the last change: its id and its number are free
-    /// again, and its tree is dropped.
+    /// again, and its tree and its record are dropped.
     pub fn take_back(&mut self)
         requires { (name : Bytes) × (options : List Bytes) × (m : Remembered) × IsLawful m × (self.old ≡ with_creation name options m) }
         ensures { (name : Bytes) (options : List Bytes) (m : Remembered) → IsLawful m → self.old ≡ with_creation name options m → self.new ≡ m }
     {
         self.keyspaces.take_back();
-        self.trees.let_go(self.keyspaces.next_id());
+        let id = self.keyspaces.next_id();
+        self.trees.let_go(id);
+        self.records.remove(id);
         self.tickets.retract();
     }
 
@@ -454,13 +495,14 @@ impl EngineState {
         Ok(())
     }
 
-    // Drops the tree of a deleted keyspace.
+    // Drops the tree and the last record of a deleted keyspace.
     fn let_go(&mut self, id: u64)
         requires { is_living (store_of self.old.keyspaces self.old.trees) id ≡ false }
         ensures { self.new ≡ let_go id self.old }
     {
         self.lasting.retain(|other| *other != id);
         self.trees.let_go(id);
+        self.records.remove(id);
     }
 
     // Counts one handle less.
@@ -471,8 +513,8 @@ impl EngineState {
         count_less(&mut self.handles, id);
     }
 
-    /// Counts one handle less of a keyspace of which one is counted. With the last one of a deleted keyspace goes its
-    /// tree. It takes no memory.
+    /// Counts one handle less of a keyspace of which one is counted. With the last one of a deleted keyspace go its tree
+    /// and its last record. It takes no memory.
     pub fn release(&mut self, id: u64)
         requires counted { 0 < handles_of self.old.handles id }
         ensures { self.new ≡ released id self.old }

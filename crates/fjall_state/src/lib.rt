@@ -4,22 +4,27 @@
 mod call;
 mod clears;
 mod engine_state;
+mod evictions;
+mod flushes;
 mod journals;
 mod laws;
 mod memtables;
 mod places;
 mod reads;
 mod refusals;
+mod tables;
 mod writes;
 
 pub use call::Call;
 pub use engine_state::EngineState;
-pub use fjall_history::{Reply, Ticket, View};
+pub use evictions::FlushedBy;
+pub use fjall_history::{JobId, Reply, Ticket, View};
 pub use laws::{
-    a_change_stands, a_creation_stands, a_deletion_stands, a_fault_stands,
-    a_journal_rotation_stands, a_read_stands, a_refusal_is_a_step, a_release_stands,
-    a_retained_stands, a_rotation_stands, a_snapshot_keeps_its_view, a_step_moves,
-    an_opening_stands, counts_agree, facts_agree, names_agree, nothing_refused, options_agree,
-    other_parts_stand, reads_agree, tickets_stand,
+    a_begun_flush_stands, a_change_stands, a_creation_stands, a_deletion_stands,
+    a_dropped_flush_stands, a_fault_stands, a_finished_flush_stands, a_flush_refusal_is_a_step,
+    a_journal_rotation_stands, a_known_task_stays, a_read_stands, a_refusal_is_a_step,
+    a_release_stands, a_retained_stands, a_rotation_stands, a_snapshot_keeps_its_view,
+    a_step_moves, an_eviction_stands, an_opening_stands, counts_agree, facts_agree, flushes_agree,
+    names_agree, nothing_refused, options_agree, other_parts_stand, reads_agree, tickets_stand,
 };
-pub use places::id_opened;
+pub use places::job_at;

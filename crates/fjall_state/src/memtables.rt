@@ -4,7 +4,7 @@ ghost use Rattle.std.specs.Prelude.{◌≡◌, IfOk, IsOkUnless, Ok, OnErr, fals
 ghost use Rattle.fjall_journal.specs.Writer.{counted};
 ghost use Rattle.fjall_trees.specs.Tables.{shape_in};
 ghost use Rattle.fjall_maps.specs.Maps.{store_of};
-ghost use Rattle.fjall_state.specs.Machine.{buffer_size, rotates, version_count, wants_rotation};
+ghost use Rattle.fjall_state.specs.Machine.{buffer_size, flush_count, rotates, version_count, wants_rotation};
 ghost use Rattle.fjall_state.specs.Remembered.{IsLawful, rotated};
 
 use crate::engine_state::EngineState;
@@ -53,6 +53,19 @@ impl EngineState {
             total = total.saturating_add(self.trees.memtable_size(keyspace.id));
         }
         total
+    }
+
+    /// How many keyspaces that live have a sealed memtable that no flush that is out was begun with.
+    pub fn outstanding_flushes(&self) -> usize
+        ensures { result ≡ flush_count (store_of self.now.keyspaces self.now.trees) self.now.trees }
+    {
+        let mut count: usize = 0;
+        for keyspace in self.living() {
+            if self.trees.waits_for_flush(keyspace.id) {
+                count += 1;
+            }
+        }
+        count
     }
 
     /// Whether a keyspace lives whose active memtable is larger than its option `max_memtable_size`.

@@ -1,61 +1,68 @@
-//! Names of tickets within a list of calls.
+//! Names of tickets and of jobs within a list of calls.
 
-ghost use Rattle.std.specs.Prelude.{◌≡◌};
-ghost use Rattle.fjall_state.specs.Places.{id_at, id_opened, resolved, ticket_at, view_at};
+ghost use Rattle.std.specs.Prelude.{◌≡◌, slice_get};
+ghost use Rattle.fjall_state.specs.Places.{id_opened, job_begun, resolved, ticket_at, view_at};
 
 use crate::call::Call;
-use fjall_history::{Reply, Ticket, View};
+use fjall_history::{JobId, Reply, Ticket, View};
 
-/// The id of the ticket that a call opened, as its reply tells.
-pub fn id_opened(reply: &Reply) -> Option<u64>
-    ensures { result ≡ id_opened reply.now }
+/// The id of the ticket that the call at a place opened, as its reply tells; where it opened none, the greatest `u64`, which no
+/// ticket has.
+fn id_at(replies: &[Reply], place: u64) -> u64
+    ensures { result ≡ id_opened (slice_get replies.now place) }
 {
-    match reply {
-        Reply::Opened(ticket) => Some(ticket.id),
-        _ => None,
-    }
-}
-
-/// The id of the ticket that the call at a place opened; where it opened none, the greatest `u64`, which no ticket has.
-fn id_at(ids: &[Option<u64>], place: u64) -> u64
-    ensures { result ≡ id_at ids.now place }
-{
-    match ids.get(place as usize) {
-        Some(Some(id)) => *id,
+    match replies.get(place as usize) {
+        Some(Reply::Opened(ticket)) => ticket.id,
         _ => u64::MAX,
     }
 }
 
-fn ticket_at(ids: &[Option<u64>], ticket: Ticket) -> Ticket
-    ensures { result ≡ ticket_at ids.now ticket }
+/// The job that the call at a place began, as its reply tells; where it began none, one of the greatest number, which no job
+/// has.
+pub fn job_at(replies: &[Reply], place: u64) -> JobId
+    ensures { result ≡ job_begun (slice_get replies.now place) }
+{
+    match replies.get(place as usize) {
+        Some(Reply::Began(Some(job))) => *job,
+        _ => JobId {
+            number: u64::MAX,
+            keyspace_id: 0,
+        },
+    }
+}
+
+fn ticket_at(replies: &[Reply], ticket: Ticket) -> Ticket
+    ensures { result ≡ ticket_at replies.now ticket }
 {
     Ticket {
-        id: id_at(ids, ticket.id),
+        id: id_at(replies, ticket.id),
         instant: ticket.instant,
     }
 }
 
-fn view_at(ids: &[Option<u64>], view: View) -> View
-    ensures { result ≡ view_at ids.now view }
+fn view_at(replies: &[Reply], view: View) -> View
+    ensures { result ≡ view_at replies.now view }
 {
     match view {
         View::Present => View::Present,
-        View::At(ticket) => View::At(ticket_at(ids, ticket)),
+        View::At(ticket) => View::At(ticket_at(replies, ticket)),
     }
 }
 
 impl Call {
-    /// The same call with the ids of the tickets that it names by the places of calls, of which these had opened those.
-    pub fn resolve(self, ids: &[Option<u64>]) -> Call
-        ensures { result ≡ resolved ids.now self }
+    /// The same call with the ids of the tickets, and with the job, that it names by the places of calls, which got these
+    /// replies.
+    pub fn resolve(self, replies: &[Reply]) -> Call
+        ensures { result ≡ resolved replies.now self }
     {
         match self {
-            Call::GetAt(view, id, key) => Call::GetAt(view_at(ids, view), id, key),
+            Call::GetAt(view, id, key) => Call::GetAt(view_at(replies, view), id, key),
             Call::PageAt(view, id, range, back, max) => {
-                Call::PageAt(view_at(ids, view), id, range, back, max)
+                Call::PageAt(view_at(replies, view), id, range, back, max)
             }
-            Call::CloneSnapshot(ticket) => Call::CloneSnapshot(ticket_at(ids, ticket)),
-            Call::CloseSnapshot(ticket) => Call::CloseSnapshot(ticket_at(ids, ticket)),
+            Call::CloneSnapshot(ticket) => Call::CloneSnapshot(ticket_at(replies, ticket)),
+            Call::CloseSnapshot(ticket) => Call::CloseSnapshot(ticket_at(replies, ticket)),
+            Call::FlushFinish(job) => Call::FlushFinish(job_at(replies, job.number)),
             call => call,
         }
     }

@@ -13,7 +13,7 @@ use fjall_journal::{BatchItem, has_empty_key, has_key_too_long, has_value_too_lo
 const SEQNO_LIMIT: u64 = 1 << 63;
 
 /// The number of a journal that can have a next one lies below this one.
-const JOURNAL_LIMIT: u64 = u64::MAX - 1;
+pub(crate) const JOURNAL_LIMIT: u64 = u64::MAX - 1;
 
 /// How many items a batch has at most.
 const BATCH_LIMIT: usize = 4_294_967_295;

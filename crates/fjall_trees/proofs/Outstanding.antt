@@ -7,7 +7,7 @@ use Rattle.fjall_blocks.specs.Readers.{Reader}
 use Rattle.fjall_jobs.specs.declared.made_table.MadeTable.{MadeTable}
 use Rattle.fjall_jobs.specs.Tasks.{IsFlushed, Task}
 use Rattle.fjall_parts.specs.Parts.{Memory}
-use Rattle.fjall_lsm.specs.Jobs.{IsFlushing, IsMerging, flush_begun, flush_finished, merge_begun, merge_finished}
+use Rattle.fjall_lsm.specs.Jobs.{IsFlushing, IsMerging, flush_begun, flush_dropped, flush_finished, merge_begun, merge_finished}
 use Rattle.fjall_lsm.specs.Puts.{bare_tree, put_all}
 use Rattle.fjall_lsm.specs.Trees.{Flushing, IsSameShape, Merging, Shape, emptied, floor_of, sealed_off}
 use Rattle.fjall_lsm.proofs.Flushed.{flushed_merging}
@@ -101,6 +101,11 @@ flushing_merged id trees task is other readers out = in_altered (λ s. IsFlushin
 pub flushing_planted : (id : ℕ) (trees : Forest) (task : Task) → IsFlushing (shape_in id trees) task → (other from : ℕ) → IsFlushing (shape_in id (with_tree other from trees)) task
 flushing_planted id trees task is other from = in_more (λ s. IsFlushing s task) id trees (record { id = other; shape = bare_tree from } ∷ []) (flushing_tree id trees task is) is
 
+-- whatever becomes of another keyspace's tree
+pub flushing_elsewhere : (id other : ℕ) (change : Shape → Shape) (trees : Forest) (task : Task) → other ≢ id → IsFlushing (shape_in id trees) task
+    → IsFlushing (shape_in id (altered_at other change trees)) task
+flushing_elsewhere id other change trees task differ is = subst (λ (s : Shape). IsFlushing s task) (sym (other_shape other id change trees (λ same. differ (sym same)))) is
+
 -- ---- merges
 
 pub merging_pushed : (id : ℕ) (trees : Forest) (entries : List (List Entry)) (task : Task) → IsMerging (shape_in id trees) entries task → (n : ℕ) (items : List BatchItem)
@@ -149,6 +154,11 @@ pub merging_begun : (id : ℕ) (trees : Forest) (entries : List (List Entry)) (t
 merging_begun id trees entries task is other job watermark =
     in_altered (λ s. IsMerging s entries task) (flush_begun job watermark) id other trees
     (λ shape here. merging_alike shape (flush_begun job watermark shape) entries task refl refl refl here) is
+
+pub merging_dropped : (id : ℕ) (trees : Forest) (entries : List (List Entry)) (task : Task) → IsMerging (shape_in id trees) entries task → (other : ℕ)
+    → IsMerging (shape_in id (altered_at other flush_dropped trees)) entries task
+merging_dropped id trees entries task is other =
+    in_altered (λ s. IsMerging s entries task) flush_dropped id other trees (λ shape here. merging_alike shape (flush_dropped shape) entries task refl refl refl here) is
 
 -- what was flushed came since it began
 pub merging_flushed : (id : ℕ) (trees : Forest) (entries : List (List Entry)) (task : Task) → IsMerging (shape_in id trees) entries task → IsForest trees

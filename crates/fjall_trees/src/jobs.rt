@@ -1,12 +1,12 @@
 //! Jobs of the trees: flushes and merges of one keyspace each, begun, and finished by the readers of what they made.
 
-ghost use Rattle.std.specs.Prelude.{◌≡◌, ◌≢◌, ◌+◌, ◌-◌, ◌<◌, ◌≤◌, ◌^◌, ◌⊎◌, ◌↔◌, [], ℕ, List, length, ⊤, IsTrue, IfOk, IfErr, IfSome, IsOkUnless, OnOk, OnErr, IsOk, vec_len, vec_capacity, Ok, Some, None, true, false};
+ghost use Rattle.std.specs.Prelude.{◌≡◌, ◌≢◌, ◌+◌, ◌-◌, ◌<◌, ◌≤◌, ◌^◌, ◌⊎◌, ◌↔◌, [], ℕ, List, length, ⊤, IsTrue, IfOk, IfErr, IfSome, IsOkUnless, OnOk, OnErr, IsOk, nat_lt, vec_len, vec_capacity, Ok, Some, None, true, false};
 ghost use Rattle.fjall_table.specs.Blocks.{Entry};
 ghost use Rattle.fjall_table.specs.Files.{IsRefused};
 ghost use Rattle.fjall_blocks.specs.Readers.{LooksOn, SomeTableIsWrong};
 ghost use Rattle.fjall_jobs.specs.Flushes.{flush_task};
 ghost use Rattle.fjall_jobs.specs.Merges.{merge_task};
-ghost use Rattle.fjall_lsm.specs.Jobs.{IsFlushing, IsMerging, MergesNothing, flush_begun, flush_finished, flush_of, is_flush_out, is_merge_out, merge_begun, merge_finished, merge_of};
+ghost use Rattle.fjall_lsm.specs.Jobs.{IsFlushing, IsMerging, MergesNothing, count_out, flush_begun, flush_dropped, flush_end, flush_finished, flush_of, is_flush_out, is_merge_out, merge_begun, merge_finished, merge_of};
 ghost use Rattle.fjall_trees.specs.Forests.{altered_at};
 ghost use Rattle.fjall_trees.specs.Tables.{AreReadOn, AreSameTrees, HasRoomAt, shape_in};
 
@@ -24,6 +24,26 @@ impl Trees {
     {
         match self.tree(id) {
             Some(tree) => tree.wants_flush(),
+            None => false,
+        }
+    }
+
+    /// Whether the flush of this number is out of a keyspace.
+    pub fn is_flushing(&self, id: u64, job: u64) -> bool
+        ensures { result ≡ is_flush_out job (shape_in id (forest_of self.now)).flush }
+    {
+        match self.tree(id) {
+            Some(tree) => tree.is_flushing(job),
+            None => false,
+        }
+    }
+
+    /// Whether a keyspace has a sealed memtable that no flush that is out takes.
+    pub fn waits_for_flush(&self, id: u64) -> bool
+        ensures { result ≡ nat_lt (count_out (shape_in id (forest_of self.now)).flush) (length (shape_in id (forest_of self.now)).memory.sealed) }
+    {
+        match self.tree(id) {
+            Some(tree) => tree.waits_for_flush(),
             None => false,
         }
     }
@@ -54,6 +74,27 @@ impl Trees {
         match place_of(self.trees.as_slice(), id) {
             Some(place) => self.trees[place].tree.begin_flush(job, id, watermark),
             None => Ok(None),
+        }
+    }
+
+    /// Where the memtables of a keyspace begin that a flush that is out leaves: all that it takes is numbered below. Where none is
+    /// out it is where the keyspace's memory begins, and 0 where it has no tree.
+    pub fn flush_end(&self, id: u64) -> u64
+        ensures { result ≡ flush_end (shape_in id (forest_of self.now)) }
+    {
+        match self.tree(id) {
+            Some(tree) => tree.flush_end(),
+            None => 0,
+        }
+    }
+
+    /// Forgets the flush of a keyspace that is out, where one is: what it was begun with stays in memory, and its finish is
+    /// stale. It takes no memory.
+    pub fn drop_flush(&mut self, id: u64)
+        ensures { forest_of self.new ≡ altered_at id flush_dropped (forest_of self.old) }
+    {
+        if let Some(place) = place_of(self.trees.as_slice(), id) {
+            self.trees[place].tree.drop_flush();
         }
     }
 

@@ -10,7 +10,7 @@ ghost use Rattle.fjall_blocks.specs.Readers.{AreRead, Reader};
 ghost use Rattle.fjall_jobs.specs.declared.made_table.MadeTable.{MadeTable};
 ghost use Rattle.fjall_jobs.specs.Merges.{IsMerged};
 ghost use Rattle.fjall_jobs.specs.Tasks.{IsFlushed, Task};
-ghost use Rattle.fjall_lsm.specs.Jobs.{IsFlushing, IsMerging, flush_begun, flush_finished, merge_begun, merge_finished};
+ghost use Rattle.fjall_lsm.specs.Jobs.{IsFlushing, IsMerging, flush_begun, flush_dropped, flush_finished, merge_begun, merge_finished};
 ghost use Rattle.fjall_lsm.specs.Trees.{Merging, ReadsAll, Shape, emptied, sealed_off};
 ghost use Rattle.fjall_trees.specs.Forests.{Forest, IsForest, altered_at, tree_at, without};
 ghost use Rattle.fjall_trees.specs.Tables.{AreReadOn, AreSameTrees, entries_with, shape_in};
@@ -25,7 +25,7 @@ pub fn other_trees_stay()
 {}
 
 /// What the tables hold on a disk stays under writes, clears and rotations, where a tree comes and where one goes, where a job
-/// is begun, and on each disk that has the tables' files as they were.
+/// is begun, where a flush is dropped, and on each disk that has the tables' files as they were.
 pub fn the_tables_stay_read()
     ensures pushed { (disk : Meaning) (trees : Forest) (entries : ℕ → List (List Entry)) → AreReadOn disk trees entries → (n : ℕ) (items : List BatchItem) → AreReadOn disk (pushed n items trees) entries }
     ensures emptied { (disk : Meaning) (trees : Forest) (entries : ℕ → List (List Entry)) → AreReadOn disk trees entries → (id n : ℕ) → AreReadOn disk (altered_at id (emptied n) trees) entries }
@@ -38,6 +38,7 @@ pub fn the_tables_stay_read()
         → AreReadOn disk (altered_at id (flush_begun job watermark) trees) entries }
     ensures merge { (disk : Meaning) (trees : Forest) (entries : ℕ → List (List Entry)) → AreReadOn disk trees entries → (id job watermark : ℕ)
         → AreReadOn disk (altered_at id (merge_begun job watermark) trees) entries }
+    ensures dropped_flush { (disk : Meaning) (trees : Forest) (entries : ℕ → List (List Entry)) → AreReadOn disk trees entries → (id : ℕ) → AreReadOn disk (altered_at id flush_dropped trees) entries }
     ensures later { (old new : Meaning) (trees : Forest) (entries : ℕ → List (List Entry)) → AreReadOn old trees entries
         → All (λ k. All (λ t. entry_at new t.name ≡ entry_at old t.name) k.shape.tables) trees → AreReadOn new trees entries }
 {}
@@ -59,7 +60,7 @@ pub fn finished_jobs_change_one_keyspace()
 
 /// A flush that is out stays so under writes, clears and rotations of whatever keyspace, where a merge is begun and where one
 /// is finished, and where a keyspace comes; the same trees have the same one. What changes or drops other trees leaves the
-/// tree that it was begun with.
+/// tree that it was begun with: so a flush stays out where another keyspace's is begun, finished or dropped.
 pub fn flushes_of_trees_stay_out()
     ensures pushed { (id : ℕ) (trees : Forest) (task : Task) → IsFlushing (shape_in id trees) task → (n : ℕ) (items : List BatchItem) → IsFlushing (shape_in id (pushed n items trees)) task }
     ensures emptied { (id : ℕ) (trees : Forest) (task : Task) → IsFlushing (shape_in id trees) task → (other n : ℕ) → IsFlushing (shape_in id (altered_at other (emptied n) trees)) task }
@@ -72,10 +73,12 @@ pub fn flushes_of_trees_stay_out()
     ensures same { (id : ℕ) (old new : Forest) → AreSameTrees old new → (task : Task) → IsFlushing (shape_in id old) task → IsFlushing (shape_in id new) task }
     ensures others { (id other : ℕ) (change : Shape → Shape) (trees : Forest) → other ≢ id → shape_in other (altered_at id change trees) ≡ shape_in other trees }
     ensures dropped { (id other : ℕ) (trees : Forest) → other ≢ id → shape_in other (without id trees) ≡ shape_in other trees }
+    ensures dropped_flush { (id other : ℕ) (change : Shape → Shape) (trees : Forest) (task : Task) → other ≢ id → IsFlushing (shape_in id trees) task
+        → IsFlushing (shape_in id (altered_at other change trees)) task }
 {}
 
-/// A merge that is out stays so under writes, clears and rotations of whatever keyspace, where a flush is begun and where one
-/// is finished, and where a keyspace comes; the same trees have the same one.
+/// A merge that is out stays so under writes, clears and rotations of whatever keyspace, where a flush is begun, where one is
+/// finished and where one is dropped, and where a keyspace comes; the same trees have the same one.
 pub fn merges_of_trees_stay_out()
     ensures pushed { (id : ℕ) (trees : Forest) (entries : List (List Entry)) (task : Task) → IsMerging (shape_in id trees) entries task → (n : ℕ) (items : List BatchItem)
         → IsMerging (shape_in id (pushed n items trees)) entries task }
@@ -85,6 +88,8 @@ pub fn merges_of_trees_stay_out()
         → IsMerging (shape_in id (altered_at other sealed_off trees)) entries task }
     ensures begun { (id : ℕ) (trees : Forest) (entries : List (List Entry)) (task : Task) → IsMerging (shape_in id trees) entries task → (other job watermark : ℕ)
         → IsMerging (shape_in id (altered_at other (flush_begun job watermark) trees)) entries task }
+    ensures dropped_flush { (id : ℕ) (trees : Forest) (entries : List (List Entry)) (task : Task) → IsMerging (shape_in id trees) entries task → (other : ℕ)
+        → IsMerging (shape_in id (altered_at other flush_dropped trees)) entries task }
     ensures flushed { (id : ℕ) (trees : Forest) (entries : List (List Entry)) (task : Task) → IsMerging (shape_in id trees) entries task → IsForest trees
         → (flush : Task) (is : IsFlushing (shape_in id trees) flush) (tables : List MadeTable) (clears : List ℕ) (made : IsFlushed flush tables clears) (readers : List Reader)
         → IsMerging (shape_in id (altered_at id (flush_finished readers is.out) trees)) (entries ++ made.lists) task }

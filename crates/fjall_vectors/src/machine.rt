@@ -2,6 +2,7 @@
 
 use fjall_base::{Error, KvPair, Result, Slice};
 use fjall_journal::{BatchItem, Op, PersistMode, ValueType, Writer};
+use fjall_loading::LastRecords;
 use fjall_manager::{ActiveWatermarks, JournalManager};
 use fjall_memory::MemoryDisk;
 use fjall_meta::MetaKeyspace;
@@ -128,6 +129,7 @@ fn empty(alloc: Global) -> EngineState {
         JournalManager::new(alloc),
         0,
         ActiveWatermarks::new(alloc),
+        LastRecords::new(alloc),
     )
 }
 

@@ -3,6 +3,7 @@
 use crate::machine::{one_deleted, two};
 use fjall_base::{Error, Result, Slice};
 use fjall_journal::{BatchItem, Op};
+use fjall_loading::LastRecords;
 use fjall_manager::{ActiveWatermarks, JournalManager};
 use fjall_meta::MetaKeyspace;
 use fjall_state::EngineState;
@@ -36,6 +37,7 @@ fn memory_of(alloc: Global, named: Given) -> Result<EngineState> {
             JournalManager::new(alloc),
             u64::MAX - 1,
             ActiveWatermarks::new(alloc),
+            LastRecords::new(alloc),
         ),
     })
 }

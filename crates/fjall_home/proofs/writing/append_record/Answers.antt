@@ -23,14 +23,14 @@ returns-clause-within g c honest folder under =
 pub returns-in_err-append-clause-any_moment : goal.returns-in_err-append-clause-any_moment
 returns-in_err-append-clause-any_moment g c honest id records h next at is_record text written =
     let m : _ → Meaning = g.D.Disk.meaning in
-    Commits.in_part id at.0 records h next is_record (m c.args.disk.now) (m c.append.new.self) written
+    Commits.in_part id at.0 records h next is_record (m c.args.disk.now) written.rests written.tables (m c.append.new.self)
     (subst (λ (n : Name). TookPart (m c.args.disk.now) (m c.append.new.self) n (record_text next.last)) at.1
     (subst (λ (l : List ℕ). TookPart (m c.args.disk.now) (m c.append.new.self) c.args.file.now l) text (c.in_err-append.ensures.err honest)))
 
 pub returns-clause-any_moment : goal.returns-clause-any_moment
 returns-clause-any_moment g c honest id records h next at is_record text written =
     let m : _ → Meaning = g.D.Disk.meaning in
-    Commits.committing id at.0 records h next is_record (m c.args.disk.now) (m c.append.new.self) (m c.sync.new.self) c.sync.result written
+    Commits.committing id at.0 records h next is_record (m c.args.disk.now) written.rests written.tables (m c.append.new.self) (m c.sync.new.self) c.sync.result
     (subst (λ (n : Name). Took (m c.args.disk.now) (m c.append.new.self) (Append n (record_text next.last) ∷ [])) at.1
     (subst (λ (l : List ℕ). Took (m c.args.disk.now) (m c.append.new.self) (Append c.args.file.now l ∷ [])) text (c.in_ok-append.ensures.ok honest)))
     (subst (λ (n : Name). OnOk c.sync.result (Took (m c.append.new.self) (m c.sync.new.self) (Sync n ∷ []))) at.1 (c.sync.ensures.ok honest))

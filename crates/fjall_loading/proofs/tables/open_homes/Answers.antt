@@ -1,24 +1,29 @@
 use Rattle.std.proofs.Common.{rules, ◌≡◌, ◌∙◌, ◌⊎◌, ◌+◌, ◌<◌, ◌≤◌, ◌++◌, ◌∷◌, [], inl, inr, ℕ, List, All, AllPairs, Err, ap, arith, get_or, length, length-append, map, subst, sym, take, refl}
+use Rattle.std.specs.FinMap.{get, get-empty}
+use Rattle.std.specs.Ordering.{nat_cmp}
 use Rattle.std.specs.Prelude.{IfErr, IsOkUnless}
 use Rattle.std.proofs.lemmas.Iterator.Adapters.{YieldsList-from_vec}
 use Rattle.std.proofs.lemmas.Iterator.Consumers.{YieldsList-end, YieldsList-turn}
 use Rattle.std.proofs.lemmas.List.{length-map, take_all}
+use Rattle.std.proofs.lemmas.List.Elements.{All-map}
 use Rattle.fjall_base.specs.declared.error.Error.{Error}
 use Rattle.fjall_base.specs.declared.error.Error.TheVariants.{OutOfMemory, Storage}
 use Rattle.fjall_base.specs.declared.error.StorageError.TheVariants.{RecordDamaged}
 use Rattle.fjall_files.specs.Calls.{seen}
 use Rattle.fjall_home.specs.declared.reading.LoadedHome.{LoadedHome}
 use Rattle.fjall_meta.specs.declared.living.LivingKeyspace.{LivingKeyspace}
-use Rattle.fjall_meta.specs.Keyspaces.{Keyspaces}
+use Rattle.fjall_meta.specs.Keyspaces.{AreKeyspaces, Keyspaces}
 use Rattle.fjall_recovery.specs.Homes.{AreHomesRead}
 use Rattle.fjall_replay.specs.Beside.{AreEndedBy}
 use Rattle.fjall_replay.specs.Replayed.{ids_of}
 use Rattle.fjall_trees.specs.Forests.{AreBefore, Forest}
 use Rattle.fjall_trees.specs.Views.{forest_of}
-use Rattle.fjall_loading.specs.Opening.{IsOpenedOn, MayOpen, MayOpenAll, ShowsEntries, ShowsStored, opened, told_by}
-use Rattle.fjall_loading.proofs.Turns.{front_more, trees_below}
-use Rattle.fjall_loading.proofs.Opening.{as_many_homes, ids_ascend, may_at, may_more, opened_before, opened_ended, opened_ids, opened_more, read_all, turn_at}
-use Rattle.fjall_loading.proofs.Opened.{all_opened, shows_entries, shows_stored}
+use Rattle.fjall_loading.specs.Opening.{IsOpenedOn, KnowsStored, MayOpen, MayOpenAll, ShowsEntries, opened, told_by}
+use Rattle.fjall_loading.specs.Known.{AreAtHome, LastFields}
+use Rattle.fjall_loading.proofs.Turns.{front_more, lower_ids, trees_below}
+use Rattle.fjall_loading.proofs.Opening.{AreRecordsOf, all_recorded, as_many_homes, ids_ascend, may_at, may_more, none_recorded, opened_before, opened_ended, opened_ids, opened_more, read_all, records_more, turn_at}
+use Rattle.fjall_loading.proofs.Opened.{all_opened, knows_stored, shows_entries}
+use Rattle.fjall_loading.proofs.Named.{all_named}
 use Rattle.fjall_loading.proofs.tables.open_homes.Goals as goal
 
 -- where there are more or fewer homes than keyspaces, they aren't theirs
@@ -49,6 +54,14 @@ open_home-requires c =
     trees_below s c.next_id.ensures.lawful n k k here lt (forest_of at.trees)
     (ap ids_of at.invariant.trees ∙ opened_ids (map (λ (j : LivingKeyspace). j.id) (take n s.living)) (take n homes) at.invariant.may)
 
+pub loop-home-init : goal.loop-home-init
+loop-home-init c = record {
+  place = refl;
+  trees = c.new-trees.ensures;
+  records = λ id. ap (λ (m : LastFields). get m id) c.new-records.ensures ∙ get-empty nat_cmp id;
+  may = tt;
+}
+
 pub loop-home-preserved : goal.loop-home-preserved
 loop-home-preserved c =
     let s = c.args.keyspaces.now in
@@ -69,6 +82,9 @@ loop-home-preserved c =
       trees =
           opened_more s.living homes n (length (at.yielded ++ home ∷ [])) k home next front turn.0 turn.1 (forest_of at.trees) (forest_of c.open_home.new.trees) at.invariant.trees
           c.in_ok-open_home.ensures.ok;
+      records =
+          records_more s.living homes n (length (at.yielded ++ home ∷ [])) k home next front turn.0 turn.1 at.records c.open_home.new.records
+          (lower_ids s c.next_id.ensures.lawful n k k here lt) at.invariant.may c.in_ok-open_home.ensures.may at.invariant.records c.in_ok-open_home.ensures.kept;
       may = may_more s.living homes n (length (at.yielded ++ home ∷ [])) k home next front turn.0 turn.1 at.invariant.may c.in_ok-open_home.ensures.may;
     }
 
@@ -117,12 +133,13 @@ returns-in_err-open_home-clause-only c image read =
 
 -- ---- at the end
 
-record IsWhole (s : Keyspaces) (homes : List LoadedHome) (trees : Forest) : Type 0 where
+record IsWhole (s : Keyspaces) (homes : List LoadedHome) (trees : Forest) (kept : LastFields) : Type 0 where
   are : trees ≡ map opened homes
+  records : AreRecordsOf homes kept
   may : MayOpenAll (map (λ k. k.id) s.living) homes
-  up : AllPairs (λ j k. j.id < k.id) s.living
+  lawful : AreKeyspaces s
 
-whole : (c : goal.After-drop-home-iterator-2) → IsWhole c.args.keyspaces.now c.args.homes.items (forest_of c.loop-home.trees)
+whole : (c : goal.After-drop-home-iterator-2) → IsWhole c.args.keyspaces.now c.args.homes.items (forest_of c.loop-home.trees) c.loop-home.records
 whole c =
     let s = c.args.keyspaces.now in
     let homes = c.args.homes.items in
@@ -135,9 +152,10 @@ whole c =
     let past : length s.living ≤ n = omega (arith, end.1, many) in
     record {
       are = at.invariant.trees ∙ ap (map opened) (take_all n homes over);
+      records = subst (λ (hs : List LoadedHome). AreRecordsOf hs at.records) (take_all n homes over) at.invariant.records;
       may = subst (λ (hs : List LoadedHome). MayOpenAll (map (λ (k : LivingKeyspace). k.id) s.living) hs) (take_all n homes over)
           (subst (λ (ks : List LivingKeyspace). MayOpenAll (map (λ (k : LivingKeyspace). k.id) ks) (take n homes)) (take_all n s.living past) at.invariant.may);
-      up = c.next_id.ensures.lawful.ascending;
+      lawful = c.next_id.ensures.lawful;
     }
 
 pub returns-clause-live : goal.returns-clause-live
@@ -153,23 +171,41 @@ pub returns-clause-ended : goal.returns-clause-ended
 returns-clause-ended c =
     let w = whole c in
     subst (AreEndedBy (map told_by c.args.homes.items) 0) (sym w.are)
-    (opened_ended (map (λ (k : LivingKeyspace). k.id) c.args.keyspaces.now.living) c.args.homes.items (ids_ascend c.args.keyspaces.now.living w.up) w.may)
+    (opened_ended (map (λ (k : LivingKeyspace). k.id) c.args.keyspaces.now.living) c.args.homes.items (ids_ascend c.args.keyspaces.now.living w.lawful.ascending) w.may)
 
 pub returns-clause-opened : goal.returns-clause-opened
 returns-clause-opened c disk contents openable same read =
     subst (All (IsOpenedOn disk contents)) (sym (whole c).are)
     (all_opened disk contents openable c.args.homes.items (subst (λ (s : Keyspaces). AreHomesRead (seen disk) s.living c.args.homes.items) (sym same) read))
 
+pub returns-clause-named : goal.returns-clause-named
+returns-clause-named c image read =
+    let w = whole c in
+    subst (AreAtHome c.loop-home.records) (sym w.are) (all_named image c.args.keyspaces.now.living c.args.homes.items c.loop-home.records w.lawful.ascending read w.records)
+
+pub returns-clause-records : goal.returns-clause-records
+returns-clause-records c = (whole c).records
+
+pub returns-clause-recorded : goal.returns-clause-recorded
+returns-clause-recorded c = let w = whole c in all_recorded c.args.keyspaces.now.living c.args.homes.items c.loop-home.records w.may w.records
+
+pub returns-clause-kept : goal.returns-clause-kept
+returns-clause-kept c =
+    let w = whole c in
+    let s = c.args.keyspaces.now in
+    none_recorded s.next (map (λ (k : LivingKeyspace). k.id) s.living) c.args.homes.items c.loop-home.records
+    (All-map (λ id. id < s.next) (λ (k : LivingKeyspace). k.id) s.living w.lawful.given) w.may w.records
+
 pub returns-clause-sound : goal.returns-clause-sound
 returns-clause-sound c disk contents openable same read versions have =
     let w = whole c in
-    subst (ShowsStored disk contents versions) (sym w.are)
-    (shows_stored disk contents openable c.args.homes.items (subst (λ (s : Keyspaces). AreHomesRead (seen disk) s.living c.args.homes.items) (sym same) read) versions have
-    (subst (λ (s : Keyspaces). AllPairs (λ (j k : LivingKeyspace). j.id < k.id) s.living) (sym same) w.up))
+    subst (KnowsStored disk contents versions c.loop-home.records) (sym w.are)
+    (knows_stored disk contents openable c.args.homes.items (subst (λ (s : Keyspaces). AreHomesRead (seen disk) s.living c.args.homes.items) (sym same) read) versions have c.loop-home.records w.records
+    (subst (λ (s : Keyspaces). AllPairs (λ (j k : LivingKeyspace). j.id < k.id) s.living) (sym same) w.lawful.ascending))
 
 pub returns-clause-reads : goal.returns-clause-reads
 returns-clause-reads c disk contents openable same read entries have =
     let w = whole c in
     subst (ShowsEntries disk contents entries) (sym w.are)
     (shows_entries disk contents openable c.args.homes.items (subst (λ (s : Keyspaces). AreHomesRead (seen disk) s.living c.args.homes.items) (sym same) read) entries have
-    (subst (λ (s : Keyspaces). AllPairs (λ (j k : LivingKeyspace). j.id < k.id) s.living) (sym same) w.up))
+    (subst (λ (s : Keyspaces). AllPairs (λ (j k : LivingKeyspace). j.id < k.id) s.living) (sym same) w.lawful.ascending))

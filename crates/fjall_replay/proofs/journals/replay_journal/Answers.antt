@@ -1,4 +1,4 @@
-use Rattle.std.proofs.Common.{◌≡◌, ◌<◌, ◌≤◌, ◌∙◌, ◌++◌, List, ap, length, map, refl, subst, sym}
+use Rattle.std.proofs.Common.{◌≡◌, ◌<◌, ◌≤◌, ◌∙◌, ◌++◌, List, ap, length, map, refl, subst, sym, true}
 use Rattle.std.proofs.lemmas.List.{take_all}
 use Rattle.std.proofs.lemmas.List.Elements.{All-map}
 use Rattle.fjall_journal.specs.declared.batch.Batch.{Batch}
@@ -8,10 +8,12 @@ use Rattle.fjall_trees.specs.Tables.{AreReadOn}
 use Rattle.fjall_trees.specs.Views.{forest_of}
 use Rattle.fjall_versions.specs.Replays.{counts_unpersisted, least_after}
 use Rattle.fjall_replay.specs.Beside.{AreEndedBy, AreReplayedWith, all_at_rest}
+use Rattle.fjall_replay.specs.Parted.{ActivesPass}
 use Rattle.fjall_replay.specs.Replayed.{MayReplay, ids_of}
 use Rattle.fjall_replay.specs.Steps.{with_batch, with_batches}
 use Rattle.fjall_replay.proofs.Behind.{next_begins, replay_beside}
 use Rattle.fjall_replay.proofs.Keeping.{batch_step, batches_before, batches_ids}
+use Rattle.fjall_replay.proofs.Parting.{batches_pass}
 use Rattle.fjall_replay.proofs.Resting.{batches_end, batches_read, batches_rest}
 use Rattle.fjall_replay.proofs.journals.replay_journal.Goals as goal
 
@@ -62,6 +64,12 @@ pub returns-clause-reads : goal.returns-clause-reads
 returns-clause-reads c disk entries read =
     subst (λ (t : Forest). AreReadOn disk t entries) (sym (after_all c))
     (batches_read disk entries (counts_unpersisted c.args.keyspaces.now c.args.persisted.now) (map view c.args.batches.now) (forest_of c.args.trees.now) read)
+
+pub returns-clause-numbered : goal.returns-clause-numbered
+returns-clause-numbered c test passing each =
+    subst (ActivesPass test) (sym (after_all c))
+    (batches_pass test (counts_unpersisted c.args.keyspaces.now c.args.persisted.now) (map view c.args.batches.now) (forest_of c.args.trees.now)
+    (All-map (λ (b : Shown). test b.number ≡ true) view c.args.batches.now each) passing)
 
 pub returns-clause-ended : goal.returns-clause-ended
 returns-clause-ended c least ended sound =

@@ -1,6 +1,6 @@
 use Rattle.std.proofs.Common.{◌≡◌, ◌+◌, ◌∷◌, ◌++◌, ◌∙◌, Some, ap, arith, refl}
 use Rattle.std.specs.Prelude.{string_bytes}
-use Rattle.fjall_script.specs.Answers.{reply_text}
+use Rattle.fjall_script.specs.Answers.{reply_text, reply_to}
 use Rattle.fjall_script.proofs.Counts.{asked_small}
 use Rattle.fjall_script.proofs.Printing.{bad_said, crash_said, plain_step, reopen_said, reply_step}
 use Rattle.fjall_script.proofs.session.answers_to.Goals as goal
@@ -27,12 +27,14 @@ loop-found-preserved c =
           }
       | in-Some+in-Ask+in-Some-split_first+in_ok-answer-in-Ask+in_ok-push_str-in-Ask w ↦
           let added : string_bytes w.push_str-in-Ask.new.self ≡ string_bytes c.loop-found.text ++ w.as_str.result.now = w.in_ok-push_str-in-Ask.ensures.bytes in
-          let said : w.as_str.result.now ≡ reply_text (c.loop-found.asked + 1) w.in-Ask.request w.in-Some-split_first.reply.now = w.as_str.ensures.value ∙ w.in_ok-answer-in-Ask.ensures in
-          let rest : c.match-found.left.now ≡ w.in-Some-split_first.more.now = ap (λ l. l.now) w.left-is in
-          let split : c.loop-found.left.now ≡ w.in-Some-split_first.reply.now ∷ c.match-found.left.now = cc (rest, w.in-Some-split_first.ensures.cases.0) in
+          let said : w.as_str.result.now ≡ reply_text (c.loop-found.asked + 1) w.in-Ask.request w.reply_to.result.0.now = w.as_str.ensures.value ∙ w.in_ok-answer-in-Ask.ensures in
+          let split : c.loop-found.left.now ≡ w.in-Some-split_first.first.now ∷ w.in-Some-split_first.behind.now = w.in-Some-split_first.ensures.cases.0 in
+          let rest : c.match-found.left.now ≡ (reply_to w.in-Ask.request w.in-Some-split_first.first.now w.in-Some-split_first.behind.now).1 = ap (λ l. l.now) w.left-is ∙ w.reply_to.ensures.left in
           let more = w.asked-is ∙ w.asked_with-asked.ensures in
           let small = asked_small c.loop-found.asked w.in-Ask.request in record {
-            text = reply_step c.loop-found.asked c.match-found.asked (c.loop-found.asked + 1) c.args.commands.now c.loop-found.found-index c.found-item.result w.in-Ask.request c.loop-found.left.now c.match-found.left.now w.in-Some-split_first.reply.now _ _ _ _ c.loop-found-test.true c.found-item.is (w.in-Some.is ∙ ap Some w.in-Ask.is) split refl more (ap string_bytes w.text-is ∙ added ∙ ap (λ t. string_bytes c.loop-found.text ++ t) said) c.in_ok-push_str.ensures.bytes c.loop-found.invariant.text;
+            text = reply_step c.loop-found.asked c.match-found.asked (c.loop-found.asked + 1) c.args.commands.now c.loop-found.found-index c.found-item.result w.in-Ask.request
+                c.loop-found.left.now w.in-Some-split_first.behind.now c.match-found.left.now w.in-Some-split_first.first.now w.reply_to.result.0.now _ _ _ _ c.loop-found-test.true c.found-item.is (w.in-Some.is ∙ ap Some w.in-Ask.is) split w.reply_to.ensures.reply rest refl more
+                (ap string_bytes w.text-is ∙ added ∙ ap (λ t. string_bytes c.loop-found.text ++ t) said) c.in_ok-push_str.ensures.bytes c.loop-found.invariant.text;
             few = omega (arith, few, more, small);
           }
     ]

@@ -27,3 +27,6 @@ returns-clause-others c = Outstanding.other_shape
 
 pub returns-clause-dropped : goal.returns-clause-dropped
 returns-clause-dropped c = Outstanding.shape_left
+
+pub returns-clause-dropped_flush : goal.returns-clause-dropped_flush
+returns-clause-dropped_flush c = Outstanding.flushing_elsewhere

@@ -21,3 +21,6 @@ returns-clause-planted c = Outstanding.merging_planted
 
 pub returns-clause-same : goal.returns-clause-same
 returns-clause-same c = Outstanding.merging_same
+
+pub returns-clause-dropped_flush : goal.returns-clause-dropped_flush
+returns-clause-dropped_flush c = Outstanding.merging_dropped

@@ -27,3 +27,6 @@ returns-clause-merge c = Reading.merging_read_on
 
 pub returns-clause-later : goal.returns-clause-later
 returns-clause-later c = Reading.all_files_read
+
+pub returns-clause-dropped_flush : goal.returns-clause-dropped_flush
+returns-clause-dropped_flush c = Reading.flush_dropped_read

@@ -22,8 +22,8 @@ pub returns-in-Ok-clause-safe : goal.returns-in-Ok-clause-safe
 returns-in-Ok-clause-safe g c honest store (folder, holds, back, same) =
     let m : _ → Meaning = g.D.Disk.meaning in
     let o = c.in-Ok.opened in
-    subst (λ (memory : Remembered). OpensAs (held_of (m c.open_folder.new.disk) o memory) store) (sym c.new.ensures)
-    (opens_as (m c.open_folder.new.disk) folder o (c.in-Ok.ensures.opened honest folder holds) store c.in-Ok.ensures.lawful same)
+    let is = c.in-Ok.ensures.opened honest folder holds in
+    subst (λ (memory : Remembered). OpensAs (held_of (m c.open_folder.new.disk) o memory) store) (sym c.new.ensures) (opens_as (m c.open_folder.new.disk) folder o is store c.in-Ok.ensures.lawful same)
 
 pub returns-in-Ok-clause-any_moment : goal.returns-in-Ok-clause-any_moment
 returns-in-Ok-clause-any_moment g c honest = let m : _ → Meaning = g.D.Disk.meaning in keeps (m c.args.disk) (m c.open_folder.new.disk) (c.open_folder.ensures.any_moment honest)
@@ -51,7 +51,8 @@ returns-in-Ok-clause-amid g c honest base pending holds =
     let new = m c.open_folder.new.disk in
     let o = c.in-Ok.opened in
     subst (λ (memory : Remembered). OpensAmid old (held_of new o memory) base pending) (sym c.new.ensures)
-    (opens_amid old new o base pending holds (c.open_folder.ensures.kinds honest) (λ folder is. c.in-Ok.ensures.opens honest folder is base pending holds) (c.open_folder.ensures.amid honest base pending holds) c.in-Ok.ensures.lawful)
+    (opens_amid old new o base pending holds (c.open_folder.ensures.kinds honest) (c.in-Ok.ensures.swept honest) (λ folder is. c.in-Ok.ensures.opens honest folder is base pending holds)
+    (c.open_folder.ensures.amid honest base pending holds) c.in-Ok.ensures.lawful)
 
 pub returns-in-Err-clause-amid_err : goal.returns-in-Err-clause-amid_err
 returns-in-Err-clause-amid_err g c honest base pending holds =

@@ -1,12 +1,14 @@
-use Rattle.std.proofs.Common.{rules, ℕ, List, Option, ◌≡◌, ◌≤◌, ◌<◌, ◌+◌, ◌∷◌, ◌++◌, [], length, length-append, take, vec_len, vec_capacity, refl, sym, ◌∙◌, ap, subst, arith}
+use Rattle.std.proofs.Common.{rules, ℕ, List, ◌≡◌, ◌≤◌, ◌<◌, ◌+◌, ◌∷◌, ◌++◌, [], length, length-append, take, vec_len, vec_capacity, refl, sym, ◌∙◌, ap, subst, arith}
 use Rattle.std.proofs.lemmas.List.{take_all}
 use Rattle.std.proofs.lemmas.Iterator.Adapters.{YieldsList-from_vec}
 use Rattle.std.proofs.lemmas.Iterator.Consumers.{YieldsList-end, YieldsList-turn}
-use Rattle.fjall_state.specs.declared.call.Call.{Call}
+use Rattle.fjall_history.specs.declared.reply.Reply.{Reply}
 use Rattle.fjall_state.specs.Places.{resolved, resolved_all}
 use Rattle.fjall_state.specs.Shapes.{shape_of}
+use Rattle.fjall_core.specs.Jobs.{KeepsJobs}
 use Rattle.fjall_core.specs.Standing.{Owes, OwesAll, Runs, Serves}
-use Rattle.fjall_core.proofs.ResolvedRuns.{call_more, ids_more, ids_of, owed_more, runs_more, so_far}
+use Rattle.fjall_core.proofs.KeptJobs.{none_kept}
+use Rattle.fjall_core.proofs.ResolvedRuns.{call_more, owed_more, runs_more, so_far}
 use Rattle.fjall_core.proofs.RunsOverCrashes.{SoFar, none_yet, ends, runs_none}
 use Rattle.fjall_core.proofs.engine.Core.run.Goals as goal
 
@@ -15,11 +17,11 @@ loop-call-init g c = record {
   runs = λ _. subst (λ rs. Runs c.args.self.now [] rs c.args.self.now) (sym c.in_ok-replies.ensures.items) (runs_none c.args.self.now);
   crash = λ _ s d stands reads on. subst (λ rs. SoFar c.args.self.now s d [] rs) (sym c.in_ok-replies.ensures.items) (none_yet c.args.self.now s d stands reads on);
   owes = subst (λ rs. OwesAll c.args.self.now [] rs c.args.self.now) (sym c.in_ok-replies.ensures.items) refl;
-  given = c.in_ok-ids.ensures.items ∙ ap ids_of (sym c.in_ok-replies.ensures.items);
+  keeps = none_kept c.args.self.now.memory c.in_ok-jobs.jobs.items c.in_ok-replies.replies.items c.in_ok-jobs.ensures.items c.in_ok-replies.ensures.items;
   count = search rules;
-  ids_count = search rules;
+  jobs_count = search rules;
   room = search rules;
-  ids_room = search rules;
+  jobs_room = search rules;
 }
 
 pub loop-call-preserved : goal.loop-call-preserved
@@ -29,29 +31,38 @@ loop-call-preserved g c =
     let call = c.in-Some.call in
     let road = YieldsList-from_vec {s = c.into_iter-call-iterator.result} calls (search rules) (search rules) in
     let turn = YieldsList-turn road at.yielded at.call-iterator at.yielded_by c.next.result c.next.new.self call c.in-Some.is c.next.ensures.steps in
-    let pushed : c.push-in-loop-call.new.self.items ≡ at.replies.items ++ c.serve-reply.result ∷ [] = search rules in
-    let one_more : vec_len c.push-in-loop-call.new.self ≡ vec_len at.replies + 1 = search rules in
-    let one_id : c.push.new.self.items ≡ at.ids.items ++ c.id_opened.result ∷ [] = search rules in
-    let one_id_more : vec_len c.push.new.self ≡ vec_len at.ids + 1 = search rules in
+    let served = c.serve-reply in
+    let pushed : c.push.new.self.items ≡ at.replies.items ++ served.result ∷ [] = search rules in
+    let one_more : vec_len c.push.new.self ≡ vec_len at.replies + 1 = search rules in
     let longer : length at.yielded + 1 ≡ length (at.yielded ++ call ∷ []) = sym (length-append at.yielded (call ∷ [])) in
     let counted : length (take (length at.yielded) calls) ≡ length at.replies.items = search rules in
-    let same_ids : c.deref.result.now ≡ at.ids.items = search rules in
-    let named : c.resolve.result ≡ resolved at.ids.items call = c.resolve.ensures ∙ ap (λ (l : List (Option ℕ)). resolved l call) same_ids in
+    let told : c.deref.result.now ≡ at.replies.items = search rules in
     record {
-      runs = λ honest. subst (λ n. Runs c.args.self.now (so_far calls n c.push-in-loop-call.new.self.items) c.push-in-loop-call.new.self.items c.serve-reply.new.self) longer
-          (runs_more calls at.replies.items c.push-in-loop-call.new.self.items at.ids.items (length at.yielded) call c.serve-reply.result turn.0 turn.1 counted at.invariant.given pushed c.args.self.now at.self c.serve-reply.new.self
-          (at.invariant.runs honest) (subst (λ (k : Call). Serves at.self (shape_of k) c.serve-reply.result c.serve-reply.new.self) named (c.serve-reply.ensures.serves honest)));
-      crash = λ honest s d stands reads on. subst (λ n. SoFar c.serve-reply.new.self s d (so_far calls n c.push-in-loop-call.new.self.items) c.push-in-loop-call.new.self.items) longer
-          (call_more calls at.replies.items c.push-in-loop-call.new.self.items at.ids.items (length at.yielded) call c.serve-reply.result turn.0 turn.1 counted at.invariant.given pushed at.self c.serve-reply.new.self s d
-          (at.invariant.crash honest s d stands reads on) (subst (λ (k : Call). Serves at.self (shape_of k) c.serve-reply.result c.serve-reply.new.self) named (c.serve-reply.ensures.serves honest)));
-      owes = subst (λ n. OwesAll c.args.self.now (so_far calls n c.push-in-loop-call.new.self.items) c.push-in-loop-call.new.self.items c.serve-reply.new.self) longer
-          (owed_more calls at.replies.items c.push-in-loop-call.new.self.items at.ids.items (length at.yielded) call c.serve-reply.result turn.0 turn.1 counted at.invariant.given pushed c.args.self.now at.self c.serve-reply.new.self
-          at.invariant.owes (subst (λ (k : Call). Owes at.self (shape_of k) c.serve-reply.result c.serve-reply.new.self) named c.serve-reply.ensures.owes));
-      given = one_id ∙ ids_more at.ids.items at.replies.items c.push-in-loop-call.new.self.items c.serve-reply.result c.id_opened.result at.invariant.given pushed c.id_opened.ensures;
+      runs = λ honest. subst (λ n. Runs c.args.self.now (so_far calls n c.push.new.self.items) c.push.new.self.items served.new.self) longer
+          (runs_more calls at.replies.items c.push.new.self.items (length at.yielded) call served.result turn.0 turn.1 counted pushed c.args.self.now at.self served.new.self
+          (at.invariant.runs honest) (subst (λ (rs : List Reply). Serves at.self (shape_of (resolved rs call)) served.result served.new.self) told (served.ensures.serves honest)));
+      crash = λ honest s d stands reads on. subst (λ n. SoFar served.new.self s d (so_far calls n c.push.new.self.items) c.push.new.self.items) longer
+          (call_more calls at.replies.items c.push.new.self.items (length at.yielded) call served.result turn.0 turn.1 counted pushed at.self served.new.self s d
+          (at.invariant.crash honest s d stands reads on) (subst (λ (rs : List Reply). Serves at.self (shape_of (resolved rs call)) served.result served.new.self) told (served.ensures.serves honest)));
+      owes = subst (λ n. OwesAll c.args.self.now (so_far calls n c.push.new.self.items) c.push.new.self.items served.new.self) longer
+          (owed_more calls at.replies.items c.push.new.self.items (length at.yielded) call served.result turn.0 turn.1 counted pushed c.args.self.now at.self served.new.self
+          at.invariant.owes (subst (λ (rs : List Reply). Owes at.self (shape_of (resolved rs call)) served.result served.new.self) told served.ensures.owes));
+      keeps = subst (λ (rs : List Reply). KeepsJobs served.new.self.memory served.new.jobs.items rs) (ap (λ (rs : List Reply). rs ++ served.result ∷ []) told ∙ sym pushed) served.ensures.keeps;
       count = one_more ∙ ap (λ n. n + 1) at.invariant.count ∙ longer;
-      ids_count = one_id_more ∙ ap (λ n. n + 1) at.invariant.ids_count ∙ longer;
+      jobs_count = let most = served.ensures.len in let before = at.invariant.jobs_count in omega (arith, most, before, longer);
       room = search rules;
-      ids_room = search rules;
+      jobs_room = search rules;
+    }
+
+pub serve-reply-requires : goal.serve-reply-requires
+serve-reply-requires g c =
+    let at = c.loop-call in
+    let road = YieldsList-from_vec {s = c.into_iter-call-iterator.result} c.args.calls.items (search rules) (search rules) in
+    let turn = YieldsList-turn road at.yielded at.call-iterator at.yielded_by c.next.result c.next.new.self c.in-Some.call c.in-Some.is c.next.ensures.steps in
+    let told : c.deref.result.now ≡ at.replies.items = search rules in
+    record {
+      room = omega (arith, turn.0, at.invariant.jobs_count, at.invariant.jobs_room);
+      keeps = subst (λ (rs : List Reply). KeepsJobs at.self.memory at.jobs.items rs) (sym told) at.invariant.keeps;
     }
 
 pub unwrap-requires : goal.unwrap-requires
@@ -59,7 +70,7 @@ unwrap-requires g c =
     let at = c.loop-call in
     let road = YieldsList-from_vec {s = c.into_iter-call-iterator.result} c.args.calls.items (search rules) (search rules) in
     let turn = YieldsList-turn road at.yielded at.call-iterator at.yielded_by c.next.result c.next.new.self c.in-Some.call c.in-Some.is c.next.ensures.steps in
-    let less : vec_len at.ids < vec_capacity at.ids = omega (arith, turn.0, at.invariant.ids_count, at.invariant.ids_room) in
+    let less : vec_len at.replies < vec_capacity at.replies = omega (arith, turn.0, at.invariant.count, at.invariant.room) in
     search rules
 
 pub returns-clause-runs : goal.returns-clause-runs

@@ -1,8 +1,9 @@
 use Rattle.std.proofs.Common.{◌≡◌, ◌≤◌, IsTrue, length, vec_len, vec_capacity}
 use Rattle.fjall_state.specs.Machine.{State}
 use Rattle.fjall_core.specs.Durables.{Durable}
+use Rattle.fjall_core.specs.Jobs.{KeepsJobs}
 use Rattle.fjall_core.specs.Standing.{ReadsOn, Runs, StandsFor, StandsOn, OwesAll}
-use Rattle.fjall_core.proofs.ResolvedRuns.{ids_of, so_far}
+use Rattle.fjall_core.proofs.ResolvedRuns.{so_far}
 use Rattle.fjall_core.proofs.RunsOverCrashes.{SoFar}
 use Rattle.fjall_core.proofs.engine.Core.run.Given as goal
 
@@ -12,9 +13,9 @@ invariant-loop-call g l = record {
   crash : IsTrue g.D.Disk.honest → (s : State) (d : Durable) → StandsFor l.fn.self s → ReadsOn l.fn.self s → StandsOn l.fn.self s.parts.entries d
       → SoFar l.self s d (so_far l.fn.calls.items (length l.yielded) l.replies.items) l.replies.items;
   owes : OwesAll l.fn.self (so_far l.fn.calls.items (length l.yielded) l.replies.items) l.replies.items l.self;
-  given : l.ids.items ≡ ids_of l.replies.items;
+  keeps : KeepsJobs l.self.memory l.jobs.items l.replies.items;
   count : vec_len l.replies ≡ length l.yielded;
-  ids_count : vec_len l.ids ≡ length l.yielded;
+  jobs_count : vec_len l.jobs ≤ length l.yielded;
   room : length l.fn.calls.items ≤ vec_capacity l.replies;
-  ids_room : length l.fn.calls.items ≤ vec_capacity l.ids;
+  jobs_room : length l.fn.calls.items ≤ vec_capacity l.jobs;
 }

@@ -1,65 +1,32 @@
-use Rattle.std.proofs.Common.{ap}
-use Rattle.fjall_history.specs.declared.reply.Reply.TheVariants.{Flag, Number}
-use Rattle.fjall_state.specs.Shapes.{Entries, JournalSpace, Journals, Keyspaces, Next, OpenTickets, SealedMemtables, Visible, WantsRotation, WriteBuffer, shape_of}
-use Rattle.fjall_core.proofs.CallsInMemory.{flag_owes, flag_serves, number_owes, number_serves}
+use Rattle.std.proofs.Common.{subst, arith}
+use Rattle.fjall_state.specs.declared.call.Call.{Call}
+use Rattle.fjall_state.specs.Shapes.{shape_of}
+use Rattle.fjall_core.specs.Standing.{Owes, Serves}
+use Rattle.fjall_core.proofs.KeptJobs.{finish_kept, keeps_begun, keeps_finished, keeps_on, plain_begins, plain_call}
 use Rattle.fjall_core.proofs.engine.Core.serve.Goals as goal
 
-pub returns-in-KeyspaceCount-clause-serves : goal.returns-in-KeyspaceCount-clause-serves
-returns-in-KeyspaceCount-clause-serves g c = λ _. number_serves c.args.self.now (shape_of c.args.call) Keyspaces c.keyspace_count.result (ap shape_of c.in-KeyspaceCount.is) (ap Number c.keyspace_count.ensures.held)
+pub returns-in-FlushBegin-clause-keeps : goal.returns-in-FlushBegin-clause-keeps
+returns-in-FlushBegin-clause-keeps g c =
+    let s = c.serve_begin in
+    keeps_begun c.args.self.now s.new.self c.in-FlushBegin.id c.args.jobs.now.items c.args.replies.now c.requires.keeps s.result s.new.jobs.items s.ensures.owes s.ensures.keeps
 
-pub returns-in-KeyspaceCount-clause-owes : goal.returns-in-KeyspaceCount-clause-owes
-returns-in-KeyspaceCount-clause-owes g c = number_owes c.args.self.now (shape_of c.args.call) Keyspaces c.keyspace_count.result (ap shape_of c.in-KeyspaceCount.is) (ap Number c.keyspace_count.ensures.held)
+pub serve_finish-requires-clause-kept : goal.serve_finish-requires-clause-kept
+serve_finish-requires-clause-kept g c = finish_kept c.args.self.now.memory c.args.jobs.now.items c.args.replies.now c.requires.keeps c.args.call c.in-FlushFinish.job c.in-FlushFinish.ensures
 
-pub returns-in-Seqno-clause-serves : goal.returns-in-Seqno-clause-serves
-returns-in-Seqno-clause-serves g c = λ _. number_serves c.args.self.now (shape_of c.args.call) Next c.seqno.result (ap shape_of c.in-Seqno.is) (ap Number c.seqno.ensures.held)
+pub returns-in-FlushFinish-clause-keeps : goal.returns-in-FlushFinish-clause-keeps
+returns-in-FlushFinish-clause-keeps g c =
+    let s = c.serve_finish in
+    keeps_finished c.args.self.now s.new.self c.in-FlushFinish.job s.result c.args.jobs.now.items c.args.replies.now c.requires.keeps s.ensures.owes s.new.jobs.items s.ensures.keeps
 
-pub returns-in-Seqno-clause-owes : goal.returns-in-Seqno-clause-owes
-returns-in-Seqno-clause-owes g c = number_owes c.args.self.now (shape_of c.args.call) Next c.seqno.result (ap shape_of c.in-Seqno.is) (ap Number c.seqno.ensures.held)
-
-pub returns-in-VisibleSeqno-clause-serves : goal.returns-in-VisibleSeqno-clause-serves
-returns-in-VisibleSeqno-clause-serves g c = λ _. number_serves c.args.self.now (shape_of c.args.call) Visible c.visible_seqno.result (ap shape_of c.in-VisibleSeqno.is) (ap Number c.visible_seqno.ensures.held)
-
-pub returns-in-VisibleSeqno-clause-owes : goal.returns-in-VisibleSeqno-clause-owes
-returns-in-VisibleSeqno-clause-owes g c = number_owes c.args.self.now (shape_of c.args.call) Visible c.visible_seqno.result (ap shape_of c.in-VisibleSeqno.is) (ap Number c.visible_seqno.ensures.held)
-
-pub returns-in-JournalDiskSpace-clause-serves : goal.returns-in-JournalDiskSpace-clause-serves
-returns-in-JournalDiskSpace-clause-serves g c = λ _. number_serves c.args.self.now (shape_of c.args.call) JournalSpace c.journal_disk_space.result (ap shape_of c.in-JournalDiskSpace.is) (ap Number c.journal_disk_space.ensures.held)
-
-pub returns-in-JournalDiskSpace-clause-owes : goal.returns-in-JournalDiskSpace-clause-owes
-returns-in-JournalDiskSpace-clause-owes g c = number_owes c.args.self.now (shape_of c.args.call) JournalSpace c.journal_disk_space.result (ap shape_of c.in-JournalDiskSpace.is) (ap Number c.journal_disk_space.ensures.held)
-
-pub returns-in-OpenSnapshots-clause-serves : goal.returns-in-OpenSnapshots-clause-serves
-returns-in-OpenSnapshots-clause-serves g c = λ _. number_serves c.args.self.now (shape_of c.args.call) OpenTickets c.open_snapshots.result (ap shape_of c.in-OpenSnapshots.is) (ap Number c.open_snapshots.ensures.held)
-
-pub returns-in-OpenSnapshots-clause-owes : goal.returns-in-OpenSnapshots-clause-owes
-returns-in-OpenSnapshots-clause-owes g c = number_owes c.args.self.now (shape_of c.args.call) OpenTickets c.open_snapshots.result (ap shape_of c.in-OpenSnapshots.is) (ap Number c.open_snapshots.ensures.held)
-
-pub returns-in-ApproximateLen-clause-serves : goal.returns-in-ApproximateLen-clause-serves
-returns-in-ApproximateLen-clause-serves g c = λ _. number_serves c.args.self.now (shape_of c.args.call) (Entries c.in-ApproximateLen.id) c.approximate_len.result (ap shape_of c.in-ApproximateLen.is) (ap Number c.approximate_len.ensures.held)
-
-pub returns-in-ApproximateLen-clause-owes : goal.returns-in-ApproximateLen-clause-owes
-returns-in-ApproximateLen-clause-owes g c = number_owes c.args.self.now (shape_of c.args.call) (Entries c.in-ApproximateLen.id) c.approximate_len.result (ap shape_of c.in-ApproximateLen.is) (ap Number c.approximate_len.ensures.held)
-
-pub returns-in-SealedMemtableCount-clause-serves : goal.returns-in-SealedMemtableCount-clause-serves
-returns-in-SealedMemtableCount-clause-serves g c = λ _. number_serves c.args.self.now (shape_of c.args.call) (SealedMemtables c.in-SealedMemtableCount.id) c.sealed_memtable_count.result (ap shape_of c.in-SealedMemtableCount.is) (ap Number c.sealed_memtable_count.ensures.held)
-
-pub returns-in-SealedMemtableCount-clause-owes : goal.returns-in-SealedMemtableCount-clause-owes
-returns-in-SealedMemtableCount-clause-owes g c = number_owes c.args.self.now (shape_of c.args.call) (SealedMemtables c.in-SealedMemtableCount.id) c.sealed_memtable_count.result (ap shape_of c.in-SealedMemtableCount.is) (ap Number c.sealed_memtable_count.ensures.held)
-
-pub returns-in-WriteBufferSize-clause-serves : goal.returns-in-WriteBufferSize-clause-serves
-returns-in-WriteBufferSize-clause-serves g c = λ _. number_serves c.args.self.now (shape_of c.args.call) WriteBuffer c.write_buffer_size.result (ap shape_of c.in-WriteBufferSize.is) (ap Number c.write_buffer_size.ensures.held)
-
-pub returns-in-WriteBufferSize-clause-owes : goal.returns-in-WriteBufferSize-clause-owes
-returns-in-WriteBufferSize-clause-owes g c = number_owes c.args.self.now (shape_of c.args.call) WriteBuffer c.write_buffer_size.result (ap shape_of c.in-WriteBufferSize.is) (ap Number c.write_buffer_size.ensures.held)
-
-pub returns-in-WantsRotation-clause-serves : goal.returns-in-WantsRotation-clause-serves
-returns-in-WantsRotation-clause-serves g c = λ _. flag_serves c.args.self.now (shape_of c.args.call) (WantsRotation c.in-WantsRotation.id) c.wants_rotation.result (ap shape_of c.in-WantsRotation.is) (ap Flag c.wants_rotation.ensures.held)
-
-pub returns-in-WantsRotation-clause-owes : goal.returns-in-WantsRotation-clause-owes
-returns-in-WantsRotation-clause-owes g c = flag_owes c.args.self.now (shape_of c.args.call) (WantsRotation c.in-WantsRotation.id) c.wants_rotation.result (ap shape_of c.in-WantsRotation.is) (ap Flag c.wants_rotation.ensures.held)
-
-pub returns-in-JournalCount-clause-serves : goal.returns-in-JournalCount-clause-serves
-returns-in-JournalCount-clause-serves g c = λ _. number_serves c.args.self.now (shape_of c.args.call) Journals c.journal_count.result (ap shape_of c.in-JournalCount.is) (ap Number c.journal_count.ensures.held)
-
-pub returns-in-JournalCount-clause-owes : goal.returns-in-JournalCount-clause-owes
-returns-in-JournalCount-clause-owes g c = number_owes c.args.self.now (shape_of c.args.call) Journals c.journal_count.result (ap shape_of c.in-JournalCount.is) (ap Number c.journal_count.ensures.held)
+pub returns-in_default : goal.returns-in_default
+returns-in_default g c =
+    let old = c.args.self.now in
+    let s = c.serve_plain in
+    let plain = plain_call c.resolve.result c.in_default.not-FlushBegin c.in_default.not-FlushFinish in
+    record {
+      serves = λ h. subst (λ (call : Call). Serves old (shape_of call) s.result s.new.self) c.resolve.ensures (s.ensures.serves h);
+      owes = subst (λ (call : Call). Owes old (shape_of call) s.result s.new.self) c.resolve.ensures s.ensures.owes;
+      keeps = keeps_on old s.new.self c.args.jobs.now.items c.args.replies.now c.requires.keeps (shape_of c.resolve.result) s.result s.ensures.owes (plain_begins (shape_of c.resolve.result) plain);
+      room = omega arith;
+      len = omega arith;
+    }

@@ -20,6 +20,7 @@ invariant_of-self-2 g c =
     alike (with_change (Emptied id) old) _ (clear_is_lawful id old is c.requires.numbered) (ap (λ (m : Remembered). m.keyspaces) c.self.view_is)
     (c.in_ok-marks.ensures.ok ∙ ap (λ n. altered_at id (emptied n) (forest_of c.self.inside.trees)) c.seqno-seqno.ensures.visible ∙ ap (λ (m : Remembered). altered_at id (emptied m.next) m.trees) c.self.view_is)
     (ap (λ (t : Tracked). t.visible) c.publish.ensures ∙ ap (λ (m : Remembered). m.next + 1) c.self.view_is) (ap (λ (t : Tracked). t.tickets) c.publish.ensures ∙ ap (λ (m : Remembered). m.tickets) c.self.view_is)
+    (ap (λ (m : Remembered). m.records) c.self.view_is) (ap (λ (m : Remembered). m.next_job) c.self.view_is)
 
 pub returns-in_err-make_place-clause-any_moment : goal.returns-in_err-make_place-clause-any_moment
 returns-in_err-make_place-clause-any_moment g c = λ h j writing can. untouched_leaves (g.D.Disk.meaning c.args.disk.now) j (of_change (Emptied c.args.id) c.args.self.now.next ∷ []) writing.root

@@ -16,5 +16,7 @@ returns c =
       lasting = c.self.inside.lasting.items;
       tickets = c.self.inside.tickets.tickets;
       journals = journals_of c.self.inside.sealed c.self.inside.active c.self.inside.watermarks;
+      records = c.self.inside.records;
+      next_job = c.self.inside.next_job;
     })
     ∙ ap (λ (m : Remembered). record m { handles = one_less m.handles c.args.id }) c.self.view_is

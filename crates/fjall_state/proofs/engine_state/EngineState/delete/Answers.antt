@@ -10,4 +10,7 @@ invariant_of-self c =
     let old = c.args.self.now in
     let is = subst IsLawful c.self.view_is c.self.invariant in
     alike (with_deletion c.args.id old) _ (deletion_is_lawful c.args.id old is c.requires.numbered)
-    (c.remove_keyspace.ensures ∙ ap (λ (m : Remembered). without_keyspace c.args.id m.keyspaces) c.self.view_is) (ap (λ (m : Remembered). m.trees) c.self.view_is) (ap (λ (t : Tracked). t.visible) c.publish.ensures ∙ ap (λ (m : Remembered). m.next + 1) c.self.view_is) (ap (λ (t : Tracked). t.tickets) c.publish.ensures ∙ ap (λ (m : Remembered). m.tickets) c.self.view_is)
+    (c.remove_keyspace.ensures ∙ ap (λ (m : Remembered). without_keyspace c.args.id m.keyspaces) c.self.view_is)
+    (ap (λ (m : Remembered). m.trees) c.self.view_is) (ap (λ (t : Tracked). t.visible) c.publish.ensures ∙ ap (λ (m : Remembered). m.next + 1) c.self.view_is)
+    (ap (λ (t : Tracked). t.tickets) c.publish.ensures ∙ ap (λ (m : Remembered). m.tickets) c.self.view_is)
+    (ap (λ (m : Remembered). m.records) c.self.view_is) (ap (λ (m : Remembered). m.next_job) c.self.view_is)

@@ -1,11 +1,9 @@
-use Rattle.fjall_trees.specs.Views.{forest_of}
-use Rattle.fjall_state.specs.Remembered.{Remembered, journals_of}
-use Rattle.fjall_state.proofs.Counting.{map_of}
+use Rattle.fjall_state.proofs.Inside.{memory_in}
 use Rattle.fjall_state.proofs.Lawful.{collecting_is_lawful}
 use Rattle.fjall_state.proofs.engine_state.EngineState.gc.Goals as goal
 
 pub invariant_of-self : goal.invariant_of-self
 invariant_of-self c =
     let a = c.self.inside in
-    let m : Remembered = record { keyspaces = a.keyspaces; trees = forest_of a.trees; next = a.tickets.visible; poisoned = a.poisoned; handles = map_of a.handles; lasting = a.lasting.items; tickets = a.tickets.tickets; journals = journals_of a.sealed a.active a.watermarks } in
+    let m = memory_in a in
     collecting_is_lawful m c.self.invariant c.gc.new.self c.gc.ensures.raised

@@ -1,6 +1,5 @@
-use Rattle.std.proofs.Common.{IfOk, ℕ, List, [], refl, arith, subst, sym, ap, ◌∙◌, ◌≡◌}
+use Rattle.std.proofs.Common.{IfOk, ℕ, [], refl, arith, subst, sym, ap, ◌≡◌}
 use Rattle.fjall_base.specs.Pairs.{Pairs, lookup}
-use Rattle.fjall_table.specs.Blocks.{Entry}
 use Rattle.fjall_trees.specs.Tables.{AreReadOn, AreSameTrees, shape_in}
 use Rattle.fjall_trees.specs.Views.{forest_of}
 use Rattle.fjall_trees.proofs.Same.{same_trees}
@@ -46,7 +45,7 @@ invariant_of-self g c =
     let is = subst IsLawful c.self.view_is c.self.invariant in
     let same = subst (λ (m : Remembered). AreSameTrees m.trees (forest_of c.get.new.self)) c.self.view_is c.get.ensures.trees in
     alike (with_trees (forest_of c.get.new.self) old) _ (read_is_lawful (forest_of c.get.new.self) old same is) (ap (λ (m : Remembered). m.keyspaces) c.self.view_is) refl
-    (ap (λ (m : Remembered). m.next) c.self.view_is) (ap (λ (m : Remembered). m.tickets) c.self.view_is)
+    (ap (λ (m : Remembered). m.next) c.self.view_is) (ap (λ (m : Remembered). m.tickets) c.self.view_is) (ap (λ (m : Remembered). m.records) c.self.view_is) (ap (λ (m : Remembered). m.next_job) c.self.view_is)
 
 pub returns-clause-found : goal.returns-clause-found
 returns-clause-found g c = λ h entries read.

@@ -1,5 +1,6 @@
 use Rattle.std.proofs.Common.{◌≡◌, ◌∙◌, ap, subst, rules}
 use Rattle.std.proofs.lemmas.Fn.{filter_same}
+use Rattle.std.specs.FinMap.{remove}
 use Rattle.fjall_trees.specs.Forests as forests
 use Rattle.fjall_state.specs.Machine.{without}
 use Rattle.fjall_state.specs.Remembered.{IsLawful, Remembered, journals_of, let_go}
@@ -13,6 +14,7 @@ invariant_of-self c =
     let is = subst IsLawful c.self.view_is c.self.invariant in
     alike (let_go id c.args.self.now) _ (let_go_is_lawful id c.args.self.now is c.requires) (ap (λ (m : Remembered). m.keyspaces) c.self.view_is)
     (c.let_go.ensures ∙ ap (λ (m : Remembered). forests.without id m.trees) c.self.view_is) (ap (λ (m : Remembered). m.next) c.self.view_is) (ap (λ (m : Remembered). m.tickets) c.self.view_is)
+    (c.remove.ensures ∙ ap (λ (m : Remembered). remove m.records id) c.self.view_is) (ap (λ (m : Remembered). m.next_job) c.self.view_is)
 
 pub returns : goal.returns
 returns c =
@@ -27,5 +29,7 @@ returns c =
       lasting = ids i;
       tickets = c.self.inside.tickets.tickets;
       journals = journals_of c.self.inside.sealed c.self.inside.active c.self.inside.watermarks;
+      records = c.remove.ensures i;
+      next_job = c.self.inside.next_job;
     })
     ∙ ap (let_go c.args.id) c.self.view_is

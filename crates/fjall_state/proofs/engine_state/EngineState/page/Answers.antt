@@ -1,6 +1,5 @@
-use Rattle.std.proofs.Common.{IfOk, ℕ, List, [], refl, arith, subst, sym, ap, ◌∙◌, ◌≡◌}
+use Rattle.std.proofs.Common.{IfOk, ℕ, [], refl, arith, subst, sym, ap, ◌≡◌}
 use Rattle.fjall_base.specs.Pairs.{KeyRange, Pairs, key_range, page, pairs_between}
-use Rattle.fjall_table.specs.Blocks.{Entry}
 use Rattle.fjall_trees.specs.Tables.{AreReadOn, AreSameTrees, shape_in}
 use Rattle.fjall_trees.specs.Views.{forest_of}
 use Rattle.fjall_trees.proofs.Same.{same_trees}
@@ -24,7 +23,8 @@ returns-then-table_count-eq0-clause-bare g c = λ bare.
       refl,
       subst (λ (m : Remembered). IfOk c.page_in_memory.result (λ found. found.items ≡ page c.args.back c.args.max (pairs_between c.args.range.now (pairs_in id (instant_in c.args.self.now c.args.view) m.trees)))) c.self.view_is
           (subst (λ (n : ℕ). IfOk c.page_in_memory.result (λ found. found.items ≡ page c.args.back c.args.max (pairs_between c.args.range.now (pairs_in id n (forest_of c.self.inside.trees))))) c.instant_of-instant.ensures
-          (subst (λ (range : KeyRange). IfOk c.page_in_memory.result (λ found. found.items ≡ page c.args.back c.args.max (pairs_between range (pairs_in id c.instant_of-instant.result (forest_of c.self.inside.trees))))) c.bounds_of-bounds.ensures
+          (subst (λ (range : KeyRange). IfOk c.page_in_memory.result (λ found. found.items ≡ page c.args.back c.args.max (pairs_between range (pairs_in id c.instant_of-instant.result (forest_of c.self.inside.trees)))))
+          c.bounds_of-bounds.ensures
           (a_page_shown id c.instant_of-instant.result (forest_of c.self.inside.trees) (key_range c.bounds_of-bounds.result) c.args.back c.args.max c.page_in_memory.result c.page_in_memory.ensures.none c.page_in_memory.ensures.found))),
     )
 
@@ -39,7 +39,8 @@ returns-then-table_count-eq0-clause-found g c = λ h entries read.
     subst (λ (p : Pairs). IfOk c.page_in_memory.result (λ found. found.items ≡ page c.args.back c.args.max (pairs_between c.args.range.now p))) (read_pairs (g.D.Disk.meaning c.args.disk.now) entries id instant trees read none)
     (subst (λ (m : Remembered). IfOk c.page_in_memory.result (λ found. found.items ≡ page c.args.back c.args.max (pairs_between c.args.range.now (pairs_in id instant m.trees)))) c.self.view_is
     (subst (λ (n : ℕ). IfOk c.page_in_memory.result (λ found. found.items ≡ page c.args.back c.args.max (pairs_between c.args.range.now (pairs_in id n (forest_of c.self.inside.trees))))) c.instant_of-instant.ensures
-    (subst (λ (range : KeyRange). IfOk c.page_in_memory.result (λ found. found.items ≡ page c.args.back c.args.max (pairs_between range (pairs_in id c.instant_of-instant.result (forest_of c.self.inside.trees))))) c.bounds_of-bounds.ensures
+    (subst (λ (range : KeyRange). IfOk c.page_in_memory.result (λ found. found.items ≡ page c.args.back c.args.max (pairs_between range (pairs_in id c.instant_of-instant.result (forest_of c.self.inside.trees)))))
+    c.bounds_of-bounds.ensures
     (a_page_shown id c.instant_of-instant.result (forest_of c.self.inside.trees) (key_range c.bounds_of-bounds.result) c.args.back c.args.max c.page_in_memory.result c.page_in_memory.ensures.none c.page_in_memory.ensures.found))))
 
 pub invariant_of-self : goal.invariant_of-self
@@ -48,7 +49,7 @@ invariant_of-self g c =
     let is = subst IsLawful c.self.view_is c.self.invariant in
     let same = subst (λ (m : Remembered). AreSameTrees m.trees (forest_of c.page.new.self)) c.self.view_is c.page.ensures.trees in
     alike (with_trees (forest_of c.page.new.self) old) _ (read_is_lawful (forest_of c.page.new.self) old same is) (ap (λ (m : Remembered). m.keyspaces) c.self.view_is) refl
-    (ap (λ (m : Remembered). m.next) c.self.view_is) (ap (λ (m : Remembered). m.tickets) c.self.view_is)
+    (ap (λ (m : Remembered). m.next) c.self.view_is) (ap (λ (m : Remembered). m.tickets) c.self.view_is) (ap (λ (m : Remembered). m.records) c.self.view_is) (ap (λ (m : Remembered). m.next_job) c.self.view_is)
 
 pub returns-clause-found : goal.returns-clause-found
 returns-clause-found g c = λ h entries read.

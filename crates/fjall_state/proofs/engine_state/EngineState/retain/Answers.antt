@@ -24,5 +24,7 @@ returns-clause-ok c =
       lasting = c.self.inside.lasting.items;
       tickets = c.self.inside.tickets.tickets;
       journals = journals_of c.self.inside.sealed c.self.inside.active c.self.inside.watermarks;
+      records = c.self.inside.records;
+      next_job = c.self.inside.next_job;
     })
     ∙ ap (retained id) c.self.view_is

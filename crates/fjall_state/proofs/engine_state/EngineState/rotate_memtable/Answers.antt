@@ -1,8 +1,7 @@
 use Rattle.std.proofs.Common.{Ok, ap, refl}
-use Rattle.fjall_trees.specs.Views.{forest_of}
 use Rattle.fjall_history.specs.Tickets.{Tracked}
-use Rattle.fjall_state.specs.Remembered.{Remembered, journals_of, rotated}
-use Rattle.fjall_state.proofs.Counting.{map_of}
+use Rattle.fjall_state.specs.Remembered.{rotated}
+use Rattle.fjall_state.proofs.Inside.{memory_in}
 use Rattle.fjall_state.proofs.Lawful.{alike, rotated_is_lawful}
 use Rattle.fjall_state.proofs.engine_state.EngineState.rotate_memtable.Goals as goal
 
@@ -10,5 +9,6 @@ pub invariant_of-self-then-is_sealed : goal.invariant_of-self-then-is_sealed
 invariant_of-self-then-is_sealed c =
     let a = c.self.inside in
     let id = c.args.id in
-    let m : Remembered = record { keyspaces = a.keyspaces; trees = forest_of a.trees; next = a.tickets.visible; poisoned = a.poisoned; handles = map_of a.handles; lasting = a.lasting.items; tickets = a.tickets.tickets; journals = journals_of a.sealed a.active a.watermarks } in
-    alike (rotated id m) _ (rotated_is_lawful id m c.self.invariant) refl (c.in_ok-is_sealed.ensures.sealed (ap Ok c.if-is_sealed.true)) (ap (λ (t : Tracked). t.visible) c.gc.ensures.raised) (ap (λ (t : Tracked). t.tickets) c.gc.ensures.raised)
+    let m = memory_in a in
+    alike (rotated id m) _ (rotated_is_lawful id m c.self.invariant) refl
+    (c.in_ok-is_sealed.ensures.sealed (ap Ok c.if-is_sealed.true)) (ap (λ (t : Tracked). t.visible) c.gc.ensures.raised) (ap (λ (t : Tracked). t.tickets) c.gc.ensures.raised) refl refl

@@ -19,6 +19,7 @@ invariant_of-self-2 g c =
     alike (with_change (Items items) old) _ (items_are_lawful items old is c.requires.numbered c.requires.fits) (ap (λ (m : Remembered). m.keyspaces) c.self.view_is)
     (c.in_ok-marks.ensures.ok ∙ ap (λ n. pushed n items (forest_of c.self.inside.trees)) c.seqno-seqno.ensures.visible ∙ ap (λ (m : Remembered). pushed m.next items m.trees) c.self.view_is)
     (ap (λ (t : Tracked). t.visible) c.publish.ensures ∙ ap (λ (m : Remembered). m.next + 1) c.self.view_is) (ap (λ (t : Tracked). t.tickets) c.publish.ensures ∙ ap (λ (m : Remembered). m.tickets) c.self.view_is)
+    (ap (λ (m : Remembered). m.records) c.self.view_is) (ap (λ (m : Remembered). m.next_job) c.self.view_is)
 
 pub returns-in_err-make_places-clause-any_moment : goal.returns-in_err-make_places-clause-any_moment
 returns-in_err-make_places-clause-any_moment g c = λ h j writing can. untouched_leaves (g.D.Disk.meaning c.args.disk.now) j (of_change (Items c.args.items.now) c.args.self.now.next ∷ []) writing.root

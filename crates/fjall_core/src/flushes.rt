@@ -1,0 +1,182 @@
+//! Flushes: memtables that are brought to tables, and journals that nobody wants any more.
+
+ghost use Rattle.std.specs.Prelude.{◌≡◌, ◌<◌, ◌-◌, ◌^◌, None, IfErr, IfOk, IfSome, IsTrue, true};
+ghost use Rattle.fjall_jobs.specs.Flushes.{flush_task};
+ghost use Rattle.fjall_lsm.specs.Jobs.{IsFlushing};
+ghost use Rattle.fjall_state.specs.Finishing.{keyspace_of};
+ghost use Rattle.fjall_state.specs.Machine.{begins_flush, is_living};
+ghost use Rattle.fjall_state.specs.Remembered.{KnowsTask};
+ghost use Rattle.fjall_state.specs.Shapes.{OfCount, OfFlushBegin, OfFlushFinish, OfMaintenance, ToFlush};
+ghost use Rattle.fjall_trees.specs.Tables.{shape_in};
+ghost use Rattle.fjall_core.specs.CallParts.{Begins, Evicts, Finishes, Puts, SyncsAll};
+ghost use Rattle.fjall_core.specs.Standing.{Owes, Serves, finish_reply, flag_reply, held_due, ids_reply, is_long, job_of, job_reply, reply_of, store_in};
+
+use crate::engine::Core;
+use fjall_base::{Disk, Error, Refused, Result};
+use fjall_commit::sync_journal;
+use fjall_jobs::{FlushJob, FlushMade};
+use fjall_journal::PersistMode;
+
+/// Where the active journal is longer, a flush begins behind a rotation of it.
+const LONG_JOURNAL: u64 = 64_000_000;
+
+impl<D: Disk> Core<D> {
+    // Syncs the journal before a flush; a long one is sealed.
+    fn sync_for_flush(&mut self, seals: bool) -> Result<()>
+        requires long { seals ≡ is_long self.old.journal }
+        requires numbered { seals ≡ true → self.old.memory.journals.active < 2 ^ 64 - 2 }
+        ensures synced { SyncsAll (IsTrue D.honest) self.old result self.new }
+    {
+        if seals {
+            return self
+                .memory
+                .rotate_journal(self.alloc, &mut self.journal, &mut self.disk);
+        }
+        sync_journal(&mut self.journal, &mut self.disk, PersistMode::SyncAll)
+    }
+
+    // Begins a flush of a keyspace that has a sealed memtable and no flush that is out.
+    fn begin(&mut self, id: u64) -> Result<FlushJob>
+        requires due { held_due self.old (OfFlushBegin id) ≡ None }
+        requires begins { begins_flush self.old.memory.trees id ≡ true }
+        ensures begun { Begins (IsTrue D.honest) self.old id result self.new }
+    {
+        let is_long = self.journal.pos() > LONG_JOURNAL;
+        if self.memory.are_jobs_used_up(is_long) {
+            return Err(Error::NumbersUsedUp);
+        }
+        let job = self.memory.begin_flush(id)?;
+        if let Err(error) = self.sync_for_flush(is_long) {
+            drop(job);
+            self.memory.take_back_flush(id);
+            self.poison_by(&error);
+            return Err(error);
+        }
+        Ok(job)
+    }
+
+    /// Begins a flush of all sealed memtables of a keyspace, and gives the job away, to be run anywhere and then finished by
+    /// [`flush_finish`](Core::flush_finish). None where no memtable is sealed, or where a flush of the keyspace is out: then
+    /// nothing changes. The journal is synced before, and what was accepted by then outlives a crash; where it is longer than
+    /// 64,000,000 bytes it is sealed, and the next one begins. No view changes.
+    ///
+    /// Refusals, the first that has its cause: `UnknownKeyspace`, `KeyspaceDeleted`, `Poisoned`; and where there is a flush to
+    /// begin `NumbersUsedUp`, `OutOfMemory`, and `Io`, after which the core is poisoned. After each of the others nothing has
+    /// changed. A job that is lost counts as out until the database is opened again.
+    pub fn flush_begin(&mut self, id: u64) -> Result<Option<FlushJob>>
+        ensures serves { IsTrue D.honest → Serves self.old (OfFlushBegin id) (job_reply result) self.new }
+        ensures owes { Owes self.old (OfFlushBegin id) (job_reply result) self.new }
+        // The core knows what the job was begun with.
+        ensures knows { IfOk result (λ job. IfSome job (λ job. KnowsTask self.new.memory (flush_task job))) }
+    {
+        if let Some(error) = self.memory.rotation_refusal(id) {
+            return Err(error);
+        }
+        if !self.memory.begins_flush(id) {
+            return Ok(None);
+        }
+        match self.begin(id) {
+            Ok(job) => Ok(Some(job)),
+            Err(error) => Err(error),
+        }
+    }
+
+    // Removes sealed journals that nobody wants any more, after a flush or by itself.
+    fn evict(&mut self) -> Result<()>
+        ensures evicts { Evicts (IsTrue D.honest) self.old result self.new }
+    {
+        if let Err(error) = self.memory.evict(&mut self.disk) {
+            self.memory.poison();
+            return Err(error);
+        }
+        Ok(())
+    }
+
+    // Finishes a flush that is out of a keyspace that lives: on the disk, and then in memory.
+    fn put_flush(&mut self, made: &FlushMade) -> Result<()>
+        requires living { is_living (store_in self.old) (keyspace_of made.now) ≡ true }
+        requires out { IsFlushing (shape_in (keyspace_of made.now) self.old.memory.trees) (flush_task made.now.job) }
+        ensures puts { Puts (IsTrue D.honest) self.old made.now result self.new }
+    {
+        if let Err(error) = self.memory.finish_flush(self.alloc, &mut self.disk, made) {
+            self.poison_by(&error);
+            return Err(error);
+        }
+        Ok(())
+    }
+
+    // Finishes a flush that isn't stale, and removes the journals that nobody wants any more.
+    fn finish(&mut self, made: &FlushMade) -> Result<()>
+        requires living { is_living (store_in self.old) (keyspace_of made.now) ≡ true }
+        requires out { IsFlushing (shape_in (keyspace_of made.now) self.old.memory.trees) (flush_task made.now.job) }
+        ensures finishes { Finishes (IsTrue D.honest) self.old made.now result self.new }
+    {
+        self.put_flush(made)?;
+        self.evict()
+    }
+
+    // Whether the flush was finished, where it isn't stale.
+    fn settle(&mut self, made: &FlushMade) -> Result<bool>
+        requires known { KnowsTask self.old.memory (flush_task made.now.job) }
+        ensures serves { IsTrue D.honest → Serves self.old (OfFlushFinish (job_of (flush_task made.now.job))) (flag_reply result) self.new }
+        ensures owes { Owes self.old (OfFlushFinish (job_of (flush_task made.now.job))) (flag_reply result) self.new }
+    {
+        let id = made.job.keyspace_id();
+        if !self.memory.is_flushing(&made.job) {
+            return Ok(false);
+        }
+        if !self.memory.is_living(id) {
+            self.memory.drop_flush(id);
+            return Ok(false);
+        }
+        if self.memory.is_poisoned() {
+            return Err(Error::Poisoned);
+        }
+        self.finish(made)?;
+        Ok(true)
+    }
+
+    /// Finishes a flush by what its job made: the new table stands behind the keyspace's others, at level 0, and the memtables
+    /// that the flush was begun with are gone. First the table is written and synced, then the record that makes it count, and
+    /// then sealed journals are removed that no keyspace wants any more. No view changes.
+    ///
+    /// False where the flush is stale, since it isn't out any more or its keyspace was deleted: then nothing changes but that it
+    /// is out no more. Refusals hand back what was made, the first that has its cause: `Poisoned`; `TooManyItems` where the
+    /// keyspace's record has no room; `NumbersUsedUp` where no id of a table is left; `OutOfMemory`; and `Io`, after which the
+    /// core is poisoned. After each of the others nothing has changed.
+    pub fn flush_finish(&mut self, made: FlushMade) -> std::result::Result<bool, Refused<FlushMade>>
+        requires known { KnowsTask self.old.memory (flush_task made.job) }
+        ensures serves { IsTrue D.honest → Serves self.old (OfFlushFinish (job_of (flush_task made.job))) (finish_reply result) self.new }
+        ensures owes { Owes self.old (OfFlushFinish (job_of (flush_task made.job))) (finish_reply result) self.new }
+        ensures back { IfErr result (λ refused. refused.value ≡ made) }
+    {
+        match self.settle(&made) {
+            Ok(done) => Ok(done),
+            Err(error) => Err(Refused { error, value: made }),
+        }
+    }
+
+    /// Removes the oldest sealed journals, up to the first that a keyspace that lives hasn't flushed, which has changes in it that
+    /// stand in no table yet. The calls that flush and ingest do so too.
+    ///
+    /// Refusals: `Poisoned`, and `Io`, after which the core is poisoned.
+    pub fn maintenance(&mut self) -> Result<()>
+        ensures serves { IsTrue D.honest → Serves self.old OfMaintenance (reply_of result) self.new }
+        ensures owes { Owes self.old OfMaintenance (reply_of result) self.new }
+    {
+        if self.memory.is_poisoned() {
+            return Err(Error::Poisoned);
+        }
+        self.evict()
+    }
+
+    /// The ids of the keyspaces that live and haven't flushed what they have in the oldest sealed journal, ascending; none where
+    /// no journal is sealed. Refuses for want of memory alone.
+    pub fn get_keyspaces_to_flush_for_oldest_journal_eviction(&mut self) -> Result<Vec<u64>>
+        ensures serves { IsTrue D.honest → Serves self.old (OfCount ToFlush) (ids_reply result) self.new }
+        ensures owes { Owes self.old (OfCount ToFlush) (ids_reply result) self.new }
+        ensures same { self.new ≡ self.old }
+    {
+        self.memory.keyspaces_to_flush(self.alloc)
+    }
+}

@@ -1,0 +1,69 @@
+-- The tables of trees that an opening plants are their keyspaces' own, and their ids were given out.
+use Rattle.std.proofs.Common.{◌≡◌, ℕ, zero, suc, ◌<◌, ◌==◌, true, false, List, [], ◌∷◌, get_or, map, All, AllPairs, Option, Some, unwrap_or, refl, sym, ◌∙◌, ap, subst, arith}
+use Rattle.std.specs.FinMap.{get}
+use Rattle.std.specs.List.{AllByRecursion}
+use Rattle.std.proofs.lemmas.Bool.{eq-eqb}
+use Rattle.std.proofs.lemmas.List.Elements.{All-cons, All-head, All-map, All-nil, All-tail}
+use Rattle.fjall_base.specs.Disk.{Image}
+use Rattle.fjall_blocks.specs.Readers.{Reader}
+use Rattle.fjall_home.specs.declared.reading.LoadedHome.{LoadedHome}
+use Rattle.fjall_home.proofs.Resting as resting
+use Rattle.fjall_meta.specs.declared.living.LivingKeyspace.{LivingKeyspace}
+use Rattle.fjall_recovery.specs.Homes.{AreHomesRead, IsRead, no_fields}
+use Rattle.fjall_table.specs.declared.table_info.TableInfo.{TableInfo}
+use Rattle.fjall_tree.specs.Records.{Fields, view}
+use Rattle.fjall_trees.specs.Forests.{Planted}
+use Rattle.fjall_loading.specs.Known.{AreAtHome, IsGiven, LastFields}
+use Rattle.fjall_loading.specs.Opening.{AreReadersOf, opened, reader_of, record_read}
+use Rattle.fjall_loading.proofs.Opening.{its_readers, last_is_record, other_id, read_first}
+
+-- ---- one home
+
+readers_given : (image : Image) (id next : ℕ) (tables : List TableInfo) (readers : List Reader) → AreReadersOf image id tables readers → AllByRecursion (resting.IsGiven next) tables → All (IsGiven id next) readers
+readers_given image id next [] [] are given = All-nil (IsGiven id next)
+readers_given image id next [] (r ∷ readers) are given = absurd are
+readers_given image id next (t ∷ tables) [] are given = absurd are
+readers_given image id next (t ∷ tables) (r ∷ readers) are given =
+    All-cons (IsGiven id next) r readers (t.id, given.0.1, given.0.0, ap (λ (s : Reader). s.name) are.0.is) (readers_given image id next tables readers are.1 given.1)
+
+-- ---- all of them
+
+-- this is one of these homes, and the record that they tell of its id is its own
+abbrev IsTold : Image → List LoadedHome → LoadedHome → Type 0
+IsTold image homes home = (k : LivingKeyspace) × IsRead image k.id home × (record_read homes home.id ≡ Some (view home.record))
+
+above : (image : Image) (low : ℕ) (living : List LivingKeyspace) (homes : List LoadedHome) → All (λ k. low < k.id) living → AreHomesRead image living homes → All (λ home. low < home.id) homes
+above image low [] [] up read = All-nil (λ (home : LoadedHome). low < home.id)
+above image low [] (home ∷ homes) up read = absurd read
+above image low (k ∷ living) [] up read = absurd read
+above image low (k ∷ living) (home ∷ homes) up read =
+    All-cons (λ (other : LoadedHome). low < other.id) home homes
+    (subst (λ (n : ℕ). low < n) (sym read.0.loaded.named) (All-head (λ (j : LivingKeyspace). low < j.id) k living up))
+    (above image low living homes (All-tail (λ (j : LivingKeyspace). low < j.id) k living up) read.1)
+
+all_told : (image : Image) (living : List LivingKeyspace) (homes : List LoadedHome) → AllPairs (λ j k. j.id < k.id) living → AreHomesRead image living homes → All (IsTold image homes) homes
+all_told image [] [] up read = All-nil (IsTold image [])
+all_told image [] (home ∷ homes) up read = absurd read
+all_told image (k ∷ living) [] up read = absurd read
+all_told image (k ∷ living) (home ∷ homes) up read =
+    let later = above image k.id living homes (λ i d lt. up 0 (suc i) d (omega arith) (omega (arith, lt))) read.1 in
+    let rest = all_told image living homes (λ a b e less within. up (suc a) (suc b) e (omega (arith, less)) (omega (arith, within))) read.1 in
+    All-cons (IsTold image (home ∷ homes)) home homes (k, read.0, read_first home homes home.id true (eq-eqb home.id home.id refl))
+    (λ i d lt.
+    let other = get_or homes i d in
+    let one = rest i d lt in
+    let less : home.id < other.id = subst (λ (n : ℕ). n < other.id) (sym read.0.loaded.named) (later i d lt) in
+    (one.0, one.1, read_first home homes other.id false (other_id home.id other.id less) ∙ one.2))
+
+pub all_named : (image : Image) (living : List LivingKeyspace) (homes : List LoadedHome) (records : LastFields) → AllPairs (λ j k. j.id < k.id) living → AreHomesRead image living homes
+    → ((id : ℕ) → get records id ≡ record_read homes id) → AreAtHome records (map opened homes)
+all_named image living homes records up read kept =
+    All-map (λ (k : Planted). All (IsGiven k.id (unwrap_or (get records k.id) no_fields).next_table_id) k.shape.tables) opened homes
+    (λ i d lt.
+    let home = get_or homes i d in
+    let told = all_told image living homes up read i d lt in
+    let last = told.1.loaded.h.last in
+    let next_is : (unwrap_or (get records home.id) no_fields).next_table_id ≡ last.next_table_id =
+    ap (λ (o : Option Fields). (unwrap_or o no_fields).next_table_id) (kept home.id ∙ told.2) ∙ ap (λ (f : Fields). f.next_table_id) told.1.loaded.record_is in
+    let given = readers_given image told.0.id last.next_table_id last.tables (map reader_of home.tables.items) (its_readers image told.0.id home told.1) (resting.all_given last (last_is_record image told.0.id home told.1)) in
+    subst (λ (n : ℕ × ℕ). All (IsGiven n.0 n.1) (map reader_of home.tables.items)) (λ i. (sym told.1.loaded.named i, sym next_is i)) given)

@@ -1,0 +1,59 @@
+-- What an engine knows of the homes of its keyspaces: the last record of each, and a tree that goes on from it.
+use Rattle.std.specs.Prelude.{◌≡◌, ℕ, ◌<◌, ◌≤◌, ◌^◌, false, List, All, Some, unwrap_or}
+use Rattle.std.specs.Coded.{Coded, codes, coded_ℕ}
+use Rattle.std.specs.Ordering.{nat_cmp}
+use Rattle.std.specs.FinMap.{FinMap, code, get}
+use Rattle.fjall_catalog.specs.Catalog.{fields, first_of}
+use Rattle.fjall_blocks.specs.Readers.{Reader}
+use Rattle.fjall_files.specs.Names.{table_name}
+use Rattle.fjall_home.specs.Homes.{Home}
+use Rattle.fjall_lsm.specs.Trees.{Shape, floor_of}
+use Rattle.fjall_meta.specs.declared.living.LivingKeyspace.{LivingKeyspace}
+use Rattle.fjall_parts.specs.Parts.{holds_nothing}
+use Rattle.fjall_recovery.specs.Homes.{Homes, Versions, no_fields}
+use Rattle.fjall_replay.specs.Replayed.{past}
+use Rattle.fjall_sorted.specs.Sorted.{flat}
+use Rattle.fjall_table.specs.Blocks.{Entry}
+use Rattle.fjall_tree.specs.Records.{Fields}
+use Rattle.fjall_trees.specs.Forests.{Forest, tree_at}
+
+-- the last records of keyspaces, by the keyspaces' ids
+abbrev pub LastFields : Type 0
+LastFields = FinMap nat_cmp Fields
+
+-- the last record of a keyspace: the one that is kept, or the first one, of the keyspace's creation
+abbrev pub last_known : LastFields → LivingKeyspace → Fields
+last_known records k = unwrap_or (get records k.id) (fields (first_of k.number))
+
+-- the reader is of a table of the keyspace of this id, and the table's id is below the next one, so that it was given out
+abbrev pub IsGiven : (id next : ℕ) → Reader → Type 0
+IsGiven id next reader = (n : ℕ) × (n < next) × (n < 2 ^ 64) × (reader.name ≡ table_name id n)
+
+-- each table of these trees is one of its own keyspace's, whose id was given out, as the last records tell
+abbrev pub AreAtHome : LastFields → Forest → Type 0
+AreAtHome records trees = All (λ k. All (IsGiven k.id (unwrap_or (get records k.id) no_fields).next_table_id) k.shape.tables) trees
+
+-- A tree goes on where a record ends: it has the record's clears, what it has in memory is numbered beyond the persisted number,
+-- and each sealed memtable holds something.
+pub record GoesOnFrom (last : Fields) (shape : Shape) : Type 0 where
+  pub clears : shape.clears ≡ last.clears
+  pub beyond : past last.persisted ≤ floor_of shape.memory
+  pub some : All (λ h. holds_nothing h ≡ false) shape.memory.sealed
+
+-- A keyspace's home is known where its tables have these entries: these are the versions in its tables, its last record is the one
+-- that is kept, and its tree goes on from that.
+pub record IsKnown (records : LastFields) (trees : Forest) (entries : ℕ → List (List Entry)) (homes : Homes) (versions : Versions) (k : LivingKeyspace) : Type 0 where
+  pub h : Home
+  pub home : get homes k.id ≡ Some h
+  pub stored : get versions k.id ≡ Some (flat (entries k.id))
+  pub last : last_known records k ≡ h.last
+  pub shape : Shape
+  pub tree : tree_at k.id trees ≡ Some shape
+  pub goes_on : GoesOnFrom h.last shape
+
+-- how last records are told apart
+pub coded_fields : Coded Fields
+coded_fields = hlevel codes
+
+abbrev pub records_code : Coded LastFields
+records_code = code coded_ℕ coded_fields

@@ -1,0 +1,13 @@
+use Rattle.std.proofs.Common.{refl}
+use Rattle.fjall_state.specs.Remembered.{flush_gone}
+use Rattle.fjall_state.proofs.Inside.{memory_in}
+use Rattle.fjall_state.proofs.Flushing.{gone_is_lawful}
+use Rattle.fjall_state.proofs.Lawful.{alike}
+use Rattle.fjall_state.proofs.engine_state.EngineState.drop_flush.Goals as goal
+
+pub invariant_of-self : goal.invariant_of-self
+invariant_of-self c =
+    let a = c.self.inside in
+    let id = c.args.id in
+    let m = memory_in a in
+    alike (flush_gone id m) _ (gone_is_lawful id m c.self.invariant) refl c.drop_flush.ensures refl refl refl refl

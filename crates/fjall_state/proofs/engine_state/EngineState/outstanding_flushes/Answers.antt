@@ -1,0 +1,21 @@
+use Rattle.std.proofs.Common.{◌≤◌, ◌∙◌, List, ap, length, subst, sym, arith}
+use Rattle.std.proofs.lemmas.Bool.Decides.{nat_tests}
+use Rattle.std.proofs.lemmas.List.{take_all}
+use Rattle.std.specs.List.{count_by}
+use Rattle.fjall_meta.specs.declared.living.LivingKeyspace.{LivingKeyspace}
+use Rattle.fjall_meta.specs.Keyspaces.{AreKeyspaces}
+use Rattle.fjall_state.specs.Remembered.{Remembered}
+use Rattle.fjall_state.proofs.Sizes.{waits_in, waits_of_living}
+use Rattle.fjall_state.proofs.engine_state.EngineState.outstanding_flushes.Goals as goal
+
+pub returns : goal.returns
+returns c =
+    let s = c.args.self.now in
+    let items = c.living-keyspace-items.result.now in
+    let index = c.loop-keyspace.keyspace-index in
+    let end = c.loop-keyspace-test.false in
+    let all : length items ≤ index = grind (arith, nat_tests, end) in
+    let are : AreKeyspaces s.keyspaces = subst (λ (m : Remembered). AreKeyspaces m.keyspaces) c.self.view_is c.self.invariant.keyspaces in
+    c.loop-keyspace.invariant.0
+    ∙ ap (λ (l : List LivingKeyspace). count_by (waits_in s.trees) l) (take_all index items all ∙ c.living-keyspace-items.ensures)
+    ∙ sym (waits_of_living s.keyspaces are s.trees s.trees)
