@@ -1,6 +1,7 @@
 //! Jobs of a tree: begun, and finished without memory.
 
-ghost use Rattle.std.specs.Prelude.{◌≡◌, ◌≢◌, ◌+◌, ◌-◌, ◌++◌, ◌<◌, ◌≤◌, ◌^◌, ◌⊎◌, ◌↔◌, [], List, length, drop, take, nat_le, nat_lt, ⊤, IsTrue, IfOk, IfErr, IfSome, IsOkUnless, OnOk, OnErr, IsOk, vec_len, vec_capacity, Ok, Some, None, true, false};
+ghost use Rattle.std.specs.Prelude.{◌≡◌, ◌≢◌, ◌+◌, ◌-◌, ◌++◌, ◌<◌, ◌≤◌, ◌^◌, ◌⊎◌, ◌↔◌, [], List, length, drop, take, nat_le, nat_lt, ⊤, true, false};
+ghost use Rattle.std.specs.Prelude.{IsTrue, IfOk, IfErr, IfSome, IsOkUnless, OnOk, OnErr, IsOk, vec_len, vec_capacity, Ok, Some, None};
 ghost use Rattle.fjall_table.specs.Blocks.{Entry};
 ghost use Rattle.fjall_table.specs.Files.{IsRefused};
 ghost use Rattle.fjall_blocks.specs.Readers.{LooksOn, SomeTableIsWrong};
