@@ -6,15 +6,17 @@ use Rattle.fjall_base.specs.Pairs.{Bytes}
 use Rattle.fjall_base.specs.Store.{Command, Create, Delete}
 use Rattle.fjall_base.specs.declared.error.Error.{Error}
 use Rattle.fjall_base.specs.declared.error.Error.TheVariants.{Io, NumbersUsedUp, OutOfMemory, Poisoned, Storage, TooManyItems, ValueTooLong}
+use Rattle.fjall_ingest.specs.Ingests.{ingestion}
+use Rattle.fjall_writes.specs.Ingestions.{KeyOp}
 use Rattle.fjall_versions.specs.Replays.{option_pairs}
 use Rattle.fjall_journal.specs.Changes.{Emptied, Items, command_of}
 use Rattle.fjall_history.specs.declared.job.JobId.{JobId}
 use Rattle.fjall_history.specs.declared.reply.Reply.{Reply}
 use Rattle.fjall_history.specs.declared.reply.Reply.TheVariants.{Refused}
-use Rattle.fjall_history.specs.Histories.{Accepted, grown, extended, plain}
+use Rattle.fjall_history.specs.Histories.{Accepted, History, grown, extended, plain}
 use Rattle.fjall_state.specs.declared.call.Call.{Call}
-use Rattle.fjall_state.specs.Shapes.{OfChange, OfCount, OfCreation, OfDeletion, OfFlushBegin, OfFlushFinish, OfHandle, OfJournalRotation, OfMaintenance, OfPersist, OfRead, OfRotation, OfTickets, OneLess, OneMore, Shape, shape_of}
-use Rattle.fjall_state.specs.Machine.{Answers, BeginsFlush, CreatesOrFinds, FinishesFlush, State, StepOf, ReadsTables, Refuses, MayFail, IsPoisoned, WorkFails, at_fault, begins_flush, deleted, due, facts, is_flushing, is_living, is_long, journal_rotated, journal_synced, present, rotated, rotates, written_out}
+use Rattle.fjall_state.specs.Shapes.{OfChange, OfCount, OfCreation, OfDeletion, OfFlushBegin, OfFlushFinish, OfHandle, OfIngestion, OfJournalRotation, OfMaintenance, OfPersist, OfRead, OfRotation, OfTickets, OneLess, OneMore, Shape, shape_of}
+use Rattle.fjall_state.specs.Machine.{Answers, BeginsFlush, CreatesOrFinds, FinishesFlush, IngestionFails, IngestsInto, State, StepOf, ReadsTables, Refuses, MayFail, IsPoisoned, WorkFails, at_fault, begins_flush, deleted, due, facts, is_flushing, is_living, is_long, journal_rotated, journal_synced, present, rotated, rotates, takes_effect, with_sealed, written_out}
 use Rattle.fjall_trees.specs.Forests.{Forest}
 use Rattle.fjall_core.specs.Durables.{Durable}
 use Rattle.fjall_core.specs.Crashes.{asked, attempt, RunOn, Tried, is_io}
@@ -34,6 +36,7 @@ same_history : (s : State) (shape : Shape) → (at_fault s shape).history ≡ s.
 same_history s (OfHandle OneLess id) = refl
 same_history s (OfHandle OneMore id) = refl
 same_history s (OfChange change how) = refl
+same_history s (OfIngestion id items) = refl
 same_history s (OfCreation name options) = refl
 same_history s (OfDeletion id) = refl
 same_history s (OfRotation id) = refl
@@ -56,6 +59,7 @@ reads_ask : (s : State) (trees : Forest) (shape : Shape) → ReadsTables trees s
 reads_ask s trees (OfRead view id query) reads = refl
 reads_ask s trees (OfHandle call id) reads = absurd reads
 reads_ask s trees (OfChange change how) reads = absurd reads
+reads_ask s trees (OfIngestion id items) reads = absurd reads
 reads_ask s trees (OfCreation name options) reads = absurd reads
 reads_ask s trees (OfDeletion id) reads = absurd reads
 reads_ask s trees (OfRotation id) reads = absurd reads
@@ -71,27 +75,46 @@ reads_ask s trees (OfCount count) reads = absurd reads
 worked : (s left t : State) (shape : Shape) → asked s shape ≡ [] → left.history ≡ s.history → IsPoisoned left t → Moves s (asked s shape) t
 worked s left t shape none same fault = stays none (ap (λ (x : State). x.history) fault.is ∙ same) (λ _. ap (λ (x : State). x.poisoned) fault.is)
 
--- a worker's step asks for nothing, and a fault leaves the history
-work_moves : (s t : State) (shape : Shape) → WorkFails shape s t → Moves s (asked s shape) t
-work_moves s t (OfFlushBegin id) (begins, numbered, fault) = worked s s t (OfFlushBegin id) refl refl fault
-work_moves s t (OfFlushFinish job) (due_so, well, inl fault) = worked s s t (OfFlushFinish job) refl refl fault
-work_moves s t (OfFlushFinish job) (due_so, well, inr (parts, mid, flushes, (gone, left, all, may, is), fault)) = worked s mid t (OfFlushFinish job) refl (ap (λ (x : State). x.history) is) fault
-work_moves s t OfMaintenance (mid, (gone, left, all, may, is), fault) = worked s mid t OfMaintenance refl (ap (λ (x : State). x.history) is) fault
-work_moves s t (OfChange change how) fails = absurd fails
-work_moves s t (OfCreation name options) fails = absurd fails
-work_moves s t (OfDeletion id) fails = absurd fails
-work_moves s t (OfHandle call id) fails = absurd fails
-work_moves s t (OfRotation id) fails = absurd fails
-work_moves s t OfJournalRotation fails = absurd fails
-work_moves s t (OfRead view id query) fails = absurd fails
-work_moves s t (OfTickets call) fails = absurd fails
-work_moves s t (OfPersist mode) fails = absurd fails
-work_moves s t (OfCount count) fails = absurd fails
+-- a sync of the journal leaves the history and the flag
+synced_history : (s : State) (long : Bool) → is_long s.parts ≡ long → ((journal_synced s).history ≡ s.history) × ((journal_synced s).poisoned ≡ s.poisoned)
+synced_history s true is =
+    let made : journal_synced s ≡ journal_rotated s = ap (λ b. if b then journal_rotated s else record s { parts = written_out s.parts 0 }) is in
+    (ap (λ (x : State). x.history) made, ap (λ (x : State). x.poisoned) made)
+synced_history s false is =
+    let made : journal_synced s ≡ record s { parts = written_out s.parts 0 } = ap (λ b. if b then journal_rotated s else record s { parts = written_out s.parts 0 }) is in
+    (ap (λ (x : State). x.history) made, ap (λ (x : State). x.poisoned) made)
+
+-- what a fault leaves of an ingestion has the history
+ingestion_moves : (s t : State) (id : ℕ) (items : List KeyOp) → due s (OfIngestion id items) ≡ None → IngestionFails s id items t → Moves s (asked s (OfIngestion id items)) t
+ingestion_moves s t id items none (inl fault) = fault_moves s s t (OfIngestion id items) (asks s (OfIngestion id items)) none refl fault
+ingestion_moves s t id items none (inr (inl fault)) =
+    fault_moves s (journal_synced s) t (OfIngestion id items) (asks s (OfIngestion id items)) none (synced_history s (is_long s.parts) refl).0 fault
+ingestion_moves s t id items none (inr (inr (mid, left, ingests, evicts, fault))) =
+    fault_moves s (with_sealed left.parts.journals.sealed (journal_synced s)) t (OfIngestion id items) (asks s (OfIngestion id items)) none (synced_history s (is_long s.parts) refl).0 fault
+
+-- a worker's step asks for nothing, an ingestion for one command, and a fault leaves the history
+work_moves : (s t : State) (shape : Shape) → due s shape ≡ None → WorkFails shape s t → Moves s (asked s shape) t
+work_moves s t (OfFlushBegin id) none (begins, numbered, fault) = worked s s t (OfFlushBegin id) refl refl fault
+work_moves s t (OfFlushFinish job) none (due_so, well, inl fault) = worked s s t (OfFlushFinish job) refl refl fault
+work_moves s t (OfFlushFinish job) none (due_so, well, inr (parts, mid, flushes, (gone, left, all, may, is), fault)) = worked s mid t (OfFlushFinish job) refl (ap (λ (x : State). x.history) is) fault
+work_moves s t OfMaintenance none (mid, (gone, left, all, may, is), fault) = worked s mid t OfMaintenance refl (ap (λ (x : State). x.history) is) fault
+work_moves s t (OfIngestion id []) none fails = absurd fails
+work_moves s t (OfIngestion id (item ∷ items)) due_is (left, fails) = ingestion_moves s t id (item ∷ items) due_is fails
+work_moves s t (OfChange change how) none fails = absurd fails
+work_moves s t (OfCreation name options) none fails = absurd fails
+work_moves s t (OfDeletion id) none fails = absurd fails
+work_moves s t (OfHandle call id) none fails = absurd fails
+work_moves s t (OfRotation id) none fails = absurd fails
+work_moves s t OfJournalRotation none fails = absurd fails
+work_moves s t (OfRead view id query) none fails = absurd fails
+work_moves s t (OfTickets call) none fails = absurd fails
+work_moves s t (OfPersist mode) none fails = absurd fails
+work_moves s t (OfCount count) none fails = absurd fails
 
 failure_moves : (s t : State) (shape : Shape) (error : Error) → due s shape ≡ None → MayFail shape error s t → Moves s (attempt s shape (Refused error)) t
 failure_moves s t shape (Io kind) none (inl (changes, fault)) = fault_moves s (at_fault s shape) t shape (asks s shape) none (same_history s shape) fault
 failure_moves s t shape (Io kind) none (inr (inl (reads, same))) = as_it_was s t _ (reads_ask s s.parts.trees shape reads) same
-failure_moves s t shape (Io kind) none (inr (inr fails)) = work_moves s t shape fails
+failure_moves s t shape (Io kind) none (inr (inr fails)) = work_moves s t shape none fails
 failure_moves s t shape OutOfMemory none (takes, same) = as_it_was s t _ refl same
 failure_moves s t shape (Storage told) none (is, damage, same) = as_it_was s t _ refl same
 failure_moves s t shape ValueTooLong none (long, same) = as_it_was s t _ refl same
@@ -128,25 +151,24 @@ rotated_moves : (s t : State) (id : ℕ) (seals : Bool) → t ≡ (if seals then
 rotated_moves s t id true is = quiet s t [] refl (ap (λ (x : State). x.history) is) (ap (λ (x : State). x.poisoned) is)
 rotated_moves s t id false is = as_it_was s t [] refl is
 
--- a sync of the journal leaves the history and the flag
-synced_history : (s : State) (long : Bool) → is_long s.parts ≡ long → ((journal_synced s).history ≡ s.history) × ((journal_synced s).poisoned ≡ s.poisoned)
-synced_history s true is =
-    let made : journal_synced s ≡ journal_rotated s = ap (λ b. if b then journal_rotated s else record s { parts = written_out s.parts 0 }) is in
-    (ap (λ (x : State). x.history) made, ap (λ (x : State). x.poisoned) made)
-synced_history s false is =
-    let made : journal_synced s ≡ record s { parts = written_out s.parts 0 } = ap (λ b. if b then journal_rotated s else record s { parts = written_out s.parts 0 }) is in
-    (ap (λ (x : State). x.history) made, ap (λ (x : State). x.poisoned) made)
-
 begun_moves : (s t : State) (id : ℕ) (reply : Reply) (begins : Bool) → BeginsFlush begins s id reply t → Moves s [] t
 begun_moves s t id reply true (told, numbered, is) =
     let synced = synced_history s (is_long s.parts) refl in
     quiet s t [] refl (ap (λ (x : State). x.history) is ∙ synced.0) (ap (λ (x : State). x.poisoned) is ∙ synced.1)
 begun_moves s t id reply false (told, same) = as_it_was s t [] refl same
 
-finished_moves : (s t : State) (job : JobId) (reply : Reply) (out lives : Bool) → FinishesFlush out lives s job reply t → Moves s [] t
+finished_moves : (s t : State) (job : JobId) (reply : Reply) (out takes : Bool) → FinishesFlush out takes s job reply t → Moves s [] t
 finished_moves s t job reply true true (told, well, parts, flushes, is) = quiet s t [] refl (ap (λ (x : State). x.history) is) (ap (λ (x : State). x.poisoned) is)
 finished_moves s t job reply true false (told, is) = quiet s t [] refl (ap (λ (x : State). x.history) is) (ap (λ (x : State). x.poisoned) is)
-finished_moves s t job reply false lives (told, same) = as_it_was s t [] refl same
+finished_moves s t job reply false takes (told, same) = as_it_was s t [] refl same
+
+ingested_moves : (s t : State) (id : ℕ) (items : List KeyOp) (reply : Reply) → due s (OfIngestion id items) ≡ None → IngestsInto id items s reply t → Moves s (asked s (OfIngestion id items)) t
+ingested_moves s t id [] reply none (told, is) = as_it_was s t [] refl is
+ingested_moves s t id (item ∷ items) reply none (told, left, mid, ingests, is) =
+    let all = item ∷ items in
+    let shape = OfIngestion id all in
+    accepted_moves s t shape (ingestion id all) (asks s shape) refl none
+    (ap (λ (x : State). x.history) is ∙ ap (λ (x : State). x.history) ingests.is ∙ ap (λ (h : History). grown h (plain (ingestion id all))) (synced_history s (is_long s.parts) refl).0)
 
 answer_moves : (s t : State) (shape : Shape) (reply : Reply) → due s shape ≡ None → Answers s shape reply t → Moves s (asked s shape) t
 answer_moves s t (OfChange (Items []) how) reply none (told, is) = as_it_was s t [] refl is
@@ -155,6 +177,7 @@ answer_moves s t (OfChange (Items (item ∷ items)) how) reply none (told, is) =
     accepted_moves s t (OfChange all how) (command_of all) (asks s (OfChange all how)) refl none (ap (λ (x : State). x.history) is)
 answer_moves s t (OfChange (Emptied id) how) reply none (told, is) =
     accepted_moves s t (OfChange (Emptied id) how) (command_of (Emptied id)) (asks s (OfChange (Emptied id) how)) refl none (ap (λ (x : State). x.history) is)
+answer_moves s t (OfIngestion id items) reply none ingests = ingested_moves s t id items reply none ingests
 answer_moves s t (OfCreation name options) reply none (id, told, makes) = created_moves s t name options id none makes
 answer_moves s t (OfDeletion id) reply none (told, is) = deleted_moves s t id (is_living (present s) id) refl none is
 answer_moves s t (OfHandle OneMore id) reply none (told, is) = quiet s t [] refl (ap (λ (x : State). x.history) is) (ap (λ (x : State). x.poisoned) is)
@@ -162,7 +185,7 @@ answer_moves s t (OfHandle OneLess id) reply none (told, is) = quiet s t [] refl
 answer_moves s t (OfRotation id) reply none (told, is) = rotated_moves s t id (rotates s.parts.trees id) is
 answer_moves s t OfJournalRotation reply none (told, is) = quiet s t [] refl (ap (λ (x : State). x.history) is) (ap (λ (x : State). x.poisoned) is)
 answer_moves s t (OfFlushBegin id) reply none begins = begun_moves s t id reply (begins_flush s.parts.trees id) begins
-answer_moves s t (OfFlushFinish job) reply none finishes = finished_moves s t job reply (is_flushing s.parts.trees job) (is_living (present s) job.keyspace_id) finishes
+answer_moves s t (OfFlushFinish job) reply none finishes = finished_moves s t job reply (is_flushing s.parts.trees job) (takes_effect s job) finishes
 answer_moves s t OfMaintenance reply none (told, is) = quiet s t [] refl (ap (λ (x : State). x.history) is) (ap (λ (x : State). x.poisoned) is)
 answer_moves s t (OfRead view id query) reply none (told, same) = as_it_was s t [] refl same
 answer_moves s t (OfTickets call) reply none (turns, is) = quiet s t [] refl (ap (λ (x : State). x.history) is) (ap (λ (x : State). x.poisoned) is)

@@ -34,19 +34,19 @@ use Rattle.fjall_core.proofs.TablesAtHome.{CarryTables}
 
 -- ---- one tree
 
--- each tree is among the others still, and what holds of it holds still where a flush that begins keeps it
-begun_at : (id job watermark : ℕ) (trees : Forest) (P : Shape → Type 0) → ((shape : Shape) → P shape → P (flush_begun job watermark shape)) → (other : ℕ) (shape : Shape)
-    → tree_at other trees ≡ Some shape → P shape → (new : Shape) × (tree_at other (altered_at id (flush_begun job watermark) trees) ≡ Some new) × P new
-begun_at id job watermark trees P keeps other shape at holds = by (id == other) refl
+-- each tree is among the others still, and what holds of it holds still where a change of one tree keeps it
+pub one_at : (id : ℕ) (change : Shape → Shape) (trees : Forest) (P : Shape → Type 0) → ((shape : Shape) → P shape → P (change shape)) → (other : ℕ) (shape : Shape)
+    → tree_at other trees ≡ Some shape → P shape → (new : Shape) × (tree_at other (altered_at id change trees) ≡ Some new) × P new
+one_at id change trees P keeps other shape at holds = by (id == other) refl
   where
-    by : (is : Bool) → (id == other) ≡ is → (new : Shape) × (tree_at other (altered_at id (flush_begun job watermark) trees) ≡ Some new) × P new
+    by : (is : Bool) → (id == other) ≡ is → (new : Shape) × (tree_at other (altered_at id change trees) ≡ Some new) × P new
     by true e = (
-      flush_begun job watermark shape,
-      subst (λ (k : ℕ). tree_at other (altered_at k (flush_begun job watermark) trees) ≡ Some (flush_begun job watermark shape)) (sym (eqb-true id other e))
-          (altered_here other (flush_begun job watermark) trees ∙ ap (option_map (flush_begun job watermark)) at),
+      change shape,
+      subst (λ (k : ℕ). tree_at other (altered_at k change trees) ≡ Some (change shape)) (sym (eqb-true id other e))
+          (altered_here other change trees ∙ ap (option_map change) at),
       keeps shape holds,
     )
-    by false e = (shape, altered_other id other (flush_begun job watermark) trees (λ same. eqb-false id other e (sym same)) ∙ at, holds)
+    by false e = (shape, altered_other id other change trees (λ same. eqb-false id other e (sym same)) ∙ at, holds)
 
 -- it shows the same, and goes on from the same records
 begun_shows : (job watermark : ℕ) (entries : List (List Entry)) (clears : List ℕ) (versions : List Entry) (shape : Shape) → ShowsWith entries clears versions shape
@@ -83,9 +83,9 @@ begun_knows entries core id j t none knows =
           let stored = stored_in t.homes t.versions k.id in
           let clears = clears_held t.keyspaces stored k.id (all_shown j) in
           let versions = versions_held t.keyspaces stored k.id (all_shown j) in
-          begun_at id job watermark trees (ShowsWith (entries k.id) clears versions) (begun_shows job watermark (entries k.id) clears versions) k.id one.0 one.1 one.2;
+          one_at id (flush_begun job watermark) trees (ShowsWith (entries k.id) clears versions) (begun_shows job watermark (entries k.id) clears versions) k.id one.0 one.1 one.2;
       homes = known_trees core.memory.records trees (altered_at id (flush_begun job watermark) trees) entries t.homes t.versions t.keyspaces.living
-          (λ other shape at. begun_at id job watermark trees (GoesOnToo shape) (λ s keeps last on. begun_goes_on job watermark last s (keeps last on)) other shape at (λ last on. on)) knows.homes;
+          (λ other shape at. one_at id (flush_begun job watermark) trees (GoesOnToo shape) (λ s keeps last on. begun_goes_on job watermark last s (keeps last on)) other shape at (λ last on. on)) knows.homes;
       covered = subst (λ (l : List Written). AreCovered l (altered_at id (flush_begun job watermark) trees)) (sym none)
           (covered_begun id job watermark trees (subst (λ (l : List Written). AreCovered l trees) none knows.covered));
     }

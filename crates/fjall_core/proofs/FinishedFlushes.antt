@@ -1,10 +1,9 @@
 -- What came of finishing a flush is what the call owes, and a crash leaves what it may.
-use Rattle.std.proofs.Common.{◌≡◌, ◌≢◌, inl, inr, ℕ, ◌+◌, ◌<◌, ◌≤◌, ◌-◌, ◌^◌, ◌==◌, ◌&&◌, Bool, true, false, if◌then◌else◌, List, [], ◌∷◌, All}
+use Rattle.std.proofs.Common.{◌≡◌, ◌≢◌, ◌⊎◌, inl, inr, ℕ, ◌+◌, ◌<◌, ◌≤◌, ◌^◌, ◌==◌, ◌&&◌, Bool, true, false, if◌then◌else◌, List, [], map, nat_lt, suc, take, zero}
 use Rattle.std.proofs.Common.{Option, None, Some, Result, Ok, Err, MatchBool, get_or, length, refl, sym, ◌∙◌, ap, subst, arith}
-use Rattle.std.specs.Option.{is_some}
 use Rattle.std.proofs.lemmas.Bool.{eq-eqb, eqb-true, true≢false}
 use Rattle.std.proofs.lemmas.Bool.Decides.{nat_tests}
-use Rattle.std.proofs.lemmas.List.Elements.{All-cons, All-nil}
+use Rattle.std.proofs.lemmas.Grind.{common_steps}
 use Rattle.fjall_base.specs.Store.{kept}
 use Rattle.fjall_base.specs.Disk.{Meaning, state_in}
 use Rattle.fjall_base.specs.Errors.{Rose}
@@ -20,34 +19,38 @@ use Rattle.fjall_history.specs.declared.reply.Reply.TheVariants.{Flag, Refused}
 use Rattle.fjall_jobs.specs.declared.flush_made.FlushMade.{FlushMade}
 use Rattle.fjall_jobs.specs.Flushes.{flush_task}
 use Rattle.fjall_journal.specs.Writer.{Journal}
-use Rattle.fjall_loading.specs.Known.{last_known}
-use Rattle.fjall_lsm.specs.Jobs.{flush_dropped, is_flush_out}
-use Rattle.fjall_lsm.specs.Trees.{Flushing}
+use Rattle.fjall_loading.specs.Known.{GoesOnFrom, last_known}
+use Rattle.fjall_lsm.specs.Ingestions.{is_flush_due}
+use Rattle.fjall_lsm.specs.Jobs.{count_out, flush_dropped, is_flush_out}
+use Rattle.fjall_lsm.specs.Trees.{Flushing, Shape as Tree}
 use Rattle.fjall_maps.proofs.Alike.{changed_alike_store}
 use Rattle.fjall_meta.specs.declared.living.LivingKeyspace.{LivingKeyspace}
-use Rattle.fjall_meta.specs.Keyspaces.{Keyspaces, keyspace_at}
-use Rattle.fjall_recovery.specs.Halves.{Tree}
+use Rattle.fjall_parts.specs.Parts as part
+use Rattle.fjall_recovery.specs.Halves.{Tree as DiskTree}
+use Rattle.fjall_recovery.specs.Homes.{stored_in}
 use Rattle.fjall_recovery.specs.Places.{Journaling}
+use Rattle.fjall_contents.specs.Contents.{clears_held, versions_held}
+use Rattle.fjall_replay.specs.Beside.{ShowsWith}
 use Rattle.fjall_table.specs.Blocks.{Entry}
 use Rattle.fjall_tree.specs.Records.{Fields, body}
+use Rattle.fjall_trees.specs.Forests.{altered_at}
 use Rattle.fjall_trees.specs.Tables.{shape_in}
-use Rattle.fjall_trees.proofs.Others.{altered_other}
 use Rattle.fjall_state.specs.Finishing.{IsFinished, keyspace_of}
-use Rattle.fjall_state.specs.Machine.{FinishesFlush, Flushed, LacksRoom, Parts, State, StepOf, WorkFails, flush_with, is_flushing, is_living, present}
+use Rattle.fjall_state.specs.Machine.{FinishesFlush, Flushed, LacksRoom, Parts, State, StepOf, WorkFails, flush_with, is_flushing, is_living}
 use Rattle.fjall_state.specs.Machine as machine
 use Rattle.fjall_state.specs.Remembered.{Remembered, flush_gone, with_flush}
 use Rattle.fjall_state.specs.Remembered as memory
 use Rattle.fjall_state.specs.Shapes.{OfFlushFinish, Shape}
-use Rattle.fjall_state.proofs.Facts.{living_names}
 use Rattle.fjall_state.proofs.Flushing.{a_finished_flush_stands, an_eviction_stands, some_evicted, with_sealed_stands}
 use Rattle.fjall_state.proofs.SameTrees.{altered_tables}
 use Rattle.fjall_state.proofs.Sizes.{out_agrees}
-use Rattle.fjall_state.proofs.Standing as law
 use Rattle.fjall_core.specs.Holding.{Held}
 use Rattle.fjall_core.specs.CallParts.{Evicts, Finishes, PutInMemory, Puts, WentAway, WroteFlush}
 use Rattle.fjall_core.specs.Crashes.{BlamesDevice, IsSync, attempt, is_io}
 use Rattle.fjall_core.specs.Durables.{Durable, Knows, Passes}
 use Rattle.fjall_core.specs.Standing.{Becomes, EvictsInMemory, FlushTook, FlushedInMemory, IsDueToFinish, LeadsOn, Owes, OwesFinish, Poisons, ReadsOn, Serves, StandsFor, StandsOn, evicted_in_memory, job_of, store_in, store_with_tables}
+use Rattle.fjall_core.specs.Standing.{takes_effect}
+use Rattle.fjall_core.proofs.BegunFlushes.{one_at}
 use Rattle.fjall_core.proofs.CrashesInRuns.{passes_on}
 use Rattle.fjall_core.proofs.Evictions.{evicted_keeps, evicted_leads, evicted_served, unevicted_keeps, unevicted_leads}
 use Rattle.fjall_core.proofs.FlushedTables.{put_reads, unput_reads}
@@ -55,9 +58,12 @@ use Rattle.fjall_core.proofs.FlushesOnDisk.{MayPut, clears_there, entries_after,
 use Rattle.fjall_core.proofs.JournalWrites.{Leads}
 use Rattle.fjall_core.proofs.KeptEntries.{KeepsTables, same_given}
 use Rattle.fjall_core.proofs.KeyspaceCalls.{Recounts, recount_leads}
+use Rattle.fjall_core.proofs.KnownBatches.{all_shown}
 use Rattle.fjall_core.proofs.KnownFlushes.{covered_dropped}
+use Rattle.fjall_core.proofs.KnownHomes.{GoesOnToo, known_trees}
 use Rattle.fjall_core.proofs.OwedStates.{poisoned_stands, poisoned_state}
 use Rattle.fjall_core.proofs.OwedSteps.{owes_step}
+use Rattle.fjall_core.proofs.OwedWork.{takes_there}
 use Rattle.fjall_core.proofs.ServedCalls.{led_by, refusal_serves, served, still_led}
 use Rattle.fjall_core.proofs.TablesAtHome as at_home
 use Rattle.fjall_core.proofs.TablesAtHome.{keeps_disk, keeps_same, outside_same}
@@ -79,7 +85,7 @@ becomes_both old mid new a b one two =
     let second = two.faults in
     record { memory_is = two.memory_is; catalog = two.catalog ∙ one.catalog; journal = two.journal ∙ one.journal; faults = omega (arith, first, second) }
 
-rose_later : (a b c : ℕ) → a ≤ b → b ≤ c → Rose b c → Rose a c
+pub rose_later : (a b c : ℕ) → a ≤ b → b ≤ c → Rose b c → Rose a c
 rose_later a b c le on (inl less) = inl (omega (arith, le, less))
 rose_later a b c le on (inr most) = by (a == b) refl
   where
@@ -103,69 +109,59 @@ led_on old new s t shape reply none unsynced stays blames leads d on =
 
 -- ---- a flush that is stale
 
-flag_keeps : (s t : State) (job : JobId) (out lives : Bool) → FinishesFlush out lives s job (Flag false) t → KeepsTables s t
+flag_keeps : (s t : State) (job : JobId) (out takes : Bool) → FinishesFlush out takes s job (Flag false) t → KeepsTables s t
 flag_keeps s t job true true (told, well, parts, flushed, is) = let bad : ⊥ = cc in absurd bad
 flag_keeps s t job true false (told, is) = record { entries = ap (λ (x : State). x.parts.entries) is; damaged = ap (λ (x : State). x.damaged) is; given = same_given s t (ap (λ (x : State). x.parts.records) is) }
-flag_keeps s t job false lives (told, is) = record { entries = ap (λ (x : State). x.parts.entries) is; damaged = ap (λ (x : State). x.damaged) is; given = same_given s t (ap (λ (x : State). x.parts.records) is) }
+flag_keeps s t job false takes (told, is) = record { entries = ap (λ (x : State). x.parts.entries) is; damaged = ap (λ (x : State). x.damaged) is; given = same_given s t (ap (λ (x : State). x.parts.records) is) }
 
 stale_keeps : (s t : State) (job : JobId) → StepOf s (OfFlushFinish job) (Flag false) t → KeepsTables s t
-stale_keeps s t job step = flag_keeps s t job (is_flushing s.parts.trees job) (is_living (present s) job.keyspace_id) step.1
+stale_keeps s t job step = flag_keeps s t job (is_flushing s.parts.trees job) (machine.takes_effect s job) step.1
 
 -- it isn't out any more
 pub stale_owes : (core : Held) (job : JobId) → is_flushing core.memory.trees job ≡ false → Owes core (OfFlushFinish job) (Flag false) core
-stale_owes core job none = (refl, subst (λ (b : Bool). OwesFinish b (is_living (store_in core) job.keyspace_id) core job (Flag false) core) (sym none) (refl, refl))
+stale_owes core job none = (refl, subst (λ (b : Bool). OwesFinish b (takes_effect core job) core job (Flag false) core) (sym none) (refl, refl))
 
 pub stale_serves : (core : Held) (job : JobId) → is_flushing core.memory.trees job ≡ false → Serves core (OfFlushFinish job) (Flag false) core
 stale_serves core job none =
     let shape = OfFlushFinish job in
     let owes = stale_owes core job none in
     served core core shape (Flag false) (λ s t. stale_keeps s t job) (λ s stands reads. owes_step core core shape (Flag false) s (λ reads. reads) owes stands)
-    (subst (λ (b : Bool). MatchBool (b && is_living (store_in core) job.keyspace_id) (FlushTook core job.keyspace_id core) (core.disk ≡ core.disk)) (sym none) refl)
+    (subst (λ (b : Bool). MatchBool (b && takes_effect core job) (FlushTook core job.keyspace_id core) (core.disk ≡ core.disk)) (sym none) refl)
     (stays_start core.disk) (keeps_same core core refl) (λ s d stands on tidy. refl) (λ s d stands on. still_led core core s d shape (Flag false) refl (λ sync. sync) refl on)
 
--- its keyspace was deleted: it is out no more
+-- it takes no effect: it is out no more
 abbrev pub gone_from : Held → ℕ → Held
 gone_from core id = record core { memory = flush_gone id core.memory }
 
-pub gone_owes : (core : Held) (job : JobId) → is_flushing core.memory.trees job ≡ true → is_living (store_in core) job.keyspace_id ≡ false → Owes core (OfFlushFinish job) (Flag false) (gone_from core job.keyspace_id)
-gone_owes core job out lives =
-    (refl, subst (λ (b : Bool × Bool). OwesFinish b.0 b.1 core job (Flag false) (gone_from core job.keyspace_id)) (sym (λ i. (out i, lives i))) (refl, refl))
+pub gone_owes : (core : Held) (job : JobId) → is_flushing core.memory.trees job ≡ true → takes_effect core job ≡ false → Owes core (OfFlushFinish job) (Flag false) (gone_from core job.keyspace_id)
+gone_owes core job out stale =
+    (refl, subst (λ (b : Bool × Bool). OwesFinish b.0 b.1 core job (Flag false) (gone_from core job.keyspace_id)) (sym (λ i. (out i, stale i))) (refl, refl))
 
-none_living : {X : Type 0} (o : Option X) → is_some o ≡ false → o ≡ None
-none_living None is = refl
-none_living (Some x) is = absurd (true≢false is)
+-- a tree shows the same without it, and goes on from the same records
+gone_shows : (entries : List (List Entry)) (clears : List ℕ) (versions : List Entry) (shape : Tree) → ShowsWith entries clears versions shape → ShowsWith entries clears versions (flush_dropped shape)
+gone_shows entries clears versions shape is = record { below = is.below; shows = is.shows }
 
--- an id that no keyspace has is none of theirs
-none_there : (id : ℕ) (living : List LivingKeyspace) → keyspace_at id living ≡ None → All (λ k. k.id ≢ id) living
-none_there id [] none = All-nil (λ (k : LivingKeyspace). k.id ≢ id)
-none_there id (k ∷ living) none = by (k.id == id) refl none (none_there id living)
-  where
-    by : (b : Bool) → (k.id == id) ≡ b → (if b then Some k else keyspace_at id living) ≡ None → (keyspace_at id living ≡ None → All (λ j. j.id ≢ id) living) → All (λ j. j.id ≢ id) (k ∷ living)
-    by true e found more = let bad : ⊥ = cc in absurd bad
-    by false e found more = All-cons (λ (j : LivingKeyspace). j.id ≢ id) k living (λ same. true≢false (sym (eq-eqb k.id id same) ∙ e)) (more found)
+gone_goes_on : (last : Fields) (shape : Tree) → GoesOnFrom last shape → GoesOnFrom last (flush_dropped shape)
+gone_goes_on last shape on = record { clears = on.clears; beyond = on.beyond; some = on.some }
 
-gone_knows : (entries : ℕ → List (List Entry)) (core : Held) (id : ℕ) (j : Journaling) (t : Tree) → keyspace_at id t.keyspaces.living ≡ None → Knows core entries j t → Knows (gone_from core id) entries j t
-gone_knows entries core id j t none knows =
+gone_knows : (entries : ℕ → List (List Entry)) (core : Held) (id : ℕ) (j : Journaling) (t : DiskTree) → Knows core entries j t → Knows (gone_from core id) entries j t
+gone_knows entries core id j t knows =
     let trees = core.memory.trees in
-    let differ = none_there id t.keyspaces.living none in
     record {
-      shown = λ i d lt. let one = knows.shown i d lt in (one.0, altered_other id (get_or t.keyspaces.living i d).id flush_dropped trees (differ i d lt) ∙ one.1, one.2);
-      homes = λ i d lt.
-          let known = knows.homes i d lt in
-          record {
-            h = known.h;
-            home = known.home;
-            stored = known.stored;
-            last = known.last;
-            shape = known.shape;
-            tree = altered_other id (get_or t.keyspaces.living i d).id flush_dropped trees (differ i d lt) ∙ known.tree;
-            goes_on = known.goes_on;
-          };
+      shown = λ i d lt.
+          let k : LivingKeyspace = get_or t.keyspaces.living i d in
+          let one = knows.shown i d lt in
+          let stored = stored_in t.homes t.versions k.id in
+          let clears = clears_held t.keyspaces stored k.id (all_shown j) in
+          let versions = versions_held t.keyspaces stored k.id (all_shown j) in
+          one_at id flush_dropped trees (ShowsWith (entries k.id) clears versions) (gone_shows (entries k.id) clears versions) k.id one.0 one.1 one.2;
+      homes = known_trees core.memory.records trees (altered_at id flush_dropped trees) entries t.homes t.versions t.keyspaces.living
+          (λ other shape at. one_at id flush_dropped trees (GoesOnToo shape) (λ s keeps last on. gone_goes_on last s (keeps last on)) other shape at (λ last on. on)) knows.homes;
       covered = covered_dropped j.later id trees knows.covered;
     }
 
-gone_recounts : (entries : ℕ → List (List Entry)) (core : Held) (id : ℕ) → is_living (store_in core) id ≡ false → Recounts entries core (gone_from core id)
-gone_recounts entries core id lives = record {
+gone_recounts : (entries : ℕ → List (List Entry)) (core : Held) (id : ℕ) → Recounts entries core (gone_from core id)
+gone_recounts entries core id = record {
   keyspaces = refl;
   next = refl;
   poisoned = refl;
@@ -173,24 +169,44 @@ gone_recounts entries core id lives = record {
   catalog = refl;
   journal = refl;
   journals = refl;
-  known = λ j t same.
-      gone_knows entries core id j t
-      (ap (λ (s : Keyspaces). keyspace_at id s.living) same ∙ none_living (keyspace_at id core.memory.keyspaces.living) (sym (living_names core.memory.keyspaces core.memory.trees id) ∙ lives));
+  known = λ j t same. gone_knows entries core id j t;
 }
 
-pub gone_serves : (core : Held) (job : JobId) → is_flushing core.memory.trees job ≡ true → is_living (store_in core) job.keyspace_id ≡ false
-    → Serves core (OfFlushFinish job) (Flag false) (gone_from core job.keyspace_id)
-gone_serves core job out lives =
+pub gone_serves : (core : Held) (job : JobId) → is_flushing core.memory.trees job ≡ true → takes_effect core job ≡ false → Serves core (OfFlushFinish job) (Flag false) (gone_from core job.keyspace_id)
+gone_serves core job out stale =
     let shape = OfFlushFinish job in
     let id = job.keyspace_id in
     let new = gone_from core id in
-    let owes = gone_owes core job out lives in
+    let owes = gone_owes core job out stale in
     served core new shape (Flag false) (λ s t. stale_keeps s t job) (λ s stands reads. owes_step core new shape (Flag false) s (λ reads. reads) owes stands)
-    (subst (λ (b : Bool). MatchBool b (FlushTook core id new) (core.disk ≡ core.disk)) (sym (ap (λ b. b && is_living (store_in core) id) out ∙ lives)) refl)
+    (subst (λ (b : Bool). MatchBool b (FlushTook core id new) (core.disk ≡ core.disk)) (sym (ap (λ b. b && takes_effect core job) out ∙ stale)) refl)
     (stays_start core.disk)
     (keeps_disk core new refl (λ disk s lie. altered_tables (at_home.Lies disk s) core.memory.trees lie id flush_dropped (λ shape. refl)) (outside_same core new refl refl))
     (λ s d stands on tidy. refl)
-    (λ s d stands on. led_by new s d shape (Flag false) [] refl (λ sync. sync) (recount_leads s.parts.entries core new d refl (gone_recounts s.parts.entries core id lives) on))
+    (λ s d stands on. led_by new s d shape (Flag false) [] refl (λ sync. sync) (recount_leads s.parts.entries core new d refl (gone_recounts s.parts.entries core id) on))
+
+-- whether a flush that is out takes something is whether it is due
+due_takes : (number : ℕ) (flush : Option Flushing) → is_flush_out number flush ≡ true → is_flush_due number flush ≡ nat_lt 0 (count_out flush)
+due_takes number None out = absurd (true≢false (sym out))
+due_takes number (Some flush) out = ap (λ b. b && nat_lt 0 flush.count) out
+
+-- it takes effect, or it doesn't, by what was looked for in memory
+pub takes_is : (core : Held) (job : JobId) (lives due : Bool) → is_living (store_in core) job.keyspace_id ≡ lives → is_flushing core.memory.trees job ≡ true
+    → is_flush_due job.number (shape_in job.keyspace_id core.memory.trees).flush ≡ due → takes_effect core job ≡ (lives && due)
+takes_is core job lives due lives_is out due_is =
+    let flush = (shape_in job.keyspace_id core.memory.trees).flush in
+    let same = sym (due_takes job.number flush out) ∙ due_is in
+    λ i. lives_is i && same i
+
+false_behind : (b : Bool) → (b && false) ≡ false
+false_behind true = refl
+false_behind false = refl
+
+pub takes_none : (core : Held) (job : JobId) → is_flushing core.memory.trees job ≡ true
+    → (is_living (store_in core) job.keyspace_id ≡ false) ⊎ (is_flush_due job.number (shape_in job.keyspace_id core.memory.trees).flush ≡ false) → takes_effect core job ≡ false
+takes_none core job out (inl gone) = takes_is core job false (is_flush_due job.number (shape_in job.keyspace_id core.memory.trees).flush) gone out refl
+takes_none core job out (inr stale) =
+    takes_is core job (is_living (store_in core) job.keyspace_id) false refl out stale ∙ false_behind (is_living (store_in core) job.keyspace_id)
 
 -- ---- refusals that change nothing
 
@@ -207,6 +223,11 @@ late_serves core job due ill = refused_serves core job Poisoned refl (late_owes 
 
 -- ---- one that is finished
 
+-- a flush whose task has some runs takes some memtable
+takes_some : (runs : List (List Entry)) (sealed : List part.Held) (count : ℕ) → runs ≡ map (λ h. h.versions) (take count sealed) → runs ≢ [] → nat_lt 0 count ≡ true
+takes_some runs sealed zero is some = let none : take 0 sealed ≡ [] = grind (arith, common_steps) in absurd (some (is ∙ ap (λ (l : List part.Held). map (λ h. h.versions) l) none))
+takes_some runs sealed (suc count) is some = grind (arith, nat_tests)
+
 module _ (honest : Type 0) (old new : Held) (made : FlushMade) (may : MayPut old made) where
   abbrev job : JobId
   job = job_of (flush_task made.job)
@@ -217,8 +238,15 @@ module _ (honest : Type 0) (old new : Held) (made : FlushMade) (may : MayPut old
   out_is : is_flushing old.memory.trees job ≡ true
   out_is = ap (is_flush_out job.number) may.out.is ∙ eq-eqb job.number may.out.out.id may.out.id
 
+  -- it takes some memtable, as its task has some
+  takes : takes_effect old job ≡ true
+  takes =
+      let out = may.out.out in
+      let least = takes_some (flush_task made.job).runs (shape_in id old.memory.trees).memory.sealed out.count may.out.runs may.some in
+      both_true (is_living (store_in old) id) (nat_lt 0 (count_out (shape_in id old.memory.trees).flush)) may.living (ap (λ (o : Option Flushing). nat_lt 0 (count_out o)) may.out.is ∙ least)
+
   due : IsDueToFinish old job
-  due = (out_is, may.living)
+  due = (out_is, takes)
 
   abbrev IsPut : Held → Type 0
   IsPut mid = IsFinished old.memory id (last_known old.memory.records (living_there old made may)) may.out.out made.tables.items mid.memory
@@ -273,7 +301,7 @@ module _ (honest : Type 0) (old new : Held) (made : FlushMade) (may : MayPut old
   pub finished_owes : (result : Result Unit Error) → Finishes honest old made result new → Owes old (finishing made) (done_reply result) new
   finished_owes (Ok _) (mid, (put, becomes, wrote), (after, took, away)) = (
     refl,
-    subst (λ (b : Bool × Bool). OwesFinish b.0 b.1 old job (Flag true) new) (sym (λ i. (out_is i, may.living i)))
+    subst (λ (b : Bool × Bool). OwesFinish b.0 b.1 old job (Flag true) new) (sym (λ i. (out_is i, takes i)))
         (refl, may.well, mid.memory, in_memory mid (finished_there mid put), becomes_both old mid new mid.memory (evicted_in_memory mid.memory) becomes after),
   )
   finished_owes (Err error) (inl unput) = unput_owes error unput
@@ -328,8 +356,8 @@ module _ (honest : Type 0) (old new : Held) (made : FlushMade) (may : MayPut old
     out_there : is_flushing s.parts.trees job ≡ true
     out_there = out_agrees old.memory old.catalog.next_table_id s stands.remembered job ∙ out_is
 
-    lives_still : is_living (present s) job.keyspace_id ≡ true
-    lives_still = law.living_agree old.memory old.catalog.next_table_id s stands.remembered job.keyspace_id ∙ may.living
+    takes_still : machine.takes_effect s job ≡ true
+    takes_still = takes_there old old s stands job ∙ takes
 
     well_there : s.poisoned ≡ false
     well_there = stands.remembered.poisoned ∙ may.well
@@ -355,7 +383,7 @@ module _ (honest : Type 0) (old new : Held) (made : FlushMade) (may : MayPut old
 
       steps_after : StepOf s (finishing made) (Flag true) (machine.evicted state_with)
       steps_after =
-          (refl, subst (λ (b : Bool × Bool). FinishesFlush b.0 b.1 s job (Flag true) (machine.evicted state_with)) (sym (λ i. (out_there i, lives_still i))) (refl, well_there, parts_with, both.0, refl))
+          (refl, subst (λ (b : Bool × Bool). FinishesFlush b.0 b.1 s job (Flag true) (machine.evicted state_with)) (sym (λ i. (out_there i, takes_still i))) (refl, well_there, parts_with, both.0, refl))
 
       pub goes_on : (wrote : WroteFlush old.memory made old.disk mid.disk true) → WentAway mid.memory mid.disk new.disk true → ReadsOn old s
           → (t : State) × StandsFor new t × ReadsOn new t × StepOf s (finishing made) (Flag true) t × LeadsOn old s (finishing made) (Flag true) new t
@@ -387,7 +415,7 @@ module _ (honest : Type 0) (old new : Held) (made : FlushMade) (may : MayPut old
 
       fails : WorkFails (finishing made) s (poisoned_state new some_left)
       fails = (
-        (out_there, lives_still),
+        (out_there, takes_still),
         well_there,
         inr (
           parts_with,
@@ -430,11 +458,11 @@ module _ (honest : Type 0) (old new : Held) (made : FlushMade) (may : MayPut old
     goes_on = λ s stands reads.
         let kept_reads = unput_reads old new made may false s stands reads wrote fault in
         let out : is_flushing s.parts.trees job ≡ true = out_agrees old.memory old.catalog.next_table_id s stands.remembered job ∙ out_is in
-        let lives : is_living (present s) job.keyspace_id ≡ true = law.living_agree old.memory old.catalog.next_table_id s stands.remembered job.keyspace_id ∙ may.living in (
+        let effect : machine.takes_effect s job ≡ true = takes_there old old s stands job ∙ takes in (
           poisoned_state new s,
           poisoned_stands old.memory old new old.catalog.next_table_id s fault stands.remembered,
           record { tables = kept_reads.tables; writer = kept_reads.writer },
-          inr (inr ((out, lives), stands.remembered.poisoned ∙ may.well, inl (record { is = refl; trees = refl; entries = refl; records = refl; journals = refl }))),
+          inr (inr ((out, effect), stands.remembered.poisoned ∙ may.well, inl (record { is = refl; trees = refl; entries = refl; records = refl; journals = refl }))),
           led_on old new s (poisoned_state new s) (finishing made) (Refused (Io kind)) refl (λ sync. sync) wrote.kinds
               (λ d on tidy. record { rose = fault.faults; served = put_serves s.parts.entries old new made may d false stands.remembered.lawful wrote on tidy })
               (λ d on. unput_leads s.parts.entries old new made may d stands.remembered.lawful wrote fault on),
@@ -462,7 +490,7 @@ module _ (honest : Type 0) (old new : Held) (made : FlushMade) (may : MayPut old
 
   pub finished_serves : (result : Result Unit Error) → Finishes honest old made result new → honest → Serves old (finishing made) (done_reply result) new
   finished_serves (Ok _) (mid, (put, becomes, wrote), (after, took, away)) h = record {
-    disk = subst (λ (b : Bool). MatchBool b (FlushTook old id new) (new.disk ≡ old.disk)) (sym (both_true (is_flushing old.memory.trees job) (is_living (store_in old) id) out_is may.living))
+    disk = subst (λ (b : Bool). MatchBool b (FlushTook old id new) (new.disk ≡ old.disk)) (sym (both_true (is_flushing old.memory.trees job) (takes_effect old job) out_is takes))
         (record { mid = mid.disk; left = mid.memory; flushed = in_memory mid (finished_there mid put); within = (wrote h).within; evicted = took h });
     goes_on = λ s stands reads. goes_on mid (finished_there mid put) becomes s stands after (wrote h) (away h) reads;
   }

@@ -1,5 +1,5 @@
 -- A core's disk has the tables of its trees still, and that of a flush that was finished.
-use Rattle.std.proofs.Common.{◌≡◌, ◌≢◌, ◌⊎◌, inl, inr, ℕ, zero, suc, ◌+◌, ◌<◌, ◌≤◌, ◌^◌, ◌==◌, Bool, true, false, cond, List, []}
+use Rattle.std.proofs.Common.{◌≡◌, ◌⊎◌, inl, inr, ℕ, zero, suc, ◌+◌, ◌<◌, ◌≤◌, ◌^◌, ◌==◌, Bool, true, false, cond, List, []}
 use Rattle.std.proofs.Common.{◌∷◌, ◌++◌, All, Some, get_or, length, map, slice_get, refl, sym, ◌∙◌, ap, subst, arith}
 use Rattle.std.proofs.lemmas.Bool.{eq-eqb, true≢false}
 use Rattle.std.proofs.lemmas.List.Elements.{All-append, All-cons, All-map, All-nil, All-weaker}
@@ -15,7 +15,6 @@ use Rattle.fjall_jobs.specs.Flushes.{flush_task}
 use Rattle.fjall_jobs.specs.Sequences.{AreMadeTables, IsMadeTable}
 use Rattle.fjall_loading.specs.Known.{IsGiven, last_known}
 use Rattle.fjall_lsm.specs.Jobs.{flush_finished}
-use Rattle.fjall_lsm.specs.Trees.{Shape}
 use Rattle.fjall_lsm.proofs.Several.{read_both}
 use Rattle.fjall_flush.specs.Plans.{HaveFiles}
 use Rattle.fjall_meta.specs.declared.living.LivingKeyspace.{LivingKeyspace}
@@ -51,7 +50,7 @@ one_right disk name t es r called made bytes reads (at, h, has, none) =
     (subst (λ (hs : List Handle). slice_get hs at ≡ Some h) reads.reads.index has) none es (subst (λ (b : List ℕ). IsTable b es) (sym is) made.table)
 
 -- none has a wrong block
-none_wrong : (disk : Meaning) (id next : ℕ) (tables : List MadeTable) (lists : List (List Entry)) (readers : List Reader) → map (λ t. t.name) readers ≡ map (λ t. table_name id t.id) (infos_from next tables)
+pub none_wrong : (disk : Meaning) (id next : ℕ) (tables : List MadeTable) (lists : List (List Entry)) (readers : List Reader) → map (λ t. t.name) readers ≡ map (λ t. table_name id t.id) (infos_from next tables)
     → AreMadeTables tables lists → HaveFiles disk id next tables → AreRead disk readers lists → SomeTableIsWrong disk readers → ⊥
 none_wrong disk id next [] lists [] names made files read (at, r, has, wrong) = cc
 none_wrong disk id next [] lists (s ∷ readers) names made files read wrong = cc
@@ -65,7 +64,7 @@ none_wrong disk id next (t ∷ tables) (es ∷ lists) (s ∷ readers) names made
     none_wrong disk id (next + 1) tables lists readers others made.1 files.2 read.1 (at, r, has, wrong)
 
 -- they are the keyspace's own, of ids that were given out
-new_given : (id next from : ℕ) (tables : List MadeTable) (readers : List Reader) → map (λ t. t.name) readers ≡ map (λ t. table_name id t.id) (infos_from from tables) → from + length tables < 2 ^ 64
+pub new_given : (id next from : ℕ) (tables : List MadeTable) (readers : List Reader) → map (λ t. t.name) readers ≡ map (λ t. table_name id t.id) (infos_from from tables) → from + length tables < 2 ^ 64
     → from + length tables ≤ next → All (IsGiven id next) readers
 new_given id next from tables [] names fits within = All-nil (IsGiven id next)
 new_given id next from [] (r ∷ readers) names fits within = let bad : ⊥ = cc in absurd bad
@@ -75,7 +74,7 @@ new_given id next from (t ∷ tables) (r ∷ readers) names fits within =
     All-cons (IsGiven id next) r readers (from, omega (arith, within), omega (arith, fits), called) (new_given id next (from + 1) tables readers others (omega (arith, fits)) (omega (arith, within)))
 
 -- of two lists of tables that have a wrong one, one has
-wrong_parts : (disk : Meaning) (a b : List Reader) → SomeTableIsWrong disk (a ++ b) → SomeTableIsWrong disk a ⊎ SomeTableIsWrong disk b
+pub wrong_parts : (disk : Meaning) (a b : List Reader) → SomeTableIsWrong disk (a ++ b) → SomeTableIsWrong disk a ⊎ SomeTableIsWrong disk b
 wrong_parts disk [] b wrong = inr wrong
 wrong_parts disk (r ∷ a) b (zero, u, has, wrong) = inl (zero, u, has, wrong)
 wrong_parts disk (r ∷ a) b (suc at, u, has, wrong) = by (wrong_parts disk a b (at, u, has, wrong))

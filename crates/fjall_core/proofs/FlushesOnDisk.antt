@@ -1,5 +1,5 @@
 -- Where the writing of a flush that was out leads a core and its disk.
-use Rattle.std.proofs.Common.{◌≡◌, ◌≢◌, ◌⊎◌, inl, ℕ, ◌+◌, ◌<◌, ◌≤◌, ◌==◌, Bool, true, false, List, [], ◌++◌, take, Some, refl, sym, ◌∙◌, ap, subst, arith}
+use Rattle.std.proofs.Common.{◌≡◌, ◌≢◌, ◌⊎◌, inl, ℕ, ◌<◌, ◌≤◌, ◌==◌, Bool, true, false, List, [], ◌++◌, take, Some, refl, sym, ◌∙◌, ap, subst, arith}
 use Rattle.std.proofs.lemmas.List.{append-nil}
 use Rattle.std.specs.FinMap.{insert}
 use Rattle.fjall_base.specs.Store.{Store, Command, kept}
@@ -24,7 +24,8 @@ use Rattle.fjall_jobs.specs.Flushes.{flush_task}
 use Rattle.fjall_jobs.specs.Tasks.{IsFlushed, Task}
 use Rattle.fjall_journal.specs.Writer as writer
 use Rattle.fjall_loading.specs.Known.{IsKnown, last_known}
-use Rattle.fjall_lsm.specs.Jobs.{IsFlushing, flush_end, flush_finished, is_flush_out}
+use Rattle.fjall_lsm.specs.Ingestions.{is_flush_due}
+use Rattle.fjall_lsm.specs.Jobs.{IsFlushing, flush_end, flush_finished}
 use Rattle.fjall_lsm.specs.Trees.{Flushing, Shape}
 use Rattle.fjall_maps.specs.Tables.{store_with}
 use Rattle.fjall_meta.specs.declared.living.LivingKeyspace.{LivingKeyspace}
@@ -67,11 +68,11 @@ pub record MayPut (old : Held) (made : FlushMade) : Type 0 where
 
 -- so it is where all that was looked for in a core's memory
 pub may_put : (view core : Held) (made : FlushMade) → view ≡ core → KnowsTask core.memory (flush_task made.job) → (id : ℕ) → id ≡ keyspace_of made
-    → is_flush_out (flush_task made.job).id (shape_in (keyspace_of made) view.memory.trees).flush ≡ true → is_living (store_in view) id ≡ true → view.memory.poisoned ≡ false → MayPut core made
-may_put view core made same known id at out lives well = record {
+    → is_flush_due (flush_task made.job).id (shape_in (keyspace_of made) view.memory.trees).flush ≡ true → is_living (store_in view) id ≡ true → view.memory.poisoned ≡ false → MayPut core made
+may_put view core made same known id at due lives well = record {
   well = ap (λ (h : Held). h.memory.poisoned) (sym same) ∙ well;
   living = (λ i. is_living (store_in (sym same i)) (sym at i)) ∙ lives;
-  out = known.1 (ap (λ (h : Held). is_flush_out (flush_task made.job).id (shape_in (keyspace_of made) h.memory.trees).flush) (sym same) ∙ out);
+  out = known.1 (ap (λ (h : Held). is_flush_due (flush_task made.job).id (shape_in (keyspace_of made) h.memory.trees).flush) (sym same) ∙ due);
   some = known.2;
 }
 

@@ -1,4 +1,4 @@
--- No step but a flush that is finished changes what tables hold, and none which keyspaces are damaged.
+-- No step but a flush that is finished and an ingestion changes what tables hold, and none which keyspaces are damaged.
 use Rattle.std.proofs.Common.{◌≡◌, ◌⊎◌, inl, inr, ℕ, ◌≤◌, ◌==◌, Bool, true, false, if◌then◌else◌, List, [], ◌∷◌, Option, Some, None, refl, sym, ◌∙◌, ap, arith}
 use Rattle.std.proofs.lemmas.Bool.{eqb-true, true≢false}
 use Rattle.fjall_base.specs.Pairs.{Bytes}
@@ -9,10 +9,10 @@ use Rattle.fjall_journal.specs.Changes.{Emptied, Items}
 use Rattle.fjall_tree.specs.Records.{Fields}
 use Rattle.fjall_history.specs.declared.reply.Reply.{Reply}
 use Rattle.fjall_history.specs.declared.reply.Reply.TheVariants.{Refused}
-use Rattle.fjall_state.specs.Shapes.{OfChange, OfCount, OfCreation, OfDeletion, OfFlushBegin, OfFlushFinish, OfHandle, OfJournalRotation, OfMaintenance, OfPersist, OfRead, OfRotation, OfTickets, OneLess, OneMore, Shape}
+use Rattle.fjall_state.specs.Shapes.{OfChange, OfCount, OfCreation, OfDeletion, OfFlushBegin, OfFlushFinish, OfHandle, OfIngestion, OfJournalRotation, OfMaintenance, OfPersist, OfRead, OfRotation, OfTickets, OneLess, OneMore, Shape}
 use Rattle.fjall_history.specs.Histories.{number}
 use Rattle.fjall_core.specs.Crashes.{is_io}
-use Rattle.fjall_state.specs.Machine.{Answers, BeginsFlush, CreatesOrFinds, State, StepOf, Refuses, MayFail, IsPoisoned, WorkFails, at_fault, begins_flush, created, deleted, due, flush_out, is_living, is_long, journal_rotated, journal_synced, present, records_with, rotated, rotates, with_sealed, written_out}
+use Rattle.fjall_state.specs.Machine.{Answers, BeginsFlush, CreatesOrFinds, State, StepOf, Refuses, MayFail, IsPoisoned, WorkFails, at_fault, begins_flush, created, deleted, due, is_living, is_long, journal_rotated, journal_synced, present, records_with, rotated, rotates, written_out}
 
 -- Of each keyspace but one that is made the number below which the ids of its tables are is no less.
 abbrev pub HasGiven : State → State → Type 0
@@ -45,6 +45,7 @@ fault_keeps : (s : State) (shape : Shape) → KeepsTables s (at_fault s shape)
 fault_keeps s (OfHandle OneLess id) = alike s (at_fault s (OfHandle OneLess id)) refl refl refl
 fault_keeps s (OfHandle OneMore id) = alike s (at_fault s (OfHandle OneMore id)) refl refl refl
 fault_keeps s (OfChange change how) = alike s (at_fault s (OfChange change how)) refl refl refl
+fault_keeps s (OfIngestion id items) = alike s (at_fault s (OfIngestion id items)) refl refl refl
 fault_keeps s (OfCreation name options) = alike s (at_fault s (OfCreation name options)) refl refl refl
 fault_keeps s (OfDeletion id) = alike s (at_fault s (OfDeletion id)) refl refl refl
 fault_keeps s (OfRotation id) = alike s (at_fault s (OfRotation id)) refl refl refl
@@ -57,9 +58,10 @@ fault_keeps s (OfTickets call) = alike s (at_fault s (OfTickets call)) refl refl
 fault_keeps s (OfPersist mode) = alike s (at_fault s (OfPersist mode)) refl refl refl
 fault_keeps s (OfCount count) = alike s (at_fault s (OfCount count)) refl refl refl
 
--- a call that finishes a flush
+-- a call that finishes a flush, or ingests some items
 abbrev pub Finishes : Shape → Type 0
 Finishes (OfFlushFinish job) = Unit {0}
+Finishes (OfIngestion id (item ∷ items)) = Unit {0}
 Finishes shape = ⊥
 
 -- a fault keeps what was left
@@ -71,6 +73,8 @@ work_keeps s t (OfFlushBegin id) other (begins, numbered, fault) = poison_keeps 
 work_keeps s t (OfFlushFinish job) other fails = absurd (other tt)
 work_keeps s t OfMaintenance other (mid, (gone, left, all, may, is), fault) =
     poison_keeps s mid t (alike s mid (ap (λ (x : State). x.parts.entries) is) (ap (λ (x : State). x.damaged) is) (ap (λ (x : State). x.parts.records) is)) fault
+work_keeps s t (OfIngestion id []) other fails = absurd fails
+work_keeps s t (OfIngestion id (item ∷ items)) other fails = absurd (other tt)
 work_keeps s t (OfChange change how) other fails = absurd fails
 work_keeps s t (OfCreation name options) other fails = absurd fails
 work_keeps s t (OfDeletion id) other fails = absurd fails
@@ -151,6 +155,8 @@ answer_keeps : (s t : State) (shape : Shape) (reply : Reply) → (Finishes shape
 answer_keeps s t (OfChange (Items []) how) reply other (told, is) = as_before s t is
 answer_keeps s t (OfChange (Items (item ∷ items)) how) reply other (told, is) = alike s t (ap (λ (x : State). x.parts.entries) is) (ap (λ (x : State). x.damaged) is) (ap (λ (x : State). x.parts.records) is)
 answer_keeps s t (OfChange (Emptied id) how) reply other (told, is) = alike s t (ap (λ (x : State). x.parts.entries) is) (ap (λ (x : State). x.damaged) is) (ap (λ (x : State). x.parts.records) is)
+answer_keeps s t (OfIngestion id []) reply other (told, is) = as_before s t is
+answer_keeps s t (OfIngestion id (item ∷ items)) reply other ingests = absurd (other tt)
 answer_keeps s t (OfCreation name options) reply other (id, told, makes) = created_keeps s t name options id makes
 answer_keeps s t (OfDeletion id) reply other (told, is) = deleted_keeps s t id (is_living (present s) id) is
 answer_keeps s t (OfHandle OneMore id) reply other (told, is) = alike s t (ap (λ (x : State). x.parts.entries) is) (ap (λ (x : State). x.damaged) is) (ap (λ (x : State). x.parts.records) is)

@@ -1,9 +1,8 @@
 -- Jobs that are kept stay known, whatever calls are served.
-use Rattle.std.proofs.Common.{◌≡◌, ◌⊎◌, inl, inr, ℕ, ◌+◌, ◌-◌, ◌<◌, ◌≤◌, ◌^◌, ◌==◌, ◌&&◌, ◌||◌, All, Bool, true, false, if◌then◌else◌, get_or, List, [], ◌∷◌, ◌++◌, length, map, take, drop, Option, Some, None, unwrap_or, zero, suc, refl, sym, ◌∙◌, ap, subst, arith}
+use Rattle.std.proofs.Common.{◌≡◌, ◌⊎◌, inl, inr, ℕ, ◌+◌, ◌-◌, ◌<◌, ◌≤◌, ◌^◌, ◌==◌, ◌&&◌, ◌||◌, All, Bool, true, false, if◌then◌else◌, get_or, List, [], ◌∷◌, ◌++◌, length, take, drop, Option, Some, None, unwrap_or, zero, suc, refl, sym, ◌∙◌, ap, subst, arith}
 use Rattle.std.specs.List.{list_any, position, position_or_len, slice_get}
 use Rattle.std.specs.Option.{option_map}
 use Rattle.std.proofs.lemmas.Bool.{eq-eqb, eqb-true, true≢false}
-use Rattle.std.proofs.lemmas.List.{get_or-append-add, get_or_append_left, length-append, take-append-drop}
 use Rattle.std.proofs.lemmas.List.Elements.{All-append, All-drop, All-nil, All-push, All-take}
 use Rattle.std.proofs.lemmas.Grind.{common_steps}
 use Rattle.std.proofs.lemmas.List.Folds.{Any-from_list_any, list_any-append, list_any_none}
@@ -16,7 +15,7 @@ use Rattle.fjall_base.specs.declared.error.Error.TheVariants.{Io, NumbersUsedUp,
 use Rattle.fjall_blocks.specs.Readers.{Reader}
 use Rattle.fjall_history.specs.declared.job.JobId.{JobId}
 use Rattle.fjall_history.specs.declared.reply.Reply.{Reply}
-use Rattle.fjall_history.specs.declared.reply.Reply.TheVariants.{Began, Done, Flag, Number, Refused}
+use Rattle.fjall_history.specs.declared.reply.Reply.TheVariants.{Began, Flag, Refused}
 use Rattle.fjall_history.specs.Queries.{Get, Page, Query}
 use Rattle.fjall_jobs.specs.declared.flush_job.FlushJob.{FlushJob}
 use Rattle.fjall_jobs.specs.Flushes.{flush_task}
@@ -24,37 +23,36 @@ use Rattle.fjall_jobs.specs.Tasks.{Task}
 use Rattle.fjall_flush.specs.Flushes.{record_after}
 use Rattle.fjall_journal.specs.Changes.{Change, Emptied, Items}
 use Rattle.fjall_journal.specs.Writer.{written_out}
+use Rattle.fjall_ingest.specs.Whole.{last_ingested}
 use Rattle.fjall_loading.specs.Known.{last_known}
+use Rattle.fjall_writes.specs.Ingestions.{KeyOp}
 use Rattle.fjall_manager.specs.Journals.{staying}
-use Rattle.fjall_table.specs.Blocks.{Entry}
-use Rattle.fjall_lsm.specs.Jobs.{IsFlushing, flush_dropped, flush_finished, is_flush_out}
+use Rattle.fjall_lsm.specs.Jobs.{flush_dropped, flush_finished, is_flush_out}
 use Rattle.fjall_lsm.specs.Puts.{bare_tree}
 use Rattle.fjall_lsm.specs.Trees.{Flushing, Shape as Tree}
-use Rattle.fjall_parts.specs.Parts.{Held as Part}
-use Rattle.fjall_state.specs.Machine.{begins_flush, flush_with, is_flushing, is_living, rotates}
+use Rattle.fjall_state.specs.Machine.{begins_flush, flush_with, is_flushing, rotates}
 use Rattle.fjall_state.specs.declared.call.Call.{Call}
 use Rattle.fjall_state.specs.declared.call.Call.TheVariants.{FlushBegin, FlushFinish}
 use Rattle.fjall_state.specs.Places.{job_begun, resolved}
 use Rattle.fjall_state.specs.Remembered.{IsBegun, IsLawful, KnowsTask, Remembered}
 use Rattle.fjall_state.specs.Remembered as memory
 use Rattle.fjall_state.specs.Shapes.{AsKeyspace, Clone, Close, Collect, Count, DiskSpace, Entries, Exists, Flushes, JournalSpace, Keyspaces, Next, OfChange, OfCount, OfCreation, OfDeletion, OfFlushBegin, OfFlushFinish, OfHandle}
+use Rattle.fjall_state.specs.Shapes.{OfIngestion}
 use Rattle.fjall_state.specs.Shapes.{OfJournalRotation, OfMaintenance, OfPersist, OfRead, OfRotation, OfTickets, OneLess, OneMore, Open, OpenTickets, Persistence, SealedMemtables, Shape, Tables, TablesL0, ToFlush, Visible, WriteBuffer, shape_of}
 use Rattle.fjall_state.specs.Shapes as shapes
-use Rattle.fjall_state.proofs.Knowing.{after_begun, after_change, after_creation, after_deletion, after_dropped, after_evicted, after_fault, after_finished, after_journal, after_read, after_released, after_retained, after_rotation, after_tickets}
 use Rattle.fjall_trees.specs.Forests.{Forest, Planted, altered_at, tree_at}
 use Rattle.fjall_trees.specs.Tables.{shape_in}
 use Rattle.fjall_trees.proofs.Changing.{tree_under}
 use Rattle.fjall_trees.proofs.Others.{altered_here}
 use Rattle.fjall_core.specs.Holding.{Held}
 use Rattle.fjall_core.specs.Jobs.{Finds, IsGivenBack, IsKnown, IsPlain, Keeps, KeepsJobs, KeepsOthers, is_kept, is_named}
-use Rattle.fjall_core.specs.Standing.{EvictsInMemory, FlushedInMemory, Gives, GivesRead, HeldCount, IsOfKind, Looks, LooksAt, Owes, OwesBegin, OwesChange, OwesFailure, OwesFinish, OwesRefusal, RanOut, WorkPoisons, at_fault, evicted_in_memory, held_due, is_long, job_of, journal_synced, store_in, tables_of}
+use Rattle.fjall_core.proofs.GoneFlushes.{IsGone, StaysTrue, gone_stays, task_stays}
+use Rattle.fjall_core.specs.Standing.{EvictsInMemory, FlushedInMemory, Gives, GivesRead, HeldCount, IngestedInMemory, IngestionPoisons, Looks, LooksAt, Owes, OwesBegin, OwesChange, OwesFailure, OwesFinish, OwesIngestion}
+use Rattle.fjall_core.specs.Standing.{OwesRefusal, RanOut, WorkPoisons, at_fault, evicted_in_memory, held_due, is_long, job_of, journal_synced, tables_of, takes_effect}
 
--- ---- one task, which stays known
+-- ---- what stays true of memory
 
-module _ (old new : Held) (task : Task) where
-  abbrev Knows : Remembered → Type 0
-  Knows m = KnowsTask m task
-
+module _ (Knows : Remembered → Type 0) (stays : StaysTrue Knows) (old new : Held) where
   becomes : (m : Remembered) → new.memory ≡ m → Knows m → Knows new.memory
   becomes m is knows = subst Knows (sym is) knows
 
@@ -62,9 +60,10 @@ module _ (old new : Held) (task : Task) where
   same_core same = becomes old.memory (ap (λ (h : Held). h.memory) same)
 
   fault_knows : (shape : Shape) → Knows old.memory → Knows (at_fault shape old.memory)
-  fault_knows (OfHandle OneLess id) knows = after_released old.memory task id knows
+  fault_knows (OfHandle OneLess id) knows = stays.released old.memory id knows
   fault_knows (OfHandle OneMore id) knows = knows
   fault_knows (OfChange change how) knows = knows
+  fault_knows (OfIngestion id items) knows = knows
   fault_knows (OfCreation name options) knows = knows
   fault_knows (OfDeletion id) knows = knows
   fault_knows (OfRotation id) knows = knows
@@ -78,24 +77,46 @@ module _ (old new : Held) (task : Task) where
   fault_knows (OfCount count) knows = knows
 
   looks_knows : Looks old new → Knows old.memory → Knows new.memory
-  looks_knows looks knows = becomes (memory.with_trees new.memory.trees old.memory) looks.memory_is (after_read old.memory task new.memory.trees looks.trees knows)
+  looks_knows looks knows = becomes (memory.with_trees new.memory.trees old.memory) looks.memory_is (stays.read old.memory new.memory.trees looks.trees knows)
 
   looked_knows : (tables : List Reader) → LooksAt tables old new → Knows old.memory → Knows new.memory
   looked_knows [] same knows = same_core same knows
   looked_knows (t ∷ tables) looks knows = looks_knows looks knows
 
   evicts_knows : (m left : Remembered) → EvictsInMemory m left → Knows m → Knows left
-  evicts_knows m left (gone, rest, stopped, is) knows = subst Knows (sym is) (after_evicted m task rest knows)
+  evicts_knows m left (gone, rest, stopped, is) knows = subst Knows (sym is) (stays.evicted m rest knows)
 
   flushed_knows : (id : ℕ) (mid : Remembered) → FlushedInMemory old.memory id mid → Knows old.memory → Knows mid
-  flushed_knows id mid f knows = subst Knows (sym f.is) (after_finished old.memory task id f.begun.out f.readers (record_after (flush_with (shape_in id old.memory.trees) f.begun.out f.tables) (last_known old.memory.records f.k)) knows)
+  flushed_knows id mid f knows = subst Knows (sym f.is) (stays.finished old.memory id f.begun.out f.readers (record_after (flush_with (shape_in id old.memory.trees) f.begun.out f.tables) (last_known old.memory.records f.k)) knows)
+
+  -- the journal was synced, or sealed
+  sealed_knows : (long : Bool) (len : ℕ) → Knows old.memory → Knows (if long then memory.journal_rotated len old.memory else old.memory)
+  sealed_knows true len knows = stays.journal old.memory len knows
+  sealed_knows false len knows = knows
+
+  synced_knows : Knows old.memory → Knows (journal_synced old)
+  synced_knows knows = sealed_knows (is_long old.journal) (written_out old.journal).len knows
+
+  ingested_knows : (id : ℕ) (items : List KeyOp) (mid : Remembered) → IngestedInMemory (journal_synced old) id items mid → Knows old.memory → Knows mid
+  ingested_knows id items mid f knows =
+      let m = journal_synced old in
+      subst Knows (sym f.is) (stays.ingestion m id f.readers (last_ingested m.next (shape_in id m.trees) f.flushes f.made (last_known m.records f.k)) (synced_knows knows))
+
+  ingestion_knows : (id : ℕ) (items : List KeyOp) → IngestionPoisons old id items new → Knows old.memory → Knows new.memory
+  ingestion_knows id items (inl fault) knows = becomes (memory.poisoned old.memory) fault.memory_is (stays.fault old.memory knows)
+  ingestion_knows id items (inr (inl fault)) knows = becomes (memory.poisoned (journal_synced old)) fault.memory_is (stays.fault (journal_synced old) (synced_knows knows))
+  ingestion_knows id items (inr (inr (mid, left, f, evicts, fault))) knows =
+      let m = memory.with_sealed left.journals.sealed (journal_synced old) in
+      becomes (memory.poisoned m) fault.memory_is (stays.fault m (stays.evicted (journal_synced old) left.journals.sealed (synced_knows knows)))
 
   work_knows : (shape : Shape) → WorkPoisons old shape new → Knows old.memory → Knows new.memory
-  work_knows (OfFlushBegin id) (begins, free, fault) knows = becomes (memory.poisoned old.memory) fault.memory_is (after_fault old.memory task knows)
-  work_knows (OfFlushFinish job) (due, well, inl fault) knows = becomes (memory.poisoned old.memory) fault.memory_is (after_fault old.memory task knows)
+  work_knows (OfFlushBegin id) (begins, free, fault) knows = becomes (memory.poisoned old.memory) fault.memory_is (stays.fault old.memory knows)
+  work_knows (OfFlushFinish job) (due, well, inl fault) knows = becomes (memory.poisoned old.memory) fault.memory_is (stays.fault old.memory knows)
   work_knows (OfFlushFinish job) (due, well, inr (mid, left, f, evicts, fault)) knows =
-      becomes (memory.poisoned left) fault.memory_is (after_fault left task (evicts_knows mid left evicts (flushed_knows job.keyspace_id mid f knows)))
-  work_knows OfMaintenance (left, evicts, fault) knows = becomes (memory.poisoned left) fault.memory_is (after_fault left task (evicts_knows old.memory left evicts knows))
+      becomes (memory.poisoned left) fault.memory_is (stays.fault left (evicts_knows mid left evicts (flushed_knows job.keyspace_id mid f knows)))
+  work_knows OfMaintenance (left, evicts, fault) knows = becomes (memory.poisoned left) fault.memory_is (stays.fault left (evicts_knows old.memory left evicts knows))
+  work_knows (OfIngestion id []) fails knows = absurd fails
+  work_knows (OfIngestion id (item ∷ items)) (left, fails) knows = ingestion_knows id (item ∷ items) fails knows
   work_knows (OfChange change how) fails knows = absurd fails
   work_knows (OfCreation name options) fails knows = absurd fails
   work_knows (OfDeletion id) fails knows = absurd fails
@@ -111,6 +132,7 @@ module _ (old new : Held) (task : Task) where
   out_knows (OfHandle OneLess id) (same, later) knows = becomes old.memory (ap (λ (h : Held). h.memory) same) knows
   out_knows (OfHandle OneMore id) same knows = same_core same knows
   out_knows (OfChange change how) same knows = same_core same knows
+  out_knows (OfIngestion id items) same knows = same_core same knows
   out_knows (OfCreation name options) same knows = same_core same knows
   out_knows (OfDeletion id) same knows = same_core same knows
   out_knows (OfRotation id) same knows = same_core same knows
@@ -125,7 +147,7 @@ module _ (old new : Held) (task : Task) where
 
   failure_knows : (shape : Shape) (error : Error) → OwesFailure old shape error new → Knows old.memory → Knows new.memory
   failure_knows shape (Io kind) (inl (changes, fault)) knows =
-      becomes (memory.poisoned (at_fault shape old.memory)) fault.memory_is (after_fault (at_fault shape old.memory) task (fault_knows shape knows))
+      becomes (memory.poisoned (at_fault shape old.memory)) fault.memory_is (stays.fault (at_fault shape old.memory) (fault_knows shape knows))
   failure_knows shape (Io kind) (inr (inl (reads, looks, rose))) knows = looks_knows looks knows
   failure_knows shape (Io kind) (inr (inr fails)) knows = work_knows shape fails knows
   failure_knows shape OutOfMemory (takes, out) knows = out_knows shape out knows
@@ -142,78 +164,66 @@ module _ (old new : Held) (task : Task) where
 
   change_knows : (change : Change) (how : Persistence) → OwesChange old change how new → Knows old.memory → Knows new.memory
   change_knows (Items []) how same knows = same_core same knows
-  change_knows (Items (item ∷ items)) how grows knows = becomes (memory.with_change (Items (item ∷ items)) old.memory) grows.memory_is (after_change old.memory task (Items (item ∷ items)) knows)
-  change_knows (Emptied id) how grows knows = becomes (memory.with_change (Emptied id) old.memory) grows.memory_is (after_change old.memory task (Emptied id) knows)
+  change_knows (Items (item ∷ items)) how grows knows = becomes (memory.with_change (Items (item ∷ items)) old.memory) grows.memory_is (stays.change old.memory (Items (item ∷ items)) knows)
+  change_knows (Emptied id) how grows knows = becomes (memory.with_change (Emptied id) old.memory) grows.memory_is (stays.change old.memory (Emptied id) knows)
 
   rotation_knows : (id : ℕ) (seals : Bool) → new ≡ (if seals then record old { memory = memory.rotated id old.memory } else old) → Knows old.memory → Knows new.memory
-  rotation_knows id true is knows = becomes (memory.rotated id old.memory) (ap (λ (h : Held). h.memory) is) (after_rotation old.memory task id knows)
+  rotation_knows id true is knows = becomes (memory.rotated id old.memory) (ap (λ (h : Held). h.memory) is) (stays.rotation old.memory id knows)
   rotation_knows id false is knows = same_core is knows
-
-  -- the journal was synced, or sealed
-  synced_knows : (long : Bool) (len : ℕ) → Knows old.memory → Knows (if long then memory.journal_rotated len old.memory else old.memory)
-  synced_knows true len knows = after_journal old.memory task len knows
-  synced_knows false len knows = knows
 
   begin_knows : (id : ℕ) (reply : Reply) (begins : Bool) → OwesBegin begins old id reply new → Knows old.memory → Knows new.memory
   begin_knows id reply true (told, free, at) knows =
-      becomes (memory.flush_out id (journal_synced old)) at.memory_is (after_begun (journal_synced old) task id (synced_knows (is_long old.journal) (written_out old.journal).len knows))
+      becomes (memory.flush_out id (journal_synced old)) at.memory_is (stays.begun (journal_synced old) id (synced_knows knows))
   begin_knows id reply false (told, same) knows = same_core same knows
 
-  finish_knows : (job : JobId) (reply : Reply) (out lives : Bool) → OwesFinish out lives old job reply new → Knows old.memory → Knows new.memory
+  finish_knows : (job : JobId) (reply : Reply) (out takes : Bool) → OwesFinish out takes old job reply new → Knows old.memory → Knows new.memory
   finish_knows job reply true true (told, well, mid, f, at) knows =
-      becomes (evicted_in_memory mid) at.memory_is (after_evicted mid task (staying (memory.flushed_by mid.keyspaces mid.records) mid.journals.sealed) (flushed_knows job.keyspace_id mid f knows))
-  finish_knows job reply true false (told, is) knows = becomes (memory.flush_gone job.keyspace_id old.memory) (ap (λ (h : Held). h.memory) is) (after_dropped old.memory task job.keyspace_id knows)
-  finish_knows job reply false lives (told, same) knows = same_core same knows
+      becomes (evicted_in_memory mid) at.memory_is (stays.evicted mid (staying (memory.flushed_by mid.keyspaces mid.records) mid.journals.sealed) (flushed_knows job.keyspace_id mid f knows))
+  finish_knows job reply true false (told, is) knows = becomes (memory.flush_gone job.keyspace_id old.memory) (ap (λ (h : Held). h.memory) is) (stays.dropped old.memory job.keyspace_id knows)
+  finish_knows job reply false takes (told, same) knows = same_core same knows
+
+  ingest_knows : (id : ℕ) (items : List KeyOp) (reply : Reply) → OwesIngestion id items old reply new → Knows old.memory → Knows new.memory
+  ingest_knows id [] reply (told, same) knows = same_core same knows
+  ingest_knows id (item ∷ items) reply (told, left, at) knows =
+      let mid = at.mid in
+      becomes (evicted_in_memory mid) at.memory_is
+      (stays.evicted mid (staying (memory.flushed_by mid.keyspaces mid.records) mid.journals.sealed) (ingested_knows id (item ∷ items) mid at.ingested knows))
 
   gives_knows : (shape : Shape) (reply : Reply) → Gives old shape reply new → Knows old.memory → Knows new.memory
   gives_knows (OfChange change how) reply (told, owes) knows = change_knows change how owes knows
+  gives_knows (OfIngestion id items) reply owes knows = ingest_knows id items reply owes knows
   gives_knows (OfCreation name options) reply (id, told, inl (found, same)) knows = same_core same knows
-  gives_knows (OfCreation name options) reply (id, told, inr (fresh, is, creates)) knows = becomes (memory.with_creation name options old.memory) creates.memory_is (after_creation old.memory task name options knows)
+  gives_knows (OfCreation name options) reply (id, told, inr (fresh, is, creates)) knows = becomes (memory.with_creation name options old.memory) creates.memory_is (stays.creation old.memory name options knows)
   gives_knows (OfDeletion id) reply (told, inl (gone, same)) knows = same_core same knows
-  gives_knows (OfDeletion id) reply (told, inr (living, deletes)) knows = becomes (memory.with_deletion id old.memory) deletes.memory_is (after_deletion old.memory task id knows)
-  gives_knows (OfHandle OneMore id) reply (told, is) knows = becomes (memory.retained id old.memory) (ap (λ (h : Held). h.memory) is) (after_retained old.memory task id knows)
-  gives_knows (OfHandle OneLess id) reply (told, counts) knows = becomes (memory.released id old.memory) counts.memory_is (after_released old.memory task id knows)
+  gives_knows (OfDeletion id) reply (told, inr (living, deletes)) knows = becomes (memory.with_deletion id old.memory) deletes.memory_is (stays.deletion old.memory id knows)
+  gives_knows (OfHandle OneMore id) reply (told, is) knows = becomes (memory.retained id old.memory) (ap (λ (h : Held). h.memory) is) (stays.retained old.memory id knows)
+  gives_knows (OfHandle OneLess id) reply (told, counts) knows = becomes (memory.released id old.memory) counts.memory_is (stays.released old.memory id knows)
   gives_knows (OfRotation id) reply (told, is) knows = rotation_knows id (rotates old.memory.trees id) is knows
   gives_knows OfJournalRotation reply (told, turns) knows =
-      becomes (memory.journal_rotated (written_out old.journal).len old.memory) turns.memory_is (after_journal old.memory task (written_out old.journal).len knows)
+      becomes (memory.journal_rotated (written_out old.journal).len old.memory) turns.memory_is (stays.journal old.memory (written_out old.journal).len knows)
   gives_knows (OfFlushBegin id) reply begins knows = begin_knows id reply (begins_flush old.memory.trees id) begins knows
-  gives_knows (OfFlushFinish job) reply finishes knows = finish_knows job reply (is_flushing old.memory.trees job) (is_living (store_in old) job.keyspace_id) finishes knows
+  gives_knows (OfFlushFinish job) reply finishes knows = finish_knows job reply (is_flushing old.memory.trees job) (takes_effect old job) finishes knows
   gives_knows OfMaintenance reply (told, at) knows =
-      becomes (evicted_in_memory old.memory) at.memory_is (after_evicted old.memory task (staying (memory.flushed_by old.memory.keyspaces old.memory.records) old.memory.journals.sealed) knows)
+      becomes (evicted_in_memory old.memory) at.memory_is (stays.evicted old.memory (staying (memory.flushed_by old.memory.keyspaces old.memory.records) old.memory.journals.sealed) knows)
   gives_knows (OfRead view id query) reply (told, looks) knows = looked_knows (tables_of old id) looks knows
-  gives_knows (OfTickets call) reply (turns, is) knows = becomes (memory.with_tickets new.memory.tickets old.memory) (ap (λ (h : Held). h.memory) is) (after_tickets old.memory task new.memory.tickets knows)
+  gives_knows (OfTickets call) reply (turns, is) knows = becomes (memory.with_tickets new.memory.tickets old.memory) (ap (λ (h : Held). h.memory) is) (stays.tickets old.memory new.memory.tickets knows)
   gives_knows (OfPersist mode) reply (told, hands) knows = becomes old.memory hands.memory_is knows
   gives_knows (OfCount count) reply (told, same) knows = same_core same knows
 
   -- whatever call is served
-  pub owed_knows : (shape : Shape) (reply : Reply) → Owes old shape reply new → Knows old.memory → Knows new.memory
-  owed_knows shape (Refused error) owes knows = refusal_knows shape error (held_due old shape) owes knows
-  owed_knows shape reply (none, gives) knows = gives_knows shape reply gives knows
+  pub owed_stays : (shape : Shape) (reply : Reply) → Owes old shape reply new → Knows old.memory → Knows new.memory
+  owed_stays shape (Refused error) owes knows = refusal_knows shape error (held_due old shape) owes knows
+  owed_stays shape reply (none, gives) knows = gives_knows shape reply gives knows
+
+-- what is known of a task stays known
+owed_knows : (old new : Held) (task : Task) (shape : Shape) (reply : Reply) → Owes old shape reply new → KnowsTask old.memory task → KnowsTask new.memory task
+owed_knows old new task = owed_stays (λ m. KnowsTask m task) (task_stays task) old new
 
 -- ---- a job that is out no more
 
--- a flush that was begun with these runs, and with nothing else
-abbrev begun_by : JobId → List (List Entry) → Task
-begun_by job runs = record { id = job.number; keyspace = job.keyspace_id; watermark = 0; runs = runs; clears = [] }
-
--- no flush was begun with two inputs
-two_inputs : (tree : Tree) (job : JobId) → IsFlushing tree (begun_by job ([] ∷ [])) → IsFlushing tree (begun_by job ([] ∷ [] ∷ [])) → ⊥
-two_inputs tree job one two =
-    let same : one.out ≡ two.out = some_is one.out two.out (sym one.is ∙ two.is) in
-    let runs = ap (λ (o : Flushing). map (λ (h : Part). h.versions) (take o.count tree.memory.sealed)) same in
-    let all = one.runs ∙ runs ∙ sym two.runs in
-    let lengths = ap length all in
-    let bad : ⊥ = omega (arith, lengths) in
-    bad
-
 -- where it isn't out before a call, it isn't out behind it
-gone_stays : (old new : Held) (shape : Shape) (reply : Reply) (job : JobId) → Owes old shape reply new → job.number < old.memory.next_job → is_flushing old.memory.trees job ≡ false
-    → (job.number < new.memory.next_job) × (is_flushing new.memory.trees job ≡ true → ⊥)
-gone_stays old new shape reply job owes given none =
-    let known : (runs : List (List Entry)) → (runs ≡ [] → ⊥) → KnowsTask old.memory (begun_by job runs) = λ runs some. (given, λ is. absurd (true≢false (sym is ∙ none)), some) in
-    let one = owed_knows old new (begun_by job ([] ∷ [])) shape reply owes (known ([] ∷ []) (λ e. let bad : ⊥ = cc in bad)) in
-    let two = owed_knows old new (begun_by job ([] ∷ [] ∷ [])) shape reply owes (known ([] ∷ [] ∷ []) (λ e. let bad : ⊥ = cc in bad)) in
-    (one.0, λ is. two_inputs (shape_in job.keyspace_id new.memory.trees) job (one.1 is) (two.1 is))
+gone_on : (old new : Held) (shape : Shape) (reply : Reply) (job : JobId) → Owes old shape reply new → job.number < old.memory.next_job → is_flushing old.memory.trees job ≡ false → IsGone job new.memory
+gone_on old new shape reply job owes given none = owed_stays (IsGone job) (gone_stays job) old new shape reply owes (given, λ is. true≢false (sym is ∙ none))
 
 -- ---- jobs by their names
 
@@ -242,7 +252,7 @@ module _ (old new : Held) (shape : Shape) (reply : Reply) (owes : Owes old shape
   still_known jobs others job known carry (given, kept) = by (is_flushing old.memory.trees job) refl
     where
       by : (out : Bool) → is_flushing old.memory.trees job ≡ out → IsKnown new.memory others job
-      by false none = let gone = gone_stays old new shape reply job owes given none in (gone.0, λ is. absurd (gone.1 is))
+      by false none = let gone = gone_on old new shape reply job owes given none in (gone.0, λ is. absurd (gone.1 is))
       by true is =
           let here = found job jobs (kept is) in
           let low : here.1 ≡ get_or jobs here.0 here.1 = sym here.3 in
@@ -284,14 +294,16 @@ read_begins old view id (Page range back max) job [] (found, told, is) = let bad
 read_begins old view id (Get key) job (t ∷ tables) (found, told) = let bad : ⊥ = cc in bad
 read_begins old view id (Page range back max) job (t ∷ tables) (found, told) = let bad : ⊥ = cc in bad
 
-finish_begins : (old new : Held) (named job : JobId) (out lives : Bool) → OwesFinish out lives old named (Began (Some job)) new → ⊥
+finish_begins : (old new : Held) (named job : JobId) (out takes : Bool) → OwesFinish out takes old named (Began (Some job)) new → ⊥
 finish_begins old new named job true true (told, well, mid, f, at) = let bad : ⊥ = cc in bad
 finish_begins old new named job true false (told, is) = let bad : ⊥ = cc in bad
-finish_begins old new named job false lives (told, same) = let bad : ⊥ = cc in bad
+finish_begins old new named job false takes (told, same) = let bad : ⊥ = cc in bad
 
 -- no call but one that begins a flush is answered with a job
 pub none_begun : (old new : Held) (shape : Shape) (job : JobId) → ((id : ℕ) → shape ≡ OfFlushBegin id → ⊥) → Gives old shape (Began (Some job)) new → ⊥
 none_begun old new (OfChange change how) job other (told, owes) = let bad : ⊥ = cc in bad
+none_begun old new (OfIngestion id []) job other (told, same) = let bad : ⊥ = cc in bad
+none_begun old new (OfIngestion id (item ∷ items)) job other (told, left, at) = let bad : ⊥ = cc in bad
 none_begun old new (OfCreation name options) job other (id, told, owes) = let bad : ⊥ = cc in bad
 none_begun old new (OfDeletion id) job other (told, owes) = let bad : ⊥ = cc in bad
 none_begun old new (OfHandle OneMore id) job other (told, is) = let bad : ⊥ = cc in bad
@@ -299,7 +311,7 @@ none_begun old new (OfHandle OneLess id) job other (told, counts) = let bad : �
 none_begun old new (OfRotation id) job other (told, is) = let bad : ⊥ = cc in bad
 none_begun old new OfJournalRotation job other (told, turns) = let bad : ⊥ = cc in bad
 none_begun old new (OfFlushBegin id) job other begins = other id refl
-none_begun old new (OfFlushFinish named) job other finishes = finish_begins old new named job (is_flushing old.memory.trees named) (is_living (store_in old) named.keyspace_id) finishes
+none_begun old new (OfFlushFinish named) job other finishes = finish_begins old new named job (is_flushing old.memory.trees named) (takes_effect old named) finishes
 none_begun old new OfMaintenance job other (told, at) = let bad : ⊥ = cc in bad
 none_begun old new (OfRead view id query) job other (told, looks) = read_begins old view id query job (tables_of old id) told
 none_begun old new (OfTickets Open) job other ((told, turns), is) = let bad : ⊥ = cc in bad
@@ -410,18 +422,18 @@ gone_here id change none trees = ap (λ (o : Option Tree). (unwrap_or o (bare_tr
 
 -- behind an answer its flush isn't out
 finished_out : (old new : Held) (job : JobId) (done : Bool) → Owes old (OfFlushFinish job) (Flag done) new → is_flushing new.memory.trees job ≡ false
-finished_out old new job done (none, gives) = by (is_flushing old.memory.trees job) refl (is_living (store_in old) job.keyspace_id) gives
+finished_out old new job done (none, gives) = by (is_flushing old.memory.trees job) refl (takes_effect old job) gives
   where
     id : ℕ
     id = job.keyspace_id
 
-    by : (out : Bool) → is_flushing old.memory.trees job ≡ out → (lives : Bool) → OwesFinish out lives old job (Flag done) new → is_flushing new.memory.trees job ≡ false
+    by : (out : Bool) → is_flushing old.memory.trees job ≡ out → (takes : Bool) → OwesFinish out takes old job (Flag done) new → is_flushing new.memory.trees job ≡ false
     by true is true (told, well, mid, f, at) =
         ap (λ (m : Remembered). is_flushing m.trees job) at.memory_is ∙ ap (λ (m : Remembered). is_flushing m.trees job) f.is
         ∙ ap (is_flush_out job.number) (gone_here id (flush_finished f.readers f.begun.out) (λ tree. refl) old.memory.trees)
     by true is false (told, at) =
         ap (λ (h : Held). is_flushing h.memory.trees job) at ∙ ap (is_flush_out job.number) (gone_here id flush_dropped (λ tree. refl) old.memory.trees)
-    by false is lives (told, same) = ap (λ (h : Held). is_flushing h.memory.trees job) same ∙ is
+    by false is takes (told, same) = ap (λ (h : Held). is_flushing h.memory.trees job) same ∙ is
 
 -- what was given back
 gave_none : (kept : FlushJob) (reply : Reply) → IsGivenBack kept reply None → (done : Bool) × (reply ≡ Flag done)

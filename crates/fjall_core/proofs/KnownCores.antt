@@ -9,7 +9,6 @@ use Rattle.fjall_commit.specs.Changes.{with_home, without_home}
 use Rattle.fjall_journal.specs.Batches.{Shown, Written, shown}
 use Rattle.fjall_journal.specs.Changes.{Change, Emptied, Items, of_change}
 use Rattle.fjall_lsm.specs.Trees.{Shape, sealed_off}
-use Rattle.fjall_meta.specs.declared.living.LivingKeyspace.{LivingKeyspace}
 use Rattle.fjall_meta.specs.Keyspaces.{AreKeyspaces, Keyspaces, keyspace_at}
 use Rattle.fjall_parts.specs.Parts.{holds_nothing}
 use Rattle.fjall_recovery.specs.Halves.{Tree}

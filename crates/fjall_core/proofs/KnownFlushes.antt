@@ -1,5 +1,5 @@
 -- Flushes that are out cover what was synced, while trees change in memory and batches are written.
-use Rattle.std.proofs.Common.{◌≡◌, ◌≢◌, ℕ, ◌+◌, ◌<◌, ◌≤◌, ◌==◌, not, Bool, true, false, cond, List, [], ◌∷◌, ◌++◌, length, drop, get_or, All, Option, None, Some, refl, sym, ◌∙◌, ap, subst, arith}
+use Rattle.std.proofs.Common.{◌≡◌, ℕ, ◌≤◌, ◌==◌, not, Bool, true, false, cond, List, [], ◌∷◌, ◌++◌, length, drop, get_or, All, Option, None, Some, refl, sym, ◌∙◌, ap, subst, arith}
 use Rattle.std.proofs.lemmas.List.{drop-append-le, length-append}
 use Rattle.std.proofs.lemmas.List.Elements.{All-cons, All-filter, All-head, All-map, All-nil, All-push, All-tail}
 use Rattle.fjall_blocks.specs.Readers.{Reader}
@@ -12,7 +12,7 @@ use Rattle.fjall_lsm.proofs.Changes.{first_same, first_sealed}
 use Rattle.fjall_maps.proofs.Pushed.{put_all_from, put_all_sealed}
 use Rattle.fjall_parts.specs.Parts.{Held, Memory, empty_from, with_clear}
 use Rattle.fjall_flush.proofs.Finishing.{end_inside}
-use Rattle.fjall_trees.specs.Forests.{AreBefore, Forest, IsForest, IsTree, Planted, altered_at, without}
+use Rattle.fjall_trees.specs.Forests.{AreBefore, Forest, IsForest, Planted, altered_at, without}
 use Rattle.fjall_trees.specs.Tables.{AreSameTrees}
 use Rattle.fjall_trees.specs.Writes.{entries_of, pushed, with_tree}
 use Rattle.fjall_trees.proofs.Changing.{put_all_keeps}
@@ -86,7 +86,7 @@ covered_pushed later n items trees covered =
     All-map (CoversSynced later) (λ (k : Planted). record { id = k.id; shape = put_all (entries_of k.id n items) k.shape }) trees (λ i d lt.
     let k = get_or trees i d in covers_on later k.id k.shape (put_all (entries_of k.id n items) k.shape) (put_keeps (entries_of k.id n items) k.shape) (covered i d lt))
 
-covered_altered : (later : List Written) (id : ℕ) (change : Shape → Shape) → ((i : ℕ) (shape : Shape) → CoversSynced later (record { id = i; shape = shape }) → CoversSynced later (record { id = i; shape = change shape }))
+pub covered_altered : (later : List Written) (id : ℕ) (change : Shape → Shape) → ((i : ℕ) (shape : Shape) → CoversSynced later (record { id = i; shape = shape }) → CoversSynced later (record { id = i; shape = change shape }))
     → (trees : Forest) → AreCovered later trees → AreCovered later (altered_at id change trees)
 covered_altered later id change keeps trees covered =
     All-map (CoversSynced later) (λ (k : Planted). record { id = k.id; shape = cond (k.id == id) (change k.shape) k.shape }) trees (λ i d lt.

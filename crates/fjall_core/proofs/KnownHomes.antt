@@ -1,5 +1,5 @@
 -- What is known of the homes of keyspaces stays while trees change in memory, keyspaces come and go, and their folders stay in sight.
-use Rattle.std.proofs.Common.{◌≡◌, ◌≢◌, ◌⊎◌, inl, inr, ℕ, ◌<◌, ◌≤◌, ◌==◌, not, Bool, true, false, cond, unwrap_or, List, [], get_or, All, Option, None, Some, refl, sym, ◌∙◌, ap, subst, arith}
+use Rattle.std.proofs.Common.{◌≡◌, ◌≢◌, ℕ, ◌<◌, ◌≤◌, ◌==◌, not, Bool, true, false, cond, unwrap_or, List, [], get_or, All, Option, None, Some, refl, sym, ◌∙◌, ap, subst, arith}
 use Rattle.std.specs.FinMap.{get, insert, remove}
 use Rattle.std.specs.Option.{option_map, option_or}
 use Rattle.std.proofs.lemmas.Bool.{cond-true, eq-eqb, eqb-false, eqb-true}
@@ -8,7 +8,6 @@ use Rattle.std.proofs.lemmas.List.Elements.{All-filter, All-nil, All-push, filte
 use Rattle.fjall_base.specs.Pairs.{Bytes}
 use Rattle.fjall_catalog.specs.Catalog.{fields, first_of}
 use Rattle.fjall_commit.specs.Changes.{first_home}
-use Rattle.fjall_home.specs.Homes.{Home}
 use Rattle.fjall_journal.specs.Ops.{BatchItem}
 use Rattle.fjall_loading.specs.Known.{GoesOnFrom, IsKnown, LastFields}
 use Rattle.fjall_lsm.specs.Puts.{bare_tree, put_all}

@@ -6,7 +6,7 @@ use Rattle.fjall_journal.specs.declared.persist_mode.PersistMode.{PersistMode}
 use Rattle.fjall_journal.specs.declared.persist_mode.PersistMode.TheVariants.{Buffer, SyncAll, SyncData}
 use Rattle.fjall_state.specs.declared.call.Call.{Call}
 use Rattle.fjall_journal.specs.Changes.{Emptied, Items}
-use Rattle.fjall_state.specs.Shapes.{OfChange, OfCount, OfCreation, OfDeletion, OfFlushBegin, OfFlushFinish, OfHandle, OfJournalRotation, OfMaintenance, OfPersist, OfRead, OfRotation, OfTickets, Shape, shape_of}
+use Rattle.fjall_state.specs.Shapes.{OfChange, OfCount, OfCreation, OfDeletion, OfFlushBegin, OfFlushFinish, OfHandle, OfIngestion, OfJournalRotation, OfMaintenance, OfPersist, OfRead, OfRotation, OfTickets, Shape, shape_of}
 use Rattle.fjall_history.specs.declared.reply.Reply.{Reply}
 use Rattle.fjall_history.specs.declared.reply.Reply.TheVariants.{Refused}
 use Rattle.fjall_state.specs.Machine.{State, begins_flush, has_name, is_living, mode_in, present}
@@ -39,6 +39,8 @@ syncs_or_not : (s : State) (shape : Shape) → Syncs s shape ⊎ (Syncs s shape 
 syncs_or_not s (OfChange (Items []) how) = inr (λ sync. sync)
 syncs_or_not s (OfChange (Items (item ∷ items)) how) = given_or_not (mode_in (present s) how)
 syncs_or_not s (OfChange (Emptied id) how) = given_or_not (mode_in (present s) how)
+syncs_or_not s (OfIngestion id []) = inr (λ sync. sync)
+syncs_or_not s (OfIngestion id (item ∷ items)) = inl tt
 syncs_or_not s (OfCreation name options) = is_false_or_not (has_name (present s) name)
 syncs_or_not s (OfDeletion id) = is_true_or_not (is_living (present s) id)
 syncs_or_not s (OfHandle call id) = inr (λ sync. sync)

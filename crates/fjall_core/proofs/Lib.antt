@@ -22,6 +22,7 @@ mod KeyspaceCalls
 mod OwedStates
 mod OwedWork
 mod OwedSteps
+mod GoneFlushes
 mod KeptJobs
 mod DeviceFaults
 mod ServedCalls
@@ -51,3 +52,11 @@ mod FinishedFlushes
 mod BegunFlushes
 mod FlushBegins
 mod Evictions
+mod IngestionSyncs
+mod IngestionWrites
+mod IngestionTables
+mod IngestionSettles
+mod IngestionSteps
+mod IngestionCalls
+mod PutIngestions
+mod IngestionRefusals

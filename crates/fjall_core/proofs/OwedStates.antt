@@ -1,5 +1,5 @@
 -- States that a core stands for behind parts of calls.
-use Rattle.std.proofs.Common.{◌≡◌, ℕ, ◌+◌, true, Option, None, length, refl, sym, ◌∙◌, ap, subst, arith}
+use Rattle.std.proofs.Common.{◌≡◌, ℕ, ◌+◌, true, None, length, refl, sym, ap, subst, arith}
 use Rattle.fjall_journal.specs.Writer.{Journal, counted}
 use Rattle.fjall_journal.specs.Writer as writer
 use Rattle.fjall_history.specs.declared.reply.Reply.{Reply}

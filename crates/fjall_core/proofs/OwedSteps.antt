@@ -22,7 +22,7 @@ use Rattle.fjall_history.specs.Histories.{number}
 use Rattle.fjall_history.specs.Queries.{Query, Tells}
 use Rattle.fjall_history.specs.Tickets.{Tickets, closed, collected, opened}
 use Rattle.fjall_state.specs.declared.call.Call.{Call}
-use Rattle.fjall_state.specs.Shapes.{AsKeyspace, ByMode, Clone, Close, Collect, Count, DiskSpace, Exists, Flushes, JournalSpace, Keyspaces, Next, OfChange, OfCount, OfCreation, OfDeletion, OfFlushBegin, OfFlushFinish, OfHandle, OfJournalRotation, OfMaintenance, OfPersist, OfRead, OfRotation, OfTickets, OneLess, OneMore, Open, OpenTickets, Persistence, Entries, SealedMemtables, Shape, Tables, TablesL0, TicketCall, ToFlush, Visible, WriteBuffer, shape_of}
+use Rattle.fjall_state.specs.Shapes.{AsKeyspace, ByMode, Clone, Close, Collect, Count, DiskSpace, Exists, Flushes, JournalSpace, Keyspaces, Next, OfChange, OfCount, OfCreation, OfDeletion, OfFlushBegin, OfFlushFinish, OfHandle, OfIngestion, OfJournalRotation, OfMaintenance, OfPersist, OfRead, OfRotation, OfTickets, OneLess, OneMore, Open, OpenTickets, Persistence, Entries, SealedMemtables, Shape, Tables, TablesL0, TicketCall, ToFlush, Visible, WriteBuffer, shape_of}
 use Rattle.fjall_state.specs.Shapes as shapes
 use Rattle.fjall_state.specs.Allowed.{MayChange}
 use Rattle.fjall_state.specs.Machine.{ChangesDisk, CountIs, MayFail, Parts, ReadsTables, Refuses, State, TakesMemory, TooLong, TurnsTickets, accepted, begins_flush, created, creation_refusals, deleted, due, facts, first_due, has_name, is_flushing, is_living, leaves_buffer, mode_in, present, rotates, written, written_out}
@@ -37,14 +37,15 @@ use Rattle.fjall_state.proofs.Standing as law
 use Rattle.fjall_core.specs.Holding.{Held}
 use Rattle.fjall_blocks.specs.Readers.{Reader}
 use Rattle.fjall_core.proofs.OwedStates.{Answered, Steps, none_more, poisoned_stands, poisoned_state, same_due, still}
-use Rattle.fjall_core.proofs.OwedWork.{begin_steps, finish_steps, maintenance_steps, same_late, same_room, same_used, work_steps}
-use Rattle.fjall_core.specs.Standing.{StandsFor, at_fault, tables_of, Looks, LooksAt, GivesRead, Gives, Owes, OwesAll, RotatesJournal, OwesChange, OwesCreation, OwesDeletion, OwesRefusal, OwesFailure, Poisons, RanOut, Grows, HandsOver, HeldCount, Alters, Counts, Creates, Deletes, held_due, mode_of, store_in, text_of}
+use Rattle.fjall_core.proofs.OwedWork.{begin_steps, finish_steps, ingestion_steps, maintenance_steps, same_late, same_room, same_used, work_steps}
+use Rattle.fjall_core.specs.Standing.{StandsFor, at_fault, tables_of, Looks, LooksAt, GivesRead, Gives, Owes, OwesAll, RotatesJournal, OwesChange, OwesCreation, OwesDeletion, OwesRefusal, OwesFailure, RanOut, Grows, HandsOver, HeldCount, Alters, Counts, Creates, Deletes, held_due, mode_of, store_in, takes_effect, text_of}
 
 -- ---- refusals
 
 -- what a fault leaves in memory, but that it poisons the core, stands for what it leaves of a state
 fault_left : (old : Held) (s : State) (shape : Shape) → StandsFor old s → memory.StandsFor (at_fault shape old.memory) old.catalog.next_table_id (machine.at_fault s shape)
 fault_left old s (OfChange change how) stands = stands.remembered
+fault_left old s (OfIngestion id items) stands = stands.remembered
 fault_left old s (OfCreation name options) stands = stands.remembered
 fault_left old s (OfDeletion id) stands = stands.remembered
 fault_left old s (OfHandle OneMore id) stands = stands.remembered
@@ -78,6 +79,7 @@ same_long : (old : Held) (s : State) (shape : Shape) → StandsFor old s → Too
 same_long old s (OfCreation name options) stands long = law.long_creation old.memory old.catalog.next_table_id s stands.remembered name options long
 same_long old s (OfDeletion id) stands long = law.long_deletion old.memory old.catalog.next_table_id s stands.remembered id long
 same_long old s (OfChange change how) stands long = absurd long
+same_long old s (OfIngestion id items) stands long = absurd long
 same_long old s (OfHandle call id) stands long = absurd long
 same_long old s (OfRotation id) stands long = absurd long
 same_long old s OfJournalRotation stands long = absurd long
@@ -105,6 +107,7 @@ same_changes : (old : Held) (s : State) (shape : Shape) → StandsFor old s → 
 same_changes old s (OfChange (Items []) how) stands changes = absurd changes
 same_changes old s (OfChange (Items (item ∷ items)) how) stands out = same_leaves old s stands (Items (item ∷ items)) how ∙ out
 same_changes old s (OfChange (Emptied id) how) stands out = same_leaves old s stands (Emptied id) how ∙ out
+same_changes old s (OfIngestion id items) stands changes = absurd changes
 same_changes old s (OfCreation name options) stands changes = tt
 same_changes old s (OfDeletion id) stands changes = tt
 same_changes old s (OfHandle OneMore id) stands changes = absurd changes
@@ -124,6 +127,7 @@ ran_out_still : (old new : Held) (s : State) (shape : Shape) → RanOut old shap
 ran_out_still old new s (OfHandle OneLess id) (same, later) stands = subst (λ (c : Held). StandsFor c s) (sym same) (record { remembered = stands.remembered; journal = stands.journal; buffer = stands.buffer })
 ran_out_still old new s (OfHandle OneMore id) same stands = still old new s same stands
 ran_out_still old new s (OfChange change how) same stands = still old new s same stands
+ran_out_still old new s (OfIngestion id items) same stands = still old new s same stands
 ran_out_still old new s (OfCreation name options) same stands = still old new s same stands
 ran_out_still old new s (OfDeletion id) same stands = still old new s same stands
 ran_out_still old new s (OfRotation id) same stands = still old new s same stands
@@ -136,26 +140,26 @@ ran_out_still old new s (OfTickets call) same stands = still old new s same stan
 ran_out_still old new s (OfPersist mode) same stands = still old new s same stands
 ran_out_still old new s (OfCount count) same stands = still old new s same stands
 
-failure_steps : (old new : Held) (s : State) (shape : Shape) (error : Error) → (ReadsTables old.memory.trees shape → ⊥) → StandsFor old s → OwesFailure old shape error new → (t : State) × StandsFor new t × MayFail shape error s t
-failure_steps old new s shape (Io kind) none stands (inl (changes, fault)) =
+failure_steps : (old new : Held) (s : State) (shape : Shape) (error : Error) → held_due old shape ≡ None → (ReadsTables old.memory.trees shape → ⊥) → StandsFor old s → OwesFailure old shape error new → (t : State) × StandsFor new t × MayFail shape error s t
+failure_steps old new s shape (Io kind) due_is none stands (inl (changes, fault)) =
     let left = machine.at_fault s shape in (
       poisoned_state new left,
       poisoned_stands (at_fault shape old.memory) old new old.catalog.next_table_id left fault (fault_left old s shape stands),
       inl (same_changes old s shape stands changes, record { is = refl; trees = refl; entries = refl; records = refl; journals = refl }),
     )
-failure_steps old new s shape (Io kind) none stands (inr (inl (reads, looks, rose))) = absurd (none reads)
-failure_steps old new s shape (Io kind) none stands (inr (inr poisons)) = let left = work_steps old new s stands shape poisons in (left.0, left.1, inr (inr left.2))
-failure_steps old new s shape OutOfMemory none stands (takes, out) = (s, ran_out_still old new s shape out stands, (takes, refl))
-failure_steps old new s shape (Storage told) none stands (is, reads, looks) = absurd (none reads)
-failure_steps old new s shape ValueTooLong none stands (long, same) = (s, still old new s same stands, (same_long old s shape stands long, refl))
-failure_steps old new s shape Poisoned none stands (late, same) = (s, still old new s same stands, (same_late old s stands shape late, refl))
-failure_steps old new s shape NumbersUsedUp none stands (used, same) = (s, still old new s same stands, (same_used old s stands shape used, refl))
-failure_steps old new s shape TooManyItems none stands (room, same) = (s, still old new s same stands, (same_room old s stands shape room, refl))
-failure_steps old new s shape error none stands bad = absurd bad
+failure_steps old new s shape (Io kind) due_is none stands (inr (inl (reads, looks, rose))) = absurd (none reads)
+failure_steps old new s shape (Io kind) due_is none stands (inr (inr poisons)) = let left = work_steps old new s stands shape due_is poisons in (left.0, left.1, inr (inr left.2))
+failure_steps old new s shape OutOfMemory due_is none stands (takes, out) = (s, ran_out_still old new s shape out stands, (takes, refl))
+failure_steps old new s shape (Storage told) due_is none stands (is, reads, looks) = absurd (none reads)
+failure_steps old new s shape ValueTooLong due_is none stands (long, same) = (s, still old new s same stands, (same_long old s shape stands long, refl))
+failure_steps old new s shape Poisoned due_is none stands (late, same) = (s, still old new s same stands, (same_late old s stands shape late, refl))
+failure_steps old new s shape NumbersUsedUp due_is none stands (used, same) = (s, still old new s same stands, (same_used old s stands shape used, refl))
+failure_steps old new s shape TooManyItems due_is none stands (room, same) = (s, still old new s same stands, (same_room old s stands shape room, refl))
+failure_steps old new s shape error due_is none stands bad = absurd bad
 
-refusal_steps : (old new : Held) (s : State) (shape : Shape) (error : Error) (first : Option Error) → (ReadsTables old.memory.trees shape → ⊥) → StandsFor old s → OwesRefusal first old shape error new → (t : State) × StandsFor new t × Refuses first shape error s t
-refusal_steps old new s shape error (Some first) none stands (is, same) = (s, still old new s same stands, (is, refl))
-refusal_steps old new s shape error None none stands failure = failure_steps old new s shape error none stands failure
+refusal_steps : (old new : Held) (s : State) (shape : Shape) (error : Error) (first : Option Error) → held_due old shape ≡ first → (ReadsTables old.memory.trees shape → ⊥) → StandsFor old s → OwesRefusal first old shape error new → (t : State) × StandsFor new t × Refuses first shape error s t
+refusal_steps old new s shape error (Some first) due_is none stands (is, same) = (s, still old new s same stands, (is, refl))
+refusal_steps old new s shape error None due_is none stands failure = failure_steps old new s shape error due_is none stands failure
 
 -- a refusal that is due, and changes nothing
 pub due_step : (core : Held) (s : State) (shape : Shape) (error : Error) → held_due core shape ≡ Some error → StandsFor core s → Steps core s shape (Refused error)
@@ -438,6 +442,7 @@ deletion_steps old new s id none (inr (living, deletes)) stands = deleted_steps 
 
 gives_step : (old new : Held) (shape : Shape) (reply : Reply) (s : State) → (ReadsTables old.memory.trees shape → ⊥) → held_due old shape ≡ None → Gives old shape reply new → StandsFor old s → Answered new s shape reply
 gives_step old new (OfChange change how) reply s bare none (told, owes) stands = subst (λ r. Answered new s (OfChange change how) r) (sym told) (changed_steps old new s change how none owes stands)
+gives_step old new (OfIngestion id items) reply s bare none owes stands = ingestion_steps old new s stands id items reply none owes
 gives_step old new (OfCreation name options) reply s bare none (id, told, owes) stands = subst (λ r. Answered new s (OfCreation name options) r) (sym told) (creation_steps old new s name options id none owes stands)
 gives_step old new (OfDeletion id) reply s bare none (told, owes) stands = subst (λ r. Answered new s (OfDeletion id) r) (sym told) (deletion_steps old new s id none owes stands)
 gives_step old new (OfHandle OneMore id) reply s bare none (told, is) stands = subst (λ r. Answered new s (OfHandle OneMore id) r) (sym told) (retained_steps old new s id none is stands)
@@ -446,7 +451,7 @@ gives_step old new (OfRotation id) reply s bare none (told, is) stands = rotatio
 gives_step old new OfJournalRotation reply s bare none (told, turns) stands = subst (λ r. Answered new s OfJournalRotation r) (sym told) (turned_steps old new s none turns stands)
 gives_step old new (OfFlushBegin id) reply s bare none begins stands = begin_steps old new s stands id reply (begins_flush old.memory.trees id) refl none begins
 gives_step old new (OfFlushFinish job) reply s bare none finishes stands =
-    finish_steps old new s stands job reply (is_flushing old.memory.trees job) refl (is_living (store_in old) job.keyspace_id) refl none finishes
+    finish_steps old new s stands job reply (is_flushing old.memory.trees job) refl (takes_effect old job) refl none finishes
 gives_step old new OfMaintenance reply s bare none (told, becomes) stands = subst (λ r. Answered new s OfMaintenance r) (sym told) (maintenance_steps old new s stands none becomes)
 gives_step old new (OfRead view id query) reply s bare none (told, looks) stands = read_steps old new s view id query reply (tables_of old id) refl bare none told looks stands
 gives_step old new (OfTickets call) reply s bare none (turns, is) stands = tickets_step old new s stands is call reply none turns
@@ -457,7 +462,7 @@ gives_step old new (OfCount count) reply s bare none (told, same) stands = (s, s
 -- each call is a step, but a read of a keyspace that has tables
 pub owes_step : (old new : Held) (shape : Shape) (reply : Reply) (s : State) → (ReadsTables old.memory.trees shape → ⊥) → Owes old shape reply new → StandsFor old s → Steps new s shape reply
 owes_step old new shape (Refused error) s bare owes stands =
-    subst (λ first. (t : State) × StandsFor new t × Refuses first shape error s t) (sym (same_due old s shape stands)) (refusal_steps old new s shape error (held_due old shape) bare stands owes)
+    subst (λ first. (t : State) × StandsFor new t × Refuses first shape error s t) (sym (same_due old s shape stands)) (refusal_steps old new s shape error (held_due old shape) refl bare stands owes)
 owes_step old new shape reply s bare (none, gives) stands = gives_step old new shape reply s bare none gives stands
 
 -- one call more

@@ -1,5 +1,5 @@
--- What a worker's step owes is a step of the machine: of a flush that is to begin or to be finished, and of maintenance.
-use Rattle.std.proofs.Common.{◌≡◌, ◌⊎◌, inl, inr, ℕ, ◌+◌, ◌-◌, ◌^◌, ◌<◌, ◌==◌, ◌&&◌, ◌||◌, Bool, true, false, if◌then◌else◌, List, length, Option, None, Some, nat_lt, nat_le, refl, sym, ◌∙◌, ap, subst, arith}
+-- What a worker's step or an ingestion owes is a step of the machine: of a flush that is to begin or to be finished, and of maintenance.
+use Rattle.std.proofs.Common.{◌≡◌, ◌⊎◌, inl, inr, ℕ, ◌+◌, ◌-◌, ◌^◌, ◌<◌, ◌≤◌, ◌==◌, ◌&&◌, ◌||◌, Bool, true, false, if◌then◌else◌, List, [], ◌∷◌, length, None, Some, nat_lt, nat_le, refl, sym, ◌∙◌, ap, subst, arith}
 use Rattle.std.proofs.lemmas.Bool.{true≢false}
 use Rattle.std.proofs.lemmas.Bool.Decides.{nat_tests}
 use Rattle.fjall_journal.specs.Writer.{Journal}
@@ -9,21 +9,34 @@ use Rattle.fjall_manager.specs.Rotations.{empty_journal}
 use Rattle.fjall_history.specs.declared.job.JobId.{JobId}
 use Rattle.fjall_history.specs.declared.reply.Reply.{Reply}
 use Rattle.fjall_history.specs.declared.reply.Reply.TheVariants.{Began, Done, Flag}
-use Rattle.fjall_tree.specs.Records.{Fields}
+use Rattle.fjall_tree.specs.Records.{Fields, body}
+use Rattle.fjall_history.specs.Histories.{number}
+use Rattle.fjall_jobs.specs.declared.made_table.MadeTable.{MadeTable}
 use Rattle.fjall_loading.specs.Known.{last_known}
+use Rattle.fjall_meta.specs.declared.living.LivingKeyspace.{LivingKeyspace}
+use Rattle.fjall_meta.specs.Keyspaces.{keyspace_at}
+use Rattle.fjall_ingest.specs.Plans.{AreOf}
+use Rattle.fjall_ingest.specs.Whole.{LacksIds, LacksRecordRoom, last_flushed, last_ingested}
+use Rattle.fjall_jobs.specs.Tasks.{IsFlushed}
+use Rattle.fjall_lsm.specs.Ingestions.{memory_task}
+use Rattle.fjall_lsm.specs.Jobs.{count_out}
 use Rattle.fjall_lsm.specs.Trees as lsm
+use Rattle.fjall_parts.specs.Parts.{Memory, clears_in, parts_of}
 use Rattle.fjall_trees.specs.Tables.{shape_in}
-use Rattle.fjall_state.specs.Shapes.{OfChange, OfCount, OfCreation, OfDeletion, OfFlushBegin, OfFlushFinish, OfHandle, OfJournalRotation, OfMaintenance, OfPersist, OfRead, OfRotation, OfTickets, Shape}
-use Rattle.fjall_state.specs.Machine.{BeginsFlush, EvictsSome, FinishesFlush, Flushed, IsPoisoned, LacksRoom, Parts, State, WorkFails, begins_flush, is_flushing, is_living, present, written_out}
+use Rattle.fjall_state.specs.Shapes.{OfChange, OfCount, OfCreation, OfDeletion, OfFlushBegin, OfFlushFinish, OfHandle, OfIngestion, OfJournalRotation, OfMaintenance, OfPersist, OfRead, OfRotation, OfTickets, Shape}
+use Rattle.fjall_state.specs.Machine.{BeginsFlush, EvictsSome, FinishesFlush, Flushed, IngestionFails, Ingests, IngestsInto, IsPoisoned, LacksRoom, MayIngest, Parts, State, WorkFails, begins_flush, is_flushing, is_living, present, written_out}
 use Rattle.fjall_state.specs.Machine as machine
-use Rattle.fjall_state.specs.Remembered.{Remembered}
+use Rattle.fjall_state.specs.Remembered.{Remembered, facts_of}
 use Rattle.fjall_state.specs.Remembered as memory
 use Rattle.fjall_state.proofs.Flushing.{a_begun_flush_stands, a_dropped_flush_stands, a_finished_flush_stands, an_eviction_stands, known_record, some_evicted, with_sealed_stands}
+use Rattle.fjall_state.proofs.Ascending.{may_ingest}
+use Rattle.fjall_state.proofs.Ingesting.{an_ingestion_stands}
 use Rattle.fjall_state.proofs.SameTrees.{same_in}
 use Rattle.fjall_state.proofs.Sizes.{beginning_agrees, out_agrees}
 use Rattle.fjall_state.proofs.Standing as law
+use Rattle.fjall_writes.specs.Ingestions.{KeyOp}
 use Rattle.fjall_core.specs.Holding.{Held}
-use Rattle.fjall_core.specs.Standing.{Becomes, BeginsAt, EvictsInMemory, FinishesLate, FlushedInMemory, HasNoRoom, IsDueToFinish, OwesBegin, OwesFinish, Poisons, StandsFor, UsesUp, WorkPoisons, are_jobs_used_up, evicted_in_memory, held_due, is_long, journal_synced, next_name, store_in}
+use Rattle.fjall_core.specs.Standing.{Becomes, BeginsAt, EvictsInMemory, FinishesLate, FlushedInMemory, HasNoRoom, IngestedInMemory, IngestionPoisons, IsDueToFinish, OwesBegin, OwesFinish, OwesIngestion, Poisons, StandsFor, UsesUp, WorkPoisons, are_jobs_used_up, are_journals_used_up, evicted_in_memory, held_due, is_long, journal_synced, next_name, store_in, takes_effect}
 use Rattle.fjall_core.proofs.OwedStates.{Answered, Steps, none_more, poisoned_stands, poisoned_state, same_due, still}
 
 -- a number of 64 bits that isn't the last one
@@ -36,7 +49,7 @@ module _ (old new : Held) (s : State) (stands : StandsFor old s) where
 
   -- ---- a flush that begins
 
-  long_agrees : machine.is_long s.parts ≡ is_long old.journal
+  pub long_agrees : machine.is_long s.parts ≡ is_long old.journal
   long_agrees = λ i. nat_lt 64000000 (stands.journal i + stands.buffer i)
 
   used_up_agrees : machine.are_jobs_used_up s ≡ are_jobs_used_up old
@@ -52,16 +65,16 @@ module _ (old new : Held) (s : State) (stands : StandsFor old s) where
   abbrev synced_writer : Bool → Journal
   synced_writer long = if long then empty_journal (next_name old) else writer.written_out old.journal
 
-  synced_stands : (long : Bool) → memory.StandsFor (synced_memory long) table (synced_state long)
+  pub synced_stands : (long : Bool) → memory.StandsFor (synced_memory long) table (synced_state long)
   synced_stands true =
       law.a_journal_rotation_stands old.memory table s stands.remembered (writer.written_out old.journal).len (λ i. writer.counted (sym stands.journal i + sym stands.buffer i))
   synced_stands false = law.other_parts_stand old.memory table s stands.remembered (written_out s.parts 0) stands.remembered.next_table refl refl refl refl
 
-  synced_len : (long : Bool) → (synced_state long).parts.journal ≡ (synced_writer long).len
+  pub synced_len : (long : Bool) → (synced_state long).parts.journal ≡ (synced_writer long).len
   synced_len true = refl
   synced_len false = none_more old.journal s.parts stands.journal stands.buffer
 
-  synced_buffer : (long : Bool) → (synced_state long).parts.buffer ≡ length (synced_writer long).buffer
+  pub synced_buffer : (long : Bool) → (synced_state long).parts.buffer ≡ length (synced_writer long).buffer
   synced_buffer true = refl
   synced_buffer false = refl
 
@@ -136,19 +149,80 @@ module _ (old new : Held) (s : State) (stands : StandsFor old s) where
   lives_agree : (id : ℕ) → is_living (present s) id ≡ is_living (store_in old) id
   lives_agree id = law.living_agree old.memory table s stands.remembered id
 
+  pub takes_there : (job : JobId) → machine.takes_effect s job ≡ takes_effect old job
+  takes_there job =
+      let alike = same_in job.keyspace_id s.parts.trees old.memory.trees stands.remembered.trees in
+      λ i. lives_agree job.keyspace_id i && nat_lt 0 (count_out (sym alike.flush i))
+
   out_there : (job : JobId) → is_flushing s.parts.trees job ≡ is_flushing old.memory.trees job
   out_there job = out_agrees old.memory table s stands.remembered job
 
-  pub finish_steps : (job : JobId) (reply : Reply) (out : Bool) → is_flushing old.memory.trees job ≡ out → (lives : Bool) → is_living (store_in old) job.keyspace_id ≡ lives → held_due old (OfFlushFinish job) ≡ None
-      → OwesFinish out lives old job reply new → Answered new s (OfFlushFinish job) reply
-  finish_steps job reply out out_is lives lives_is none owes =
-      let way = by out lives owes in
-      (way.0, way.1, (same_due old s (OfFlushFinish job) stands ∙ none, subst (λ (b : Bool × Bool). FinishesFlush b.0 b.1 s job reply way.0) (sym (λ i. ((out_there job ∙ out_is) i, (lives_agree job.keyspace_id ∙ lives_is) i))) way.2))
+  pub finish_steps : (job : JobId) (reply : Reply) (out : Bool) → is_flushing old.memory.trees job ≡ out → (takes : Bool) → takes_effect old job ≡ takes → held_due old (OfFlushFinish job) ≡ None
+      → OwesFinish out takes old job reply new → Answered new s (OfFlushFinish job) reply
+  finish_steps job reply out out_is takes takes_is none owes =
+      let way = by out takes owes in
+      (way.0, way.1, (same_due old s (OfFlushFinish job) stands ∙ none, subst (λ (b : Bool × Bool). FinishesFlush b.0 b.1 s job reply way.0) (sym (λ i. ((out_there job ∙ out_is) i, (takes_there job ∙ takes_is) i))) way.2))
     where
-      by : (out lives : Bool) → OwesFinish out lives old job reply new → (t : State) × StandsFor new t × FinishesFlush out lives s job reply t
+      by : (out takes : Bool) → OwesFinish out takes old job reply new → (t : State) × StandsFor new t × FinishesFlush out takes s job reply t
       by true true (told, well, mid, f, becomes) = finished job reply told well mid f becomes
       by true false (told, is) = (machine.flush_gone s job.keyspace_id, dropped job is, (told, refl))
-      by false lives (told, same) = (s, still old new s same stands, (told, refl))
+      by false takes (told, same) = (s, still old new s same stands, (told, refl))
+
+  -- ---- an ingestion
+
+  journals_agree : machine.are_journals_used_up s ≡ are_journals_used_up old
+  journals_agree = λ i. long_agrees i && nat_le (2 ^ 64 - 2) (stands.remembered.journals i).active
+
+  -- a sync leaves the next number
+  same_next : (long : Bool) → (synced_memory long).next ≡ old.memory.next
+  same_next true = refl
+  same_next false = refl
+
+  module _ (id : ℕ) (item : KeyOp) (rest : List KeyOp) (none : held_due old (OfIngestion id (item ∷ rest)) ≡ None) where
+    abbrev all : List KeyOp
+    all = item ∷ rest
+
+    abbrev long : Bool
+    long = is_long old.journal
+
+    may : MayIngest (facts_of old.memory table) id all
+    may = may_ingest (facts_of old.memory table) id all none
+
+    small : (synced_memory long).next < 2 ^ 63
+    small = let numbered = may.numbered in let same = same_next long in omega (arith, numbered, same)
+
+    -- what was ingested behind the sync
+    ingested_there : (mid : Remembered) → IngestedInMemory (journal_synced old) id all mid → (t : State) × Ingests (synced_state long) id all t × memory.StandsFor mid table t
+    ingested_there mid f =
+        let way = an_ingestion_stands (synced_memory long) table (synced_state long) (synced_stands long) id f.k f.lives all (λ same. let bad : ⊥ = cc in bad) small may.fits f.flushes f.made f.readers f.makes in
+        (way.0, way.1, subst (λ (m : Remembered). memory.StandsFor m table way.0) (sym f.is) way.2)
+
+    -- the state is synced as the core is
+    ingests_there : (t : State) → Ingests (synced_state long) id all t → Ingests (machine.journal_synced s) id all t
+    ingests_there t = subst (λ (b : Bool). Ingests (synced_state b) id all t) (sym long_agrees)
+
+    ingested_stands : (mid : Remembered) (t : State) → Ingests (synced_state long) id all t → memory.StandsFor mid table t → new.memory ≡ evicted_in_memory mid → new.catalog ≡ old.catalog → new.journal ≡ synced_writer long
+        → StandsFor new (machine.evicted t)
+    ingested_stands mid t ingests held memory_is catalog journal = record {
+      remembered = subst (λ (m : Remembered). memory.StandsFor m new.catalog.next_table_id (machine.evicted t)) (sym memory_is)
+          (subst (λ c. memory.StandsFor (evicted_in_memory mid) c (machine.evicted t)) (ap (λ c. c.next_table_id) (sym catalog)) (an_eviction_stands mid table t held));
+      journal = ap (λ (x : State). x.parts.journal) ingests.is ∙ synced_len long ∙ ap (λ (j : Journal). j.len) (sym journal);
+      buffer = ap (λ (x : State). x.parts.buffer) ingests.is ∙ synced_buffer long ∙ ap (λ (j : Journal). length j.buffer) (sym journal);
+    }
+
+    some_ingested : (reply : Reply) → OwesIngestion id all old reply new → (t : State) × StandsFor new t × IngestsInto id all s reply t
+    some_ingested reply (told, left, at) =
+        let way = ingested_there at.mid at.ingested in (
+          machine.evicted way.0,
+          ingested_stands at.mid way.0 way.1 way.2 at.memory_is at.catalog at.journal,
+          (told, journals_agree ∙ left, way.0, ingests_there way.0 way.1, refl),
+        )
+
+  pub ingestion_steps : (id : ℕ) (items : List KeyOp) (reply : Reply) → held_due old (OfIngestion id items) ≡ None → OwesIngestion id items old reply new → Answered new s (OfIngestion id items) reply
+  ingestion_steps id [] reply none (told, same) = (s, still old new s same stands, (same_due old s (OfIngestion id []) stands ∙ none, (told, refl)))
+  ingestion_steps id (item ∷ items) reply none owes =
+      let way = some_ingested id item items none reply owes in
+      (way.0, way.1, (same_due old s (OfIngestion id (item ∷ items)) stands ∙ none, way.2))
 
   -- ---- maintenance
 
@@ -171,7 +245,7 @@ module _ (old new : Held) (s : State) (stands : StandsFor old s) where
       (mid, way.0, some_evicted m table t held gone rest stopped, way.1, way.2)
 
   due_there : (job : JobId) → IsDueToFinish old job → machine.IsDueToFinish s job
-  due_there job (out, lives) = (out_there job ∙ out, lives_agree job.keyspace_id ∙ lives)
+  due_there job (out, takes) = (out_there job ∙ out, takes_there job ∙ takes)
 
   finish_fails : (job : JobId) → WorkPoisons old (OfFlushFinish job) new → (t : State) × StandsFor new t × WorkFails (OfFlushFinish job) s t
   finish_fails job (due, well, inl fault) =
@@ -184,36 +258,75 @@ module _ (old new : Held) (s : State) (stands : StandsFor old s) where
       let way = some_gone mid left (record s { parts = parts }) flushed.1 evicts fault in
       (way.1, way.3, (due_there job due, stands.remembered.poisoned ∙ well, inr (parts, way.0, flushed.0, way.2, way.4)))
 
-  pub work_steps : (shape : Shape) → WorkPoisons old shape new → (t : State) × StandsFor new t × WorkFails shape s t
-  work_steps (OfFlushBegin id) (begins, free, fault) =
+  -- the state after a fault in one that was synced
+  fails_synced : (left : State → State) (m : Remembered) → Poisons m old new → memory.StandsFor m table (left (synced_state (is_long old.journal)))
+      → (u : State) × StandsFor new u × IsPoisoned (left (machine.journal_synced s)) u
+  fails_synced left m fault held =
+      let way = poisons m (left (synced_state (is_long old.journal))) fault held in
+      (way.0, way.1, subst (λ (b : Bool). IsPoisoned (left (synced_state b)) way.0) (sym long_agrees) way.2)
+
+  ingestion_fails : (id : ℕ) (item : KeyOp) (items : List KeyOp) → held_due old (OfIngestion id (item ∷ items)) ≡ None → IngestionPoisons old id (item ∷ items) new
+      → (t : State) × StandsFor new t × IngestionFails s id (item ∷ items) t
+  ingestion_fails id item items none (inl fault) = let way = poisons old.memory s fault stands.remembered in (way.0, way.1, inl way.2)
+  ingestion_fails id item items none (inr (inl fault)) =
+      let way = fails_synced (λ t. t) (journal_synced old) fault (synced_stands (is_long old.journal)) in
+      (way.0, way.1, inr (inl way.2))
+  ingestion_fails id item items none (inr (inr (mid, left, f, (gone, after, stopped, is), fault))) =
+      let there = ingested_there id item items none mid f in
+      let sealed = left.journals.sealed in
+      let same : sealed ≡ after = ap (λ (m : Remembered). m.journals.sealed) is in
+      let way = fails_synced (machine.with_sealed sealed) (memory.with_sealed sealed (journal_synced old)) fault
+      (with_sealed_stands (journal_synced old) table (synced_state (is_long old.journal)) (synced_stands (is_long old.journal)) sealed) in (
+        way.0,
+        way.1,
+        inr (inr (
+          there.0,
+          machine.with_sealed after there.0,
+          ingests_there id item items none there.0 there.1,
+          some_evicted mid table there.0 there.2 gone after stopped,
+          subst (λ (l : List Sealed). IsPoisoned (machine.with_sealed l (machine.journal_synced s)) way.0) same way.2,
+        )),
+      )
+
+  pub work_steps : (shape : Shape) → held_due old shape ≡ None → WorkPoisons old shape new → (t : State) × StandsFor new t × WorkFails shape s t
+  work_steps (OfFlushBegin id) none (begins, free, fault) =
       let way = poisons old.memory s fault stands.remembered in
       (way.0, way.1, (beginning_agrees old.memory table s stands.remembered id ∙ begins, used_up_agrees ∙ free, way.2))
-  work_steps (OfFlushFinish job) fails = finish_fails job fails
-  work_steps OfMaintenance (left, evicts, fault) = let way = some_gone old.memory left s stands.remembered evicts fault in (way.1, way.3, (way.0, way.2, way.4))
-  work_steps (OfChange change how) fails = absurd fails
-  work_steps (OfCreation name options) fails = absurd fails
-  work_steps (OfDeletion id) fails = absurd fails
-  work_steps (OfHandle call id) fails = absurd fails
-  work_steps (OfRotation id) fails = absurd fails
-  work_steps OfJournalRotation fails = absurd fails
-  work_steps (OfRead view id query) fails = absurd fails
-  work_steps (OfTickets call) fails = absurd fails
-  work_steps (OfPersist mode) fails = absurd fails
-  work_steps (OfCount count) fails = absurd fails
+  work_steps (OfFlushFinish job) none fails = finish_fails job fails
+  work_steps OfMaintenance none (left, evicts, fault) = let way = some_gone old.memory left s stands.remembered evicts fault in (way.1, way.3, (way.0, way.2, way.4))
+  work_steps (OfIngestion id []) none fails = absurd fails
+  work_steps (OfIngestion id (item ∷ items)) none (left, fails) =
+      let way = ingestion_fails id item items none fails in
+      (way.0, way.1, (journals_agree ∙ left, way.2))
+  work_steps (OfChange change how) none fails = absurd fails
+  work_steps (OfCreation name options) none fails = absurd fails
+  work_steps (OfDeletion id) none fails = absurd fails
+  work_steps (OfHandle call id) none fails = absurd fails
+  work_steps (OfRotation id) none fails = absurd fails
+  work_steps OfJournalRotation none fails = absurd fails
+  work_steps (OfRead view id query) none fails = absurd fails
+  work_steps (OfTickets call) none fails = absurd fails
+  work_steps (OfPersist mode) none fails = absurd fails
+  work_steps (OfCount count) none fails = absurd fails
 
 -- ---- what is wanting
+
+-- the record behind an ingestion is too long, or the one behind the flush before it
+abbrev IsTooLong : ℕ → lsm.Shape → List KeyOp → (flushes made : List MadeTable) → Fields → Type 0
+IsTooLong n tree items flushes made last = (2 ^ 32 ≤ length (body (last_flushed tree flushes last))) ⊎ (AreOf n items made × (2 ^ 32 ≤ length (body (last_ingested n tree flushes made last))))
 
 module _ (old : Held) (s : State) (stands : StandsFor old s) where
   abbrev at : ℕ
   at = old.catalog.next_table_id
 
   is_due : (job : JobId) → IsDueToFinish old job → machine.IsDueToFinish s job
-  is_due job (out, lives) = (out_agrees old.memory at s stands.remembered job ∙ out, law.living_agree old.memory at s stands.remembered job.keyspace_id ∙ lives)
+  is_due job (out, takes) = (out_agrees old.memory at s stands.remembered job ∙ out, takes_there old old s stands job ∙ takes)
 
   pub same_late : (shape : Shape) → FinishesLate old shape → machine.FinishesLate s shape
   same_late (OfFlushFinish job) (due, ill) = (is_due job due, stands.remembered.poisoned ∙ ill)
   same_late (OfFlushBegin id) late = absurd late
   same_late OfMaintenance late = absurd late
+  same_late (OfIngestion id items) late = absurd late
   same_late (OfChange change how) late = absurd late
   same_late (OfCreation name options) late = absurd late
   same_late (OfDeletion id) late = absurd late
@@ -225,11 +338,42 @@ module _ (old : Held) (s : State) (stands : StandsFor old s) where
   same_late (OfPersist mode) late = absurd late
   same_late (OfCount count) late = absurd late
 
+  -- the memory of a keyspace's tree, the watermark and the last record are the state's
+  same_ids : (id : ℕ) (k : LivingKeyspace) → keyspace_at id old.memory.keyspaces.living ≡ Some k → LacksIds (shape_in id old.memory.trees) id old.memory.tickets.watermark (last_known old.memory.records k)
+      → LacksIds (shape_in id s.parts.trees) id s.tickets.watermark (s.parts.records id)
+  same_ids id k lives lacks =
+      let alike = same_in id s.parts.trees old.memory.trees stands.remembered.trees in
+      let record_is = known_record old.memory at s stands.remembered id k lives in
+      let few = lacks.few in
+      let same : (s.parts.records id).next_table_id ≡ (last_known old.memory.records k).next_table_id = ap (λ (r : Fields). r.next_table_id) record_is in
+      record {
+        flushes = lacks.flushes;
+        flushed = subst (λ (x : ℕ × Memory). IsFlushed (memory_task id x.0 x.1) lacks.flushes (clears_in (parts_of x.1))) (λ i. ((sym stands.remembered.tickets i).watermark, alike.memory i)) lacks.flushed;
+        few = omega (arith, few, same);
+      }
+
+  same_record_room : (id : ℕ) (items : List KeyOp) (k : LivingKeyspace) → keyspace_at id old.memory.keyspaces.living ≡ Some k
+      → LacksRecordRoom (shape_in id old.memory.trees) id old.memory.tickets.watermark old.memory.next items (last_known old.memory.records k)
+      → LacksRecordRoom (shape_in id s.parts.trees) id s.tickets.watermark (number s.history) items (s.parts.records id)
+  same_record_room id items k lives lacks =
+      let tree = shape_in id s.parts.trees in
+      let alike = same_in id s.parts.trees old.memory.trees stands.remembered.trees in
+      let record_is = known_record old.memory at s stands.remembered id k lives in
+      record {
+        flushes = lacks.flushes;
+        made = lacks.made;
+        flushed = subst (λ (x : ℕ × Memory). IsFlushed (memory_task id x.0 x.1) lacks.flushes (clears_in (parts_of x.1))) (λ i. ((sym stands.remembered.tickets i).watermark, alike.memory i)) lacks.flushed;
+        long = subst (λ (x : ℕ × Memory × Fields). IsTooLong x.0 (record tree { memory = x.1 }) items lacks.flushes lacks.made x.2) (λ i. (sym stands.remembered.number i, alike.memory i, sym record_is i)) lacks.long;
+      }
+
   pub same_used : (shape : Shape) → UsesUp old shape → machine.UsesUp s shape
   same_used (OfFlushBegin id) (begins, used) = (beginning_agrees old.memory at s stands.remembered id ∙ begins, used_up_agrees old old s stands ∙ used)
   same_used (OfFlushFinish job) (due, well, (k, lives, last)) =
       (is_due job due, stands.remembered.poisoned ∙ well, ap (λ (r : Fields). r.next_table_id) (known_record old.memory at s stands.remembered job.keyspace_id k lives) ∙ last)
   same_used OfMaintenance used = absurd used
+  same_used (OfIngestion id []) used = absurd used
+  same_used (OfIngestion id (item ∷ items)) (inl used) = inl (journals_agree old old s stands ∙ used)
+  same_used (OfIngestion id (item ∷ items)) (inr (k, lives, lacks)) = inr (same_ids id k lives lacks)
   same_used (OfChange change how) used = absurd used
   same_used (OfCreation name options) used = absurd used
   same_used (OfDeletion id) used = absurd used
@@ -255,6 +399,8 @@ module _ (old : Held) (s : State) (stands : StandsFor old s) where
       )
   same_room (OfFlushBegin id) room = absurd room
   same_room OfMaintenance room = absurd room
+  same_room (OfIngestion id []) room = absurd room
+  same_room (OfIngestion id (item ∷ items)) (k, lives, lacks) = same_record_room id (item ∷ items) k lives lacks
   same_room (OfChange change how) room = absurd room
   same_room (OfCreation name options) room = absurd room
   same_room (OfDeletion id) room = absurd room

@@ -39,7 +39,7 @@ use Rattle.fjall_state.proofs.Refusing.{read_steps}
 use Rattle.fjall_state.proofs.Standing as law
 use Rattle.fjall_core.specs.Holding.{Held}
 use Rattle.fjall_core.specs.Crashes.{is_io}
-use Rattle.fjall_core.specs.Durables.{AreKnown, Durable, Knows, MakesPresent, StaysFinished}
+use Rattle.fjall_core.specs.Durables.{AreKnown, Durable, MakesPresent, StaysFinished}
 use Rattle.fjall_core.specs.Standing.{DiskRead, GivesRead, IsOfKind, Looks, LooksAt, OnDisk, Owes, OwesRefusal, ReadsOn, Serves, StandsFor, StandsOn, held_due, pairs_reply, store_with_tables, tables_of, value_reply}
 use Rattle.fjall_core.proofs.KeptEntries.{step_keeps}
 use Rattle.fjall_core.proofs.CrashesInRuns.{passes_still}

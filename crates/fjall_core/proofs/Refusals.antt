@@ -12,9 +12,12 @@ use Rattle.fjall_versions.specs.Replays.{option_pairs}
 use Rattle.fjall_history.specs.declared.ticket.View.TheVariants.{At, Present}
 use Rattle.fjall_history.specs.declared.reply.Reply.TheVariants.{Refused}
 use Rattle.fjall_history.specs.Tickets.{Tickets, ids_used_up, is_open}
+use Rattle.fjall_ingest.specs.Ingests.{ingestion}
+use Rattle.fjall_writes.specs.Ingestions.{KeyOp}
+use Rattle.fjall_state.proofs.Ascending.{may_ingest}
 use Rattle.fjall_state.proofs.Dues.{may_change}
-use Rattle.fjall_state.specs.Shapes.{Clone, Close, Collect, OfChange, OfCount, OfCreation, OfDeletion, OfFlushBegin, OfFlushFinish, OfHandle, OfJournalRotation, OfMaintenance, OfPersist, OfRead, OfRotation, OfTickets, OneLess, OneMore, Open, Shape, TicketCall}
-use Rattle.fjall_state.specs.Machine.{Facts, State, change_refusals, clear_refusals, creation_refusals, deletion_refusals, due, due_in, facts, first_due, handle_refusals, has_name, is_living, items_refusals, present, rotation_refusals, ticket_refusal, view_refusals, journal_refusals}
+use Rattle.fjall_state.specs.Shapes.{Clone, Close, Collect, OfChange, OfCount, OfCreation, OfDeletion, OfFlushBegin, OfFlushFinish, OfHandle, OfIngestion, OfJournalRotation, OfMaintenance, OfPersist, OfRead, OfRotation, OfTickets, OneLess, OneMore, Open, Shape, TicketCall}
+use Rattle.fjall_state.specs.Machine.{Facts, State, change_refusals, clear_refusals, creation_refusals, deletion_refusals, due, due_in, facts, first_due, handle_refusals, has_name, ingestion_refusals, is_living, items_refusals, present, rotation_refusals, ticket_refusal, view_refusals, journal_refusals}
 use Rattle.fjall_core.specs.Crashes.{IsSync, asked, attempt, is_io}
 
 -- where none is due, no cause holds
@@ -56,6 +59,9 @@ pub never_due : (f : Facts) (shape : Shape) → is_fault (due_in f shape) ≡ fa
 never_due f (OfChange (Items []) how) = refl
 never_due f (OfChange (Emptied id) how) = no_fault_due (clear_refusals f id) (refl, (refl, (refl, (refl, tt))))
 never_due f (OfChange (Items (item ∷ items)) how) = no_fault_due (items_refusals f (item ∷ items)) (refl, (refl, (refl, (refl, (refl, (refl, (refl, (refl, tt))))))))
+never_due f (OfIngestion id []) = refl
+never_due f (OfIngestion id (item ∷ items)) =
+    no_fault_due (ingestion_refusals f id (item ∷ items)) (refl, (refl, (refl, (refl, (refl, (refl, (refl, (refl, (refl, tt)))))))))
 never_due f (OfCreation name options) = no_fault_due (creation_refusals f name) (refl, (refl, (refl, tt)))
 never_due f (OfDeletion id) = no_fault_due (deletion_refusals f id) (refl, (refl, (refl, tt)))
 never_due f (OfHandle OneMore id) = no_fault_due (handle_refusals f OneMore id) (refl, (refl, (refl, tt)))
@@ -97,6 +103,9 @@ and_false false b is none = absurd (true≢false (sym is))
 well_change : (s : State) (change : Change) → first_due (change_refusals (facts s) change) ≡ None → s.poisoned ≡ false
 well_change s change none = (may_change (facts s) change none).well
 
+well_ingestion : (s : State) (id : ℕ) (items : List KeyOp) → first_due (ingestion_refusals (facts s) id items) ≡ None → s.poisoned ≡ false
+well_ingestion s id items none = (may_ingest (facts s) id items none).well
+
 creation_asks : (s : State) (name : Bytes) (options : List Bytes) (had : Bool) → has_name (present s) name ≡ had → Asks s (OfCreation name options)
 creation_asks s name options true had = asks_nothing (ap (λ b. if b then [] else (Create name (option_pairs options) ∷ [])) had)
 creation_asks s name options false had =
@@ -112,6 +121,8 @@ pub asks : (s : State) (shape : Shape) → Asks s shape
 asks s (OfChange (Items []) how) = asks_nothing refl
 asks s (OfChange (Items (item ∷ items)) how) = asks_one (command_of (Items (item ∷ items))) refl (well_change s (Items (item ∷ items)))
 asks s (OfChange (Emptied id) how) = asks_one (command_of (Emptied id)) refl (well_change s (Emptied id))
+asks s (OfIngestion id []) = asks_nothing refl
+asks s (OfIngestion id (item ∷ items)) = asks_one (ingestion id (item ∷ items)) refl (well_ingestion s id (item ∷ items))
 asks s (OfCreation name options) = creation_asks s name options (has_name (present s) name) refl
 asks s (OfDeletion id) = deletion_asks s id (is_living (present s) id) refl
 asks s (OfHandle call id) = asks_nothing refl

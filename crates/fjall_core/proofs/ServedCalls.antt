@@ -16,7 +16,7 @@ use Rattle.fjall_catalog.specs.Catalog.{listed}
 use Rattle.fjall_catalog.specs.Updates.{IsTableGone}
 use Rattle.fjall_files.specs.Tidy.{IsTidy, StaysTidy}
 use Rattle.fjall_files.proofs.Tidying.{stays_start}
-use Rattle.fjall_state.specs.Shapes.{OfChange, OfCount, OfCreation, OfDeletion, OfFlushBegin, OfFlushFinish, OfHandle, OfJournalRotation, OfMaintenance, OfPersist, OfRead, OfRotation, OfTickets, OneLess, OneMore, Shape}
+use Rattle.fjall_state.specs.Shapes.{OfChange, OfCount, OfCreation, OfDeletion, OfFlushBegin, OfFlushFinish, OfHandle, OfIngestion, OfJournalRotation, OfMaintenance, OfPersist, OfRead, OfRotation, OfTickets, OneLess, OneMore, Shape}
 use Rattle.fjall_table.specs.Blocks.{Entry}
 use Rattle.fjall_blocks.specs.Readers.{Reader}
 use Rattle.fjall_trees.specs.Forests.{Forest}
@@ -49,15 +49,17 @@ Blames old reply new = (s : State) (d : Durable) → StandsFor old s → StandsO
 abbrev pub LeadsFrom : Held → Shape → Reply → Held → Type 0
 LeadsFrom old shape reply new = (s : State) (d : Durable) → StandsFor old s → StandsOn old s.parts.entries d → Led new s d shape reply
 
--- a call for which it matters what tables hold: a read of some, and a flush that is finished
+-- a call for which it matters what tables hold: a read of some, a flush that is finished, and an ingestion of some items
 abbrev pub NeedsTables : Forest → Shape → Type 0
 NeedsTables trees (OfRead view id query) = HasTables id trees
 NeedsTables trees (OfFlushFinish job) = Unit {0}
+NeedsTables trees (OfIngestion id (item ∷ items)) = Unit {0}
 NeedsTables trees shape = ⊥
 
 reads_none : (trees : Forest) (shape : Shape) → (NeedsTables trees shape → ⊥) → ReadsTables trees shape → ⊥
 reads_none trees (OfRead view id query) plain = plain
 reads_none trees (OfChange change how) plain = λ reads. reads
+reads_none trees (OfIngestion id items) plain = λ reads. reads
 reads_none trees (OfCreation name options) plain = λ reads. reads
 reads_none trees (OfDeletion id) plain = λ reads. reads
 reads_none trees (OfHandle call id) plain = λ reads. reads
@@ -74,6 +76,8 @@ finishes_none : (trees : Forest) (shape : Shape) → (NeedsTables trees shape �
 finishes_none trees (OfFlushFinish job) plain = plain
 finishes_none trees (OfRead view id query) plain = λ is. is
 finishes_none trees (OfChange change how) plain = λ is. is
+finishes_none trees (OfIngestion id []) plain = λ is. is
+finishes_none trees (OfIngestion id (item ∷ items)) plain = plain
 finishes_none trees (OfCreation name options) plain = λ is. is
 finishes_none trees (OfDeletion id) plain = λ is. is
 finishes_none trees (OfHandle call id) plain = λ is. is
@@ -146,6 +150,7 @@ out_untouched core (OfHandle OneLess id) = record { state = refl; steps = sym (a
 out_untouched core (OfHandle OneMore id) = refl
 out_untouched core (OfRead view id query) = read_nothing (tables_of core id) core
 out_untouched core (OfChange change how) = refl
+out_untouched core (OfIngestion id items) = refl
 out_untouched core (OfCreation name options) = refl
 out_untouched core (OfDeletion id) = refl
 out_untouched core (OfRotation id) = refl
@@ -182,6 +187,7 @@ ran_out core (OfHandle OneLess id) = (refl, omega arith)
 ran_out core (OfHandle OneMore id) = refl
 ran_out core (OfRead view id query) = looks_same (tables_of core id) core
 ran_out core (OfChange change how) = refl
+ran_out core (OfIngestion id items) = refl
 ran_out core (OfCreation name options) = refl
 ran_out core (OfDeletion id) = refl
 ran_out core (OfRotation id) = refl

@@ -1,5 +1,5 @@
 -- What the parts of calls make of a core and of its disk.
-use Rattle.std.specs.Prelude.{All, ◌≡◌, ◌⊎◌, ℕ, ◌^◌, ◌<◌, ◌+◌, ◌≤◌, Bool, true, false, if◌then◌else◌, List, [], ◌∷◌, ◌++◌, codes, length, Option, Some, is_none, Result, Ok, Err}
+use Rattle.std.specs.Prelude.{◌≡◌, ◌⊎◌, ℕ, ◌^◌, ◌<◌, ◌+◌, ◌≤◌, Bool, true, false, if◌then◌else◌, List, [], ◌∷◌, ◌++◌, codes, length, Option, is_none, Result, Ok, Err}
 use Rattle.fjall_base.specs.Disk.{IsNoFile, IsNoFolder, LeavesOnly, Meaning, Name, Took, state_in}
 use Rattle.fjall_base.specs.Errors.{Rose}
 use Rattle.fjall_base.specs.declared.error.Error.{Error}
@@ -24,7 +24,7 @@ use Rattle.fjall_manager.specs.Rotations.{RotationTook, empty_journal, rotating}
 use Rattle.fjall_commit.specs.Rotations.{KeepsSyncedKeyspaces, LeavesRotation, rotated}
 use Rattle.fjall_files.specs.Tidy.{StaysTidy}
 use Rattle.fjall_journal.specs.Writer.{BatchTook, Journal, after_command, batch_steps, written_out}
-use Rattle.fjall_tree.specs.Records.{Fields}
+use Rattle.fjall_tree.specs.Records.{Fields, view}
 use Rattle.fjall_meta.specs.Keyspaces.{without_keyspace}
 use Rattle.fjall_catalog.specs.declared.update.Update.{Update}
 use Rattle.fjall_catalog.specs.Updates.{IsPreparingRefusal, IsUpdate}
@@ -36,8 +36,12 @@ use Rattle.fjall_commit.specs.Changes.{IsCreation}
 use Rattle.fjall_commit.specs.Removals.{IsUnused, RemovesOwn}
 use Rattle.fjall_state.specs.Evicting.{going_in}
 use Rattle.fjall_state.specs.Finishing.{ForFinishing, ForFlush, IsFinished, keyspace_of}
-use Rattle.fjall_state.specs.Remembered.{KnowsTask, Remembered, poisoned, with_change}
+use Rattle.fjall_state.specs.Remembered.{KnowsTask, Remembered, poisoned, with_change, with_sealed}
 use Rattle.fjall_state.specs.Machine.{flush_with}
+use Rattle.fjall_ingest.specs.declared.whole.PlannedIngestion.{PlannedIngestion}
+use Rattle.fjall_ingest.specs.Planned.{ForIngestion, ForIngestionOn, HasNoTableFolder, KeepsGiven}
+use Rattle.fjall_state.specs.Ingesting.{with_record, with_tables}
+use Rattle.fjall_core.specs.Crashes.{is_io}
 use Rattle.fjall_core.specs.Holding.{Held}
 use Rattle.fjall_core.specs.Standing.{Becomes, BeginsAt, EvictionTook, EvictsInMemory, Poisons, RotatesJournal, SyncFailed, SyncTook, are_jobs_used_up, evicted_in_memory, is_long, job_of, journal_synced, next_name}
 use Rattle.fjall_commit.specs.SyncedChanges.{CreatedKeyspace, DeletedKeyspace, SyncedThenChanged, SyncsThenChanges}
@@ -219,3 +223,47 @@ Evicts honest old (Err error) new = ⊥
 abbrev pub Finishes : Type 0 → Held → FlushMade → Result Unit Error → Held → Type 0
 Finishes honest old made (Ok _) new = (mid : Held) × Puts honest old made (Ok tt) mid × Evicts honest mid (Ok tt) new
 Finishes honest old made (Err error) new = Puts honest old made (Err error) new ⊎ ((mid : Held) × Puts honest old made (Ok tt) mid × Evicts honest mid (Err error) new)
+
+-- ---- ingestions
+
+-- What the writing of an ingestion that was planned did to the disk: nothing outside the keyspace's folder; a crash leaves the tree before,
+-- the one behind the flush of memory, or the one behind the ingestion; where it was done the last one lies there. The keyspace's tables
+-- that were there before stand in sight as they did, and where it was done the files of the new ones have their bytes. No call was one that
+-- no disk can serve, where no folder has the name of a table.
+pub record WroteIngestion (p : PlannedIngestion) (old new : Meaning) (done : Bool) : Type 0 where
+  pub within : ForIngestion p (λ id last tree n items. Within (keyspace_folder id) old new)
+  pub leaves : ForIngestionOn old p (λ id records t h mid next. LeavesOnly old new (λ image. HasTree image t ⊎ (HasTree image mid ⊎ HasTree image next)))
+  pub lies : done ≡ true → ForIngestionOn old p (λ id records t h mid next. LiesInTree (state_in new) records next)
+  pub beside : ForIngestion p (λ id last tree n items. KeepsGiven id last.next_table_id old new)
+  pub files : done ≡ true → ForIngestion p (λ id last tree n items. HaveFiles new id last.next_table_id (p.memory.tables.items ++ p.own.tables.items))
+  pub served : ForIngestionOn old p (λ id records t h mid next. HasNoTableFolder old id → AllServed old new)
+  pub kinds : ForIngestion p (λ id last tree n items. StaysTidy old new)
+
+-- what was planned is on the disk; or a fault of the disk has poisoned the core
+abbrev pub WritesIngestion : Type 0 → Held → PlannedIngestion → Result Unit Error → Held → Type 0
+WritesIngestion honest old p (Ok _) new =
+    (new ≡ record old { disk = new.disk }) × (old.disk.faults ≤ new.disk.faults) × (honest → WroteIngestion p old.disk new.disk true)
+WritesIngestion honest old p (Err (Io kind)) new =
+    (new ≡ record old { disk = new.disk; memory = poisoned old.memory }) × Rose old.disk.faults new.disk.faults × (honest → WroteIngestion p old.disk new.disk false)
+    × (old.disk.faults ≤ new.disk.faults)
+WritesIngestion honest old p (Err error) new = ⊥
+
+-- the core with the record that was planned as the last one of the keyspace
+abbrev pub recorded : PlannedIngestion → Held → Held
+recorded p core = record core { memory = with_record p.id (view p.own.writes.record) core.memory }
+
+-- Journals are removed that nobody wants behind that record, and memory has the tables that were made; or a fault of the disk has
+-- poisoned the core, some of these journals are gone, and memory is else as it was.
+abbrev pub SettlesIngestion : Type 0 → Held → PlannedIngestion → Result Unit Error → Held → Type 0
+SettlesIngestion honest old p (Ok _) new =
+    (after : Held) × Evicts honest (recorded p old) (Ok tt) after × (new ≡ record after { memory = with_tables p.id p.readers.items after.memory })
+SettlesIngestion honest old p (Err error) new =
+    (after : Held) × Evicts honest (recorded p old) (Err error) after × (new ≡ record after { memory = poisoned (with_sealed after.memory.journals.sealed old.memory) })
+
+-- An ingestion was made, behind a sync of the journal; or the sync failed, or the writing, or the eviction behind it.
+abbrev pub PutsIngestion : Type 0 → Held → PlannedIngestion → Result Unit Error → Held → Type 0
+PutsIngestion honest old p (Ok _) new = (synced mid : Held) × SyncsAll honest old (Ok tt) synced × WritesIngestion honest synced p (Ok tt) mid × SettlesIngestion honest mid p (Ok tt) new
+PutsIngestion honest old p (Err error) new =
+    ((failed : Held) × SyncsAll honest old (Err error) failed × (new ≡ (if is_io error then record failed { memory = poisoned failed.memory } else failed)))
+    ⊎ (((synced : Held) × SyncsAll honest old (Ok tt) synced × WritesIngestion honest synced p (Err error) new)
+    ⊎ ((synced mid : Held) × SyncsAll honest old (Ok tt) synced × WritesIngestion honest synced p (Ok tt) mid × SettlesIngestion honest mid p (Err error) new))

@@ -14,8 +14,9 @@ use Rattle.fjall_files.specs.Tidy.{IsTidy, StaysTidy}
 use Rattle.fjall_versions.specs.Replays.{option_pairs}
 use Rattle.fjall_recovery.specs.Folders.{StandsFor}
 use Rattle.fjall_journal.specs.Changes.{Emptied, Items, command_of}
+use Rattle.fjall_ingest.specs.Ingests.{ingestion}
 use Rattle.fjall_history.specs.Histories.{Accepted, commands_of, extended}
-use Rattle.fjall_state.specs.Shapes.{OfChange, OfCount, OfCreation, OfDeletion, OfFlushBegin, OfFlushFinish, OfHandle, OfJournalRotation, OfMaintenance, OfPersist, OfRead, OfRotation, OfTickets, Shape, shape_of}
+use Rattle.fjall_state.specs.Shapes.{OfChange, OfCount, OfCreation, OfDeletion, OfFlushBegin, OfFlushFinish, OfHandle, OfIngestion, OfJournalRotation, OfMaintenance, OfPersist, OfRead, OfRotation, OfTickets, Shape, shape_of}
 use Rattle.fjall_state.specs.Machine.{State, Step, begins_flush, has_name, is_living, mode_in, present}
 use Rattle.fjall_core.specs.Durables.{Durable, IsBeginning, StandsAmid, Passes}
 
@@ -24,6 +25,8 @@ abbrev pub asked : State → Shape → List Command
 asked s (OfChange (Items []) how) = []
 asked s (OfChange (Items (item ∷ items)) how) = command_of (Items (item ∷ items)) ∷ []
 asked s (OfChange (Emptied id) how) = command_of (Emptied id) ∷ []
+asked s (OfIngestion id []) = []
+asked s (OfIngestion id (item ∷ items)) = ingestion id (item ∷ items) ∷ []
 asked s (OfCreation name options) = if has_name (present s) name then [] else (Create name (option_pairs options) ∷ [])
 asked s (OfDeletion id) = if is_living (present s) id then (Delete id ∷ []) else []
 asked s (OfHandle call id) = []
@@ -58,12 +61,14 @@ abbrev pub IsSyncOf : Option PersistMode → Type 0
 IsSyncOf None = ⊥
 IsSyncOf (Some mode) = IsSyncMode mode
 
--- A call that syncs all that was accepted, where it succeeds: a creation, a deletion, a rotation of the journal and a flush that begins
--- do so too.
+-- A call that syncs all that was accepted, where it succeeds: an ingestion, a creation, a deletion, a rotation of the journal and
+-- a flush that begins do so too.
 abbrev pub Syncs : State → Shape → Type 0
 Syncs s (OfChange (Items []) how) = ⊥
 Syncs s (OfChange (Items (item ∷ items)) how) = IsSyncOf (mode_in (present s) how)
 Syncs s (OfChange (Emptied id) how) = IsSyncOf (mode_in (present s) how)
+Syncs s (OfIngestion id []) = ⊥
+Syncs s (OfIngestion id (item ∷ items)) = Unit {0}
 Syncs s (OfCreation name options) = has_name (present s) name ≡ false
 Syncs s (OfDeletion id) = is_living (present s) id ≡ true
 Syncs s (OfHandle call id) = ⊥

@@ -1,5 +1,5 @@
 -- Jobs that a list of calls keeps: each is out, under the name that the call which began it was answered with.
-use Rattle.std.specs.Prelude.{◌≡◌, ◌⊎◌, ℕ, ◌+◌, ◌-◌, ◌<◌, ◌^◌, ◌==◌, ◌&&◌, All, Bool, false, true, List, [], ◌∷◌, ◌++◌, Option, Some, None, drop, length, slice_get, take}
+use Rattle.std.specs.Prelude.{◌≡◌, ◌⊎◌, ℕ, ◌+◌, ◌<◌, ◌==◌, ◌&&◌, All, Bool, false, true, List, [], ◌∷◌, ◌++◌, Option, Some, None, drop, slice_get, take}
 use Rattle.std.specs.List.{list_any}
 use Rattle.fjall_history.specs.declared.job.JobId.{JobId}
 use Rattle.fjall_history.specs.declared.reply.Reply.{Reply}

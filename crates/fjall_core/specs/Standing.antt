@@ -27,7 +27,7 @@ use Rattle.fjall_jobs.specs.declared.flush_made.FlushMade.{FlushMade}
 use Rattle.fjall_jobs.specs.declared.made_table.MadeTable.{MadeTable}
 use Rattle.fjall_jobs.specs.Flushes.{flush_task}
 use Rattle.fjall_jobs.specs.Tasks.{IsFlushed, Task}
-use Rattle.fjall_lsm.specs.Jobs.{IsFlushing}
+use Rattle.fjall_lsm.specs.Jobs.{IsFlushing, count_out}
 use Rattle.fjall_lsm.specs.Trees.{is_l0}
 use Rattle.fjall_flush.specs.Flushes.{infos_from, record_after}
 use Rattle.fjall_loading.specs.Known.{IsGiven, last_known}
@@ -53,12 +53,15 @@ use Rattle.fjall_history.specs.declared.reply.Reply.TheVariants.{Began, Done, Id
 use Rattle.fjall_history.specs.declared.ticket.View.{View}
 use Rattle.fjall_history.specs.Queries.{Get, Page, Query, Tells}
 use Rattle.fjall_state.specs.declared.call.Call.{Call}
-use Rattle.fjall_state.specs.Shapes.{Count, DiskSpace, Exists, Flushes, JournalSpace, Keyspaces, Next, OfChange, OfCount, OfCreation, OfDeletion, OfFlushBegin, OfFlushFinish, OfHandle, OfJournalRotation, OfMaintenance, OfPersist, OfRead, OfRotation, OfTickets, OneLess, OneMore, OpenTickets, Persistence, Entries, SealedMemtables, Shape, Tables, TablesL0, ToFlush, Visible, WriteBuffer, shape_of}
+use Rattle.fjall_state.specs.Shapes.{Count, DiskSpace, Exists, Flushes, JournalSpace, Keyspaces, Next, OfChange, OfCount, OfCreation, OfDeletion, OfFlushBegin, OfFlushFinish, OfHandle, OfIngestion, OfJournalRotation, OfMaintenance, OfPersist, OfRead, OfRotation, OfTickets, OneLess, OneMore, OpenTickets, Persistence, Entries, SealedMemtables, Shape, Tables, TablesL0, ToFlush, Visible, WriteBuffer, shape_of}
 use Rattle.fjall_state.specs.Shapes as shapes
 use Rattle.fjall_state.specs.Machine.{State, StepOf, Run, TakesMemory, ChangesDisk, LacksRoom, ReadsTables, TooLong, TurnsTickets, begins_flush, present, due_in, buffer_size, flush_count, flush_with, has_name, is_among, is_flushing, is_living, mode_in, rotates, table_space, tables_space, version_count, wants_rotation}
 use Rattle.fjall_state.specs.Remembered.{IsLawful, Remembered, facts_of, flushed_by, instant_in, is_last, with_change, with_creation, with_deletion, with_tickets, with_trees, retained, released, rotated, poisoned}
 use Rattle.fjall_state.specs.Remembered as memory
 use Rattle.fjall_state.specs.Evicting.{going_in}
+use Rattle.fjall_state.specs.Ingesting as ingesting
+use Rattle.fjall_ingest.specs.Whole.{LacksIds, LacksRecordRoom}
+use Rattle.fjall_writes.specs.Ingestions.{KeyOp}
 use Rattle.fjall_core.specs.Durables.{Durable, Knows, StandsAmid, Passes, Rests, Lies, MakesPresent, StaysFinished}
 use Rattle.fjall_core.specs.Crashes.{BlamesDevice, CallPasses, RunOn, Tried, IsSyncAt, SafeAt}
 use Rattle.fjall_core.specs.Holding.{Held}
@@ -125,6 +128,7 @@ next_name core = journal_name (core.memory.journals.active + 1)
 -- what is in memory after a fault of the disk, but that the core is poisoned: a handle is counted less all the same
 abbrev pub at_fault : Shape → Remembered → Remembered
 at_fault (OfChange change how) m = m
+at_fault (OfIngestion id items) m = m
 at_fault (OfCreation name options) m = m
 at_fault (OfDeletion id) m = m
 at_fault (OfHandle OneMore id) m = m
@@ -212,6 +216,7 @@ tables_of core id = (shape_in id core.memory.trees).tables
 -- Where memory ran out nothing has changed; a release, and a read of tables, has looked at the disk by then.
 abbrev pub RanOut : Held → Shape → Held → Type 0
 RanOut old (OfChange change how) new = new ≡ old
+RanOut old (OfIngestion id items) new = new ≡ old
 RanOut old (OfCreation name options) new = new ≡ old
 RanOut old (OfDeletion id) new = new ≡ old
 RanOut old (OfHandle OneMore id) new = new ≡ old
@@ -282,17 +287,58 @@ pub record Becomes (old : Held) (after : Remembered) (new : Held) : Type 0 where
   pub journal : new.journal ≡ old.journal
   pub faults : old.disk.faults ≤ new.disk.faults
 
+-- no number of a journal is left where the journal is rotated before an ingestion
+abbrev pub are_journals_used_up : Held → Bool
+are_journals_used_up core = is_long core.journal && nat_le (2 ^ 64 - 2) core.memory.journals.active
+
+-- What is in memory once items are ingested into a keyspace that lives: with readers of what was made of its memory and of exactly the
+-- items, under the next ids and at level 0, and the keyspace's record after it.
+pub record IngestedInMemory (old : Remembered) (id : ℕ) (items : List KeyOp) (new : Remembered) : Type 0 where
+  pub k : LivingKeyspace
+  pub lives : keyspace_at id old.keyspaces.living ≡ Some k
+  pub flushes : List MadeTable
+  pub made : List MadeTable
+  pub readers : List Reader
+  pub makes : ingesting.Makes (shape_in id old.trees) id old.tickets.watermark old.next items (last_known old.records k) flushes made readers
+  pub is : new ≡ ingesting.with_ingestion id readers (ingesting.last_ingested old.next (shape_in id old.trees) flushes made (last_known old.records k)) old
+
+-- Items were ingested, behind a sync of the journal, of which a long one was sealed; and journals are gone that nobody wants any more.
+pub record IngestsAt (old : Held) (id : ℕ) (items : List KeyOp) (new : Held) : Type 0 where
+  pub mid : Remembered
+  pub ingested : IngestedInMemory (journal_synced old) id items mid
+  pub memory_is : new.memory ≡ evicted_in_memory mid
+  pub catalog : new.catalog ≡ old.catalog
+  pub journal : new.journal ≡ (if is_long old.journal then empty_journal (next_name old) else written_out old.journal)
+  pub faults : old.disk.faults ≤ new.disk.faults
+
+-- what comes of an ingestion: of no items nothing
+abbrev pub OwesIngestion : ℕ → List KeyOp → Held → Reply → Held → Type 0
+OwesIngestion id [] old reply new = (reply ≡ Done) × (new ≡ old)
+OwesIngestion id (item ∷ items) old reply new = (reply ≡ Done) × (are_journals_used_up old ≡ false) × IngestsAt old id (item ∷ items) new
+
+-- What a fault leaves of an ingestion in memory: all as it was, once the journal was synced or before; where the ingestion reached the
+-- disk, some journals may be gone that nobody wants behind it.
+abbrev pub IngestionPoisons : Held → ℕ → List KeyOp → Held → Type 0
+IngestionPoisons old id items new =
+    Poisons old.memory old new
+    ⊎ (Poisons (journal_synced old) old new
+    ⊎ ((mid left : Remembered) × IngestedInMemory (journal_synced old) id items mid × EvictsInMemory mid left × Poisons (memory.with_sealed left.journals.sealed (journal_synced old)) old new))
+
+-- whether the flush of this job takes effect once it is finished: its keyspace lives, and no ingestion has taken its memtables
+abbrev pub takes_effect : Held → JobId → Bool
+takes_effect core job = is_living (store_in core) job.keyspace_id && nat_lt 0 (count_out (shape_in job.keyspace_id core.memory.trees).flush)
+
 -- What comes of a flush that is to be finished: it takes effect, and journals that nobody wants any more are removed; or it is stale,
--- where it isn't out, and where its keyspace is deleted, and then it is out no more.
-abbrev pub OwesFinish : (out lives : Bool) → Held → JobId → Reply → Held → Type 0
+-- where it isn't out, and where it takes no effect, and then it is out no more.
+abbrev pub OwesFinish : (out takes : Bool) → Held → JobId → Reply → Held → Type 0
 OwesFinish true true old job reply new =
     (reply ≡ Flag true) × (old.memory.poisoned ≡ false) × (mid : Remembered) × FlushedInMemory old.memory job.keyspace_id mid × Becomes old (evicted_in_memory mid) new
 OwesFinish true false old job reply new = (reply ≡ Flag false) × (new ≡ record old { memory = memory.flush_gone job.keyspace_id old.memory })
-OwesFinish false lives old job reply new = (reply ≡ Flag false) × (new ≡ old)
+OwesFinish false takes old job reply new = (reply ≡ Flag false) × (new ≡ old)
 
 -- the flush of this job would take effect, but for a fault that has poisoned the core, or for want of something
 abbrev pub IsDueToFinish : Held → JobId → Type 0
-IsDueToFinish core job = (is_flushing core.memory.trees job ≡ true) × (is_living (store_in core) job.keyspace_id ≡ true)
+IsDueToFinish core job = (is_flushing core.memory.trees job ≡ true) × (takes_effect core job ≡ true)
 
 -- the last record of a keyspace that lives
 abbrev pub LastIs : Held → ℕ → (Fields → Type 0) → Type 0
@@ -305,6 +351,8 @@ WorkPoisons old (OfFlushBegin id) new = (begins_flush old.memory.trees id ≡ tr
 WorkPoisons old (OfFlushFinish job) new =
     IsDueToFinish old job × (old.memory.poisoned ≡ false)
     × (Poisons old.memory old new ⊎ ((mid left : Remembered) × FlushedInMemory old.memory job.keyspace_id mid × EvictsInMemory mid left × Poisons left old new))
+WorkPoisons old (OfIngestion id []) new = ⊥
+WorkPoisons old (OfIngestion id (item ∷ items)) new = (are_journals_used_up old ≡ false) × IngestionPoisons old id (item ∷ items) new
 WorkPoisons old OfMaintenance new = (left : Remembered) × EvictsInMemory old.memory left × Poisons left old new
 WorkPoisons old shape new = ⊥
 
@@ -312,6 +360,9 @@ WorkPoisons old shape new = ⊥
 abbrev pub UsesUp : Held → Shape → Type 0
 UsesUp old (OfFlushBegin id) = (begins_flush old.memory.trees id ≡ true) × (are_jobs_used_up old ≡ true)
 UsesUp old (OfFlushFinish job) = IsDueToFinish old job × (old.memory.poisoned ≡ false) × LastIs old job.keyspace_id (λ last. last.next_table_id ≡ 2 ^ 64 - 1)
+UsesUp old (OfIngestion id []) = ⊥
+UsesUp old (OfIngestion id (item ∷ items)) =
+    (are_journals_used_up old ≡ true) ⊎ LastIs old id (LacksIds (shape_in id old.memory.trees) id old.memory.tickets.watermark)
 UsesUp old shape = ⊥
 
 -- the record of a keyspace whose flush is to be finished has no room for its table and its clears
@@ -319,6 +370,9 @@ abbrev pub HasNoRoom : Held → Shape → Type 0
 HasNoRoom old (OfFlushFinish job) =
     let tree = shape_in job.keyspace_id old.memory.trees in
     IsDueToFinish old job × (old.memory.poisoned ≡ false) × LastIs old job.keyspace_id (LacksRoom tree tree.flush)
+HasNoRoom old (OfIngestion id []) = ⊥
+HasNoRoom old (OfIngestion id (item ∷ items)) =
+    LastIs old id (LacksRecordRoom (shape_in id old.memory.trees) id old.memory.tickets.watermark old.memory.next (item ∷ items))
 HasNoRoom old shape = ⊥
 
 -- a flush that is to be finished in a poisoned core, and isn't stale
@@ -402,6 +456,7 @@ GivesRead (t ∷ tables) old view id query reply = IsOfKind query reply
 -- where nothing refuses it, a call gives such a reply, and leaves this
 abbrev pub Gives : Held → Shape → Reply → Held → Type 0
 Gives old (OfChange change how) reply new = (reply ≡ Done) × OwesChange old change how new
+Gives old (OfIngestion id items) reply new = OwesIngestion id items old reply new
 Gives old (OfCreation name options) reply new = (id : ℕ) × (reply ≡ Number id) × OwesCreation old name options id new
 Gives old (OfDeletion id) reply new = (reply ≡ Done) × OwesDeletion old id new
 Gives old (OfHandle OneMore id) reply new = (reply ≡ Done) × (new ≡ record old { memory = retained id old.memory })
@@ -409,7 +464,7 @@ Gives old (OfHandle OneLess id) reply new = (reply ≡ Done) × Counts old (rele
 Gives old (OfRotation id) reply new = (reply ≡ Flag (rotates old.memory.trees id)) × (new ≡ (if rotates old.memory.trees id then record old { memory = rotated id old.memory } else old))
 Gives old OfJournalRotation reply new = (reply ≡ Done) × RotatesJournal old new
 Gives old (OfFlushBegin id) reply new = OwesBegin (begins_flush old.memory.trees id) old id reply new
-Gives old (OfFlushFinish job) reply new = OwesFinish (is_flushing old.memory.trees job) (is_living (store_in old) job.keyspace_id) old job reply new
+Gives old (OfFlushFinish job) reply new = OwesFinish (is_flushing old.memory.trees job) (takes_effect old job) old job reply new
 Gives old OfMaintenance reply new = (reply ≡ Done) × Becomes old (evicted_in_memory old.memory) new
 Gives old (OfRead view id query) reply new = GivesRead (tables_of old id) old view id query reply × LooksAt (tables_of old id) old new
 Gives old (OfTickets call) reply new =
@@ -447,10 +502,11 @@ abbrev pub SyncTook : Held → Held → Type 0
 SyncTook old new =
     MatchBool (is_long old.journal) (Took old.disk new.disk (rotating old.disk old.journal (next_name old))) (Took old.disk new.disk (persist_steps old.journal SyncAll))
 
--- What the disk took of a call where it failed; of a creation and a deletion, of a flush that is finished and of what follows it the
--- clause on crashes tells.
+-- What the disk took of a call where it failed; of a creation and a deletion, of an ingestion, of a flush that is finished and of what
+-- follows it the clause on crashes tells.
 abbrev pub DiskFailed : Held → Shape → Held → Type 0
 DiskFailed old (OfChange change how) new = BatchTook (mode_of old how) old.disk new.disk old.journal (text_of old change)
+DiskFailed old (OfIngestion id items) new = Unit {0}
 DiskFailed old (OfCreation name options) new = Unit {0}
 DiskFailed old (OfDeletion id) new = Unit {0}
 DiskFailed old (OfHandle OneMore id) new = ⊥
@@ -483,6 +539,7 @@ RemovesLast old id new = MatchBool (is_last old.memory id && not old.memory.pois
 -- what a disk took of a call that memory ran out in: nothing, though a release, or a read of tables, has looked at it
 abbrev pub DiskLooked : Held → Shape → Held → Type 0
 DiskLooked old (OfChange change how) new = new.disk ≡ old.disk
+DiskLooked old (OfIngestion id items) new = new.disk ≡ old.disk
 DiskLooked old (OfCreation name options) new = new.disk ≡ old.disk
 DiskLooked old (OfDeletion id) new = new.disk ≡ old.disk
 DiskLooked old (OfHandle OneMore id) new = new.disk ≡ old.disk
@@ -510,16 +567,29 @@ pub record FlushTook (old : Held) (id : ℕ) (new : Held) : Type 0 where
   pub within : Within (keyspace_folder id) old.disk mid
   pub evicted : EvictionTook left mid new.disk
 
+-- What the disk took of an ingestion: the sync of the journal, or its rotation; what it wrote within the keyspace's folder, where the
+-- record that it appended says what is known of the keyspace now; and then an eviction.
+pub record IngestionTook (old : Held) (id : ℕ) (items : List KeyOp) (new : Held) : Type 0 where
+  pub synced : Held
+  pub sync : SyncTook old synced
+  pub mid : Meaning
+  pub within : Within (keyspace_folder id) synced.disk mid
+  pub left : Remembered
+  pub ingested : IngestedInMemory (journal_synced old) id items left
+  pub evicted : EvictionTook left mid new.disk
+
 -- What the disk took of a call that was done: of a change the batch's text behind what waited in the buffer, where it doesn't
 -- wait too, and a sync where its mode asks for one; of a creation of a name that none had, and of a deletion of a keyspace that
 -- lived, another table of tree 0, where the clause on crashes tells the rest; of a release the removal of files; of a rotation of
 -- the journal the buffer, its sync, and the next journal with its name; of a flush that begins a sync or a rotation of the journal, of
--- one that is finished its table, its record and an eviction; of a persist the buffer, and a sync where its mode asks for
+-- one that is finished its table, its record and an eviction; of an ingestion all of these; of a persist the buffer, and a sync where its mode asks for
 -- one; and else nothing.
 abbrev pub DiskTook : Held → Shape → Held → Type 0
 DiskTook old (OfChange (Items []) how) new = new.disk ≡ old.disk
 DiskTook old (OfChange (Items (item ∷ items)) how) new = Took old.disk new.disk (batch_steps (mode_of old how) old.journal (text_of old (Items (item ∷ items))))
 DiskTook old (OfChange (Emptied id) how) new = Took old.disk new.disk (batch_steps (mode_of old how) old.journal (text_of old (Emptied id)))
+DiskTook old (OfIngestion id []) new = new.disk ≡ old.disk
+DiskTook old (OfIngestion id (item ∷ items)) new = IngestionTook old id (item ∷ items) new
 DiskTook old (OfCreation name options) new = MatchOption (id_of name old.memory.keyspaces.living) (ReplacesTable old new) (λ found. new.disk ≡ old.disk)
 DiskTook old (OfDeletion id) new = MatchBool (is_living (store_in old) id) (ReplacesTable old new) (new.disk ≡ old.disk)
 DiskTook old (OfHandle OneMore id) new = new.disk ≡ old.disk
@@ -528,7 +598,7 @@ DiskTook old (OfRotation id) new = new.disk ≡ old.disk
 DiskTook old OfJournalRotation new = Took old.disk new.disk (rotating old.disk old.journal (next_name old))
 DiskTook old (OfFlushBegin id) new = MatchBool (begins_flush old.memory.trees id) (SyncTook old new) (new.disk ≡ old.disk)
 DiskTook old (OfFlushFinish job) new =
-    MatchBool (is_flushing old.memory.trees job && is_living (store_in old) job.keyspace_id) (FlushTook old job.keyspace_id new) (new.disk ≡ old.disk)
+    MatchBool (is_flushing old.memory.trees job && takes_effect old job) (FlushTook old job.keyspace_id new) (new.disk ≡ old.disk)
 DiskTook old OfMaintenance new = EvictionTook old.memory old.disk new.disk
 DiskTook old (OfRead view id query) new = DiskRead (tables_of old id) old new
 DiskTook old (OfTickets call) new = new.disk ≡ old.disk

@@ -17,12 +17,12 @@ use fjall_commit::sync_journal;
 use fjall_jobs::{FlushJob, FlushMade};
 use fjall_journal::PersistMode;
 
-/// Where the active journal is longer, a flush begins behind a rotation of it.
-const LONG_JOURNAL: u64 = 64_000_000;
+/// Where the active journal is longer, a flush begins, and an ingestion is made, behind a rotation of it.
+pub(crate) const LONG_JOURNAL: u64 = 64_000_000;
 
 impl<D: Disk> Core<D> {
-    // Syncs the journal before a flush; a long one is sealed.
-    fn sync_for_flush(&mut self, seals: bool) -> Result<()>
+    // Syncs the journal before a flush or an ingestion; a long one is sealed.
+    pub(crate) fn sync_for_flush(&mut self, seals: bool) -> Result<()>
         requires long { seals ≡ is_long self.old.journal }
         requires numbered { seals ≡ true → self.old.memory.journals.active < 2 ^ 64 - 2 }
         ensures synced { SyncsAll (IsTrue D.honest) self.old result self.new }
@@ -81,8 +81,8 @@ impl<D: Disk> Core<D> {
         }
     }
 
-    // Removes sealed journals that nobody wants any more, after a flush or by itself.
-    fn evict(&mut self) -> Result<()>
+    // Removes sealed journals that nobody wants any more, after a flush or an ingestion, or by itself.
+    pub(crate) fn evict(&mut self) -> Result<()>
         ensures evicts { Evicts (IsTrue D.honest) self.old result self.new }
     {
         if let Err(error) = self.memory.evict(&mut self.disk) {
@@ -125,7 +125,7 @@ impl<D: Disk> Core<D> {
         if !self.memory.is_flushing(&made.job) {
             return Ok(false);
         }
-        if !self.memory.is_living(id) {
+        if !self.memory.is_living(id) || !self.memory.is_flush_due(&made.job) {
             self.memory.drop_flush(id);
             return Ok(false);
         }
@@ -140,8 +140,8 @@ impl<D: Disk> Core<D> {
     /// that the flush was begun with are gone. First the table is written and synced, then the record that makes it count, and
     /// then sealed journals are removed that no keyspace wants any more. No view changes.
     ///
-    /// False where the flush is stale, since it isn't out any more or its keyspace was deleted: then nothing changes but that it
-    /// is out no more. Refusals hand back what was made, the first that has its cause: `Poisoned`; `TooManyItems` where the
+    /// False where the flush is stale, since it isn't out any more, its keyspace was deleted, or an ingestion took its memtables:
+    /// then nothing changes but that it is out no more. Refusals hand back what was made, the first that has its cause: `Poisoned`; `TooManyItems` where the
     /// keyspace's record has no room; `NumbersUsedUp` where no id of a table is left; `OutOfMemory`; and `Io`, after which the
     /// core is poisoned. After each of the others nothing has changed.
     pub fn flush_finish(&mut self, made: FlushMade) -> std::result::Result<bool, Refused<FlushMade>>

@@ -6,6 +6,7 @@ mod close;
 mod config;
 mod engine;
 mod flushes;
+mod ingestions;
 mod journals;
 mod keyspaces;
 mod laws;

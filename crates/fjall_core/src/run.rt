@@ -151,6 +151,7 @@ impl<D: Disk> Core<D> {
             Call::RemoveWeak(id, key) => reply_of(self.remove_weak(id, key)),
             Call::Clear(id) => reply_of(self.clear(id)),
             Call::CommitBatch(items, mode) => reply_of(self.commit_batch(items, mode)),
+            Call::Ingest(id, items) => reply_of(self.ingest(id, items)),
             Call::RotateMemtable(id) => flag_reply(self.rotate_memtable(id)),
             Call::RotateJournal => reply_of(self.rotate_journal()),
             Call::FlushBegin(_) | Call::FlushFinish(_) => unreachable!(),

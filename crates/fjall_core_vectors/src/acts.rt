@@ -5,7 +5,7 @@ use crate::lists::{all_told, flush, serve};
 use crate::script::Line;
 use crate::tape::Tape;
 use fjall_base::{CompressionType, Disk, Error, KvPair, Refused, Result, Slice, checksum};
-use fjall_core::{KeyRange, View};
+use fjall_core::{KeyRange, Op, View};
 use fjall_journal::{Entry, ValueType};
 use fjall_memory::MemoryDisk;
 use std::alloc::Global;
@@ -47,6 +47,10 @@ pub enum Act {
     Flush(u64),
     /// Inserts so many keys of two bytes into a keyspace.
     Many(u64, u16),
+    /// Ingests so many keys of two bytes with empty values into a keyspace.
+    IngestMany(u64, u16),
+    /// Ingests keys into a keyspace: of each its byte, and how many times it stands there.
+    IngestLong(u64, &'static [(u8, usize)]),
     /// The ids of the keyspaces that hold the oldest sealed journal back.
     ToFlush,
     /// How many keyspaces wait for a flush.
@@ -288,6 +292,41 @@ fn insert_many(core: &mut Database<MemoryDisk>, id: u64, count: u16) -> Result<(
     Ok(())
 }
 
+/// The items of an ingestion of these keys, with empty values.
+fn keyed(alloc: Global, keys: &[Slice]) -> Result<Vec<(Slice, Op)>> {
+    let mut items = Vec::new(alloc);
+    for key in keys {
+        items.push((key.clone()?, Op::Put(Slice::new(alloc, b"")?)))?;
+    }
+    Ok(items)
+}
+
+/// So many keys of two bytes.
+fn many_keys(alloc: Global, count: u16) -> Result<Vec<Slice>> {
+    let mut keys = Vec::new(alloc);
+    for key in 0..count {
+        keys.push(Slice::new(alloc, &key.to_be_bytes())?)?;
+    }
+    Ok(keys)
+}
+
+/// Keys, of each of which a byte stands there so many times.
+fn long_keys(alloc: Global, bytes: &[(u8, usize)]) -> Result<Vec<Slice>> {
+    let mut keys = Vec::new(alloc);
+    for (byte, len) in bytes {
+        let key: Vec<u8> = vec![in alloc; *byte; *len]?;
+        keys.push(Slice::new(alloc, &key)?)?;
+    }
+    Ok(keys)
+}
+
+/// Ingests keys with empty values.
+fn ingest_keys(core: &mut Database<MemoryDisk>, id: u64, keys: &[Slice]) -> Result<String> {
+    let alloc = core.alloc();
+    core.ingest_items(id, keyed(alloc, keys)?)?;
+    Ok(String::new(alloc))
+}
+
 /// What an open database answers to what is of flushes.
 fn flushed(alloc: Global, core: &mut Database<MemoryDisk>, act: Act) -> Result<String> {
     match act {
@@ -298,6 +337,8 @@ fn flushed(alloc: Global, core: &mut Database<MemoryDisk>, act: Act) -> Result<S
             insert_many(core, id, count)?;
             Ok(String::new(alloc))
         }
+        Act::IngestMany(id, count) => ingest_keys(core, id, &many_keys(alloc, count)?),
+        Act::IngestLong(id, keys) => ingest_keys(core, id, &long_keys(alloc, keys)?),
         _ => told(alloc, core, act),
     }
 }

@@ -2,7 +2,7 @@
 
 use crate::acts::Act::*;
 use crate::acts::{ITEMS, Row, Scenario, first_wrong};
-use crate::database::{Database, Item, batch, items, opened, view_of};
+use crate::database::{Database, Item, batch, ingestion, items, opened, view_of};
 use crate::lists::{all_told, creation, insertion};
 use crate::script::Line::*;
 use fjall_base::{ClosedDisk, Disk, Error, Result, Slice};
@@ -164,6 +164,7 @@ enum Request {
     /// Of the job that the call at this place began.
     FlushFinish(u64),
     Maintenance,
+    Ingest(u64),
     SealedMemtableCount,
     OutstandingFlushes,
     TableCount,
@@ -264,6 +265,27 @@ const OF_FLUSHES: &[Request] = &[
     Request::DiskSpace(Some(2)),
 ];
 
+/// Those of ingestions: what memory holds goes to a table of 104 bytes, and then the items to one of 120.
+const OF_INGESTIONS: &[Request] = &[
+    Request::Keyspace,
+    Request::Insert(1),
+    Request::Ingest(2),
+    Request::Ingest(1),
+    Request::Seqno,
+    Request::VisibleSeqno,
+    Request::TableCount,
+    Request::L0TableCount,
+    Request::ApproximateLen,
+    Request::WriteBufferSize,
+    Request::DiskSpace(Some(1)),
+    Request::DiskSpace(None),
+    Request::RotateMemtable,
+    Request::FlushBegin(1),
+    Request::DeleteKeyspace,
+    Request::Ingest(1),
+    Request::Seqno,
+];
+
 /// What the batch changes.
 const CHANGES: &[Item] = &[(1, "c", Some("d")), (1, "a", None)];
 
@@ -357,6 +379,9 @@ impl Request {
             Request::Keyspace => creation(alloc, "items"),
             Request::Insert(id) => insertion(alloc, id, "a", "b"),
             Request::CommitBatch => commit(alloc),
+            Request::Ingest(id) => {
+                Ok(Call::Ingest(id, ingestion(alloc, &[("a", None), ("c", Some("d"))])?))
+            }
             Request::SeenAt(place) => seen_at(alloc, place),
             _ => Ok(self.naming(alloc)?),
         }
@@ -411,6 +436,11 @@ const LISTS: &[(&[Request], &str)] = &[
         flag true; number 0; number 0; number 1; number 1; number 0; number 1; \
         flag false; no job; refused UnknownKeyspace; refused UnknownKeyspace; done; ids []; \
         number 251; number 104; number 0; ",
+    ),
+    (
+        OF_INGESTIONS,
+        "number 1; done; refused UnknownKeyspace; done; number 3; number 3; number 2; number 2; number 3; number 0; number 224; \
+        number 273; flag false; no job; done; refused KeyspaceDeleted; number 4; ",
     ),
 ];
 

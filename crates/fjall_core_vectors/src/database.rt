@@ -11,6 +11,9 @@ use std::alloc::Global;
 /// An item of a batch: keyspace, key, and the value that the key gets, or none.
 pub type Item = (u64, &'static str, Option<&'static str>);
 
+/// An item of an ingestion: key, and the value that it gets, or none.
+pub type Pair = (&'static str, Option<&'static str>);
+
 /// What becomes of a key that gets this value, or none.
 fn op(alloc: Global, value: Option<&str>) -> Result<Op> {
     Ok(match value {
@@ -27,6 +30,16 @@ pub fn batch(alloc: Global, items: &[Item]) -> Result<Vec<BatchItem>> {
         batch.push((*id, key, op(alloc, *value)?))?;
     }
     Ok(batch)
+}
+
+/// The items of an ingestion.
+pub fn ingestion(alloc: Global, pairs: &[Pair]) -> Result<Vec<(UserKey, Op)>> {
+    let mut items = Vec::new(alloc);
+    for (key, value) in pairs {
+        let key = Slice::new(alloc, key.as_bytes())?;
+        items.push((key, op(alloc, *value)?))?;
+    }
+    Ok(items)
 }
 
 /// A core over a disk.
@@ -162,6 +175,16 @@ impl<D: Disk> Database<D> {
     pub fn commit_batch(&mut self, items: &[Item], mode: Option<PersistMode>) -> Result<()> {
         let items = batch(self.alloc, items)?;
         self.core.commit_batch(items, mode)
+    }
+
+    pub fn ingest(&mut self, id: u64, pairs: &[Pair]) -> Result<()> {
+        let items = ingestion(self.alloc, pairs)?;
+        self.core.ingest(id, items)
+    }
+
+    /// Ingests items that are made already.
+    pub fn ingest_items(&mut self, id: u64, items: Vec<(UserKey, Op)>) -> Result<()> {
+        self.core.ingest(id, items)
     }
 
     /// The id of a ticket.

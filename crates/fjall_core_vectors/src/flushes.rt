@@ -97,7 +97,7 @@ const CLEARED_ON_DISK: &[Row] = &[
     (Leave, ""),
     (Crash(0), ""),
     (Len("keyspaces/1/current"), "118"),
-    (Lists("keyspaces/1", "1.table"), "no"),
+    (Lists("keyspaces/1", "keyspaces/1/1.table"), "no"),
     (Open, ""),
     (Versions(1), "0"),
     (Get(1, "a"), "-"),
@@ -418,9 +418,11 @@ const STALE: &[Row] = &[
     (Ask(Finish(1)), "0"),
     (Ask(Finish(2)), "0"),
     (Close, ""),
-    (Lists("keyspaces", "1"), "no"),
+    (Lists("keyspaces", "keyspaces/1"), "yes"),
     (Open, ""),
     (Names, ""),
+    (Close, ""),
+    (Lists("keyspaces", "keyspaces/1"), "no"),
 ];
 
 const TWICE: &[Row] = &[
@@ -570,7 +572,7 @@ const REPLAYED: &[Row] = &[
     (WriteBuffer, "18"),
     (Leave, ""),
     (Len("keyspaces/1/current"), "55"),
-    (Lists("keyspaces/1", "1.table"), "no"),
+    (Lists("keyspaces/1", "keyspaces/1/1.table"), "no"),
 ];
 
 const CURRENT: &str = "keyspaces/1/current";

@@ -166,7 +166,7 @@ const SERVED: &[Row] = &[
     (Ask(Release(1)), ""),
     (ALL, "KeyspaceDeleted"),
     (Close, ""),
-    (Lists("keyspaces", "1"), "no"),
+    (Lists("keyspaces", "keyspaces/1"), "no"),
 ];
 
 const OF_VERSIONS: &[Scenario] = &[

@@ -22,6 +22,10 @@ mod flushing;
 #[cfg(test)]
 mod folders;
 #[cfg(test)]
+mod ingesting;
+#[cfg(test)]
+mod ingestions;
+#[cfg(test)]
 mod journals;
 #[cfg(test)]
 mod keyspaces;

@@ -1,7 +1,7 @@
 //! Lines of a script as one list of calls.
 
 use crate::acts::names_text;
-use crate::database::{Database, batch};
+use crate::database::{Database, batch, ingestion};
 use crate::script::Line;
 use fjall_base::{Disk, Result, Slice};
 use fjall_core::{Call, JobId, Reply, Ticket};
@@ -59,6 +59,7 @@ impl Line {
             Line::Remove(id, key) => Call::Remove(*id, Slice::new(alloc, key.as_bytes())?),
             Line::RemoveWeak(id, key) => Call::RemoveWeak(*id, Slice::new(alloc, key.as_bytes())?),
             Line::Commit(items, mode) => Call::CommitBatch(batch(alloc, items)?, *mode),
+            Line::Ingest(id, pairs) => Call::Ingest(*id, ingestion(alloc, pairs)?),
             Line::Finish(id) => Call::FlushFinish(JobId::of_call(begun_at(before, *id))),
             _ => self.plain_call(),
         })

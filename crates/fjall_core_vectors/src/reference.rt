@@ -21,6 +21,8 @@ pub enum Command {
     Write(Vec<Change>),
     /// Empties the keyspace of this id.
     Clear(u64),
+    /// Changes keys of one keyspace, one after another, and leaves nothing in memory.
+    Ingest(Vec<Change>),
 }
 
 impl Command {
@@ -29,7 +31,7 @@ impl Command {
         match self {
             Command::Write(changes) => has_change_in(changes, id),
             Command::Clear(cleared) => *cleared == id,
-            Command::Create(_) | Command::Delete(_) => false,
+            Command::Create(_) | Command::Delete(_) | Command::Ingest(_) => false,
         }
     }
 }
@@ -125,7 +127,9 @@ fn next(alloc: Global, homes: Vec<Home>, command: &Command, new_id: u64) -> Resu
     match command {
         Command::Create(name) => homes.push(new_home(alloc, name, new_id)?)?,
         Command::Delete(id) => return deleted(alloc, homes, *id),
-        Command::Write(changes) => write_all(alloc, &mut homes, changes)?,
+        Command::Write(changes) | Command::Ingest(changes) => {
+            write_all(alloc, &mut homes, changes)?
+        }
         Command::Clear(id) => clear(&mut homes, *id),
     }
     Ok(homes)

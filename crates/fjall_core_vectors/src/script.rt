@@ -1,6 +1,6 @@
 //! A script of calls, and what it must leave.
 
-use crate::database::{Database, Item, opened, view_of};
+use crate::database::{Database, Item, Pair, opened, view_of};
 use crate::lists::{answer, flush, serve};
 use crate::reference::{Change, Command, Home, are_seen, fold, shown};
 use crate::tickets::Tickets;
@@ -22,6 +22,8 @@ pub enum Line {
     RemoveWeak(u64, &'static str),
     /// The items of a batch, and how it is persisted.
     Commit(&'static [Item], Option<PersistMode>),
+    /// Keyspace, and items by key ascending.
+    Ingest(u64, &'static [Pair]),
     Clear(u64),
     /// The memtable of a keyspace is sealed.
     Rotate(u64),
@@ -197,11 +199,11 @@ impl Tried {
 }
 
 impl Line {
-    /// Whether it syncs what was accepted before it, where it is done. What a creation or a deletion itself does is
-    /// safe then, too.
+    /// Whether it syncs what was accepted before it, where it is done. What a creation, a deletion or an ingestion itself does
+    /// is safe then, too.
     fn is_sync(&self, is_command: bool, answer: Option<u64>) -> bool {
         match self {
-            Line::Create(_) | Line::Delete(_) => is_command,
+            Line::Create(_) | Line::Delete(_) | Line::Ingest(_, _) => is_command,
             Line::Commit(_, Some(mode)) => is_command && !matches!(mode, PersistMode::Buffer),
             Line::Persist(mode) => !matches!(mode, PersistMode::Buffer),
             Line::RotateJournal => true,
@@ -221,7 +223,10 @@ impl Line {
 
     /// Whether a fault in it leaves open what was flushed, or which journals there are.
     fn is_work(&self) -> bool {
-        matches!(self, Line::RotateJournal | Line::Finish(_) | Line::Maintain)
+        matches!(
+            self,
+            Line::RotateJournal | Line::Finish(_) | Line::Maintain | Line::Ingest(_, _)
+        )
     }
 
     /// Asks for it, where it is of keys, or of all of them.
@@ -232,6 +237,7 @@ impl Line {
             Line::RemoveWeak(id, key) => core.remove_weak(*id, key.as_bytes()),
             Line::Clear(id) => core.clear(*id),
             Line::Commit(items, mode) => core.commit_batch(items, *mode),
+            Line::Ingest(id, pairs) => core.ingest(*id, pairs),
             _ => Ok(()),
         }
     }
@@ -277,6 +283,18 @@ fn change(alloc: Global, (id, key, value): Item) -> Result<Change> {
         None => None,
     };
     Ok((id, key, value))
+}
+
+/// The command of an ingestion, where there is an item and the keyspace lives.
+fn ingest(alloc: Global, homes: &[Home], id: u64, pairs: &[Pair]) -> Result<Option<Command>> {
+    if !lives(homes, id) {
+        return Ok(None);
+    }
+    let mut changes = Vec::new(alloc);
+    for (key, value) in pairs {
+        changes.push(change(alloc, (id, *key, *value))?)?;
+    }
+    Ok((!changes.is_empty()).then_some(Command::Ingest(changes)))
 }
 
 /// The command of these items, where there is one and the keyspace of each lives.
@@ -350,6 +368,7 @@ impl History {
                 write(alloc, &homes, &[(id, key, None)])?
             }
             Line::Commit(items, _) => write(alloc, &homes, items)?,
+            Line::Ingest(id, pairs) => ingest(alloc, &homes, id, pairs)?,
             Line::Clear(id) if lives(&homes, id) => Some(Command::Clear(id)),
             _ => None,
         })
@@ -385,9 +404,15 @@ impl History {
         self.work.evict(&self.tried.commands, &homes)
     }
 
-    /// A flush that is out of a keyspace that lives is finished, and journals are removed.
+    /// A keyspace's memory is flushed, and journals are removed.
+    fn note_ingestion(&mut self, alloc: Global, id: u64) -> Result<()> {
+        self.work.flush_memory(id, self.accepted)?;
+        self.note_eviction(alloc)
+    }
+
+    /// A flush that is out of a keyspace that lives is finished, where nothing took its memtables, and journals are removed.
     fn note_ending(&mut self, alloc: Global, id: u64, answer: Option<u64>) -> Result<bool> {
-        let is_due = self.work.is_out(id) && lives(&self.homes(alloc)?, id);
+        let is_due = self.work.is_due(id) && lives(&self.homes(alloc)?, id);
         if answer == Some(1) {
             self.work.finish(id)?;
             self.note_eviction(alloc)?;
@@ -405,6 +430,7 @@ impl History {
             Line::Finish(id) => return self.note_ending(alloc, id, answer),
             Line::RotateJournal => self.work.rotate_journal(self.accepted)?,
             Line::Maintain => self.note_eviction(alloc)?,
+            Line::Ingest(id, pairs) if !pairs.is_empty() => self.note_ingestion(alloc, id)?,
             _ => {}
         }
         Ok(true)
@@ -584,6 +610,7 @@ impl History {
         for (line, reply) in lines.iter().zip(replies) {
             self.hear(alloc, *line, answer(reply))?;
         }
+        self.work.lose_jobs();
         match lines.last() {
             Some(line) => self.check(alloc, core, *line),
             None => Ok(()),

@@ -336,20 +336,24 @@ fn the_script_makes_28_commands_by_236_calls(rt: HostRuntime) -> Result<(), Fail
     Ok(())
 }
 
-/// Plays the script, and crashes the disk behind it.
-fn check_memory(alloc: Global) -> Checked<()> {
+/// Plays these lines, and crashes the disk behind them.
+fn check_played(alloc: Global, lines: &[Line]) -> Checked<()> {
     let mut history = History::new(alloc);
-    let disk = history.play(alloc, MemoryDisk::new(alloc), script())?;
+    let disk = history.play(alloc, MemoryDisk::new(alloc), lines)?;
     check_disk(alloc, crashed(disk, 0)?, &history.tried)?;
     Ok(())
 }
 
-// It tells something where it is run with one of its requests for memory refused, which the disk in memory tells of as
-// a fault. That may also be a request that the test makes for itself, and then there is nothing to see.
+/// The same, which tells something where it is run with one of its requests for memory refused, which the disk in memory tells
+/// of as a fault. That may also be a request that the test makes for itself, and then there is nothing to see.
+pub fn check_memory(alloc: Global, lines: &[Line]) -> Checked<()> {
+    match check_played(alloc, lines) {
+        Err(Wrong::Error(Error::OutOfMemory | Error::Io(_))) => Ok(()),
+        other => other,
+    }
+}
+
 #[test]
 fn a_request_for_memory_fails(rt: HostRuntime) -> Result<(), Fail> {
-    match check_memory(rt.alloc()) {
-        Err(Wrong::Error(Error::OutOfMemory | Error::Io(_))) => Ok(()),
-        other => Ok(other?),
-    }
+    Ok(check_memory(rt.alloc(), script())?)
 }

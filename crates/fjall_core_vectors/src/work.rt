@@ -80,6 +80,11 @@ impl Work {
         is_out
     }
 
+    /// Whether it takes effect once it is finished: its list of calls goes on, and nothing has taken its memtables meanwhile.
+    pub fn is_due(&self, id: u64) -> bool {
+        self.is_out(id) && last_end(&self.out, id) > last_end(&self.flushed, id)
+    }
+
     /// Whether a flush of a keyspace begins.
     pub fn wants_flush(&self, id: u64) -> bool {
         let is_sealed = last_end(&self.sealed, id) > last_end(&self.flushed, id);
@@ -104,11 +109,23 @@ impl Work {
         Ok(())
     }
 
+    /// No later list of calls names a flush that is out.
+    pub fn lose_jobs(&mut self) {
+        for one in &mut self.out {
+            one.1 = 0;
+        }
+    }
+
     /// Finishes it.
     pub fn finish(&mut self, id: u64) -> Result<()> {
         let end = last_end(&self.out, id);
         self.flushed.push((id, end))?;
         self.drop_flush(id)
+    }
+
+    /// Brings all that a keyspace has in memory of so many commands to a table.
+    pub fn flush_memory(&mut self, id: u64, accepted: usize) -> Result<()> {
+        Ok(self.flushed.push((id, accepted))?)
     }
 
     /// Seals the journal behind so many commands.

@@ -4,6 +4,7 @@ pub mod Once
 pub mod AfterRecords
 pub mod AfterHomes
 pub mod NewTables
+pub mod Reading
 pub mod Putting
 pub mod Beside
 pub mod Composed

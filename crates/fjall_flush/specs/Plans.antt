@@ -1,21 +1,23 @@
 -- A flush that is planned: all that is to be written of it, and for which trees.
-use Rattle.std.specs.Prelude.{◌≡◌, ◌≢◌, ⊤, ℕ, ◌+◌, ◌-◌, ◌<◌, ◌≤◌, ◌^◌, false, List, [], ◌∷◌, length, String, string_bytes, Option, Some, None}
+use Rattle.std.specs.Prelude.{◌≡◌, ◌≢◌, ⊤, ℕ, ◌+◌, ◌-◌, ◌<◌, ◌≤◌, ◌^◌, false, List, [], ◌∷◌, length, map, String, string_bytes, Option, Some, None}
 use Rattle.std.specs.declared.alloc.Global.{Global}
 use Rattle.fjall_base.specs.declared.error.Error.{Error}
 use Rattle.fjall_base.specs.declared.error.Error.TheVariants.{NumbersUsedUp, OutOfMemory, TooManyItems}
 use Rattle.fjall_base.specs.Disk.{IsFile, Meaning, Name, State, state_in}
+use Rattle.fjall_blocks.specs.Readers.{AreRead, Reader}
 use Rattle.fjall_files.specs.Names.{IsNameOf, current_name, keyspace_folder, table_name}
 use Rattle.fjall_files.specs.Regions.{is_under}
 use Rattle.fjall_table.specs.Blocks.{Entry}
 use Rattle.fjall_table.specs.Files.{bytes_in, entry_at}
 use Rattle.fjall_jobs.specs.declared.flush_made.FlushMade.{FlushMade}
 use Rattle.fjall_jobs.specs.declared.made_table.MadeTable.{MadeTable}
+use Rattle.fjall_jobs.specs.Sequences.{AreMadeTables}
 use Rattle.fjall_tree.specs.Records.{Fields, Fits, body, record_text, view}
 use Rattle.fjall_home.specs.Homes.{AreSafe, Home, Rests}
 use Rattle.fjall_recovery.specs.Halves.{Tree}
 use Rattle.fjall_recovery.specs.Places.{LiesInTree}
 use Rattle.fjall_flush.specs.declared.plan.FlushPlan.{FlushPlan}
-use Rattle.fjall_flush.specs.Flushes.{Flush, Follows, HasAt, flush_of, flush_with, home_after, record_after, tree_after}
+use Rattle.fjall_flush.specs.Flushes.{Flush, Follows, HasAt, flush_of, flush_with, home_after, infos_from, record_after, tree_after}
 
 -- where a table was made, its file has the name of this id's, which isn't the greatest; where none was made, there is no name
 abbrev pub IsNamed : (id next : ℕ) → List MadeTable → Option (String Global) → Type 0
@@ -52,6 +54,13 @@ abbrev pub HaveFiles : Meaning → (id next : ℕ) → List MadeTable → Type 0
 HaveFiles disk id next [] = Unit {0}
 HaveFiles disk id next (t ∷ tables) =
     IsFile (entry_at disk (table_name id next)) × (bytes_in (entry_at disk (table_name id next)) ≡ t.bytes.items) × HaveFiles disk id (next + 1) tables
+
+-- Readers of tables that were made of the keyspace of this id: of the files that are to have them, under ids that follow one another
+-- from this one on. On a disk that has these files they read what the tables hold.
+pub record AreReadersOf (id next : ℕ) (tables : List MadeTable) (readers : List Reader) : Type 0 where
+  pub names : map (λ t. t.name) readers ≡ map (λ t. table_name id t.id) (infos_from next tables)
+  pub infos : map (λ t. t.info) readers ≡ infos_from next tables
+  pub read : (disk : Meaning) (lists : List (List Entry)) → AreMadeTables tables lists → HaveFiles disk id next tables → AreRead disk readers lists
 
 -- Nothing in sight changed, but of the keyspace of this id the file of records and the file of the table of this number.
 abbrev pub KeepsBeside : (id next : ℕ) → Meaning → Meaning → Type 0

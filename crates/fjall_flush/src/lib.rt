@@ -5,6 +5,7 @@
 mod finishing_laws;
 mod laws;
 mod plan;
+mod readers;
 mod writing;
 
 pub use finishing_laws::{a_finished_flush_is_known, a_flush_that_is_out_may_count};
@@ -13,4 +14,5 @@ pub use laws::{
     a_flush_that_is_out_takes_parts, a_flushed_home_is_right,
 };
 pub use plan::{FlushPlan, plan_flush, plan_tables};
+pub use readers::table_readers;
 pub use writing::{write_flush, write_tables};

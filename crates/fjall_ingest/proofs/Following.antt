@@ -22,7 +22,7 @@ use Rattle.fjall_ingest.specs.Commands.{MayIngestSynced}
 use Rattle.fjall_ingest.proofs.Silence.{itself}
 
 -- what is put somewhere is there
-there : {X : Type 0} (m : FinMap nat_cmp X) (id : ℕ) (x : X) → get (insert m id x) id ≡ Some x
+pub there : {X : Type 0} (m : FinMap nat_cmp X) (id : ℕ) (x : X) → get (insert m id x) id ≡ Some x
 there {X} m id x = get_put m id x id ∙ ap (λ b. cond b (Some x) (get m id)) (itself id)
 
 module _ (j : Journaling) (t : Tree) (id : ℕ) (f : Flush) (lists : List (List Entry)) (h : Home) (versions : List Entry) (may : MayCount j t id f lists h versions) where

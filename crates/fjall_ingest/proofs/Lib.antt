@@ -7,3 +7,10 @@ pub mod Storing
 pub mod Numbers
 pub mod Crashes
 pub mod Following
+pub mod WholeMemory
+pub mod WholeBetween
+pub mod WholeAfter
+pub mod WholeLaws
+pub mod Preparing
+pub mod NoFolders
+pub mod Behind

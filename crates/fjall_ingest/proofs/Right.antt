@@ -35,7 +35,7 @@ numbered : (P : ℕ → Type 0) (number : ℕ) (items : List KeyOp) → P number
 numbered P number items is = All-map (λ (v : Entry). P v.number) (version_of number) items (all_of (λ (item : KeyOp). P number) items (λ item. is))
 
 -- in the one table that is made each of them stands once
-once_made : (tables : List MadeTable) (lists : List (List Entry)) → AreMadeTables tables lists → AreParted None lists → OnceEach (flat lists)
+pub once_made : (tables : List MadeTable) (lists : List (List Entry)) → AreMadeTables tables lists → AreParted None lists → OnceEach (flat lists)
 once_made tables [] made parted = tt
 once_made [] (l ∷ lists) made parted = absurd made
 once_made (t ∷ tables) (l ∷ []) made parted =

@@ -1,3 +1,5 @@
 pub mod Ingests
 pub mod Plans
 pub mod Commands
+pub mod Whole
+pub mod Planned

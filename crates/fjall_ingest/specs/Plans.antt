@@ -46,6 +46,10 @@ IsIngestRefusal number items last error = ⊥
 abbrev pub ForIngest : IngestPlan → (ℕ → Type 0) → Type 0
 ForIngest plan Holds = (id number : ℕ) (items : List KeyOp) (last : Fields) → IsIngestPlan id number items last plan → Holds id
 
+-- the same, and for the number of the table that is made next
+abbrev pub ForIngestNext : IngestPlan → ((id next : ℕ) → Type 0) → Type 0
+ForIngestNext plan Holds = (id number : ℕ) (items : List KeyOp) (last : Fields) → IsIngestPlan id number items last plan → Holds id last.next_table_id
+
 -- for whichever tree lies on the disk, and the tree after an ingestion into one of its keyspaces, under a number below 2^63 and
 -- beyond the keyspace's persisted one
 abbrev pub ForIngestOn : Meaning → IngestPlan → (List Fields → Tree → ℕ → Home → Tree → Type 0) → Type 0

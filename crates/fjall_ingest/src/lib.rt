@@ -5,6 +5,8 @@
 mod laws;
 mod plan;
 mod table;
+mod whole;
+mod whole_laws;
 mod writing;
 
 pub use laws::{
@@ -12,4 +14,6 @@ pub use laws::{
     an_ingestion_is_one_command, an_ingestion_may_follow_a_flush,
 };
 pub use plan::{IngestPlan, plan_ingest};
+pub use whole::{MemoryPlan, PlannedIngestion, plan_ingestion, write_ingestion};
+pub use whole_laws::{a_whole_ingestion_is_one_command, memory_is_flushed_before_an_ingestion};
 pub use writing::write_ingest;

@@ -8,7 +8,8 @@ ghost use Rattle.fjall_files.specs.Regions.{Within};
 ghost use Rattle.fjall_files.specs.Tidy.{StaysTidy};
 ghost use Rattle.fjall_recovery.specs.Halves.{HasTree};
 ghost use Rattle.fjall_recovery.specs.Places.{LiesInTree};
-ghost use Rattle.fjall_ingest.specs.Plans.{ForIngest, ForIngestOn};
+ghost use Rattle.fjall_flush.specs.Plans.{HaveFiles, KeepsBeside};
+ghost use Rattle.fjall_ingest.specs.Plans.{ForIngest, ForIngestNext, ForIngestOn};
 
 use crate::plan::IngestPlan;
 use fjall_base::{Disk, Result};
@@ -33,6 +34,10 @@ pub fn write_ingest<D: Disk>(disk: &mut D, plan: &IngestPlan) -> Result<()>
         IsNoFolder (state_in (D.meaning disk.old) (table_name id h.last.next_table_id)).now → AllServed (D.meaning disk.old) (D.meaning disk.new)) }
     ensures cause { OnlyFaults (D.meaning disk.old) (D.meaning disk.new) result }
     ensures kinds { IsTrue D.honest → ForIngest plan.now (λ id. StaysTidy (D.meaning disk.old) (D.meaning disk.new)) }
+    // In sight nothing changes but the keyspace's file of records and the new table's, whatever lies on the disk.
+    ensures beside { IsTrue D.honest → ForIngestNext plan.now (λ id next. KeepsBeside id next (D.meaning disk.old) (D.meaning disk.new)) }
+    // At Ok the table's file has its bytes.
+    ensures files { IsTrue D.honest → ForIngestNext plan.now (λ id next. OnOk result (HaveFiles (D.meaning disk.new) id next plan.now.tables.items)) }
 {
     write_tables(disk, &plan.writes, &plan.tables)
 }

@@ -4,6 +4,7 @@ pub mod Closing
 pub mod Dues
 pub mod Finishing
 pub mod Flushing
+pub mod Holding
 pub mod Keeping
 pub mod Looping
 pub mod Merging

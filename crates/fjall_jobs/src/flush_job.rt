@@ -29,7 +29,7 @@ pub struct FlushJob {
 }
 
 /// The versions of these parts, as runs.
-fn memtable_runs(alloc: Global, parts: &[Arc<Part>]) -> Result<Vec<MemtableRun<'_>>>
+pub(crate) fn memtable_runs(alloc: Global, parts: &[Arc<Part>]) -> Result<Vec<MemtableRun<'_>>>
     ensures runs { IfOk result (λ runs. runs.items ≡ runs_of parts.now) }
     ensures only { IsOkUnless result Error.OutOfMemory }
 {
@@ -41,7 +41,7 @@ fn memtable_runs(alloc: Global, parts: &[Arc<Part>]) -> Result<Vec<MemtableRun<'
 }
 
 /// The clears of these parts.
-fn clears_of(alloc: Global, parts: &[Arc<Part>]) -> Result<Vec<u64>>
+pub(crate) fn clears_of(alloc: Global, parts: &[Arc<Part>]) -> Result<Vec<u64>>
     ensures clears { IfOk result (λ clears. clears.items ≡ clears_in (shared parts.now)) }
     ensures only { IsOkUnless result Error.OutOfMemory }
 {

@@ -89,6 +89,17 @@ impl LastRecords {
         }
     }
 
+    /// Swaps the last record of a keyspace, of which one is kept, with another. It takes no memory.
+    pub fn swap(&mut self, id: u64, last: &mut Record)
+        requires { contains_key self.old id ≡ true }
+        ensures kept { self.new ≡ insert self.old id (view last.old) }
+        ensures back { get self.old id ≡ Some (view last.new) }
+    {
+        if let Some(kept) = self.records.get_mut(&id) {
+            std::mem::swap(&mut kept.record, last);
+        }
+    }
+
     /// Keeps none of a keyspace any more.
     pub fn remove(&mut self, id: u64)
         ensures { self.new ≡ remove self.old id }

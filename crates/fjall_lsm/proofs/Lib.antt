@@ -1,5 +1,6 @@
 pub mod Changes
 pub mod Flushed
+pub mod Ingested
 pub mod Inputs
 pub mod Merged
 pub mod Outstanding

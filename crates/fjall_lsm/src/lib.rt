@@ -2,6 +2,7 @@
 #![tactic(auto)]
 
 mod counts;
+mod ingestion;
 mod input;
 mod jobs;
 mod laws;

@@ -6,6 +6,7 @@ pub mod Commands
 pub mod Dropped
 pub mod Emptied
 pub mod Finished
+pub mod Ingested
 pub mod Items
 pub mod Older
 pub mod Parts

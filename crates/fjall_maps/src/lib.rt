@@ -14,6 +14,6 @@ pub use table_laws::{
     a_deleted_keyspace_with_tables_is_a_deletion, a_finished_flush_changes_no_map,
     a_finished_merge_changes_no_map, a_map_with_tables_is_what_a_tree_shows,
     a_new_keyspace_beside_tables_is_a_creation, a_rotation_beside_tables_changes_no_map,
-    a_store_has_the_maps_of_the_living, tables_are_older_than_memory, the_same_trees_show_the_same,
-    what_leaves_memory_changes_no_map, without_tables_memory_is_all,
+    a_store_has_the_maps_of_the_living, an_ingestion_shows_its_items, tables_are_older_than_memory,
+    the_same_trees_show_the_same, what_leaves_memory_changes_no_map, without_tables_memory_is_all,
 };

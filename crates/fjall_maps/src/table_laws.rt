@@ -9,18 +9,20 @@ ghost use Rattle.fjall_journal.specs.Ops.{BatchItem, write_of};
 ghost use Rattle.fjall_meta.specs.declared.living.LivingKeyspace.{LivingKeyspace};
 ghost use Rattle.fjall_meta.specs.Keyspaces.{AreKeyspaces, Keyspaces, keyspace_at, with_keyspace, without_keyspace};
 ghost use Rattle.fjall_table.specs.Blocks.{Entry};
-ghost use Rattle.fjall_views.specs.Jobs.{IsAbove};
+ghost use Rattle.fjall_views.specs.Jobs.{IsAbove, OnceEach};
+ghost use Rattle.fjall_sorted.specs.Sorted.{flat};
 ghost use Rattle.fjall_views.specs.Views.{IsView, value_at};
 ghost use Rattle.fjall_versions.specs.Replays.{option_pairs};
 ghost use Rattle.fjall_blocks.specs.Readers.{Reader};
 ghost use Rattle.fjall_jobs.specs.declared.made_table.MadeTable.{MadeTable};
 ghost use Rattle.fjall_jobs.specs.Merges.{IsMerged};
 ghost use Rattle.fjall_jobs.specs.Tasks.{IsFlushed, Task};
+ghost use Rattle.fjall_lsm.specs.Ingestions.{ingested, memory_task};
 ghost use Rattle.fjall_lsm.specs.Jobs.{IsFlushing, IsMerging, flush_begun, flush_finished, merge_begun, merge_finished};
 ghost use Rattle.fjall_lsm.specs.Trees.{Flushing, Merging, Shape, clears_of, emptied, sealed_off, versions_of};
 ghost use Rattle.fjall_trees.specs.Forests.{AreBefore, Forest, IsForest, altered_at, tree_at, without};
 ghost use Rattle.fjall_trees.specs.Tables.{AreReadOn, AreSameTrees, entries_with, shape_in};
-ghost use Rattle.fjall_trees.specs.Writes.{MayPush, pushed, with_tree};
+ghost use Rattle.fjall_trees.specs.Writes.{MayPush, entries_of, pushed, with_tree};
 ghost use Rattle.fjall_maps.specs.Maps.{pairs_in, store_of};
 ghost use Rattle.fjall_maps.specs.Tables.{AreOlder, LeavesMemory, no_entries, pairs_with, store_by, store_with};
 
@@ -165,4 +167,24 @@ pub fn a_finished_merge_changes_no_map()
         → (task : Task) (is : IsMerging (shape_in id trees) (entries id) task) (target : ℕ) (tables : List MadeTable) (clears : List ℕ) (made : IsMerged target task tables clears) (readers : List Reader)
         → task.watermark < 2 ^ 63 → (s : Keyspaces)
         → store_with (entries_with id (made.lists ++ drop is.out.tables (entries id)) entries) s (altered_at id (merge_finished readers is.out) trees) ≡ store_with entries s trees }
+{}
+
+/// An ingestion changes each map, at an instant above the watermark under which memory is flushed, as the same items in a batch would,
+/// and so the store: so all that is said of a batch's items holds of it.
+pub fn an_ingestion_shows_its_items()
+    ensures forest { (n : ℕ) (readers : List Reader) (id : ℕ) (trees : Forest) → n < 2 ^ 63 → IsForest trees → AreBefore n trees → IsForest (altered_at id (ingested n readers) trees) }
+    ensures before { (n : ℕ) (readers : List Reader) (id : ℕ) (trees : Forest) → AreBefore n trees → AreBefore (n + 1) (altered_at id (ingested n readers) trees) }
+    ensures has { (n : ℕ) (readers : List Reader) (id other : ℕ) (trees : Forest) → is_some (tree_at other (altered_at id (ingested n readers) trees)) ≡ is_some (tree_at other trees) }
+    ensures older { (entries : ℕ → List (List Entry)) (n : ℕ) (items : List BatchItem) (trees : Forest) → MayPush n items trees → (id : ℕ) (shape : Shape) → tree_at id trees ≡ Some shape → All (λ item. item.0 ≡ id) items
+        → (keyspace watermark : ℕ) (tables : List MadeTable) (clears : List ℕ) (made : IsFlushed (memory_task keyspace watermark shape.memory) tables clears)
+        → (lists : List (List Entry)) → flat lists ≡ entries_of id n items → (readers : List Reader) → AreOlder trees entries → OnceEach (flat lists)
+        → AreOlder (altered_at id (ingested n readers) trees) (entries_with id (entries id ++ (made.lists ++ lists)) entries) }
+    ensures maps { (entries : ℕ → List (List Entry)) (n : ℕ) (items : List BatchItem) (trees : Forest) → MayPush n items trees → (id : ℕ) (shape : Shape) → tree_at id trees ≡ Some shape → All (λ item. item.0 ≡ id) items
+        → (keyspace watermark : ℕ) (tables : List MadeTable) (clears : List ℕ) (made : IsFlushed (memory_task keyspace watermark shape.memory) tables clears)
+        → (lists : List (List Entry)) → flat lists ≡ entries_of id n items → (readers : List Reader) (other instant : ℕ) → IsAbove watermark instant
+        → pairs_with (entries_with id (entries id ++ (made.lists ++ lists)) entries) other instant (altered_at id (ingested n readers) trees) ≡ pairs_with entries other instant (pushed n items trees) }
+    ensures store { (entries : ℕ → List (List Entry)) (n : ℕ) (items : List BatchItem) (trees : Forest) → MayPush n items trees → (id : ℕ) (shape : Shape) → tree_at id trees ≡ Some shape → All (λ item. item.0 ≡ id) items
+        → (keyspace watermark : ℕ) (tables : List MadeTable) (clears : List ℕ) (made : IsFlushed (memory_task keyspace watermark shape.memory) tables clears)
+        → (lists : List (List Entry)) → flat lists ≡ entries_of id n items → (readers : List Reader) → watermark < 2 ^ 63 → (s : Keyspaces)
+        → store_with (entries_with id (entries id ++ (made.lists ++ lists)) entries) s (altered_at id (ingested n readers) trees) ≡ store_with entries s (pushed n items trees) }
 {}

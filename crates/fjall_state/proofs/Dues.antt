@@ -20,7 +20,7 @@ none_due [] none = tt
 none_due ((true, error) ∷ others) none = absurd (none-some _ (sym none))
 none_due ((false, error) ∷ others) none = (refl, none_due others none)
 
-is_so : (b : Bool) → not b ≡ false → b ≡ true
+pub is_so : (b : Bool) → not b ≡ false → b ≡ true
 is_so true e = refl
 is_so false e = absurd (true≢false e)
 
@@ -47,7 +47,7 @@ none_of test (x ∷ xs) none =
     let apart = neither (not (test x)) (list_any (λ y. not (test y)) xs) none in
     All-cons (λ y. test y ≡ true) x xs (is_so (test x) apart.0) (none_of test xs apart.1)
 
-abbrev refusal_by : Bool → Bool → Bool → Bool → Option Error
+abbrev pub refusal_by : Bool → Bool → Bool → Bool → Option Error
 refusal_by empty key value many = if empty then Some KeyEmpty else (if key then Some KeyTooLong else (if value then Some ValueTooLong else (if many then Some TooManyItems else None)))
 
 pub may_change : (f : Facts) (change : Change) → first_due (change_refusals f change) ≡ None → MayChange f change

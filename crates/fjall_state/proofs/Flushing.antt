@@ -51,11 +51,11 @@ use Rattle.fjall_state.proofs.Standing.{living_agree}
 -- ---- what flushes leave lawful
 
 -- the ids of trees stay
-ids_stay : (bound id : ℕ) (change : Shape → Shape) (trees : Forest) → All (λ k. k.id < bound) trees → All (λ k. k.id < bound) (altered_at id change trees)
+pub ids_stay : (bound id : ℕ) (change : Shape → Shape) (trees : Forest) → All (λ k. k.id < bound) trees → All (λ k. k.id < bound) (altered_at id change trees)
 ids_stay bound id change trees given = changed_has (λ k. k.id < bound) (λ k shape. cond (k == id) (change shape) shape) trees given
 
 -- a keyspace that lives has a tree where one stays
-still_planted : (m : Remembered) (trees : Forest) → ((id : ℕ) → is_some (tree_at id trees) ≡ is_some (tree_at id m.trees)) → All (λ k. is_some (tree_at k.id m.trees) ≡ true) m.keyspaces.living
+pub still_planted : (m : Remembered) (trees : Forest) → ((id : ℕ) → is_some (tree_at id trees) ≡ is_some (tree_at id m.trees)) → All (λ k. is_some (tree_at k.id m.trees) ≡ true) m.keyspaces.living
     → All (λ k. is_some (tree_at k.id trees) ≡ true) m.keyspaces.living
 still_planted m trees same planted = All-weaker (λ (k : LivingKeyspace). is_some (tree_at k.id m.trees) ≡ true) (λ k. is_some (tree_at k.id trees) ≡ true) (λ k h. same k.id ∙ h) m.keyspaces.living planted
 
@@ -221,7 +221,7 @@ job_back job before same = omega (arith, same)
 -- ---- a flush that is finished
 
 -- the same tables, with the same ones behind
-tables_behind : (a b more : List Reader) → AreSameTables a b → AreSameTables (a ++ more) (b ++ more)
+pub tables_behind : (a b more : List Reader) → AreSameTables a b → AreSameTables (a ++ more) (b ++ more)
 tables_behind [] [] [] same = tt
 tables_behind [] [] (t ∷ more) same = (record { name = refl; info = refl; handles = refl }, tables_behind [] [] more tt)
 tables_behind [] (u ∷ b) more same = absurd same
@@ -238,7 +238,7 @@ finished_same readers out a b same = record {
 }
 
 -- the numbers that are read lie above a flush's watermark
-above_begun : (w risen instant : ℕ) → w ≤ risen → (0 < risen → risen < instant) → IsAbove w instant
+pub above_begun : (w risen instant : ℕ) → w ≤ risen → (0 < risen → risen < instant) → IsAbove w instant
 above_begun zero risen instant le above = inl refl
 above_begun (suc w) risen instant le above = let lt = above (omega (arith, le)) in inr (omega (arith, le, lt))
 

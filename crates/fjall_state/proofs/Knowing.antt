@@ -1,5 +1,5 @@
 -- What is known of a task stays known: its flush is out as it was begun, or it is out no more.
-use Rattle.std.proofs.Common.{◌≡◌, ◌≢◌, ℕ, ◌≤◌, ◌==◌, Bool, true, false, cond, List, Option, None, Some, unwrap_or, refl, sym, ap, subst, ◌∙◌, arith}
+use Rattle.std.proofs.Common.{◌≡◌, ◌≢◌, ℕ, ◌≤◌, ◌==◌, ◌&&◌, nat_lt, length, Bool, true, false, cond, List, Option, None, Some, unwrap_or, refl, sym, ap, subst, ◌∙◌, arith}
 use Rattle.std.proofs.lemmas.Bool.{true≢false}
 use Rattle.std.specs.Option.{option_map, option_or}
 use Rattle.fjall_base.specs.Pairs.{Bytes}
@@ -7,7 +7,8 @@ use Rattle.fjall_blocks.specs.Readers.{Reader}
 use Rattle.fjall_journal.specs.Changes.{Change, Emptied, Items}
 use Rattle.fjall_journal.specs.Ops.{BatchItem}
 use Rattle.fjall_jobs.specs.Tasks.{Task}
-use Rattle.fjall_lsm.specs.Jobs.{IsFlushing, flush_begun, flush_dropped, flush_finished, is_flush_out}
+use Rattle.fjall_lsm.specs.Ingestions.{ingested, is_flush_due, stale}
+use Rattle.fjall_lsm.specs.Jobs.{IsFlushing, flush_begun, flush_dropped, flush_finished}
 use Rattle.fjall_lsm.specs.Puts.{bare_tree, put_all}
 use Rattle.fjall_lsm.specs.Trees.{Flushing, Shape, emptied, sealed_off}
 use Rattle.fjall_manager.specs.Journals.{Sealed}
@@ -24,6 +25,7 @@ use Rattle.fjall_versions.proofs.Slots.{same_id}
 use Rattle.fjall_history.specs.Tickets.{Tickets}
 use Rattle.fjall_state.specs.Remembered.{KnowsTask, Remembered, flush_gone, flush_out, is_last, journal_rotated, poisoned, released, retained, rotated, with_change, with_creation, with_deletion, with_flush, with_sealed, with_tickets}
 use Rattle.fjall_state.specs.Remembered.{with_trees}
+use Rattle.fjall_state.specs.Ingesting.{with_ingestion}
 use Rattle.fjall_state.proofs.Lawful.{after_release, itself}
 use Rattle.fjall_state.proofs.SameTrees.{LeavesFlush, same_in}
 
@@ -62,17 +64,17 @@ flush_planted id other from trees =
 -- where the flush that is out is the same, and what was begun stays so
 known_on : (m n : Remembered) (task : Task) → m.next_job ≤ n.next_job → (shape_in task.keyspace n.trees).flush ≡ (shape_in task.keyspace m.trees).flush
     → (IsFlushing (shape_in task.keyspace m.trees) task → IsFlushing (shape_in task.keyspace n.trees) task) → KnowsTask m task → KnowsTask n task
-known_on m n task le same keeps (given, out, some) = (omega (arith, given, le), λ is. keeps (out (ap (λ (o : Option Flushing). is_flush_out task.id o) (sym same) ∙ is)), some)
+known_on m n task le same keeps (given, out, some) = (omega (arith, given, le), λ is. keeps (out (ap (λ (o : Option Flushing). is_flush_due task.id o) (sym same) ∙ is)), some)
 
--- where no flush of its number is out in the one tree that changed
+-- where no flush of its number is due in the one tree that changed
 known_beside : (m n : Remembered) (task : Task) (id : ℕ) (change : Shape → Shape) → n.trees ≡ altered_at id change m.trees → m.next_job ≤ n.next_job
-    → ((shape : Shape) → is_flush_out task.id (change shape).flush ≡ true → ⊥) → KnowsTask m task → KnowsTask n task
+    → ((shape : Shape) → is_flush_due task.id (change shape).flush ≡ true → ⊥) → KnowsTask m task → KnowsTask n task
 known_beside m n task id change is le none (given, out, some) = (omega (arith, given, le), subst Knows (sym is) (by (task.keyspace == id) refl), some)
   where
     Knows : Forest → Type 0
-    Knows trees = is_flush_out task.id (shape_in task.keyspace trees).flush ≡ true → IsFlushing (shape_in task.keyspace trees) task
+    Knows trees = is_flush_due task.id (shape_in task.keyspace trees).flush ≡ true → IsFlushing (shape_in task.keyspace trees) task
 
-    here : (o : Option Shape) → is_flush_out task.id (unwrap_or (option_map change o) (bare_tree 0)).flush ≡ true → ⊥
+    here : (o : Option Shape) → is_flush_due task.id (unwrap_or (option_map change o) (bare_tree 0)).flush ≡ true → ⊥
     here None e = true≢false (sym e)
     here (Some shape) e = none shape e
 
@@ -80,22 +82,31 @@ known_beside m n task id change is le none (given, out, some) = (omega (arith, g
     by true e =
         let at : tree_at task.keyspace (altered_at id change m.trees) ≡ option_map change (tree_at id m.trees) =
         ap (λ (k : ℕ). tree_at k (altered_at id change m.trees)) (same_id task.keyspace id e) ∙ altered_here id change m.trees in
-        λ f. absurd (here (tree_at id m.trees) (subst (λ (o : Option Shape). is_flush_out task.id (unwrap_or o (bare_tree 0)).flush ≡ true) at f))
+        λ f. absurd (here (tree_at id m.trees) (subst (λ (o : Option Shape). is_flush_due task.id (unwrap_or o (bare_tree 0)).flush ≡ true) at f))
     by false e =
         let differ : task.keyspace ≢ id = λ same. true≢false (sym (itself id) ∙ ap (λ (k : ℕ). k == id) (sym same) ∙ e) in
-        subst (λ (s : Shape). is_flush_out task.id s.flush ≡ true → IsFlushing s task) (sym (other_shape id task.keyspace change m.trees differ)) out
+        subst (λ (s : Shape). is_flush_due task.id s.flush ≡ true → IsFlushing s task) (sym (other_shape id task.keyspace change m.trees differ)) out
+
+both_of : (a b : Bool) → (a && b) ≡ true → (a ≡ true) × (b ≡ true)
+both_of true b is = (refl, is)
+both_of false b is = absurd (true≢false (sym is))
+
+-- a flush that is stale takes nothing
+stale_is_not_due : (id : ℕ) (flush : Option Flushing) → is_flush_due id (stale flush) ≡ true → ⊥
+stale_is_not_due id None due = true≢false (sym due)
+stale_is_not_due id (Some out) due = true≢false (sym (both_of (id == out.id) false due).1)
 
 -- a tree that is dropped has none out
-known_without : (m : Remembered) (task : Task) (id : ℕ) → KnowsTask m task → is_flush_out task.id (shape_in task.keyspace (without id m.trees)).flush ≡ true → IsFlushing (shape_in task.keyspace (without id m.trees)) task
+known_without : (m : Remembered) (task : Task) (id : ℕ) → KnowsTask m task → is_flush_due task.id (shape_in task.keyspace (without id m.trees)).flush ≡ true → IsFlushing (shape_in task.keyspace (without id m.trees)) task
 known_without m task id (given, out, some) = by (task.keyspace == id) refl
   where
-    by : (b : Bool) → (task.keyspace == id) ≡ b → is_flush_out task.id (shape_in task.keyspace (without id m.trees)).flush ≡ true → IsFlushing (shape_in task.keyspace (without id m.trees)) task
+    by : (b : Bool) → (task.keyspace == id) ≡ b → is_flush_due task.id (shape_in task.keyspace (without id m.trees)).flush ≡ true → IsFlushing (shape_in task.keyspace (without id m.trees)) task
     by true e f =
         let gone : tree_at task.keyspace (without id m.trees) ≡ None = ap (λ (k : ℕ). tree_at k (without id m.trees)) (same_id task.keyspace id e) ∙ dropped_here id m.trees in
-        absurd (true≢false (sym f ∙ ap (λ (o : Option Shape). is_flush_out task.id (unwrap_or o (bare_tree 0)).flush) gone))
+        absurd (true≢false (sym f ∙ ap (λ (o : Option Shape). is_flush_due task.id (unwrap_or o (bare_tree 0)).flush) gone))
     by false e f =
         let differ : task.keyspace ≢ id = λ same. true≢false (sym (itself id) ∙ ap (λ (k : ℕ). k == id) (sym same) ∙ e) in
-        subst (λ (s : Shape). is_flush_out task.id s.flush ≡ true → IsFlushing s task) (sym (shape_left id task.keyspace m.trees differ)) out f
+        subst (λ (s : Shape). is_flush_due task.id s.flush ≡ true → IsFlushing s task) (sym (shape_left id task.keyspace m.trees differ)) out f
 
 module _ (m : Remembered) (task : Task) where
   pub after_change : (change : Change) → KnowsTask m task → KnowsTask (with_change change m) task
@@ -137,13 +148,18 @@ module _ (m : Remembered) (task : Task) where
   pub after_begun : (id : ℕ) → KnowsTask m task → KnowsTask (flush_out id m) task
   after_begun id knows =
       let lt = knows.0 in
-      known_beside m (flush_out id m) task id (flush_begun m.next_job m.tickets.watermark) refl (omega arith) (λ shape same. let at : task.id ≡ m.next_job = same_id task.id m.next_job same in omega (arith, lt, at)) knows
+      known_beside m (flush_out id m) task id (flush_begun m.next_job m.tickets.watermark) refl (omega arith) (λ shape same. let at : task.id ≡ m.next_job = same_id task.id m.next_job (both_of (task.id == m.next_job) (nat_lt 0 (length shape.memory.sealed)) same).0 in omega (arith, lt, at)) knows
 
   pub after_dropped : (id : ℕ) → KnowsTask m task → KnowsTask (flush_gone id m) task
   after_dropped id knows = known_beside m (flush_gone id m) task id flush_dropped refl (omega arith) (λ shape none. true≢false (sym none)) knows
 
   pub after_finished : (id : ℕ) (out : Flushing) (readers : List Reader) (last : Fields) → KnowsTask m task → KnowsTask (with_flush id out readers last m) task
   after_finished id out readers last knows = known_beside m (with_flush id out readers last m) task id (flush_finished readers out) refl (omega arith) (λ shape none. true≢false (sym none)) knows
+
+  -- a flush that an ingestion made stale is not due
+  pub after_ingestion : (id : ℕ) (readers : List Reader) (last : Fields) → KnowsTask m task → KnowsTask (with_ingestion id readers last m) task
+  after_ingestion id readers last knows =
+      known_beside m (with_ingestion id readers last m) task id (ingested m.next readers) refl (omega arith) (λ shape due. stale_is_not_due task.id shape.flush due) knows
 
   pub after_evicted : (left : List Sealed) → KnowsTask m task → KnowsTask (with_sealed left m) task
   after_evicted left knows = (knows.0, knows.1, knows.2)

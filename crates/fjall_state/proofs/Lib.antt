@@ -1,4 +1,6 @@
+pub mod Ascending
 pub mod Counting
+pub mod Ingesting
 pub mod Inside
 pub mod Taking
 pub mod Showing
@@ -20,3 +22,4 @@ pub mod Planning
 pub mod Finishing
 pub mod Sizes
 pub mod Working
+pub mod TakenIngestions

@@ -5,19 +5,21 @@ use Rattle.fjall_base.specs.Pairs.{Bytes}
 use Rattle.fjall_base.specs.Store.{Create, Delete}
 use Rattle.fjall_base.specs.declared.error.Error.{Error}
 use Rattle.fjall_base.specs.declared.error.Error.TheVariants.{Io, NumbersUsedUp, OutOfMemory, Poisoned, SnapshotClosed, Storage, TooManyItems, ValueTooLong}
+use Rattle.fjall_ingest.specs.Ingests.{ingestion}
+use Rattle.fjall_writes.specs.Ingestions.{KeyOp}
 use Rattle.fjall_journal.specs.Changes.{Emptied, Items, command_of}
 use Rattle.fjall_versions.specs.Replays.{option_pairs}
 use Rattle.fjall_history.specs.declared.job.JobId.{JobId}
 use Rattle.fjall_history.specs.declared.reply.Reply.{Reply}
 use Rattle.fjall_history.specs.declared.reply.Reply.TheVariants.{Refused}
-use Rattle.fjall_history.specs.Histories.{number, plain}
-use Rattle.fjall_history.specs.Moves.{Accepts, Closes, Collects, Moves, MovesOn, NoMove, OneMove, Opens, Rests}
+use Rattle.fjall_history.specs.Histories.{grown, number, plain}
+use Rattle.fjall_history.specs.Moves.{Accepts, Closes, Collects, Moves, MovesOn, NoMove, OneMove, Opens, Rests, Times}
 use Rattle.fjall_history.specs.Tickets.{Tickets, closing_refusal, is_open}
 use Rattle.fjall_state.specs.declared.call.Call.{Call}
-use Rattle.fjall_state.specs.Shapes.{Clone, Close, Collect, OfChange, OfCount, OfCreation, OfDeletion, OfFlushBegin, OfFlushFinish, OfHandle, OfJournalRotation, OfMaintenance, OfPersist, OfRead, OfRotation, OfTickets, OneLess, OneMore}
+use Rattle.fjall_state.specs.Shapes.{Clone, Close, Collect, OfChange, OfCount, OfCreation, OfDeletion, OfFlushBegin, OfFlushFinish, OfHandle, OfIngestion, OfJournalRotation, OfMaintenance, OfPersist, OfRead, OfRotation, OfTickets, OneLess, OneMore}
 use Rattle.fjall_state.specs.Shapes.{Open, Shape, TicketCall, shape_of}
-use Rattle.fjall_state.specs.Machine.{Answers, BeginsFlush, CreatesOrFinds, EvictsSome, FinishesFlush, IsPoisoned, MayFail, Refuses, Run, State, Step, StepOf, TurnsTickets, WorkFails, at_fault, begins_flush, deleted, due, is_flushing}
-use Rattle.fjall_state.specs.Machine.{is_living, is_long, journal_rotated, journal_synced, present, rotated, rotates, ticket_refusal, times, written_out}
+use Rattle.fjall_state.specs.Machine.{Answers, BeginsFlush, CreatesOrFinds, EvictsSome, FinishesFlush, IngestionFails, IngestsInto, IsPoisoned, MayFail, Refuses, Run, State, Step, StepOf, TurnsTickets, WorkFails, at_fault, begins_flush, deleted, due, is_flushing}
+use Rattle.fjall_state.specs.Machine.{is_living, is_long, journal_rotated, journal_synced, present, rotated, rotates, takes_effect, ticket_refusal, times, written_out}
 
 still : (s t : State) → times t ≡ times s → Moves (times s) (times t)
 still s t same = Rests same
@@ -28,6 +30,7 @@ as_it_was s t same = Rests (ap times same)
 -- a fault leaves the history and the tickets
 fault_times : (s : State) (shape : Shape) → times (at_fault s shape) ≡ times s
 fault_times s (OfChange change how) = refl
+fault_times s (OfIngestion id items) = refl
 fault_times s (OfCreation name options) = refl
 fault_times s (OfDeletion id) = refl
 fault_times s (OfHandle OneMore id) = refl
@@ -42,15 +45,30 @@ fault_times s (OfTickets call) = refl
 fault_times s (OfPersist mode) = refl
 fault_times s (OfCount count) = refl
 
+-- a synced journal leaves them, whether it is sealed or not
+synced_times : (s : State) → times (journal_synced s) ≡ times s
+synced_times s = by (is_long s.parts)
+  where
+    by : (b : Bool) → times (if b then journal_rotated s else record s { parts = written_out s.parts 0 }) ≡ times s
+    by true = refl
+    by false = refl
+
 -- a worker's step that fails leaves them too
 evicted_times : (s mid t : State) → EvictsSome s mid → IsPoisoned mid t → times t ≡ times s
 evicted_times s mid t (gone, left, all, may, is) poisoned = ap times poisoned.is ∙ ap times is
+
+ingestion_times : (s t : State) (id : ℕ) (items : List KeyOp) → IngestionFails s id items t → times t ≡ times s
+ingestion_times s t id items (inl poisoned) = ap times poisoned.is
+ingestion_times s t id items (inr (inl poisoned)) = ap times poisoned.is ∙ synced_times s
+ingestion_times s t id items (inr (inr (mid, left, ingests, evicts, poisoned))) = ap times poisoned.is ∙ synced_times s
 
 work_times : (s t : State) (shape : Shape) → WorkFails shape s t → times t ≡ times s
 work_times s t (OfFlushBegin id) (begins, left, poisoned) = ap times poisoned.is
 work_times s t (OfFlushFinish job) (due, well, inl poisoned) = ap times poisoned.is
 work_times s t (OfFlushFinish job) (due, well, inr (parts, mid, flushed, evicts, poisoned)) = evicted_times (record s { parts = parts }) mid t evicts poisoned
 work_times s t OfMaintenance (mid, evicts, poisoned) = evicted_times s mid t evicts poisoned
+work_times s t (OfIngestion id []) fails = absurd fails
+work_times s t (OfIngestion id (item ∷ items)) (left, fails) = ingestion_times s t id (item ∷ items) fails
 work_times s t (OfChange change how) fails = absurd fails
 work_times s t (OfCreation name options) fails = absurd fails
 work_times s t (OfDeletion id) fails = absurd fails
@@ -90,22 +108,14 @@ rotated_moves : (s t : State) (id : ℕ) (seals : Bool) → t ≡ (if seals then
 rotated_moves s t id true is = Collects (ap times is)
 rotated_moves s t id false is = as_it_was s t is
 
--- a synced journal leaves them, whether it is sealed or not
-synced_times : (s : State) → times (journal_synced s) ≡ times s
-synced_times s = by (is_long s.parts)
-  where
-    by : (b : Bool) → times (if b then journal_rotated s else record s { parts = written_out s.parts 0 }) ≡ times s
-    by true = refl
-    by false = refl
-
 begun_moves : (s t : State) (id : ℕ) (reply : Reply) (begins : Bool) → BeginsFlush begins s id reply t → Moves (times s) (times t)
 begun_moves s t id reply true (told, left, is) = still s t (ap times is ∙ synced_times s)
 begun_moves s t id reply false (told, same) = as_it_was s t same
 
-finished_moves : (s t : State) (job : JobId) (reply : Reply) (out lives : Bool) → FinishesFlush out lives s job reply t → Moves (times s) (times t)
+finished_moves : (s t : State) (job : JobId) (reply : Reply) (out takes : Bool) → FinishesFlush out takes s job reply t → Moves (times s) (times t)
 finished_moves s t job reply true true (told, well, parts, flushed, is) = still s t (ap times is)
 finished_moves s t job reply true false (told, is) = still s t (ap times is)
-finished_moves s t job reply false lives (told, same) = as_it_was s t same
+finished_moves s t job reply false takes (told, same) = as_it_was s t same
 
 -- a ticket whose closing nothing refuses is open
 pub open_there : (t : Tickets) (id : ℕ) → closing_refusal id t ≡ None → is_open t id ≡ true
@@ -121,10 +131,17 @@ tickets_move s t (Clone id) reply none (instant, there, told, is) same = Opens i
 tickets_move s t (Close id) reply none (told, is) same = Closes id (open_there s.tickets id none) (ap times same ∙ ap (λ (k : Tickets). record (times s) { tickets = k }) is)
 tickets_move s t Collect reply none (told, is) same = Collects (ap times same ∙ ap (λ (k : Tickets). record (times s) { tickets = k }) is)
 
+ingested_moves : (s t : State) (id : ℕ) (items : List KeyOp) (reply : Reply) → IngestsInto id items s reply t → Moves (times s) (times t)
+ingested_moves s t id [] reply (told, is) = as_it_was s t is
+ingested_moves s t id (item ∷ items) reply (told, left, mid, ingests, is) =
+    Accepts (plain (ingestion id (item ∷ items)))
+    (ap times is ∙ ap times ingests.is ∙ ap (λ (k : Times). record k { history = grown k.history (plain (ingestion id (item ∷ items))) }) (synced_times s))
+
 answer_moves : (s t : State) (shape : Shape) (reply : Reply) → due s shape ≡ None → Answers s shape reply t → Moves (times s) (times t)
 answer_moves s t (OfChange (Items []) how) reply none (told, is) = as_it_was s t is
 answer_moves s t (OfChange (Items (item ∷ items)) how) reply none (told, is) = Accepts (plain (command_of (Items (item ∷ items)))) (ap times is)
 answer_moves s t (OfChange (Emptied id) how) reply none (told, is) = Accepts (plain (command_of (Emptied id))) (ap times is)
+answer_moves s t (OfIngestion id items) reply none ingests = ingested_moves s t id items reply ingests
 answer_moves s t (OfCreation name options) reply none (id, told, makes) = created_moves s t name options id makes
 answer_moves s t (OfDeletion id) reply none (told, is) = deleted_moves s t id (is_living (present s) id) is
 answer_moves s t (OfHandle OneMore id) reply none (told, is) = still s t (ap times is)
@@ -132,7 +149,7 @@ answer_moves s t (OfHandle OneLess id) reply none (told, is) = still s t (ap tim
 answer_moves s t (OfRotation id) reply none (told, is) = rotated_moves s t id (rotates s.parts.trees id) is
 answer_moves s t OfJournalRotation reply none (told, is) = still s t (ap times is)
 answer_moves s t (OfFlushBegin id) reply none begun = begun_moves s t id reply (begins_flush s.parts.trees id) begun
-answer_moves s t (OfFlushFinish job) reply none finished = finished_moves s t job reply (is_flushing s.parts.trees job) (is_living (present s) job.keyspace_id) finished
+answer_moves s t (OfFlushFinish job) reply none finished = finished_moves s t job reply (is_flushing s.parts.trees job) (takes_effect s job) finished
 answer_moves s t OfMaintenance reply none (told, is) = still s t (ap times is)
 answer_moves s t (OfRead view id query) reply none (told, same) = as_it_was s t same
 answer_moves s t (OfTickets call) reply none (turns, same) = tickets_move s t call reply none turns same

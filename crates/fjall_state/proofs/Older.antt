@@ -108,20 +108,20 @@ finished_older entries trees forest older id task is tables clears made readers 
     altered_keeps IsOlder trees entries older forest id shape has (flush_finished readers is.out) (entries id ++ made.lists) (one_older shape task is tree.held tree.apart (entries id) old tables clears made readers)
 
 -- where no reader of a made table comes, no table was made
-none_made : (next : ℕ) (tables : List MadeTable) (readers : List Reader) → map (λ t. t.info) readers ≡ infos_from next tables → readers ≡ [] → tables ≡ []
+pub none_made : (next : ℕ) (tables : List MadeTable) (readers : List Reader) → map (λ t. t.info) readers ≡ infos_from next tables → readers ≡ [] → tables ≡ []
 none_made next [] readers infos none = let same : next ≡ next = omega arith in cc
 none_made next (t ∷ tables) readers infos none = let bad : ⊥ = cc in absurd bad
 
-none_listed : (tables : List MadeTable) (lists : List (List Entry)) → AreMadeTables tables lists → tables ≡ [] → lists ≡ []
+pub none_listed : (tables : List MadeTable) (lists : List (List Entry)) → AreMadeTables tables lists → tables ≡ [] → lists ≡ []
 none_listed [] [] made none = cc
 none_listed [] (l ∷ lists) made none = absurd made
 none_listed (t ∷ tables) lists made none = let bad : ⊥ = cc in absurd bad
 
-both_none : {X : Type 0} (xs ys : List X) → xs ++ ys ≡ [] → (xs ≡ []) × (ys ≡ [])
+pub both_none : {X : Type 0} (xs ys : List X) → xs ++ ys ≡ [] → (xs ≡ []) × (ys ≡ [])
 both_none [] ys none = (cc, none)
 both_none (x ∷ xs) ys none = let bad : ⊥ = cc in absurd bad
 
-both_empty : {X : Type 0} (xs ys : List X) → xs ≡ [] → ys ≡ [] → xs ++ ys ≡ []
+pub both_empty : {X : Type 0} (xs ys : List X) → xs ≡ [] → ys ≡ [] → xs ++ ys ≡ []
 both_empty [] ys none also = also
 both_empty (x ∷ xs) ys none also = let bad : ⊥ = cc in absurd bad
 

@@ -38,7 +38,7 @@ use Rattle.fjall_history.specs.declared.ticket.View.{View}
 use Rattle.fjall_history.specs.declared.ticket.View.TheVariants.{Present, At}
 use Rattle.fjall_history.specs.Histories.{grown, latest, number, plain, view}
 use Rattle.fjall_history.specs.Tickets.{Tickets, closed, collected, is_open, no_tickets, opened}
-use Rattle.fjall_state.specs.Shapes.{OfChange, OfCount, OfCreation, OfDeletion, OfFlushBegin, OfFlushFinish, OfHandle, OfJournalRotation, OfMaintenance, OfPersist, OfRead, OfRotation, OfTickets, OneLess, OneMore, Persistence, Shape}
+use Rattle.fjall_state.specs.Shapes.{OfChange, OfCount, OfCreation, OfDeletion, OfFlushBegin, OfFlushFinish, OfHandle, OfIngestion, OfJournalRotation, OfMaintenance, OfPersist, OfRead, OfRotation, OfTickets, OneLess, OneMore, Persistence, Shape}
 use Rattle.fjall_state.specs.Allowed.{FitsBatch, IsOfLiving}
 use Rattle.fjall_journal.specs.Writer.{counted}
 use Rattle.fjall_manager.specs.Journals.{next_journal}
@@ -74,6 +74,8 @@ names_due : (f : Facts) (shape : Shape) → due_in f shape ≡ due_in (names_alo
 names_due f (OfChange (Items []) how) = refl
 names_due f (OfChange (Items (item ∷ items)) how) = refl
 names_due f (OfChange (Emptied id) how) = refl
+names_due f (OfIngestion id []) = refl
+names_due f (OfIngestion id (item ∷ items)) = refl
 names_due f (OfCreation name options) = refl
 names_due f (OfDeletion id) = refl
 names_due f (OfHandle OneMore id) = refl

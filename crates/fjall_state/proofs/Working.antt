@@ -1,5 +1,6 @@
 -- Why a flush isn't finished is a step of the machine, where the disk was left as it was.
-use Rattle.std.proofs.Common.{◌≡◌, ℕ, ◌≤◌, ◌^◌, true, false, length, Option, Some, refl, sym, ap, subst, ◌∙◌}
+use Rattle.std.proofs.Common.{◌≡◌, ℕ, ◌<◌, ◌≤◌, ◌^◌, ◌&&◌, nat_lt, true, false, length, Option, Some, refl, sym, ap, subst, ◌∙◌, arith}
+use Rattle.std.proofs.lemmas.Bool.Decides.{nat_tests}
 use Rattle.std.specs.Option.{is_some}
 use Rattle.fjall_base.specs.declared.error.Error.{Error}
 use Rattle.fjall_base.specs.declared.error.Error.TheVariants.{NumbersUsedUp, OutOfMemory, TooManyItems}
@@ -10,13 +11,14 @@ use Rattle.fjall_history.specs.declared.job.JobId.{JobId}
 use Rattle.fjall_history.specs.declared.reply.Reply.TheVariants.{Refused}
 use Rattle.fjall_jobs.specs.declared.flush_made.FlushMade.{FlushMade}
 use Rattle.fjall_loading.specs.Known.{last_known}
+use Rattle.fjall_lsm.specs.Jobs.{count_out}
 use Rattle.fjall_lsm.specs.Trees.{Flushing}
 use Rattle.fjall_meta.specs.declared.living.LivingKeyspace.{LivingKeyspace}
 use Rattle.fjall_meta.specs.Keyspaces.{keyspace_at}
 use Rattle.fjall_tree.specs.Records.{Fields, body}
 use Rattle.fjall_trees.specs.Tables.{shape_in}
 use Rattle.fjall_state.specs.Shapes.{OfFlushFinish}
-use Rattle.fjall_state.specs.Machine.{IsDueToFinish, LacksRoom, State, StepOf, flush_with, is_flushing}
+use Rattle.fjall_state.specs.Machine.{IsDueToFinish, LacksRoom, State, StepOf, flush_with, is_flushing, is_living, present, takes_effect}
 use Rattle.fjall_state.specs.Remembered.{Remembered, StandsFor}
 use Rattle.fjall_state.proofs.Facts.{living_names}
 use Rattle.fjall_state.proofs.Flushing.{known_record, same_with}
@@ -25,11 +27,20 @@ use Rattle.fjall_state.proofs.Sizes.{out_agrees}
 use Rattle.fjall_state.proofs.Standing.{living_agree}
 
 module _ (m : Remembered) (table : ℕ) (s : State) (stands : StandsFor m table s) (job : JobId) (k : LivingKeyspace) (at : keyspace_at job.keyspace_id m.keyspaces.living ≡ Some k) (is_out : is_flushing m.trees job ≡ true)
-    (out : Flushing) (was : (shape_in job.keyspace_id m.trees).flush ≡ Some out) where
+    (out : Flushing) (was : (shape_in job.keyspace_id m.trees).flush ≡ Some out) (some : 0 < out.count) where
+  lives_there : is_living (present s) job.keyspace_id ≡ true
+  lives_there = living_agree m table s stands job.keyspace_id ∙ living_names m.keyspaces m.trees job.keyspace_id ∙ ap (λ (o : Option LivingKeyspace). is_some o) at
+
+  takes_there : takes_effect s job ≡ true
+  takes_there =
+      let flush : (shape_in job.keyspace_id s.parts.trees).flush ≡ Some out = sym (same_in job.keyspace_id s.parts.trees m.trees stands.trees).flush ∙ was in
+      let least : nat_lt 0 out.count ≡ true = grind (arith, nat_tests, some) in
+      (λ i. lives_there i && nat_lt 0 (count_out (flush i))) ∙ least
+
   due_to_finish : IsDueToFinish s job
   due_to_finish = (
     out_agrees m table s stands job ∙ is_out,
-    living_agree m table s stands job.keyspace_id ∙ living_names m.keyspaces m.trees job.keyspace_id ∙ ap (λ (o : Option LivingKeyspace). is_some o) at,
+    takes_there,
   )
 
   record_there : s.parts.records job.keyspace_id ≡ last_known m.records k

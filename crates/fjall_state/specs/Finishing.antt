@@ -1,18 +1,17 @@
 -- A flush that is finished: what is written of it, and what memory holds then.
-use Rattle.std.specs.Prelude.{◌≡◌, ℕ, List, map, Some}
+use Rattle.std.specs.Prelude.{◌≡◌, ℕ, List, Some}
 use Rattle.fjall_base.specs.Disk.{Meaning, state_in}
 use Rattle.fjall_base.specs.declared.error.Error.{Error}
 use Rattle.fjall_base.specs.declared.error.Error.TheVariants.{Io}
 use Rattle.fjall_base.specs.Errors.{IsFault}
-use Rattle.fjall_blocks.specs.Readers.{AreRead, Reader}
-use Rattle.fjall_files.specs.Names.{table_name}
-use Rattle.fjall_flush.specs.Flushes.{Flush, Follows, HasAt, infos_from, record_after, tree_after}
-use Rattle.fjall_flush.specs.Plans.{HaveFiles, IsPlanRefusal}
+use Rattle.fjall_blocks.specs.Readers.{Reader}
+use Rattle.fjall_flush.specs.Flushes.{Flush, Follows, HasAt, record_after, tree_after}
+pub use Rattle.fjall_flush.specs.Plans.{AreReadersOf}
+use Rattle.fjall_flush.specs.Plans.{IsPlanRefusal}
 use Rattle.fjall_home.specs.Homes.{Home}
 use Rattle.fjall_jobs.specs.declared.flush_made.FlushMade.{FlushMade}
 use Rattle.fjall_jobs.specs.declared.made_table.MadeTable.{MadeTable}
 use Rattle.fjall_jobs.specs.Flushes.{flush_task}
-use Rattle.fjall_jobs.specs.Sequences.{AreMadeTables}
 use Rattle.fjall_loading.specs.Known.{last_known}
 use Rattle.fjall_lsm.specs.Trees.{Flushing}
 use Rattle.fjall_meta.specs.declared.living.LivingKeyspace.{LivingKeyspace}
@@ -28,15 +27,6 @@ use Rattle.fjall_state.specs.Remembered.{Remembered, with_flush}
 -- the keyspace of a flush
 abbrev pub keyspace_of : FlushMade → ℕ
 keyspace_of made = (flush_task made.job).keyspace
-
--- ---- readers
-
--- Readers of tables that were made of the keyspace of this id: of the files that are to have them, under ids that follow one another
--- from this one on. On a disk that has these files they read what the tables hold.
-pub record AreReadersOf (id next : ℕ) (tables : List MadeTable) (readers : List Reader) : Type 0 where
-  pub names : map (λ t. t.name) readers ≡ map (λ t. table_name id t.id) (infos_from next tables)
-  pub infos : map (λ t. t.info) readers ≡ infos_from next tables
-  pub read : (disk : Meaning) (lists : List (List Entry)) → AreMadeTables tables lists → HaveFiles disk id next tables → AreRead disk readers lists
 
 -- ---- memory
 

@@ -6,3 +6,4 @@ pub mod Places
 pub mod Reads
 pub mod Finishing
 pub mod Evicting
+pub mod Ingesting

@@ -1,27 +1,29 @@
 -- The engine as a machine: what each call may answer, and the state after it.
-use Rattle.std.specs.Prelude.{◌≡◌, ◌≢◌, ◌⊎◌, ℕ, ◌+◌, ◌-◌, ◌≤◌, Any, Bool, IsTrue, count_by, map, take, true, false, nat_le, nat_lt, not, ◌==◌, ◌||◌, ◌&&◌, ◌^◌, if◌then◌else◌, List, [], ◌∷◌, ◌++◌, codes, filter, length, Option, None}
+use Rattle.std.specs.Prelude.{◌≡◌, ◌≢◌, ◌⊎◌, ℕ, ◌+◌, ◌-◌, ◌<◌, ◌≤◌, Any, Bool, IsTrue, count_by, map, take, true, false, nat_le, nat_lt, not, ◌==◌, ◌||◌, ◌&&◌, ◌^◌, if◌then◌else◌, List, [], ◌∷◌, ◌++◌, codes, filter, length, Option, None}
 use Rattle.std.specs.Prelude.{Some, is_none, unwrap_or, IsPermutation, IsSorted, Vec}
 use Rattle.std.specs.List.{list_all, list_any, sum_by}
 use Rattle.byteorder.specs.Endian.{little_number}
 use Rattle.std.specs.Str.{bytes_eq}
-use Rattle.std.specs.Ordering.{nat_cmp}
+use Rattle.std.specs.Ordering.{is_lt, nat_cmp}
 use Rattle.std.specs.FinMap.{FinMap, contains_key, empty, entries, get, insert, len, remove, values}
 use Rattle.std.specs.declared.alloc.Global.{Global}
 use Rattle.fjall_base.specs.Pairs.{Bytes, Pairs, byte_order}
 use Rattle.fjall_base.specs.Store.{Store, Options, Create, Delete, apply, kept, map_at}
 use Rattle.fjall_base.specs.declared.error.Error.{Error}
-use Rattle.fjall_base.specs.declared.error.Error.TheVariants.{Io, Storage, Poisoned, KeyspaceDeleted, KeyEmpty, KeyTooLong, ValueTooLong, InvalidName, OutOfMemory, NumbersUsedUp, UnknownKeyspace, SnapshotClosed, TooManyItems}
+use Rattle.fjall_base.specs.declared.error.Error.TheVariants.{Io, Storage, Poisoned, KeyspaceDeleted, KeyEmpty, KeyOrder, KeyTooLong, ValueTooLong, InvalidName, OutOfMemory, NumbersUsedUp, UnknownKeyspace, SnapshotClosed, TooManyItems}
 use Rattle.fjall_base.specs.declared.error.StorageError.TheVariants.{TableDamaged}
 use Rattle.fjall_journal.specs.declared.persist_mode.PersistMode.{PersistMode}
 use Rattle.fjall_journal.specs.declared.persist_mode.PersistMode.TheVariants.{Buffer}
 use Rattle.fjall_journal.specs.Writer.{counted, goes_out}
 use Rattle.fjall_journal.specs.Changes.{Change, Items, Emptied, change_text, command_of}
-use Rattle.fjall_journal.specs.Ops.{BatchItem, are_too_many, some_key_empty, some_key_too_long, some_value_too_long}
+use Rattle.fjall_journal.specs.Ops.{BatchItem, are_too_many, bytes_in, items_refusal}
+use Rattle.fjall_journal.specs.Ops as ops
 use Rattle.fjall_manager.specs.Journals.{Journals, Sealed, bytes_of, may_go, next_journal, staying, waited_for}
 use Rattle.fjall_manager.specs.Places.{marked}
 use Rattle.fjall_table.specs.Blocks.{Entry}
 use Rattle.fjall_memtable.specs.Entries.{size_of}
 use Rattle.fjall_parts.specs.Parts.{clears_in, holds_nothing, parts_of, versions_in}
+use Rattle.fjall_lsm.specs.Ingestions.{ingested}
 use Rattle.fjall_lsm.specs.Trees as lsm
 use Rattle.fjall_lsm.specs.Jobs.{count_out, flush_begun, flush_dropped, flush_end, flush_finished, flush_of, is_flush_out}
 use Rattle.fjall_lsm.specs.Trees.{Flushing, emptied, is_l0, sealed_off}
@@ -34,9 +36,12 @@ use Rattle.fjall_catalog.specs.Catalog.{fields, first_of}
 use Rattle.fjall_contents.specs.Contents.{is_beyond}
 use Rattle.fjall_flush.specs.Flushes.{infos_from, record_after}
 use Rattle.fjall_flush.specs.Flushes as flushes
+use Rattle.fjall_ingest.specs.Ingests.{batch_items, ingestion}
+use Rattle.fjall_ingest.specs.Whole.{LacksIds, LacksRecordRoom, Makes, last_ingested}
 use Rattle.fjall_jobs.specs.declared.made_table.MadeTable.{MadeTable}
 use Rattle.fjall_jobs.specs.Tasks.{IsFlushed, Task}
 use Rattle.fjall_tree.specs.Records.{Fields, body}
+use Rattle.fjall_writes.specs.Ingestions.{AreWritable, KeyOp, KeysAscend}
 use Rattle.fjall_options.specs.Options.{is_set, value_of}
 use Rattle.fjall_meta.specs.Keyspaces.{is_name}
 use Rattle.fjall_versions.specs.Replays.{option_pairs}
@@ -50,7 +55,7 @@ use Rattle.fjall_history.specs.Tickets.{Tickets, cloning_refusal, closed, closin
 use Rattle.fjall_history.specs.Moves.{Times}
 use Rattle.fjall_history.specs.Queries.{Tells}
 use Rattle.fjall_state.specs.declared.call.Call.{Call}
-use Rattle.fjall_state.specs.Shapes.{AsKeyspace, ByMode, Clone, Close, Collect, Count, DiskSpace, Exists, Flushes, HandleCall, JournalSpace, Keyspaces, Next, OfChange, OfCount, OfCreation, OfDeletion, OfFlushBegin, OfFlushFinish}
+use Rattle.fjall_state.specs.Shapes.{AsKeyspace, ByMode, Clone, Close, Collect, Count, DiskSpace, Exists, Flushes, HandleCall, JournalSpace, Keyspaces, Next, OfChange, OfCount, OfCreation, OfDeletion, OfFlushBegin, OfFlushFinish, OfIngestion}
 use Rattle.fjall_state.specs.Shapes.{OfHandle, OfJournalRotation, OfMaintenance, OfPersist, OfRead, OfRotation, OfTickets, OneLess, OneMore, Open, OpenTickets, Persistence, Entries, SealedMemtables, Shape, Tables, TablesL0, TicketCall}
 use Rattle.fjall_state.specs.Shapes.{ToFlush, Visible, WriteBuffer, shape_of}
 use Rattle.fjall_state.specs.Shapes as shapes
@@ -202,15 +207,55 @@ some_deleted s items = list_any (λ item. is_deleted s item.0) items
 -- 4,294,967,295, a batch has at most 4,294,967,295 items, and numbers lie below 2^63.
 abbrev pub items_refusals : Facts → List BatchItem → List (Bool × Error)
 items_refusals f items =
-    (some_key_empty items, KeyEmpty)
-    ∷ (some_key_too_long items, KeyTooLong)
-    ∷ (some_value_too_long items, ValueTooLong)
+    (ops.some_key_empty items, KeyEmpty)
+    ∷ (ops.some_key_too_long items, KeyTooLong)
+    ∷ (ops.some_value_too_long items, ValueTooLong)
     ∷ (some_unknown f.store items, UnknownKeyspace)
     ∷ (some_deleted f.store items, KeyspaceDeleted)
     ∷ (f.poisoned, Poisoned)
     ∷ (are_too_many items, TooManyItems)
     ∷ (nat_le (2 ^ 63) f.next, NumbersUsedUp)
     ∷ []
+
+-- some key is empty, or has more than 65,535 bytes, or some value more than 4,294,967,295
+abbrev pub some_key_empty : List KeyOp → Bool
+some_key_empty items = list_any (λ item. length item.0 == 0) items
+
+abbrev pub some_key_too_long : List KeyOp → Bool
+some_key_too_long items = list_any (λ item. nat_le (2 ^ 16) (length item.0)) items
+
+abbrev pub some_value_too_long : List KeyOp → Bool
+some_value_too_long items = list_any (λ item. nat_le (2 ^ 32) (length (bytes_in item.1))) items
+
+-- each key is below the next one
+abbrev pub do_ascend : List KeyOp → Bool
+do_ascend [] = true
+do_ascend (item ∷ []) = true
+do_ascend (item ∷ next ∷ items) = is_lt (byte_order item.0 next.0) && do_ascend (next ∷ items)
+
+-- The refusals of an ingestion, cause by cause over all items: those of a change by them, and that the keys don't ascend.
+abbrev pub ingestion_refusals : Facts → ℕ → List KeyOp → List (Bool × Error)
+ingestion_refusals f id items =
+    (some_key_empty items, KeyEmpty)
+    ∷ (some_key_too_long items, KeyTooLong)
+    ∷ (some_value_too_long items, ValueTooLong)
+    ∷ (not (do_ascend items), KeyOrder)
+    ∷ (is_unknown f.store id, UnknownKeyspace)
+    ∷ (is_deleted f.store id, KeyspaceDeleted)
+    ∷ (f.poisoned, Poisoned)
+    ∷ (nat_le (2 ^ 32) (length items), TooManyItems)
+    ∷ (nat_le (2 ^ 63) f.next, NumbersUsedUp)
+    ∷ []
+
+-- No key and no value is one that can't be written, the keys ascend, a batch might have the items, their keyspace lives, no fault has
+-- poisoned the engine, and a number is left.
+pub record MayIngest (f : Facts) (id : ℕ) (items : List KeyOp) : Type 0 where
+  pub ascend : KeysAscend items
+  pub writable : AreWritable items
+  pub fits : items_refusal (batch_items id items) ≡ None
+  pub lives : is_living f.store id ≡ true
+  pub well : f.poisoned ≡ false
+  pub numbered : f.next < 2 ^ 63
 
 -- the refusals of a change that empties a keyspace
 abbrev pub clear_refusals : Facts → ℕ → List (Bool × Error)
@@ -276,11 +321,13 @@ ticket_refusal t (Close id) = closing_refusal id t
 ticket_refusal t Collect = None
 
 -- The refusal that is due for a call, before memory or the disk is asked for anything. A change of no items is refused by
--- nothing.
+-- nothing, and so is an ingestion of none.
 abbrev pub due_in : Facts → Shape → Option Error
 due_in f (OfChange (Items []) how) = None
 due_in f (OfChange (Items (item ∷ items)) how) = first_due (items_refusals f (item ∷ items))
 due_in f (OfChange (Emptied id) how) = first_due (clear_refusals f id)
+due_in f (OfIngestion id []) = None
+due_in f (OfIngestion id (item ∷ items)) = first_due (ingestion_refusals f id (item ∷ items))
 due_in f (OfCreation name options) = first_due (creation_refusals f name)
 due_in f (OfDeletion id) = first_due (deletion_refusals f id)
 due_in f (OfHandle call id) = first_due (handle_refusals f call id)
@@ -328,6 +375,8 @@ abbrev pub TakesMemory : Shape → Type 0
 TakesMemory (OfChange (Items []) how) = ⊥
 TakesMemory (OfChange (Items (item ∷ items)) how) = Unit {0}
 TakesMemory (OfChange (Emptied id) how) = Unit {0}
+TakesMemory (OfIngestion id []) = ⊥
+TakesMemory (OfIngestion id (item ∷ items)) = Unit {0}
 TakesMemory (OfCreation name options) = Unit {0}
 TakesMemory (OfDeletion id) = Unit {0}
 TakesMemory (OfHandle call id) = Unit {0}
@@ -351,11 +400,13 @@ mode_in s (ByMode mode) = mode
 abbrev pub leaves_buffer : Facts → ℕ → Change → Persistence → Bool
 leaves_buffer f waiting change how = goes_out (is_none (mode_in f.store how)) (waiting + length (change_text change f.next))
 
--- A call that changes the disk, where so many bytes wait in the journal's buffer. What flushes and maintenance change is said below.
+-- A call that changes the disk, where so many bytes wait in the journal's buffer. What flushes, ingestions and
+-- maintenance change is said below.
 abbrev pub ChangesDisk : Facts → ℕ → Shape → Type 0
 ChangesDisk f waiting (OfChange (Items []) how) = ⊥
 ChangesDisk f waiting (OfChange (Items (item ∷ items)) how) = leaves_buffer f waiting (Items (item ∷ items)) how ≡ true
 ChangesDisk f waiting (OfChange (Emptied id) how) = leaves_buffer f waiting (Emptied id) how ≡ true
+ChangesDisk f waiting (OfIngestion id items) = ⊥
 ChangesDisk f waiting (OfCreation name options) = Unit {0}
 ChangesDisk f waiting (OfDeletion id) = Unit {0}
 ChangesDisk f waiting (OfHandle OneMore id) = ⊥
@@ -386,6 +437,7 @@ HasLongOption s = (id : ℕ) × (options : Options) × (get s.options id ≡ Som
 -- a creation or a deletion writes the settings of all keyspaces that live after it
 abbrev pub TooLong : Store → Shape → Type 0
 TooLong s (OfChange change how) = ⊥
+TooLong s (OfIngestion id items) = ⊥
 TooLong s (OfCreation name options) = HasLongOption (kept (apply s (Create name (option_pairs options))))
 TooLong s (OfDeletion id) = HasLongOption (kept (apply s (Delete id)))
 TooLong s (OfHandle call id) = ⊥
@@ -580,18 +632,49 @@ with_sealed sealed s = record s { parts = record s.parts { journals = record s.p
 abbrev pub evicted : State → State
 evicted s = with_sealed (staying (is_flushed s) s.parts.journals.sealed) s
 
--- What comes of a flush that is to be finished. Where it is out, and its keyspace lives, it takes effect, and journals that nobody
--- wants any more are removed. Where it isn't out it is stale, and nothing changes; a deleted keyspace's is stale too, and out no more.
-abbrev pub FinishesFlush : (out lives : Bool) → State → JobId → Reply → State → Type 0
+-- Whether the flush of this job takes effect once it is finished: its keyspace lives, and no ingestion has taken the memtables that it
+-- was begun with.
+abbrev pub takes_effect : State → JobId → Bool
+takes_effect s job = is_living (present s) job.keyspace_id && nat_lt 0 (count_out (shape_in job.keyspace_id s.parts.trees).flush)
+
+-- What comes of a flush that is to be finished. Where it is out and takes effect, journals that nobody wants any more are removed. Where
+-- it isn't out it is stale, and nothing changes; one that takes no effect is stale too, and out no more.
+abbrev pub FinishesFlush : (out takes : Bool) → State → JobId → Reply → State → Type 0
 FinishesFlush true true old job reply new =
     (reply ≡ Flag true) × (old.poisoned ≡ false) × (parts : Parts) × Flushed old.parts job.keyspace_id parts × (new ≡ evicted (record old { parts = parts }))
 FinishesFlush true false old job reply new = (reply ≡ Flag false) × (new ≡ flush_gone old job.keyspace_id)
-FinishesFlush false lives old job reply new = (reply ≡ Flag false) × (new ≡ old)
+FinishesFlush false takes old job reply new = (reply ≡ Flag false) × (new ≡ old)
 
 -- some of the oldest sealed journals that nobody wants are gone
 abbrev pub EvictsSome : State → State → Type 0
 EvictsSome old new =
     (gone left : List Sealed) × (old.parts.journals.sealed ≡ gone ++ left) × IsTrue (list_all (may_go (is_flushed old)) gone) × (new ≡ with_sealed left old)
+
+-- ---- ingestions
+
+-- no number of a journal is left where the journal is rotated before it
+abbrev pub are_journals_used_up : State → Bool
+are_journals_used_up s = is_long s.parts && nat_le (2 ^ 64 - 2) s.parts.journals.active
+
+-- the parts after an ingestion under this number into a keyspace, for which these tables were made, of these entries and with these readers
+abbrev pub parts_ingested : (id n : ℕ) → (flushes made : List MadeTable) → List (List Entry) → List Reader → Parts → Parts
+parts_ingested id n flushes made lists readers parts = record parts {
+  trees = altered_at id (ingested n readers) parts.trees;
+  entries = entries_with id (parts.entries id ++ lists) parts.entries;
+  records = records_with id (last_ingested n (shape_in id parts.trees) flushes made (parts.records id)) parts.records;
+}
+
+-- The items were ingested into the keyspace: that is the next command. All that the keyspace had in memory stands in a table, and the
+-- items in one of their own.
+pub record Ingests (old : State) (id : ℕ) (items : List KeyOp) (new : State) : Type 0 where
+  pub flushes : List MadeTable
+  pub made : List MadeTable
+  pub readers : List Reader
+  pub makes : Makes (shape_in id old.parts.trees) id old.tickets.watermark (number old.history) items (old.parts.records id) flushes made readers
+  pub is : new ≡ record old {
+    history = grown old.history (plain (ingestion id items));
+    parts = parts_ingested id (number old.history) flushes made (makes.flushed.lists ++ makes.are.0) readers old.parts;
+  }
 
 -- ---- keyspaces that are made
 
@@ -670,16 +753,24 @@ CountIs s (DiskSpace id) reply = reply ≡ Number (space_of s id)
 CountIs s Flushes reply = reply ≡ Number (flush_count (present s) s.parts.trees)
 CountIs s ToFlush reply = (ids : Vec ℕ Global) × (reply ≡ Ids ids) × (ids.items ≡ waited_for (is_flushed s) s.parts.journals.sealed)
 
+-- What comes of an ingestion: of no items nothing; of some, once all that waited was synced, the next command, and journals that nobody
+-- wants any more are removed.
+abbrev pub IngestsInto : ℕ → List KeyOp → State → Reply → State → Type 0
+IngestsInto id [] old reply new = (reply ≡ Done) × (new ≡ old)
+IngestsInto id (item ∷ items) old reply new =
+    (reply ≡ Done) × (are_journals_used_up old ≡ false) × (mid : State) × Ingests (journal_synced old) id (item ∷ items) mid × (new ≡ evicted mid)
+
 -- where nothing refuses it, a call may give this reply, and leaves this
 abbrev pub Answers : State → Shape → Reply → State → Type 0
 Answers old (OfChange change how) reply new = (reply ≡ Done) × (new ≡ accepted old change how)
+Answers old (OfIngestion id items) reply new = IngestsInto id items old reply new
 Answers old (OfCreation name options) reply new = (id : ℕ) × (reply ≡ Number id) × CreatesOrFinds old name options id new
 Answers old (OfDeletion id) reply new = (reply ≡ Done) × (new ≡ (if is_living (present old) id then deleted old id else old))
 Answers old (OfHandle call id) reply new = (reply ≡ Done) × (new ≡ handled call old id)
 Answers old (OfRotation id) reply new = (reply ≡ Flag (rotates old.parts.trees id)) × (new ≡ (if rotates old.parts.trees id then rotated old id else old))
 Answers old OfJournalRotation reply new = (reply ≡ Done) × (new ≡ journal_rotated old)
 Answers old (OfFlushBegin id) reply new = BeginsFlush (begins_flush old.parts.trees id) old id reply new
-Answers old (OfFlushFinish job) reply new = FinishesFlush (is_flushing old.parts.trees job) (is_living (present old) job.keyspace_id) old job reply new
+Answers old (OfFlushFinish job) reply new = FinishesFlush (is_flushing old.parts.trees job) (takes_effect old job) old job reply new
 Answers old OfMaintenance reply new = (reply ≡ Done) × (new ≡ evicted old)
 Answers old (OfRead view id query) reply new = Tells query (map_at (maps_in old view) id) reply × (new ≡ old)
 Answers old (OfTickets call) reply new = TurnsTickets (number old.history) old.tickets call reply new.tickets × (new ≡ record old { tickets = new.tickets })
@@ -696,6 +787,7 @@ let_go s shape = s
 -- what the keyspace held may be gone with its last one.
 abbrev pub at_fault : State → Shape → State
 at_fault s (OfChange change how) = s
+at_fault s (OfIngestion id items) = s
 at_fault s (OfCreation name options) = s
 at_fault s (OfDeletion id) = s
 at_fault s (OfHandle OneMore id) = s
@@ -717,6 +809,7 @@ HasTables id trees = (shape_in id trees).tables ≢ []
 -- a read of a keyspace that has a table: it may ask the disk
 abbrev pub ReadsTables : Forest → Shape → Type 0
 ReadsTables trees (OfChange change how) = ⊥
+ReadsTables trees (OfIngestion id items) = ⊥
 ReadsTables trees (OfCreation name options) = ⊥
 ReadsTables trees (OfDeletion id) = ⊥
 ReadsTables trees (OfHandle call id) = ⊥
@@ -733,6 +826,7 @@ ReadsTables trees (OfCount count) = ⊥
 -- a read of a keyspace one of whose tables has a wrong block
 abbrev pub ReadsDamaged : State → Shape → Type 0
 ReadsDamaged s (OfChange change how) = ⊥
+ReadsDamaged s (OfIngestion id items) = ⊥
 ReadsDamaged s (OfCreation name options) = ⊥
 ReadsDamaged s (OfDeletion id) = ⊥
 ReadsDamaged s (OfHandle call id) = ⊥
@@ -748,7 +842,16 @@ ReadsDamaged s (OfCount count) = ⊥
 
 -- the flush of this job would take effect, but for a fault that has poisoned the engine, or for want of something
 abbrev pub IsDueToFinish : State → JobId → Type 0
-IsDueToFinish s job = (is_flushing s.parts.trees job ≡ true) × (is_living (present s) job.keyspace_id ≡ true)
+IsDueToFinish s job = (is_flushing s.parts.trees job ≡ true) × (takes_effect s job ≡ true)
+
+-- What a fault leaves of an ingestion, but that it poisons the engine: of what is read nothing changed; all that waited in the journal's
+-- file may be there, a long journal may be sealed, and where the ingestion reached the disk, some journals may be gone that nobody wants
+-- behind it.
+abbrev pub IngestionFails : State → ℕ → List KeyOp → State → Type 0
+IngestionFails old id items new =
+    let synced = journal_synced old in
+    IsPoisoned old new
+    ⊎ (IsPoisoned synced new ⊎ ((mid left : State) × Ingests synced id items mid × EvictsSome mid left × IsPoisoned (with_sealed left.parts.journals.sealed synced) new))
 
 -- What a fault leaves of a worker's step, but that it poisons the engine: of a flush that begins nothing; a flush that is finished took
 -- effect or it didn't; and some journals may be gone that nobody wants.
@@ -757,13 +860,18 @@ WorkFails (OfFlushBegin id) old new = (begins_flush old.parts.trees id ≡ true)
 WorkFails (OfFlushFinish job) old new =
     IsDueToFinish old job × (old.poisoned ≡ false)
     × (IsPoisoned old new ⊎ ((parts : Parts) × (mid : State) × Flushed old.parts job.keyspace_id parts × EvictsSome (record old { parts = parts }) mid × IsPoisoned mid new))
+WorkFails (OfIngestion id []) old new = ⊥
+WorkFails (OfIngestion id (item ∷ items)) old new = (are_journals_used_up old ≡ false) × IngestionFails old id (item ∷ items) new
 WorkFails OfMaintenance old new = (mid : State) × EvictsSome old mid × IsPoisoned mid new
 WorkFails shape old new = ⊥
 
--- A worker's step that needs a number of which none is left: a job's, a journal's, or that of a keyspace's next table.
+-- A worker's step or an ingestion that needs a number of which none is left: a job's, a journal's, or that of a keyspace's next table.
 abbrev pub UsesUp : State → Shape → Type 0
 UsesUp s (OfFlushBegin id) = (begins_flush s.parts.trees id ≡ true) × (are_jobs_used_up s ≡ true)
 UsesUp s (OfFlushFinish job) = IsDueToFinish s job × (s.poisoned ≡ false) × ((s.parts.records job.keyspace_id).next_table_id ≡ 2 ^ 64 - 1)
+UsesUp s (OfIngestion id []) = ⊥
+UsesUp s (OfIngestion id (item ∷ items)) =
+    (are_journals_used_up s ≡ true) ⊎ LacksIds (shape_in id s.parts.trees) id s.tickets.watermark (s.parts.records id)
 UsesUp s shape = ⊥
 
 -- A record has no room for the table, where one was made, and for the clears of the flush of this tree that is out.
@@ -771,11 +879,14 @@ abbrev pub LacksRoom : lsm.Shape → Option Flushing → Fields → Type 0
 LacksRoom tree None last = ⊥
 LacksRoom tree (Some out) last = (tables : List MadeTable) × (length tables ≤ 1) × (2 ^ 32 ≤ length (body (record_after (flush_with tree out tables) last)))
 
--- The record of a keyspace whose flush is to be finished has no room for its table and its clears.
+-- The record of a keyspace whose flush is to be finished, or into which items are ingested, has no room for the tables and the clears.
 abbrev pub HasNoRoom : State → Shape → Type 0
 HasNoRoom s (OfFlushFinish job) =
     let tree = shape_in job.keyspace_id s.parts.trees in
     IsDueToFinish s job × (s.poisoned ≡ false) × LacksRoom tree tree.flush (s.parts.records job.keyspace_id)
+HasNoRoom s (OfIngestion id []) = ⊥
+HasNoRoom s (OfIngestion id (item ∷ items)) =
+    LacksRecordRoom (shape_in id s.parts.trees) id s.tickets.watermark (number s.history) (item ∷ items) (s.parts.records id)
 HasNoRoom s shape = ⊥
 
 -- a flush that is to be finished in a poisoned engine, and isn't stale

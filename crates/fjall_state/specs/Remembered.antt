@@ -15,7 +15,8 @@ use Rattle.fjall_blocks.specs.Readers.{Reader}
 use Rattle.fjall_catalog.specs.Catalog.{fields, first_of}
 use Rattle.fjall_contents.specs.Contents.{is_beyond}
 use Rattle.fjall_loading.specs.Known.{LastFields, last_known}
-use Rattle.fjall_lsm.specs.Jobs.{flush_begun, flush_dropped, flush_finished, is_flush_out}
+use Rattle.fjall_lsm.specs.Ingestions.{is_flush_due}
+use Rattle.fjall_lsm.specs.Jobs.{flush_begun, flush_dropped, flush_finished}
 use Rattle.fjall_lsm.specs.Jobs as lsm
 use Rattle.fjall_lsm.specs.Trees.{Flushing, sealed_off}
 use Rattle.fjall_jobs.specs.Tasks.{Task}
@@ -213,11 +214,11 @@ flush_gone id m = record m { trees = altered_at id flush_dropped m.trees }
 abbrev pub with_flush : ℕ → Flushing → List Reader → Fields → Remembered → Remembered
 with_flush id out readers last m = record m { trees = altered_at id (flush_finished readers out) m.trees; records = insert m.records id last }
 
--- A flush was begun with this task, of some memtables, under a number that was given out; where it is still out, its tree was begun
--- with it.
+-- A flush was begun with this task, of some memtables, under a number that was given out; where it is still out, and no ingestion has made it
+-- stale, its tree was begun with it.
 abbrev pub KnowsTask : Remembered → Task → Type 0
 KnowsTask m task =
-    (task.id < m.next_job) × (is_flush_out task.id (shape_in task.keyspace m.trees).flush ≡ true → lsm.IsFlushing (shape_in task.keyspace m.trees) task)
+    (task.id < m.next_job) × (is_flush_due task.id (shape_in task.keyspace m.trees).flush ≡ true → lsm.IsFlushing (shape_in task.keyspace m.trees) task)
     × (task.runs ≢ [])
 
 -- whether no journal is wanted for the changes of a keyspace up to a number, as its last record tells where it lives

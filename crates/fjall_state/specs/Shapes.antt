@@ -5,12 +5,13 @@ use Rattle.fjall_journal.specs.Ops.{BatchItem}
 use Rattle.fjall_journal.specs.Changes.{Change, Items, Emptied}
 use Rattle.fjall_journal.specs.declared.op.Op.TheVariants as ops
 use Rattle.fjall_journal.specs.declared.persist_mode.PersistMode.{PersistMode}
+use Rattle.fjall_writes.specs.Ingestions.{KeyOp}
 use Rattle.fjall_history.specs.declared.job.JobId.{JobId}
 use Rattle.fjall_history.specs.declared.ticket.View.{View}
 use Rattle.fjall_history.specs.Queries.{Query, Get, Page}
 use Rattle.fjall_state.specs.declared.call.Call.{Call}
 use Rattle.fjall_state.specs.declared.call.Call.TheVariants as calls
-use Rattle.fjall_state.specs.declared.call.Call.TheVariants.{Keyspace, DeleteKeyspace, Retain, Release, Insert, Remove, RemoveWeak, Clear, CommitBatch, RotateMemtable, RotateJournal, FlushBegin, FlushFinish, Maintenance, GetAt, PageAt}
+use Rattle.fjall_state.specs.declared.call.Call.TheVariants.{Keyspace, DeleteKeyspace, Retain, Release, Insert, Remove, RemoveWeak, Clear, CommitBatch, Ingest, RotateMemtable, RotateJournal, FlushBegin, FlushFinish, Maintenance, GetAt, PageAt}
 use Rattle.fjall_state.specs.declared.call.Call.TheVariants.{Snapshot, CloneSnapshot, CloseSnapshot, Gc, Persist, KeyspaceCount, ListKeyspaceNames, KeyspaceExists, Seqno, VisibleSeqno, JournalCount, JournalDiskSpace, OpenSnapshots}
 use Rattle.fjall_state.specs.declared.call.Call.TheVariants.{ApproximateLen, SealedMemtableCount, WriteBufferSize, TableCount, L0TableCount, OutstandingFlushes, KeyspacesToFlush}
 
@@ -51,11 +52,12 @@ pub data Count : Type 0 where
   Flushes : Count
   ToFlush : Count
 
--- A change is one command with its batch; a rotation seals a keyspace's active memtable, one of the journal the active journal; a
+-- A change is one command with its batch; an ingestion is one command too, of items of one keyspace; a rotation seals a keyspace's active memtable, one of the journal the active journal; a
 -- flush is begun of a keyspace, and finished by its job; maintenance removes sealed journals; a read is a query on a keyspace's map
 -- in a view.
 pub data Shape : Type 0 where
   OfChange : (change : Change) (how : Persistence) → Shape
+  OfIngestion : (id : ℕ) (items : List KeyOp) → Shape
   OfCreation : (name : Bytes) (options : List Bytes) → Shape
   OfDeletion : (id : ℕ) → Shape
   OfHandle : (call : HandleCall) (id : ℕ) → Shape
@@ -87,6 +89,7 @@ shape_of (Remove id key) = of_write (id, key, ops.Remove)
 shape_of (RemoveWeak id key) = of_write (id, key, ops.RemoveWeak)
 shape_of (Clear id) = of_clear id
 shape_of (CommitBatch items mode) = OfChange (Items items.items) (ByMode mode)
+shape_of (Ingest id items) = OfIngestion id items.items
 shape_of (RotateMemtable id) = OfRotation id
 shape_of RotateJournal = OfJournalRotation
 shape_of (FlushBegin id) = OfFlushBegin id

@@ -2,7 +2,7 @@
 
 use fjall_base::{Slice, UserKey, UserValue};
 use fjall_history::{JobId, Ticket, View};
-use fjall_journal::{BatchItem, PersistMode};
+use fjall_journal::{BatchItem, Op, PersistMode};
 use fjall_options::KeyspaceCreateOptions;
 use fjall_versions::KeyRange;
 
@@ -28,6 +28,8 @@ pub enum Call {
     Clear(u64),
     /// `commit_batch`: the items, and how they are persisted.
     CommitBatch(Vec<BatchItem>, Option<PersistMode>),
+    /// `ingest`: keyspace id, and the items, by key ascending.
+    Ingest(u64, Vec<(UserKey, Op)>),
     /// `rotate_memtable`: keyspace id.
     RotateMemtable(u64),
     /// `rotate_journal`.

@@ -8,7 +8,7 @@ ghost use Rattle.fjall_files.specs.Names.{keyspace_folder, table_name};
 ghost use Rattle.fjall_files.specs.Regions.{Within};
 ghost use Rattle.fjall_files.specs.Tidy.{StaysTidy};
 ghost use Rattle.fjall_flush.specs.Flushes.{flush_of as finished_with};
-ghost use Rattle.fjall_flush.specs.Plans.{HaveFiles, IsNamed, IsPlan, IsPlanRefusal, KeepsTables};
+ghost use Rattle.fjall_flush.specs.Plans.{HaveFiles, IsPlan, IsPlanRefusal, KeepsTables};
 ghost use Rattle.fjall_jobs.specs.Flushes.{flush_task};
 ghost use Rattle.fjall_journal.specs.Writer.{IsIo};
 ghost use Rattle.fjall_loading.specs.Known.{last_known};
@@ -29,11 +29,10 @@ use crate::engine_state::EngineState;
 use crate::refusals::JOURNAL_LIMIT;
 use fjall_base::{Disk, Error, Result};
 use fjall_blocks::TableReader;
-use fjall_flush::{FlushPlan, plan_flush, write_flush};
+use fjall_flush::{FlushPlan, plan_flush, table_readers, write_flush};
 use fjall_history::JobId;
 use fjall_jobs::{FlushJob, FlushMade};
 use fjall_loading::LastRecords;
-use fjall_table::Level;
 use fjall_tree::Record;
 use fjall_trees::Trees;
 use std::alloc::Global;
@@ -116,27 +115,6 @@ struct PlannedFlush {
     readers: Vec<TableReader>,
 }
 
-/// The readers of the tables that were made, by the name that was planned.
-fn readers_of(
-    alloc: Global,
-    writes: &FlushPlan,
-    next: u64,
-    made: &FlushMade,
-) -> Result<Vec<TableReader>>
-    ensures readers { (id : ℕ) → IsNamed id next made.now.tables.items writes.now.table → IfOk result (λ readers. AreReadersOf id next made.now.tables.items readers.items) }
-    ensures only { IsOkUnless result Error.OutOfMemory }
-{
-    let mut readers = Vec::new(alloc);
-    let Some(name) = &writes.table else {
-        return Ok(readers);
-    };
-    let Some(table) = made.tables.first() else {
-        return Ok(readers);
-    };
-    readers.push(table.reader(alloc, name.as_str(), next, Level::L0)?)?;
-    Ok(readers)
-}
-
 /// Plans a flush that covers all changes of its keyspace up to this number, of which this is the last record.
 fn plan(alloc: Global, last: &Record, number: u64, made: &FlushMade) -> Result<PlannedFlush>
     ensures writes { IfOk result (λ p. IsPlan (keyspace_of made.now) (view last.now) (finished_with number made.now) p.writes) }
@@ -144,7 +122,7 @@ fn plan(alloc: Global, last: &Record, number: u64, made: &FlushMade) -> Result<P
     ensures cause { IfErr result (IsPlanRefusal (view last.now) (finished_with number made.now)) }
 {
     let writes = plan_flush(alloc, made.job.keyspace_id(), last, number, made)?;
-    let readers = readers_of(alloc, &writes, last.next_table_id, made)?;
+    let readers = table_readers(alloc, &writes.table, last.next_table_id, &made.tables)?;
     Ok(PlannedFlush { writes, readers })
 }
 

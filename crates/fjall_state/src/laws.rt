@@ -38,6 +38,7 @@ ghost use Rattle.fjall_history.specs.Tickets.{Tickets, closed, collected, no_tic
 ghost use Rattle.fjall_state.specs.declared.call.Call.{Call as Asked};
 ghost use Rattle.fjall_state.specs.Allowed.{FitsBatch, IsOfLiving, MayChange, MayCreate, MayDelete};
 ghost use Rattle.fjall_state.specs.Shapes.{OfFlushFinish, OfRead, OneLess, Persistence, Shape};
+ghost use Rattle.fjall_state.specs.Ingesting.{with_ingestion};
 ghost use Rattle.fjall_state.specs.Machine as machine;
 ghost use Rattle.fjall_state.specs.Machine.{EvictsSome, Flushed, begins_flush, flush_count, flush_with, is_flushed, is_flushing, table_space, tables_space};
 ghost use Rattle.fjall_state.specs.Machine.{Facts, HasTables, IsPoisoned, Parts, Run, State, Step, StepOf, TakesMemory, accepted, change_refusals, created, creation_refusals, deleted, deletion_refusals};
@@ -165,15 +166,16 @@ pub fn a_known_task_stays()
     ensures dropped { (m : Remembered) (task : Task) (id : ℕ) → KnowsTask m task → KnowsTask (flush_gone id m) task }
     ensures finished { (m : Remembered) (task : Task) (id : ℕ) (out : Flushing) (readers : List Reader) (last : Fields) → KnowsTask m task
         → KnowsTask (with_flush id out readers last m) task }
+    ensures ingested { (m : Remembered) (task : Task) (id : ℕ) (readers : List Reader) (last : Fields) → KnowsTask m task → KnowsTask (with_ingestion id readers last m) task }
     ensures evicted { (m : Remembered) (task : Task) (left : List Sealed) → KnowsTask m task → KnowsTask (with_sealed left m) task }
     ensures poisoned { (m : Remembered) (task : Task) → KnowsTask m task → KnowsTask (poisoned m) task }
 {}
 
-/// A flush that can't be planned, which is out of a keyspace that lives, is refused by a step of the machine that changes nothing.
+/// A flush that can't be planned, which is out of a keyspace that lives and takes some memtable, is refused by a step of the machine that changes nothing.
 pub fn a_flush_refusal_is_a_step()
     ensures { (m : Remembered) (table : ℕ) (s : State) → StandsFor m table s → (job : JobId) (k : LivingKeyspace)
         → keyspace_at job.keyspace_id m.keyspaces.living ≡ Some k → is_flushing m.trees job ≡ true → (out : Flushing) → (shape_in job.keyspace_id m.trees).flush ≡ Some out
-        → (made : FlushMade) → s.poisoned ≡ false → (error : Error)
+        → 0 < out.count → (made : FlushMade) → s.poisoned ≡ false → (error : Error)
         → IsPlanRefusal (last_known m.records k) (flush_with (shape_in job.keyspace_id m.trees) out made.tables.items) error → StepOf s (OfFlushFinish job) (Refused error) s }
 {}
 

@@ -6,6 +6,8 @@ mod clears;
 mod engine_state;
 mod evictions;
 mod flushes;
+mod ingestion_laws;
+mod ingestions;
 mod journals;
 mod laws;
 mod memtables;
@@ -19,6 +21,7 @@ pub use call::Call;
 pub use engine_state::EngineState;
 pub use evictions::FlushedBy;
 pub use fjall_history::{JobId, Reply, Ticket, View};
+pub use ingestion_laws::{an_ingestion_may_go_on, an_ingestion_stands};
 pub use laws::{
     a_begun_flush_stands, a_change_stands, a_creation_stands, a_deletion_stands,
     a_dropped_flush_stands, a_fault_stands, a_finished_flush_stands, a_flush_refusal_is_a_step,

@@ -1,15 +1,18 @@
 //! What a change of one tree leaves of the others.
 
-ghost use Rattle.std.specs.Prelude.{◌≡◌, ◌≢◌, ◌++◌, ◌∷◌, [], ℕ, List, All, Some, None, drop};
+ghost use Rattle.std.specs.Prelude.{◌≡◌, ◌≢◌, ◌≤◌, ◌^◌, ◌++◌, ◌∷◌, [], ℕ, List, All, Some, None, drop};
 ghost use Rattle.std.specs.Option.{option_map};
 ghost use Rattle.fjall_base.specs.Disk.{Meaning};
 ghost use Rattle.fjall_journal.specs.Ops.{BatchItem};
 ghost use Rattle.fjall_table.specs.Blocks.{Entry};
 ghost use Rattle.fjall_table.specs.Files.{entry_at};
 ghost use Rattle.fjall_blocks.specs.Readers.{AreRead, Reader};
+ghost use Rattle.fjall_views.specs.Jobs.{OnceEach};
+ghost use Rattle.fjall_sorted.specs.Sorted.{flat};
 ghost use Rattle.fjall_jobs.specs.declared.made_table.MadeTable.{MadeTable};
 ghost use Rattle.fjall_jobs.specs.Merges.{IsMerged};
 ghost use Rattle.fjall_jobs.specs.Tasks.{IsFlushed, Task};
+ghost use Rattle.fjall_lsm.specs.Ingestions.{ingested, memory_task};
 ghost use Rattle.fjall_lsm.specs.Jobs.{IsFlushing, IsMerging, flush_begun, flush_dropped, flush_finished, merge_begun, merge_finished};
 ghost use Rattle.fjall_lsm.specs.Trees.{Merging, ReadsAll, Shape, emptied, sealed_off};
 ghost use Rattle.fjall_trees.specs.Forests.{Forest, IsForest, altered_at, tree_at, without};
@@ -56,6 +59,15 @@ pub fn finished_jobs_change_one_keyspace()
         → AreReadOn disk (altered_at id (merge_finished readers is.out) trees) (entries_with id (made.lists ++ drop is.out.tables (entries id)) entries) }
     ensures here { (id : ℕ) (new : List (List Entry)) (entries : ℕ → List (List Entry)) → entries_with id new entries id ≡ new }
     ensures others { (id other : ℕ) (new : List (List Entry)) (entries : ℕ → List (List Entry)) → other ≢ id → entries_with id new entries other ≡ entries other }
+{}
+
+/// An ingestion changes what the tables of its keyspace hold, and no others: behind what they held stands what a flush of its memory
+/// made, and then the ingestion's versions, all of its number.
+pub fn an_ingestion_changes_one_keyspace()
+    ensures { (disk : Meaning) (trees : Forest) (entries : ℕ → List (List Entry)) → IsForest trees → AreReadOn disk trees entries → (id n : ℕ) (shape : Shape) → tree_at id trees ≡ Some shape
+        → n ≤ 2 ^ 63 → shape.memory.active.until ≤ n → (keyspace watermark : ℕ) (tables : List MadeTable) (clears : List ℕ) (made : IsFlushed (memory_task keyspace watermark shape.memory) tables clears)
+        → (lists : List (List Entry)) → All (λ v. v.number ≡ n) (flat lists) → OnceEach (flat lists) → (readers : List Reader) → AreRead disk readers (made.lists ++ lists)
+        → AreReadOn disk (altered_at id (ingested n readers) trees) (entries_with id (entries id ++ (made.lists ++ lists)) entries) }
 {}
 
 /// A flush that is out stays so under writes, clears and rotations of whatever keyspace, where a merge is begun and where one

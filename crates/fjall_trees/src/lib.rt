@@ -3,6 +3,7 @@
 
 mod batches;
 mod counts;
+mod ingestion;
 mod jobs;
 mod laws;
 mod marks;
@@ -13,8 +14,8 @@ mod trees;
 mod writes;
 
 pub use laws::{
-    finished_jobs_change_one_keyspace, flushes_of_trees_stay_out, merges_of_trees_stay_out,
-    other_trees_stay, the_tables_stay_read,
+    an_ingestion_changes_one_keyspace, finished_jobs_change_one_keyspace,
+    flushes_of_trees_stay_out, merges_of_trees_stay_out, other_trees_stay, the_tables_stay_read,
 };
 pub use marks::Marks;
 pub use trees::Trees;

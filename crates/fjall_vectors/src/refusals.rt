@@ -1,7 +1,7 @@
 //! Worked rows of what stands in memory: which refusal comes first.
 
 use crate::machine::{one_deleted, two};
-use fjall_base::{Error, Result, Slice};
+use fjall_base::{Error, Result, Slice, UserKey};
 use fjall_journal::{BatchItem, Op};
 use fjall_loading::LastRecords;
 use fjall_manager::{ActiveWatermarks, JournalManager};
@@ -53,6 +53,8 @@ enum Asked {
     Clear(u64),
     Rotation(u64),
     JournalRotation,
+    /// Of an ingestion into a keyspace, of these keys: of each its byte, and how many times it stands there.
+    Ingestion(u64, &'static [(u8, usize)]),
 }
 
 use Asked::*;
@@ -71,6 +73,16 @@ fn removals(alloc: Global, keys: &[(u64, usize)]) -> Result<Vec<BatchItem>> {
     Ok(batch)
 }
 
+/// The items that take these keys away.
+fn removed(alloc: Global, keys: &[(u8, usize)]) -> Result<Vec<(UserKey, Op)>> {
+    let mut items = Vec::new(alloc);
+    for (byte, len) in keys {
+        let key = vec![in alloc; *byte; *len]?;
+        items.push((Slice::new(alloc, &key)?, Op::Remove))?;
+    }
+    Ok(items)
+}
+
 fn refusal(alloc: Global, memory: &EngineState, asked: Asked) -> Result<Option<Error>> {
     Ok(match asked {
         Write(keys) => memory.change_refusal(&removals(alloc, keys)?),
@@ -79,6 +91,7 @@ fn refusal(alloc: Global, memory: &EngineState, asked: Asked) -> Result<Option<E
         Clear(id) => memory.clear_refusal(id),
         Rotation(id) => memory.rotation_refusal(id),
         JournalRotation => memory.journal_refusal(),
+        Ingestion(id, keys) => memory.ingestion_refusal(id, &removed(alloc, keys)?),
     })
 }
 
@@ -129,6 +142,42 @@ const REFUSALS: &[(Given, Asked, Option<Error>)] = &[
     (Given::Poisoned, JournalRotation, Some(Error::Poisoned)),
     (Given::UsedUp, JournalRotation, Some(Error::NumbersUsedUp)),
     (Given::Two, JournalRotation, None),
+    // So do those of ingestions.
+    (
+        Given::Poisoned,
+        Ingestion(9, &[(7, 65_536), (6, 1), (5, 0)]),
+        Some(Error::KeyEmpty),
+    ),
+    (
+        Given::Poisoned,
+        Ingestion(9, &[(7, 1), (7, 1), (6, 65_536)]),
+        Some(Error::KeyTooLong),
+    ),
+    (
+        Given::Poisoned,
+        Ingestion(9, &[(6, 1), (7, 1), (7, 1)]),
+        Some(Error::KeyOrder),
+    ),
+    (
+        Given::Poisoned,
+        Ingestion(9, &[(6, 1), (7, 1)]),
+        Some(Error::UnknownKeyspace),
+    ),
+    (
+        Given::Poisoned,
+        Ingestion(1, &[(6, 1)]),
+        Some(Error::KeyspaceDeleted),
+    ),
+    (
+        Given::Poisoned,
+        Ingestion(2, &[(6, 1)]),
+        Some(Error::Poisoned),
+    ),
+    (
+        Given::OneDeleted,
+        Ingestion(2, &[(6, 1), (6, 2), (7, 65_535)]),
+        None,
+    ),
     // So do those of changes of keyspaces.
     (
         Given::OneDeleted,

@@ -37,6 +37,9 @@ returns-clause-dropped c = Knowing.after_dropped
 pub returns-clause-finished : goal.returns-clause-finished
 returns-clause-finished c = Knowing.after_finished
 
+pub returns-clause-ingested : goal.returns-clause-ingested
+returns-clause-ingested c = Knowing.after_ingestion
+
 pub returns-clause-evicted : goal.returns-clause-evicted
 returns-clause-evicted c = Knowing.after_evicted
 

@@ -1,4 +1,4 @@
-use Rattle.std.proofs.Common.{◌≡◌, IsTrue, Err, Ok, true, false, refl, subst, sym}
+use Rattle.std.proofs.Common.{◌≡◌, IsTrue, Err, Ok, true, refl, subst, sym}
 use Rattle.fjall_jobs.specs.Flushes.{flush_task}
 use Rattle.fjall_lsm.specs.Jobs.{IsFlushing}
 use Rattle.fjall_trees.specs.Tables.{shape_in}

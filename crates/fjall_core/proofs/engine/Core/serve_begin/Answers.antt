@@ -1,4 +1,4 @@
-use Rattle.std.proofs.Common.{refl, sym, ◌∙◌, ap, ◌++◌, ◌∷◌, [], if◌then◌else◌, Result, Some, subst}
+use Rattle.std.proofs.Common.{◌∙◌, ap, ◌++◌, ◌∷◌, [], if◌then◌else◌, Result, subst}
 use Rattle.std.specs.Result.{is_ok}
 use Rattle.std.specs.Option.{IfSome}
 use Rattle.std.specs.declared.alloc.AllocFailed.{AllocFailed}
