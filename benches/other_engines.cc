@@ -1,4 +1,5 @@
-// The workloads of fjall-bench over other engines: keys of 16 bytes, values of 100, one write a key; and reads of LevelDB.
+// The workloads of fjall-bench over other engines: keys of 16 bytes, values of 100. LevelDB has all of them, SQLite and LMDB
+// the fills and the synced writes. `other-engines FOLDER N` runs all; `other-engines FOLDER N fill` LevelDB's fill at random alone.
 // Prints a line a workload on standard error: engine, workload, count, wall seconds, processor seconds, operations a second,
 // processor seconds of the calling thread alone, parted by tabs.
 #include <leveldb/db.h>
@@ -11,6 +12,7 @@
 #include <cstdint>
 #include <cstdio>
 #include <cstdlib>
+#include <cstring>
 #include <ctime>
 #include <filesystem>
 #include <functional>
@@ -20,6 +22,13 @@
 #include <string>
 #include <vector>
 
+using Numbers = std::vector<uint64_t>;
+
+// So many pairs stand in a batch and in a range, and so many writes are synced one by one at most.
+constexpr size_t kBatch = 100;
+constexpr size_t kRange = 100;
+constexpr size_t kSynced = 500;
+
 static void check(bool ok, const char* what) {
     if (!ok) {
         std::fprintf(stderr, "failed: %s\n", what);
@@ -27,14 +36,47 @@ static void check(bool ok, const char* what) {
     }
 }
 
-static std::string big_endian(uint64_t number) {
-    std::string bytes(8, '\0');
+static void put_big_endian(char* bytes, uint64_t number) {
     for (int i = 0; i < 8; i++) bytes[i] = static_cast<char>(number >> (56 - 8 * i));
-    return bytes;
 }
 
-static std::string key_of(uint64_t number) { return std::string(8, '\0') + big_endian(number); }
-static std::string value_of(uint64_t number) { return big_endian(number) + std::string(92, 'v'); }
+// The key of a number: twice the number in 16 bytes, so that a key stands between any two that no number has.
+struct Key {
+    char bytes[16] = {};
+    explicit Key(uint64_t number, bool behind = false) {
+        bytes[7] = static_cast<char>(number >> 63);
+        put_big_endian(bytes + 8, number * 2 + behind);
+    }
+    leveldb::Slice slice() const { return {bytes, sizeof bytes}; }
+};
+
+// The value of a number, which begins with it.
+struct Value {
+    char bytes[100];
+    explicit Value(uint64_t number) {
+        std::memset(bytes, 'v', sizeof bytes);
+        put_big_endian(bytes, number);
+    }
+    leveldb::Slice slice() const { return {bytes, sizeof bytes}; }
+};
+
+static bool is_value_of(const std::string& value, uint64_t number) {
+    char begin[8];
+    put_big_endian(begin, number);
+    return value.size() == 100 && std::memcmp(value.data(), begin, sizeof begin) == 0;
+}
+
+static Numbers in_order(size_t count) {
+    Numbers numbers(count);
+    std::iota(numbers.begin(), numbers.end(), 0);
+    return numbers;
+}
+
+static Numbers at_random(size_t count, uint64_t seed) {
+    Numbers numbers = in_order(count);
+    std::shuffle(numbers.begin(), numbers.end(), std::mt19937_64(seed));
+    return numbers;
+}
 
 static double thread_seconds() {
     timespec spent;
@@ -47,9 +89,9 @@ static void measure(const char* engine, const char* workload, size_t count, cons
     std::clock_t processor = std::clock();
     double thread = thread_seconds();
     work();
-    double seconds = std::chrono::duration<double>(std::chrono::steady_clock::now() - wall).count();
-    double spent = static_cast<double>(std::clock() - processor) / CLOCKS_PER_SEC;
     double alone = thread_seconds() - thread;
+    double spent = static_cast<double>(std::clock() - processor) / CLOCKS_PER_SEC;
+    double seconds = std::chrono::duration<double>(std::chrono::steady_clock::now() - wall).count();
     std::fprintf(stderr, "%s\t%s\t%zu\t%.6f\t%.6f\t%.0f\t%.6f\n", engine, workload, count, seconds, spent, count / seconds, alone);
 }
 
@@ -57,33 +99,59 @@ static void measure(const char* engine, const char* workload, size_t count, cons
 struct Engine {
     virtual ~Engine() = default;
     virtual void open(const std::string& folder) = 0;
-    virtual void put(const std::string& key, const std::string& value, bool sync) = 0;
+    virtual void put(uint64_t number, bool sync) = 0;
     virtual void close() = 0;
 };
 
 struct LevelDb : Engine {
     leveldb::DB* db = nullptr;
+    size_t memtable_bytes = leveldb::Options().write_buffer_size;
     void open(const std::string& folder) override {
         leveldb::Options options;
         options.create_if_missing = true;
         options.compression = leveldb::kNoCompression;
+        options.write_buffer_size = memtable_bytes;
         check(leveldb::DB::Open(options, folder, &db).ok(), "leveldb open");
     }
-    void put(const std::string& key, const std::string& value, bool sync) override {
+    void put(uint64_t number, bool sync) override {
         leveldb::WriteOptions options;
         options.sync = sync;
-        check(db->Put(options, key, value).ok(), "leveldb put");
+        check(db->Put(options, Key(number).slice(), Value(number).slice()).ok(), "leveldb put");
     }
     void close() override {
         delete db;
         db = nullptr;
     }
-    void get(const std::string& key, std::string* value) { check(db->Get(leveldb::ReadOptions(), key, value).ok(), "leveldb get"); }
+    void remove(uint64_t number) { check(db->Delete(leveldb::WriteOptions(), Key(number).slice()).ok(), "leveldb delete"); }
+    void put_all(const uint64_t* from, const uint64_t* to) {
+        leveldb::WriteBatch batch;
+        for (; from != to; from++) batch.Put(Key(*from).slice(), Value(*from).slice());
+        check(db->Write(leveldb::WriteOptions(), &batch).ok(), "leveldb batch");
+    }
+    bool holds(uint64_t number, std::string* value) {
+        return db->Get(leveldb::ReadOptions(), Key(number).slice(), value).ok() && is_value_of(*value, number);
+    }
+    bool misses(uint64_t number, std::string* value) { return db->Get(leveldb::ReadOptions(), Key(number, true).slice(), value).IsNotFound(); }
     // How many pairs there are, each looked at in the order of the keys.
     size_t scan() {
         std::unique_ptr<leveldb::Iterator> pairs(db->NewIterator(leveldb::ReadOptions()));
         size_t found = 0;
         for (pairs->SeekToFirst(); pairs->Valid(); pairs->Next()) found += pairs->value().size() == 100;
+        return found;
+    }
+    // The same from behind.
+    size_t scan_back() {
+        std::unique_ptr<leveldb::Iterator> pairs(db->NewIterator(leveldb::ReadOptions()));
+        size_t found = 0;
+        for (pairs->SeekToLast(); pairs->Valid(); pairs->Prev()) found += pairs->value().size() == 100;
+        return found;
+    }
+    // How many pairs there are from a key on, up to those of a range.
+    size_t range(uint64_t number) {
+        std::unique_ptr<leveldb::Iterator> pairs(db->NewIterator(leveldb::ReadOptions()));
+        size_t found = 0;
+        pairs->Seek(Key(number).slice());
+        for (size_t at = 0; at < kRange && pairs->Valid(); at++, pairs->Next()) found += pairs->value().size() == 100;
         return found;
     }
 };
@@ -103,13 +171,15 @@ struct Sqlite : Engine {
         run("create table if not exists items (k blob primary key, v blob) without rowid");
         check(sqlite3_prepare_v2(db, "insert into items values (?, ?)", -1, &insert, nullptr) == SQLITE_OK, "sqlite prepare");
     }
-    void put(const std::string& key, const std::string& value, bool sync) override {
+    void put(uint64_t number, bool sync) override {
         if (sync && !synced) {
             run("pragma synchronous = full");
             synced = true;
         }
-        sqlite3_bind_blob(insert, 1, key.data(), static_cast<int>(key.size()), SQLITE_STATIC);
-        sqlite3_bind_blob(insert, 2, value.data(), static_cast<int>(value.size()), SQLITE_STATIC);
+        Key key(number);
+        Value value(number);
+        sqlite3_bind_blob(insert, 1, key.bytes, sizeof key.bytes, SQLITE_STATIC);
+        sqlite3_bind_blob(insert, 2, value.bytes, sizeof value.bytes, SQLITE_STATIC);
         check(sqlite3_step(insert) == SQLITE_DONE, "sqlite insert");
         sqlite3_reset(insert);
     }
@@ -131,68 +201,120 @@ struct Lmdb : Engine {
         MDB_txn* txn = nullptr;
         check(mdb_txn_begin(env, nullptr, 0, &txn) == 0 && mdb_dbi_open(txn, nullptr, 0, &dbi) == 0 && mdb_txn_commit(txn) == 0, "lmdb table");
     }
-    void put(const std::string& key, const std::string& value, bool sync) override {
+    void put(uint64_t number, bool sync) override {
         check(mdb_env_set_flags(env, MDB_NOSYNC, sync ? 0 : 1) == 0, "lmdb flags");
         MDB_txn* txn = nullptr;
         check(mdb_txn_begin(env, nullptr, 0, &txn) == 0, "lmdb begin");
-        MDB_val k{key.size(), const_cast<char*>(key.data())};
-        MDB_val v{value.size(), const_cast<char*>(value.data())};
+        Key key(number);
+        Value value(number);
+        MDB_val k{sizeof key.bytes, key.bytes};
+        MDB_val v{sizeof value.bytes, value.bytes};
         check(mdb_put(txn, dbi, &k, &v, 0) == 0 && mdb_txn_commit(txn) == 0, "lmdb put");
     }
     void close() override { mdb_env_close(env); }
 };
 
+// Writes each number's pair.
+static void fill(Engine& engine, const char* name, const char* workload, const Numbers& numbers) {
+    measure(name, workload, numbers.size(), [&] {
+        for (uint64_t number : numbers) engine.put(number, false);
+    });
+}
+
+// Fills a new database and closes it.
+static void fill_new(Engine& engine, const char* name, const char* workload, const std::string& folder, const Numbers& numbers) {
+    engine.open(folder);
+    fill(engine, name, workload, numbers);
+    engine.close();
+}
+
+// The workloads that each engine has.
 static void run(Engine& engine, const char* name, const std::string& folder, size_t count) {
-    std::vector<uint64_t> numbers(count);
-    std::iota(numbers.begin(), numbers.end(), 0);
-    const char* fills[] = {"fill in order", "fill at random"};
-    for (const char* fill : fills) {
-        std::string place = folder + "/" + name + (fill == fills[0] ? "_order" : "_random");
-        engine.open(place);
-        measure(name, fill, count, [&] {
-            for (uint64_t number : numbers) engine.put(key_of(number), value_of(number), false);
-        });
-        engine.close();
-        measure(name, "reopen", count, [&] { engine.open(place); });
-        engine.close();
-        std::shuffle(numbers.begin(), numbers.end(), std::mt19937_64(1));
-    }
-    size_t few = std::min<size_t>(count, 500);
-    engine.open(folder + "/" + name + "_sync");
+    std::string place = folder + "/" + name;
+    fill_new(engine, name, "fill in order", place + "_order", in_order(count));
+    fill_new(engine, name, "fill at random", place + "_random", at_random(count, 1));
+    size_t few = std::min(count, kSynced);
+    engine.open(place + "_sync");
     measure(name, "one sync a write", few, [&] {
-        for (size_t number = 0; number < few; number++) engine.put(key_of(number), value_of(number), true);
+        for (size_t number = 0; number < few; number++) engine.put(number, true);
     });
     engine.close();
 }
 
-// Reads each pair that was filled at random, in another order, twice; and then all of them in the order of their keys.
-static void read(LevelDb& engine, const std::string& folder, size_t count) {
-    std::vector<uint64_t> numbers(count);
-    std::iota(numbers.begin(), numbers.end(), 0);
-    std::shuffle(numbers.begin(), numbers.end(), std::mt19937_64(2));
+// Looks each number's key up, or the key behind it, which isn't there.
+static void look_up(LevelDb& engine, const char* workload, const Numbers& numbers, bool there) {
+    measure("leveldb", workload, numbers.size(), [&] {
+        std::string value;
+        for (uint64_t number : numbers) check(there ? engine.holds(number, &value) : engine.misses(number, &value), workload);
+    });
+}
+
+// LevelDB with memtables as large as this engine's, so that 400,000 pairs stay in memory and in the log.
+static void use_memtables(const std::string& folder, size_t count) {
+    LevelDb engine;
+    engine.memtable_bytes = size_t{64} << 20;
+    fill_new(engine, "leveldb", "fill in order, 64 MB in memory", folder + "/leveldb_order_log", in_order(count));
+    measure("leveldb", "reopen after fill in order", count, [&] { engine.open(folder + "/leveldb_order_log"); });
+    engine.close();
+    engine.open(folder + "/leveldb_random_log");
+    fill(engine, "leveldb", "fill at random, 64 MB in memory", at_random(count, 1));
+    look_up(engine, "read hit from memtables", at_random(count, 2), true);
+    engine.close();
+    measure("leveldb", "reopen after fill at random", count, [&] { engine.open(folder + "/leveldb_random_log"); });
+    engine.close();
+}
+
+// Reads what was filled at random, once it is merged into one level; then writes over all of it, and deletes it.
+static void use_tables(const std::string& folder, size_t count) {
+    LevelDb engine;
+    Numbers numbers = at_random(count, 2);
     engine.open(folder + "/leveldb_random");
-    for (const char* workload : {"first read hit", "read hit"}) {
-        measure("leveldb", workload, count, [&] {
-            std::string value;
-            for (uint64_t number : numbers) {
-                engine.get(key_of(number), &value);
-                check(value.compare(0, 8, big_endian(number)) == 0, "leveldb value");
-            }
-        });
-    }
-    measure("leveldb", "scan", count, [&] { check(engine.scan() == count, "leveldb scan"); });
+    measure("leveldb", "compact", count, [&] { engine.db->CompactRange(nullptr, nullptr); });
+    look_up(engine, "first read hit from tables", numbers, true);
+    look_up(engine, "read hit from tables", numbers, true);
+    look_up(engine, "read miss from tables", numbers, false);
+    measure("leveldb", "scan forward", count, [&] { check(engine.scan() == count, "leveldb scan"); });
+    measure("leveldb", "scan back", count, [&] { check(engine.scan_back() == count, "leveldb scan back"); });
+    size_t ranges = std::max<size_t>(count / kRange, 1);
+    measure("leveldb", "range of 100", ranges, [&] {
+        for (size_t at = 0; at < ranges; at++) check(engine.range(numbers[at]) == std::min(kRange, count - numbers[at]), "leveldb range");
+    });
+    fill(engine, "leveldb", "overwrite at random", numbers);
+    measure("leveldb", "delete at random", count, [&] {
+        for (uint64_t number : numbers) engine.remove(number);
+    });
+    check(engine.scan() == 0, "leveldb deletes");
+    engine.close();
+}
+
+// Writes batches of pairs at random.
+static void use_batches(const std::string& folder, size_t count) {
+    LevelDb engine;
+    Numbers numbers = at_random(count, 1);
+    engine.open(folder + "/leveldb_batch");
+    measure("leveldb", "batches of 100 writes", count, [&] {
+        for (size_t at = 0; at < count; at += kBatch) engine.put_all(&numbers[at], numbers.data() + std::min(at + kBatch, count));
+    });
     engine.close();
 }
 
 int main(int argc, char** argv) {
-    check(argc == 3, "usage: other-engines FOLDER N");
+    check(argc == 3 || (argc == 4 && std::strcmp(argv[3], "fill") == 0), "usage: other-engines FOLDER N [fill]");
+    std::string folder = argv[1];
     size_t count = std::strtoull(argv[2], nullptr, 10);
-    std::filesystem::create_directories(argv[1]);
+    check(count > 0, "N is no count");
+    std::filesystem::create_directories(folder);
     LevelDb leveldb;
-    run(leveldb, "leveldb", argv[1], count);
-    read(leveldb, argv[1], count);
+    if (argc == 4) {
+        fill_new(leveldb, "leveldb", "fill at random", folder + "/leveldb_fill", at_random(count, 1));
+        return 0;
+    }
+    run(leveldb, "leveldb", folder, count);
+    use_memtables(folder, count);
+    use_tables(folder, count);
+    use_batches(folder, count);
     Sqlite sqlite;
-    run(sqlite, "sqlite", argv[1], count);
+    run(sqlite, "sqlite", folder, count);
     Lmdb lmdb;
-    run(lmdb, "lmdb", argv[1], count);
+    run(lmdb, "lmdb", folder, count);
 }

@@ -13,15 +13,17 @@ pub const KEY_LEN: usize = 16;
 /// A value has 100 bytes.
 pub const VALUE_LEN: usize = 100;
 
-/// The records of the machine's own limits have 150 bytes; the batch of one insert has 163.
+/// The records of the machine's own limits have 150 bytes, as many as the digest of one insert's batch is taken of; the batch has 163.
 pub const RECORD_LEN: usize = 150;
 
-// The order of a random fill is drawn from this seed.
-const SEED: u128 = 0x0466_6a61_6c6c;
-
-/// The key of a number. Keys are in the order of their numbers.
+/// The key of a number, which is twice the number. Keys are in the order of their numbers.
 pub fn key_of(number: u64) -> [u8; KEY_LEN] {
-    u128::from(number).to_be_bytes()
+    (u128::from(number) * 2).to_be_bytes()
+}
+
+/// A key that no number has, right behind that of this one.
+pub fn key_behind(number: u64) -> [u8; KEY_LEN] {
+    (u128::from(number) * 2 + 1).to_be_bytes()
 }
 
 /// The value of a number, which begins with it.
@@ -31,6 +33,11 @@ pub fn value_of(number: u64) -> [u8; VALUE_LEN] {
     value
 }
 
+/// Whether these bytes are as many as a value has and begin as that of a number does.
+pub fn is_value_of(bytes: &[u8], number: u64) -> bool {
+    bytes.len() == VALUE_LEN && bytes.starts_with(&number.to_be_bytes())
+}
+
 /// The numbers below `count` in ascending order.
 pub fn in_order(alloc: Global, count: u64) -> Result<Vec<u64>, AllocError>
     ensures { IfOk result (λ numbers. numbers.items ≡ range_with_len 0 count) }
@@ -38,11 +45,11 @@ pub fn in_order(alloc: Global, count: u64) -> Result<Vec<u64>, AllocError>
     (0..count).collect(alloc)
 }
 
-/// The numbers below `count` in an order that is the same in each run.
-pub fn at_random(alloc: Global, count: u64) -> Result<Vec<u64>, AllocError>
+/// The numbers below `count` in an order that is drawn from this seed.
+pub fn at_random(alloc: Global, count: u64, seed: u128) -> Result<Vec<u64>, AllocError>
     ensures { IfOk result (λ numbers. IsPermutation (range_with_len 0 count) numbers.items) }
 {
     let mut numbers = in_order(alloc, count)?;
-    numbers.as_mut_slice().shuffle(&mut Pcg64Mcg::new(SEED));
+    numbers.as_mut_slice().shuffle(&mut Pcg64Mcg::new(seed));
     Ok(numbers)
 }

@@ -1,62 +1,44 @@
 //! All workloads, one after another.
 
 use crate::clock::Stopwatch;
-use crate::data::{at_random, in_order};
+use crate::database::{closed, flush, make_keyspaces, open};
+use crate::limits::{append_records, digest_records};
+use crate::places::Places;
+use crate::reads::{count_hits, count_misses, count_ranges, scan};
 use crate::report::Row;
-use crate::tables::{digest_blocks, look_up, opened, read_blocks, written};
-use crate::workload::{
-    append_records, closed, digest_records, fill, fill_each, fill_synced, holds, make_keyspace,
-    make_keyspaces, open,
-};
+use crate::rows::{Action, GROUPS, Group, Workload};
+use crate::writes::{insert_batches, insert_each, insert_synced, remove_each};
 use anyhow::{Result, bail};
 use fjall_base::Disk;
 use fjall_core::Core;
-use fjall_script::Place;
-use fjall_table::Table;
 use std::alloc::Global;
 use std::rt::Clock;
 use std::time::CpuClock;
 
-// So many writes are synced one by one at most.
-const SYNCED_WRITES: u64 = 500;
+// The engine's name in the table.
+const ENGINE: &str = "pothvilai";
 
-// So many keyspaces are made at most, and each gets so many pairs.
-const KEYSPACES: u64 = 1_000;
-
-const PAIRS_PER_KEYSPACE: u64 = 100;
-
-// The keyspace that a workload over a single one fills.
-const ITEMS: &str = "items";
-
-// So many keys are looked up in a table at most.
-const LOOK_UPS: usize = 20_000;
-
-/// A place for each workload that has a disk.
-#[derive(Drop)]
-pub struct Places<P: Place> {
-    pub order: P,
-    pub random: P,
-    pub sync: P,
-    pub keyspaces: P,
-    pub limits: P,
-}
-
-/// Runs every workload with this count, each over a place of its own. What was done is told on standard output, the
-/// same in each run, and the table of times on standard error.
-pub fn run<R: Print + Eprint + Clock + CpuClock, P: Place>(
+/// Runs the group of workloads of this name, or all but the one that has to be asked for, each over a place of its own. What
+/// was done is told on standard output, the same in each run, and the table of times on standard error.
+pub fn run<R: Print + Eprint + Clock + CpuClock, P: Places>(
     rt: &R,
     alloc: Global,
-    places: &Places<P>,
+    places: &P,
     count: u64,
+    name: Option<&str>,
 ) -> Result<()> {
     eprintln!(rt; "engine\tworkload\tcount\twall s\tprocessor s\toperations/s")?;
-    fill_in_order(rt, alloc, places.order.disk()?, count)?;
-    fill_at_random(rt, alloc, places.random.disk()?, count)?;
-    sync_each(rt, alloc, places.sync.disk()?, count.min(SYNCED_WRITES))?;
-    let many = (count / PAIRS_PER_KEYSPACE).min(KEYSPACES);
-    many_keyspaces(rt, alloc, places.keyspaces.disk()?, many)?;
-    tables(rt, alloc, count)?;
-    limits(rt, places.limits.disk()?, count)
+    let mut is_known = false;
+    for group in &GROUPS {
+        if group.is_asked_for(name) {
+            is_known = true;
+            run_group(rt, alloc, places.disk(group.name())?, *group, count)?;
+        }
+    }
+    if !is_known {
+        bail!("no group of workloads has this name");
+    }
+    Ok(())
 }
 
 // Prints a row of the table: the time since the watch was started.
@@ -77,117 +59,37 @@ fn tell<R: Eprint + Clock + CpuClock>(
     Ok(())
 }
 
-// Says what a core holds, once a keyspace's first and last pair were read back.
-fn check<R: Print, D: Disk>(
+// Runs a group's workloads over its disk.
+fn run_group<R: Print + Eprint + Clock + CpuClock, D: Disk + Drop>(
     rt: &R,
-    core: &mut Core<D>,
-    workload: &'static str,
-    id: u64,
-    numbers: &[u64],
+    alloc: Global,
+    disk: D,
+    group: Group,
+    count: u64,
 ) -> Result<()> {
-    for number in numbers.first().into_iter().chain(numbers.last()) {
-        if !holds(core, id, *number)? {
-            bail!("a pair is missing");
-        }
+    match group {
+        Group::Limits => limits(rt, disk, count),
+        _ => run_workloads(rt, alloc, disk, group, count),
     }
-    let (seqno, journal) = (core.visible_seqno(), core.journal_disk_space());
-    println!(rt; "{workload}: visible number {seqno}, journal {journal} bytes")?;
+}
+
+// Runs a group's workloads over a database.
+fn run_workloads<R: Print + Eprint + Clock + CpuClock, D: Disk + Drop>(
+    rt: &R,
+    alloc: Global,
+    disk: D,
+    group: Group,
+    count: u64,
+) -> Result<()> {
+    let mut core = open(alloc, disk)?;
+    let ids = make_each(rt, alloc, &mut core, group.keyspaces(count))?;
+    for workload in group.workloads() {
+        core = run_workload(rt, alloc, core, &ids, workload, count)?;
+    }
     Ok(())
 }
 
-// Fills a keyspace of its own, and answers its id.
-fn fill_items<R: Print + Eprint + Clock + CpuClock, D: Disk>(
-    rt: &R,
-    alloc: Global,
-    core: &mut Core<D>,
-    workload: &'static str,
-    numbers: &[u64],
-) -> Result<u64> {
-    let id = make_keyspace(alloc, core, ITEMS)?;
-    let watch = Stopwatch::start(rt)?;
-    fill(alloc, core, id, numbers)?;
-    tell(rt, "pothvilai", workload, numbers.len() as u64, &watch)?;
-    check(rt, core, workload, id, numbers)?;
-    Ok(id)
-}
-
-// Opens a database again, in which a keyspace has these pairs.
-fn reopen<R: Print + Eprint + Clock + CpuClock, D: Disk + Drop>(
-    rt: &R,
-    alloc: Global,
-    disk: D,
-    id: u64,
-    numbers: &[u64],
-) -> Result<()> {
-    let watch = Stopwatch::start(rt)?;
-    let mut core = open(alloc, disk)?;
-    tell(rt, "pothvilai", "reopen", numbers.len() as u64, &watch)?;
-    check(rt, &mut core, "reopen", id, numbers)
-}
-
-// Fills a new database, closes it and opens it again.
-fn fill_and_reopen<R: Print + Eprint + Clock + CpuClock, D: Disk + Drop>(
-    rt: &R,
-    alloc: Global,
-    disk: D,
-    workload: &'static str,
-    numbers: &[u64],
-) -> Result<()> {
-    let mut core = open(alloc, disk)?;
-    let id = fill_items(rt, alloc, &mut core, workload, numbers)?;
-    reopen(rt, alloc, closed(core)?, id, numbers)
-}
-
-// The keys come in ascending order.
-fn fill_in_order<R: Print + Eprint + Clock + CpuClock, D: Disk + Drop>(
-    rt: &R,
-    alloc: Global,
-    disk: D,
-    count: u64,
-) -> Result<()> {
-    let numbers = in_order(alloc, count)?;
-    fill_and_reopen(rt, alloc, disk, "fill in order", &numbers)
-}
-
-// The keys come in any order.
-fn fill_at_random<R: Print + Eprint + Clock + CpuClock, D: Disk + Drop>(
-    rt: &R,
-    alloc: Global,
-    disk: D,
-    count: u64,
-) -> Result<()> {
-    let numbers = at_random(alloc, count)?;
-    fill_and_reopen(rt, alloc, disk, "fill at random", &numbers)
-}
-
-// Writes a few pairs into a keyspace of its own, each synced before the next.
-fn sync_items<R: Print + Eprint + Clock + CpuClock, D: Disk>(
-    rt: &R,
-    alloc: Global,
-    core: &mut Core<D>,
-    numbers: &[u64],
-) -> Result<()> {
-    let id = make_keyspace(alloc, core, ITEMS)?;
-    let watch = Stopwatch::start(rt)?;
-    fill_synced(alloc, core, id, numbers)?;
-    let count = numbers.len() as u64;
-    tell(rt, "pothvilai", "one sync a write", count, &watch)?;
-    check(rt, core, "one sync a write", id, numbers)
-}
-
-// Writes a few pairs to a new database, each synced before the next.
-fn sync_each<R: Print + Eprint + Clock + CpuClock, D: Disk + Drop>(
-    rt: &R,
-    alloc: Global,
-    disk: D,
-    count: u64,
-) -> Result<()> {
-    let numbers = in_order(alloc, count)?;
-    let mut core = open(alloc, disk)?;
-    sync_items(rt, alloc, &mut core, &numbers)
-}
-
-// Makes keyspaces, and answers their ids.
+// Makes keyspaces, and answers their ids. The making of a single one is no row of the table.
 fn make_each<R: Eprint + Clock + CpuClock, D: Disk>(
     rt: &R,
     alloc: Global,
@@ -196,131 +98,119 @@ fn make_each<R: Eprint + Clock + CpuClock, D: Disk>(
 ) -> Result<Vec<u64>> {
     let watch = Stopwatch::start(rt)?;
     let ids = make_keyspaces(alloc, core, count)?;
-    tell(rt, "pothvilai", "make keyspaces", count, &watch)?;
+    if count > 1 {
+        tell(rt, ENGINE, "make keyspaces", count, &watch)?;
+    }
     Ok(ids)
 }
 
-// Gives each keyspace its pairs.
-fn fill_keyspaces<R: Eprint + Clock + CpuClock, D: Disk>(
+// Runs a workload over the keyspaces of a database, and says what it holds then.
+fn run_workload<R: Print + Eprint + Clock + CpuClock, D: Disk + Drop>(
     rt: &R,
+    alloc: Global,
+    core: Core<D>,
+    ids: &[u64],
+    workload: &Workload,
+    count: u64,
+) -> Result<Core<D>> {
+    let Workload(name, action, choice) = *workload;
+    let numbers = choice.numbers(alloc, count)?;
+    let count = count_all(ids, &numbers);
+    let (core, done) = match action {
+        Action::Reopen => (reopen(rt, alloc, core, name, count)?, count),
+        _ => serve_all(rt, alloc, core, ids, workload, &numbers)?,
+    };
+    say(rt, &core, ids, name, done)?;
+    Ok(core)
+}
+
+// How many operations there are where each number has one in each keyspace.
+fn count_all(ids: &[u64], numbers: &[u64]) -> u64 {
+    ids.len().saturating_mul(numbers.len()) as u64
+}
+
+// Opens a database again.
+fn reopen<R: Eprint + Clock + CpuClock, D: Disk + Drop>(
+    rt: &R,
+    alloc: Global,
+    core: Core<D>,
+    name: &'static str,
+    count: u64,
+) -> Result<Core<D>> {
+    let disk = closed(core)?;
+    let watch = Stopwatch::start(rt)?;
+    let core = open(alloc, disk)?;
+    tell(rt, ENGINE, name, count, &watch)?;
+    Ok(core)
+}
+
+// Does the same to each keyspace, and says how many operations were done, or how many pairs were found.
+fn serve_all<R: Eprint + Clock + CpuClock, D: Disk + Drop>(
+    rt: &R,
+    alloc: Global,
+    core: Core<D>,
+    ids: &[u64],
+    workload: &Workload,
+    numbers: &[u64],
+) -> Result<(Core<D>, u64)> {
+    let Workload(name, action, _) = *workload;
+    let mut core = core;
+    let mut done = 0u64;
+    let watch = Stopwatch::start(rt)?;
+    for id in ids {
+        done = done.saturating_add(serve(alloc, &mut core, *id, action, numbers)?);
+    }
+    let count = count_all(ids, numbers);
+    tell(rt, ENGINE, name, count, &watch)?;
+    if done < count {
+        bail!("{name}: a pair is missing");
+    }
+    Ok((core, done))
+}
+
+// Does something to a keyspace, and says how many operations were done, or how many pairs were found.
+fn serve<D: Disk>(
     alloc: Global,
     core: &mut Core<D>,
-    ids: &[u64],
+    id: u64,
+    action: Action,
     numbers: &[u64],
-) -> Result<()> {
-    let pairs = ids.len().saturating_mul(numbers.len());
-    let watch = Stopwatch::start(rt)?;
-    fill_each(alloc, core, ids, numbers)?;
-    tell(rt, "pothvilai", "fill keyspaces", pairs as u64, &watch)
-}
-
-// Opens the keyspaces again, and reads of the last one.
-fn reopen_keyspaces<R: Print + Eprint + Clock + CpuClock, D: Disk + Drop>(
-    rt: &R,
-    alloc: Global,
-    disk: D,
-    ids: &[u64],
-    numbers: &[u64],
-) -> Result<()> {
-    let pairs = ids.len().saturating_mul(numbers.len());
-    let watch = Stopwatch::start(rt)?;
-    let mut core = open(alloc, disk)?;
-    tell(rt, "pothvilai", "reopen keyspaces", pairs as u64, &watch)?;
-    match ids.last() {
-        Some(id) => check(rt, &mut core, "reopen keyspaces", *id, numbers),
-        None => Ok(()),
+) -> Result<u64> {
+    match action {
+        Action::ReadHit => return Ok(count_hits(core, id, numbers)?),
+        Action::ReadMiss => return Ok(count_misses(core, id, numbers)?),
+        Action::ScanForward => return Ok(scan(core, id, false)?),
+        Action::ScanBack => return Ok(scan(core, id, true)?),
+        Action::ReadRanges => return Ok(count_ranges(alloc, core, id, numbers)?),
+        Action::Insert => insert_each(alloc, core, id, numbers)?,
+        Action::InsertSynced => insert_synced(alloc, core, id, numbers)?,
+        Action::InsertBatches => insert_batches(alloc, core, id, numbers)?,
+        Action::Remove => remove_each(alloc, core, id, numbers)?,
+        Action::Flush => flush(alloc, core, id)?,
+        Action::Reopen => {}
     }
+    Ok(numbers.len() as u64)
 }
 
-// Makes keyspaces, gives each its pairs, closes the database and opens it again.
-fn many_keyspaces<R: Print + Eprint + Clock + CpuClock, D: Disk + Drop>(
+// Says what a workload did and what the core holds then.
+fn say<R: Print, D: Disk>(
     rt: &R,
-    alloc: Global,
-    disk: D,
-    count: u64,
+    core: &Core<D>,
+    ids: &[u64],
+    workload: &'static str,
+    done: u64,
 ) -> Result<()> {
-    let numbers = in_order(alloc, PAIRS_PER_KEYSPACE)?;
-    let mut core = open(alloc, disk)?;
-    let ids = make_each(rt, alloc, &mut core, count)?;
-    fill_keyspaces(rt, alloc, &mut core, &ids, &numbers)?;
-    reopen_keyspaces(rt, alloc, closed(core)?, &ids, &numbers)
-}
-
-// Reads the blocks of a table, and says how many entries they have.
-fn read_table<R: Eprint + Clock + CpuClock>(rt: &R, table: &Table<'_>) -> Result<usize> {
-    let watch = Stopwatch::start(rt)?;
-    let entries = read_blocks(table)?;
-    let blocks = table.block_count() as u64;
-    tell(rt, "pothvilai", "read a block", blocks, &watch)?;
-    Ok(entries)
-}
-
-// Looks keys up in a table, and says how many versions were found.
-fn look_up_keys<R: Eprint + Clock + CpuClock>(
-    rt: &R,
-    table: &Table<'_>,
-    numbers: &[u64],
-) -> Result<usize> {
-    let (few, _) = numbers.split_at(numbers.len().min(LOOK_UPS));
-    let watch = Stopwatch::start(rt)?;
-    let found = look_up(table, few)?;
-    let count = few.len() as u64;
-    tell(rt, "pothvilai", "look up in a table", count, &watch)?;
-    Ok(found)
-}
-
-// Takes the digests of as many bytes as the blocks of a table have, and says what the last one begins with.
-fn digest_table<R: Eprint + Clock + CpuClock>(rt: &R, blocks: usize) -> Result<u8> {
-    let watch = Stopwatch::start(rt)?;
-    let last = digest_blocks(blocks);
-    tell(
-        rt,
-        "sha2 alone",
-        "digest 4,096 bytes",
-        blocks as u64,
-        &watch,
-    )?;
-    Ok(last)
-}
-
-// Reads the blocks of a table, and looks its keys up.
-fn use_table<R: Print + Eprint + Clock + CpuClock>(
-    rt: &R,
-    len: usize,
-    table: &Table<'_>,
-    numbers: &[u64],
-) -> Result<()> {
-    let blocks = table.block_count();
-    let entries = read_table(rt, table)?;
-    let found = look_up_keys(rt, table, numbers)?;
-    let last = digest_table(rt, blocks)?;
+    let mut versions = 0u64;
+    let mut tables = 0u64;
+    for id in ids {
+        versions = versions.saturating_add(core.approximate_len(*id));
+        tables = tables.saturating_add(core.disk_space(Some(*id)));
+    }
+    let (seqno, journal) = (core.visible_seqno(), core.journal_disk_space());
     println!(rt;
-        "table: {len} bytes, {blocks} blocks, {entries} entries, {found} found, the last digest begins with {last}"
+        "{workload}: {done}, visible number {seqno}, {versions} versions, journal {journal} bytes, tables {tables} bytes"
     )?;
     Ok(())
-}
-
-// Writes a table in memory; there is none of no pairs.
-fn write_table<R: Eprint + Clock + CpuClock>(
-    rt: &R,
-    alloc: Global,
-    count: u64,
-) -> Result<Option<Vec<u8>>> {
-    let watch = Stopwatch::start(rt)?;
-    let bytes = written(alloc, count)?;
-    if bytes.is_some() {
-        tell(rt, "pothvilai", "write a table", count, &watch)?;
-    }
-    Ok(bytes)
-}
-
-// Writes a table in memory, reads its blocks, and looks its keys up.
-fn tables<R: Print + Eprint + Clock + CpuClock>(rt: &R, alloc: Global, count: u64) -> Result<()> {
-    let numbers = at_random(alloc, count)?;
-    match write_table(rt, alloc, count)? {
-        Some(bytes) => use_table(rt, bytes.len(), &opened(alloc, &bytes, count)?, &numbers),
-        None => Ok(()),
-    }
 }
 
 // Appends records to a file.
