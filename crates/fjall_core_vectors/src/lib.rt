@@ -24,6 +24,10 @@ mod folders;
 #[cfg(test)]
 mod ingesting;
 #[cfg(test)]
+mod ingestion_journals;
+#[cfg(test)]
+mod ingestion_refusals;
+#[cfg(test)]
 mod ingestions;
 #[cfg(test)]
 mod journals;
