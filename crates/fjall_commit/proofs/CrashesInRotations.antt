@@ -17,7 +17,8 @@ use Rattle.fjall_journal.specs.Writer.{IsIo, Journal, appending, making_file, ma
 use Rattle.fjall_journal.specs.declared.persist_mode.PersistMode.TheVariants.{SyncAll}
 use Rattle.fjall_manager.specs.Journals.{Sealed}
 use Rattle.fjall_manager.specs.Marks.{Marks}
-use Rattle.fjall_manager.specs.Rotations.{RotationTook, empty_journal, making_safe, rotating, sealed_of}
+use Rattle.fjall_journal.specs.Rotations.{RotationTook, empty_journal, making_safe, rotating}
+use Rattle.fjall_manager.specs.Rotations.{sealed_of}
 use Rattle.fjall_recovery.specs.Halves.{HasRoot}
 use Rattle.fjall_recovery.specs.Journals as recovered
 use Rattle.fjall_recovery.specs.Places.{Journaling, LiesInRoot, journals_with}

@@ -13,7 +13,7 @@ use Rattle.fjall_journal.specs.declared.persist_mode.PersistMode.{PersistMode}
 use Rattle.fjall_journal.specs.Writer.{BatchTook, Journal, PersistTook, appending, batch_steps, making_file, making_synced, persist_steps}
 use Rattle.fjall_home.proofs.Naming.{other_folder}
 use Rattle.fjall_manager.specs.Journals.{Sealed}
-use Rattle.fjall_manager.specs.Rotations.{RotationTook, making_safe, rotating}
+use Rattle.fjall_journal.specs.Rotations.{RotationTook, making_safe, rotating}
 use Rattle.fjall_recovery.specs.Halves.{is_of_keyspaces}
 use Rattle.fjall_recovery.proofs.Named.{under_within}
 use Rattle.fjall_recovery.proofs.Roots.{all_front}

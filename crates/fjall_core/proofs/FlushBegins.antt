@@ -16,7 +16,7 @@ use Rattle.fjall_jobs.specs.Tasks.{Task}
 use Rattle.fjall_journal.specs.declared.persist_mode.PersistMode.TheVariants.{SyncAll}
 use Rattle.fjall_journal.specs.Writer.{IsIo, Journal, PersistTook, counted, persist_steps, written_out}
 use Rattle.fjall_lsm.specs.Jobs.{IsFlushing, flush_of}
-use Rattle.fjall_manager.specs.Rotations.{RotationTook, empty_journal, rotating}
+use Rattle.fjall_journal.specs.Rotations.{RotationTook, empty_journal, rotating}
 use Rattle.fjall_parts.specs.Parts as part
 use Rattle.fjall_commit.specs.Journaling.{ForWriting, IsWriting, KeepsHomes, KeepsKeyspaces, LeavesRoot, after_persist}
 use Rattle.fjall_commit.specs.Rotations.{ForRotating, KeepsSyncedKeyspaces, LeavesRotation, rotated}

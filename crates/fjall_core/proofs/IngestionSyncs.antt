@@ -10,7 +10,7 @@ use Rattle.fjall_commit.specs.Journaling.{KeepsHomes}
 use Rattle.fjall_files.specs.Tidy.{IsTidy, StaysTidy}
 use Rattle.fjall_journal.specs.Writer.{Journal, persist_steps, written_out}
 use Rattle.fjall_journal.specs.declared.persist_mode.PersistMode.TheVariants.{SyncAll}
-use Rattle.fjall_manager.specs.Rotations.{RotationTook, empty_journal, rotating}
+use Rattle.fjall_journal.specs.Rotations.{RotationTook, empty_journal, rotating}
 use Rattle.fjall_recovery.specs.Halves.{is_of_keyspaces}
 use Rattle.fjall_state.specs.Machine.{State}
 use Rattle.fjall_state.specs.Machine as machine

@@ -11,7 +11,8 @@ use Rattle.fjall_files.specs.Names.{Journal as JournalFile, journal_name}
 use Rattle.fjall_files.specs.Tidy.{IsTidy}
 use Rattle.fjall_journal.specs.Writer.{Journal, written_out}
 use Rattle.fjall_manager.specs.Journals.{Journals, next_journal}
-use Rattle.fjall_manager.specs.Rotations.{RotationTook, sealed_of}
+use Rattle.fjall_journal.specs.Rotations.{RotationTook}
+use Rattle.fjall_manager.specs.Rotations.{sealed_of}
 use Rattle.fjall_recovery.specs.Folders.{number_of}
 use Rattle.fjall_recovery.specs.Places.{Journaling, contents_with}
 use Rattle.fjall_commit.specs.Journaling.{IsWriting}

@@ -43,7 +43,7 @@ use Rattle.fjall_repair.specs.Opened.{ComesBack}
 use Rattle.fjall_commit.specs.Removals.{RemovesOwn}
 use Rattle.fjall_manager.specs.Evictions.{StoppedBehind, evicting}
 use Rattle.fjall_manager.specs.Journals.{Sealed, bytes_of, names_of, staying, waited_for}
-use Rattle.fjall_manager.specs.Rotations.{RotationTook, empty_journal, rotating}
+use Rattle.fjall_journal.specs.Rotations.{RotationTook, empty_journal, rotating}
 use Rattle.fjall_trees.specs.Tables.{AreSameTrees, shape_in}
 use Rattle.fjall_journal.specs.Changes.{Change, Items, Emptied, change_text}
 use Rattle.fjall_history.specs.declared.job.JobId.{JobId}

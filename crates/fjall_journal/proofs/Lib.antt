@@ -5,5 +5,6 @@ pub mod Batches
 pub mod Loops
 pub mod Cuts
 pub mod Writing
+pub mod Rotating
 pub mod Readings
 pub mod Wholes

@@ -6,3 +6,4 @@ pub mod Changes
 pub mod Steps
 pub mod Reader
 pub mod Writer
+pub mod Rotations

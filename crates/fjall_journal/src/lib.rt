@@ -13,6 +13,7 @@ mod op;
 mod parsing;
 mod persist_mode;
 mod recovery_mode;
+mod rotation;
 mod writer;
 
 pub use batch::{Batch, ReadBatchItem, Tail};

@@ -12,7 +12,7 @@ use crate::batch_text::{put_batch, put_emptying, put_items};
 use crate::entry::ValueType;
 use crate::op::{BatchItem, check_items};
 use crate::persist_mode::PersistMode;
-use fjall_base::{Disk, Error, Result};
+use fjall_base::{CompressionType, Disk, Error, Result};
 use std::alloc::Global;
 use std::marker::Model;
 
@@ -65,6 +65,16 @@ impl Writer {
             buffer: Vec::new(alloc),
             len,
         })
+    }
+
+    /// Takes how the values of later batches are to be stored: as they are, which is the only kind that there is. So the
+    /// writer stays as it is, and nothing that it writes is another.
+    pub fn set_compression(&mut self, compression: CompressionType)
+        ensures { self.new ≡ self.old }
+    {
+        match compression {
+            CompressionType::None => {}
+        }
     }
 
     /// The length that the file has once all is written out, at most the greatest `u64`.

@@ -1,6 +1,6 @@
 -- One eviction after another.
 use Rattle.std.proofs.Common.{◌≡◌, ◌⊎◌, inl, inr, ℕ, ◌≤◌, Bool, true, IsTrue, List, [], ◌∷◌, ◌++◌, refl, sym, ap, ◌∙◌, subst, append_assoc, arith}
-use Rattle.std.specs.Prelude.{◌&&◌, Result, Ok, Err, OnOk, OnErr}
+use Rattle.std.specs.Prelude.{◌&&◌, Result, Ok, Err, OnErr}
 use Rattle.std.specs.List.{list_all}
 use Rattle.std.specs.Str.{bytes_eq}
 use Rattle.std.proofs.lemmas.List.{append-nil}
@@ -12,24 +12,10 @@ use Rattle.fjall_base.proofs.Names.{bool_cases}
 use Rattle.fjall_base.proofs.States.{put-same, put-other, settle-in, settle-out}
 use Rattle.fjall_base.proofs.Names.{same}
 use Rattle.fjall_files.specs.Names.{journal_name}
-use Rattle.fjall_journal.proofs.Writing.{took_then, took_none}
+use Rattle.fjall_journal.proofs.Writing.{took_none, took_then}
 use Rattle.fjall_manager.specs.Journals.{Sealed, may_go, going, staying, names_of}
 use Rattle.fjall_manager.specs.Evictions.{HasNoFolders, StoppedBehind, TookEvictions, evicting, evicting_one}
 use Rattle.fjall_manager.proofs.Going.{Stops, going_on, staying_on, none_goes, all_stay}
-
--- ---- results
-
-pub ok_then : (r : Result Unit Error) (old mid new : Meaning) (xs ys : List Step) → Took old mid xs → OnOk r (Took mid new ys) → OnOk r (Took old new (xs ++ ys))
-ok_then (Ok v) old mid new xs ys first then = took_then old mid new xs ys first then
-ok_then (Err e) old mid new xs ys first then = tt
-
-pub err_then : (r : Result Unit Error) (old mid new : Meaning) (xs : List Step) → Took old mid xs → OnErr r (Took mid new []) → OnErr r (Took old new xs)
-err_then (Ok v) old mid new xs first then = tt
-err_then (Err e) old mid new xs first then = took_none old mid new xs first then
-
-pub err_second : (r : Result Unit Error) (P Q : Type 0) → OnErr r Q → OnErr r (P ⊎ Q)
-err_second (Ok v) P Q q = tt
-err_second (Err e) P Q q = inr q
 
 -- ---- steps
 

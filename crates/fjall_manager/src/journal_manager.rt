@@ -7,11 +7,11 @@ ghost use Rattle.fjall_files.specs.Names.{journal_name};
 ghost use Rattle.fjall_journal.specs.Writer.{IsIo, written_out};
 ghost use Rattle.fjall_manager.specs.Evictions.{HasNoFolders, StoppedBehind, TookEvictions, evicting};
 ghost use Rattle.fjall_manager.specs.Journals.{Sealed, bytes_of, going, names_of, staying, waited_for};
-ghost use Rattle.fjall_manager.specs.Rotations.{RotationTook, empty_journal, rotating, sealed_of};
+ghost use Rattle.fjall_journal.specs.Rotations.{RotationTook, empty_journal, rotating};
+ghost use Rattle.fjall_manager.specs.Rotations.{sealed_of};
 
 use crate::eviction::evict;
 use crate::flushed::Flushed;
-use crate::rotation::rotate;
 use crate::sealed_journal::SealedJournal;
 use crate::watermarks::Watermarks;
 use fjall_base::{Disk, Error, Result};
@@ -180,7 +180,7 @@ impl JournalManager {
         let begun = Writer::from_file(alloc, &next_name, 0)?;
         self.journals.reserve(1)?;
         let len = writer.pos();
-        rotate(disk, writer, &next_name)?;
+        writer.rotate(disk, &next_name)?;
         let watermarks = mem::replace(watermarks, Watermarks::new(alloc));
         self.journals
             .push_reserved(SealedJournal::with_name(old_name, *id, len, watermarks));

@@ -6,7 +6,6 @@ mod eviction;
 mod flushed;
 mod journal_manager;
 mod laws;
-mod rotation;
 mod sealed_journal;
 mod watermarks;
 

@@ -5,7 +5,7 @@ ghost use Rattle.fjall_base.specs.Disk.{HasCause, IsNoFolder, LeavesOnly, Took, 
 ghost use Rattle.fjall_files.specs.Names.{journal_name};
 ghost use Rattle.fjall_files.specs.Tidy.{StaysTidy};
 ghost use Rattle.fjall_journal.specs.Writer.{IsIo, written_out};
-ghost use Rattle.fjall_manager.specs.Rotations.{RotationTook, empty_journal, rotating};
+ghost use Rattle.fjall_journal.specs.Rotations.{RotationTook, empty_journal, rotating};
 ghost use Rattle.fjall_commit.specs.Journaling.{IsWriting};
 ghost use Rattle.fjall_commit.specs.Rotations.{ForRotating, KeepsSyncedKeyspaces, LeavesRotation, rotated};
 ghost use Rattle.fjall_state.specs.Remembered.{journal_rotated};

@@ -1,7 +1,7 @@
 use Rattle.std.proofs.Common.{◌≡◌, ◌+◌}
 use Rattle.fjall_base.specs.Disk.{state_in}
 use Rattle.fjall_files.specs.Names.{journal_name}
-use Rattle.fjall_manager.specs.Rotations.{empty_journal}
+use Rattle.fjall_journal.specs.Rotations.{empty_journal}
 use Rattle.fjall_commit.proofs.CrashesInRotations.{came_so_far, lies_rotated, rotation_keeps, rotation_leaves, stays_rotated, told_rotated}
 use Rattle.fjall_commit.proofs.JournalFile.{writing_file}
 use Rattle.fjall_commit.proofs.Results.{on_ok}

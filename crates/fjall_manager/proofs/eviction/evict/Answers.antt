@@ -1,6 +1,6 @@
 use Rattle.std.proofs.Common.{[], ◌∷◌}
 use Rattle.fjall_base.specs.Disk.{Meaning, SyncFolder, Took, removing, state_in}
-use Rattle.fjall_manager.proofs.Evicting.{err_second, err_then, ok_then}
+use Rattle.fjall_journal.proofs.Rotating.{err_second, err_then, ok_then}
 use Rattle.fjall_manager.proofs.eviction.evict.Goals as goal
 
 pub returns-clause-took : goal.returns-clause-took

@@ -2,9 +2,8 @@ use Rattle.std.proofs.Common.{[], ◌∷◌, ◌⊎◌}
 use Rattle.fjall_base.specs.Disk.{Meaning, Sync, SyncFolder, Took}
 use Rattle.fjall_journal.specs.Writer.{making_file, making_synced}
 use Rattle.fjall_journal.proofs.Writing.{took_then}
-use Rattle.fjall_manager.proofs.Evicting.{err_second, err_then, ok_then}
-use Rattle.fjall_manager.proofs.Rotating.{free_made}
-use Rattle.fjall_manager.proofs.rotation.make_safe.Goals as goal
+use Rattle.fjall_journal.proofs.Rotating.{err_second, err_then, free_made, ok_then}
+use Rattle.fjall_journal.proofs.rotation.make_safe.Goals as goal
 
 pub returns-clause-took : goal.returns-clause-took
 returns-clause-took g c = λ h.
