@@ -5,9 +5,8 @@ use Rattle.std.specs.FinMap.{empty, get}
 use Rattle.fjall_base.specs.Pairs.{Pairs}
 use Rattle.fjall_base.specs.Store.{Clear, Command, Store, fold}
 use Rattle.fjall_journal.specs.Batches.{Shown}
-use Rattle.fjall_versions.specs.declared.version.Version.{Version}
 use Rattle.fjall_versions.specs.Replays.{item_of, writing}
-use Rattle.fjall_versions.specs.Versions.{command_of, version_of}
+use Rattle.fjall_versions.specs.Versions.{Version, command_of, version_of}
 use Rattle.fjall_versions.proofs.Behind.{slot_step}
 use Rattle.fjall_versions.proofs.Replaying.{among, clears_at, items_make}
 use Rattle.fjall_versions.proofs.Slots.{SameButMaps, clears_maps, fold-append, slot_after, slot_at, slot-filter, writes_maps}

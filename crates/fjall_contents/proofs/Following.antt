@@ -11,9 +11,8 @@ use Rattle.fjall_base.specs.Store.{Store, fold}
 use Rattle.fjall_journal.specs.Batches.{Shown}
 use Rattle.fjall_meta.specs.declared.living.LivingKeyspace.{LivingKeyspace}
 use Rattle.fjall_meta.specs.Keyspaces.{Keyspaces, keyspace_at}
-use Rattle.fjall_versions.specs.declared.version.Version.{Version}
 use Rattle.fjall_versions.specs.Replays.{bare, commands_of, counts, fault_of, first_fault, journal_commands, least_after, store_in}
-use Rattle.fjall_versions.specs.Versions.{version_of}
+use Rattle.fjall_versions.specs.Versions.{Version, version_of}
 use Rattle.fjall_versions.specs.Views.{clear_in, entries_in}
 use Rattle.fjall_versions.proofs.Behind.{slot_step}
 use Rattle.fjall_versions.proofs.Faults.{first_fault-append}

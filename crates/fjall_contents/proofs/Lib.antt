@@ -3,5 +3,3 @@ pub mod Commanding
 pub mod Following
 pub mod Keyspacing
 pub mod Held
-pub mod Loaded
-pub mod Adding

@@ -5,14 +5,10 @@ ghost use Rattle.std.specs.FinMap.{get};
 ghost use Rattle.fjall_base.specs.Pairs.{Bytes};
 ghost use Rattle.fjall_base.specs.Store.{Create, Delete, apply, fold, kept, map_at};
 ghost use Rattle.fjall_contents.specs.Contents.{AreWithin, IsWithin, Stored, clears_held, commands_beyond, counts_beyond, is_beyond, journal_beyond, map_held, nothing_stored, store_held, versions_held};
-ghost use Rattle.fjall_contents.specs.Memory.{AreLoaded, versions_beyond};
 ghost use Rattle.fjall_journal.specs.Batches.{Shown};
 ghost use Rattle.fjall_meta.specs.declared.living.LivingKeyspace.{LivingKeyspace};
 ghost use Rattle.fjall_meta.specs.Keyspaces.{AreKeyspaces, Keyspaces, keyspace_at, with_keyspace, without_keyspace};
-ghost use Rattle.fjall_table.specs.Blocks.{Entry};
-ghost use Rattle.fjall_versions.specs.declared.version.Version.{Version};
 ghost use Rattle.fjall_versions.specs.Replays.{commands_of, first_fault, journal_commands, option_pairs, store_in};
-ghost use Rattle.fjall_versions.specs.Versions.{store_of};
 ghost use Rattle.fjall_views.specs.Views.{value_at};
 
 /// Within a persisted number is what is numbered at most it. Where there is none, nothing is.
@@ -89,12 +85,4 @@ pub fn stored_batches_may_go()
     ensures { (s : Keyspaces) (stored : ℕ → Stored) (front behind : List Shown)
         → All (λ b. All (λ k. counts_beyond s stored b.number k.id ≡ false) s.living) front
         → store_held s stored (front ++ behind) ≡ store_held s stored behind }
-{}
-
-/// Where memory holds what is stored, and then the batches are replayed beyond it, the versions in memory stand for the
-/// store that keyspaces, files and batches stand for.
-pub fn memory_stands_for_the_store()
-    ensures { (s : Keyspaces) (stored : ℕ → Stored) (versions : List Version) (least : ℕ) (batches : List Shown)
-        → AreWithin s stored → AreLoaded s stored versions → first_fault least batches ≡ None
-        → store_of s (versions_beyond s stored versions batches) ≡ store_held s stored batches }
 {}

@@ -2,14 +2,9 @@
 #![tactic(auto)]
 
 mod laws;
-mod loading;
-mod replaying;
 
-pub use fjall_versions::Persisted;
 pub use laws::{
     a_keyspace_reads, batches_follow_one_another, creation_is_a_command, deletion_is_a_command,
-    memory_stands_for_the_store, nothing_to_keep, one_more_batch, stored_batches_may_go,
-    views_alone_matter, what_is_stored_has_its_number, without_tables_the_journals_tell_all,
+    nothing_to_keep, one_more_batch, stored_batches_may_go, views_alone_matter,
+    what_is_stored_has_its_number, without_tables_the_journals_tell_all,
 };
-pub use loading::load;
-pub use replaying::replay_beyond;

@@ -1,36 +1,31 @@
 -- What stays true of memory whatever calls are served; so it does of a flush that it isn't out, once its number was given out.
-use Rattle.std.proofs.Common.{◌≡◌, ◌≢◌, ℕ, ◌<◌, ◌≤◌, ◌==◌, Bool, true, false, cond, List, Option, None, Some, unwrap_or, refl, sym, ap, subst, ◌∙◌, arith}
+use Rattle.std.proofs.Common.{◌≡◌, ◌≢◌, ℕ, ◌<◌, ◌≤◌, ◌==◌, Bool, true, false, List, Option, None, Some, unwrap_or, refl, sym, ap, subst, ◌∙◌, arith}
 use Rattle.std.proofs.lemmas.Bool.{true≢false}
-use Rattle.std.specs.Option.{option_map, option_or}
+use Rattle.std.specs.Option.{option_map}
 use Rattle.fjall_base.specs.Pairs.{Bytes}
 use Rattle.fjall_blocks.specs.Readers.{Reader}
 use Rattle.fjall_history.specs.declared.job.JobId.{JobId}
 use Rattle.fjall_history.specs.Tickets.{Tickets}
 use Rattle.fjall_jobs.specs.Tasks.{Task}
 use Rattle.fjall_journal.specs.Changes.{Change, Emptied, Items}
-use Rattle.fjall_journal.specs.Ops.{BatchItem}
 use Rattle.fjall_lsm.specs.Ingestions.{ingested, stale}
 use Rattle.fjall_lsm.specs.Jobs.{flush_begun, flush_dropped, flush_finished, is_flush_out}
-use Rattle.fjall_lsm.specs.Puts.{bare_tree, put_all}
+use Rattle.fjall_lsm.specs.Puts.{bare_tree}
 use Rattle.fjall_lsm.specs.Trees.{Flushing, Shape, emptied, sealed_off}
 use Rattle.fjall_manager.specs.Journals.{Sealed}
-use Rattle.fjall_maps.proofs.Changed.{tree_with}
 use Rattle.fjall_state.specs.Ingesting.{with_ingestion}
 use Rattle.fjall_state.specs.Machine.{is_flushing}
 use Rattle.fjall_state.specs.Remembered.{KnowsTask, Remembered}
 use Rattle.fjall_state.specs.Remembered as memory
 use Rattle.fjall_state.proofs.Knowing.{after_begun, after_change, after_creation, after_deletion, after_dropped, after_evicted, after_fault, after_finished, after_ingestion, after_journal, after_read, after_released, after_retained}
-use Rattle.fjall_state.proofs.Knowing.{after_rotation, after_tickets}
+use Rattle.fjall_state.proofs.Knowing.{after_rotation, after_tickets, flush_planted, flush_pushed}
 use Rattle.fjall_state.proofs.Lawful.{after_release, itself}
 use Rattle.fjall_state.proofs.SameTrees.{same_in}
 use Rattle.fjall_tree.specs.Records.{Fields}
 use Rattle.fjall_trees.specs.Forests.{Forest, altered_at, tree_at, without}
 use Rattle.fjall_trees.specs.Tables.{AreSameTrees, shape_in}
-use Rattle.fjall_trees.specs.Writes.{entries_of, pushed, with_tree}
-use Rattle.fjall_trees.proofs.Changing.{put_all_keeps}
 use Rattle.fjall_trees.proofs.Others.{altered_here, dropped_here}
 use Rattle.fjall_trees.proofs.Outstanding.{other_shape, shape_left}
-use Rattle.fjall_trees.proofs.Places.{tree_each}
 use Rattle.fjall_versions.proofs.Slots.{same_id}
 
 -- Whatever is done to memory, this stays true of it.
@@ -76,24 +71,6 @@ task_stays task = record {
 -- its number was given out, and it isn't out of its keyspace's tree
 abbrev pub IsGone : JobId → Remembered → Type 0
 IsGone job m = (job.number < m.next_job) × (is_flushing m.trees job ≡ true → ⊥)
-
-flush_pushed : (n : ℕ) (items : List BatchItem) (id : ℕ) (trees : Forest) → (shape_in id (pushed n items trees)).flush ≡ (shape_in id trees).flush
-unfolding pushed
-flush_pushed n items id trees =
-    ap (λ (o : Option Shape). (unwrap_or o (bare_tree 0)).flush) (tree_each (λ k. put_all (entries_of k n items)) id trees) ∙ by (tree_at id trees)
-  where
-    by : (o : Option Shape) → (unwrap_or (option_map (put_all (entries_of id n items)) o) (bare_tree 0)).flush ≡ (unwrap_or o (bare_tree 0)).flush
-    by None = refl
-    by (Some shape) = put_all_keeps (λ (s : Shape). s.flush ≡ shape.flush) (λ v s same. same) (entries_of id n items) shape refl
-
-flush_planted : (id other from : ℕ) (trees : Forest) → (shape_in id (with_tree other from trees)).flush ≡ (shape_in id trees).flush
-flush_planted id other from trees =
-    ap (λ (o : Option Shape). (unwrap_or o (bare_tree 0)).flush) (tree_with id trees (record { id = other; shape = bare_tree from })) ∙ by (tree_at id trees) (other == id)
-  where
-    by : (o : Option Shape) (b : Bool) → (unwrap_or (option_or o (cond b (Some (bare_tree from)) None)) (bare_tree 0)).flush ≡ (unwrap_or o (bare_tree 0)).flush
-    by (Some shape) b = refl
-    by None true = refl
-    by None false = refl
 
 -- where the flush that is out is the same
 gone_on : (m n : Remembered) (job : JobId) → m.next_job ≤ n.next_job → (shape_in job.keyspace_id n.trees).flush ≡ (shape_in job.keyspace_id m.trees).flush → IsGone job m → IsGone job n

@@ -12,8 +12,8 @@ ghost use Rattle.fjall_core.specs.Standing.{StandsFor, Owes, Serves, names_reply
 
 use crate::engine::Core;
 use fjall_base::{Disk, KvPair, Result, Slice, UserValue};
+use fjall_reading::KeyRange;
 use fjall_state::View;
-use fjall_versions::KeyRange;
 
 impl<D: Disk> Core<D> {
     /// The value that a key of a keyspace has in a view. A key that no write can have has none.

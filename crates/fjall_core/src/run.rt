@@ -19,8 +19,8 @@ use fjall_base::{Disk, Error, Refused, Result, Slice, UserKey};
 use fjall_history::JobId;
 use fjall_jobs::{FlushJob, FlushMade};
 use fjall_options::KeyspaceCreateOptions;
+use fjall_reading::KeyRange;
 use fjall_state::{Call, Reply, View};
-use fjall_versions::KeyRange;
 
 // Whether it is the job of this name.
 fn is_named(kept: &FlushJob, job: JobId) -> bool

@@ -59,7 +59,7 @@ end_before (h ∷ g ∷ parts) left active held apart =
     All-cons (λ (h : Held). h.until ≤ first_from left active) h (g ∷ parts) (let next = apart.0 in omega (arith, next, bounds, behind)) rest
 
 -- a part that holds something ends behind where it begins
-some_between : (h : Held) → IsHeld h → holds_nothing h ≡ false → h.from < h.until
+pub some_between : (h : Held) → IsHeld h → holds_nothing h ≡ false → h.from < h.until
 some_between h held some = by h.versions h.clears some held.low held.high held.low_clears held.high_clears
   where
     by : (versions : List Entry) (clears : List ℕ) → (length versions == 0 && length clears == 0) ≡ false → All (λ v. h.from ≤ v.number) versions → All (λ v. v.number < h.until) versions
@@ -85,7 +85,7 @@ begins_before (suc count) (h ∷ sealed) active some held holds until =
     omega (arith, lt, le)
 
 -- each part begins where memory does, or behind it
-begin_behind : (sealed : List Held) (active : Held) → All IsHeld (sealed ++ active ∷ []) → AreApart (sealed ++ active ∷ []) → All (λ h. first_from sealed active ≤ h.from) (sealed ++ active ∷ [])
+pub begin_behind : (sealed : List Held) (active : Held) → All IsHeld (sealed ++ active ∷ []) → AreApart (sealed ++ active ∷ []) → All (λ h. first_from sealed active ≤ h.from) (sealed ++ active ∷ [])
 begin_behind [] active held apart = from_on active.from active [] apart held (omega arith)
 begin_behind (h ∷ sealed) active held apart = from_on h.from h (sealed ++ active ∷ []) apart held (omega arith)
 
@@ -113,7 +113,7 @@ end_is_small trees id task forest is =
     omega (arith, low, most)
 
 -- a number that isn't below where what is persisted ends is beyond it
-past_is_beyond : (p : Option ℕ) (n : ℕ) → past p ≤ n → is_beyond p n ≡ true
+pub past_is_beyond : (p : Option ℕ) (n : ℕ) → past p ≤ n → is_beyond p n ≡ true
 past_is_beyond None n le = refl
 past_is_beyond (Some m) n le = lt-ltb m n (omega (arith, le))
 

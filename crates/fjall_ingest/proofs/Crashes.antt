@@ -75,6 +75,11 @@ module _ (j : Journaling) (t : Tree) (id number : ℕ) (items : List KeyOp) (tab
 
 -- ---- nothing is pending
 
+-- no later batch is there where there is none
+pub none_behind : (j : Journaling) (behind rest : List Written) → behind ++ rest ≡ j.later → j.later ≡ [] → behind ≡ []
+none_behind j [] rest all none = refl
+none_behind j (b ∷ behind) rest all none = absurd (let never : b ∷ (behind ++ rest) ≡ [] = all ∙ none in cc)
+
 module _ (j : Journaling) (t : Tree) (id number : ℕ) (items : List KeyOp) (tables : List MadeTable) (h : Home) (versions : List Entry) (base : Store)
     (may : MayIngestSynced j t id number h versions) (is : kept base ≡ store_of (contents_with j t [])) where
   abbrev later_tree : Tree
@@ -99,11 +104,6 @@ module _ (j : Journaling) (t : Tree) (id number : ℕ) (items : List KeyOp) (tab
     );
   }
 
-  -- no later batch is there where there is none
-  none_behind : (behind rest : List Written) → behind ++ rest ≡ j.later → j.later ≡ [] → behind ≡ []
-  none_behind [] rest all none = refl
-  none_behind (b ∷ behind) rest all none = absurd (let never : b ∷ (behind ++ rest) ≡ [] = all ∙ none in cc)
-
   pub synced_run : (old new : Meaning) → LiesInRoot (state_in old) j → Within (keyspace_folder id) old new → LeavesOnly old new (λ image. HasTree image t ⊎ HasTree image later_tree)
       → LeavesOnly old new (StandsAmid base [] (ingestion id items ∷ []))
   synced_run old new lies run leaves =
@@ -111,7 +111,7 @@ module _ (j : Journaling) (t : Tree) (id number : ℕ) (items : List KeyOp) (tab
       old new run) leaves
       (λ image trees here.
       let root = crashes_leave_the_root (state_in old) image j lies here in
-      synced_stands image (subst (λ (l : List Written). HasRoot image (journals_with j l)) (none_behind root.0 root.1 root.2 may.synced) root.3) trees)
+      synced_stands image (subst (λ (l : List Written). HasRoot image (journals_with j l)) (none_behind j root.0 root.1 root.2 may.synced) root.3) trees)
 
 -- ---- the base behind it
 

@@ -1,5 +1,5 @@
 -- The tree between the flush of memory and an ingestion: memory has nothing left to show.
-use Rattle.std.proofs.Common.{◌≡◌, ℕ, ◌-◌, ◌<◌, ◌≤◌, ◌^◌, ◌==◌, Bool, true, false, if◌then◌else◌, List, [], ◌++◌, All, map, Option, Some, None, unwrap_or, refl, sym, ◌∙◌, ap, subst, arith}
+use Rattle.std.proofs.Common.{◌≡◌, ℕ, ◌-◌, ◌<◌, ◌≤◌, ◌^◌, ◌==◌, Bool, true, false, if◌then◌else◌, List, [], ◌++◌, All, map, Option, Some, unwrap_or, refl, sym, ◌∙◌, ap, subst, arith}
 use Rattle.std.specs.FinMap.{get}
 use Rattle.std.specs.Option.{option_map}
 use Rattle.std.specs.Prelude.{nat_lt}
@@ -12,6 +12,7 @@ use Rattle.fjall_flush.specs.Covering.{IsSyncedTo, MayCount, ShowsBatches, Takes
 use Rattle.fjall_flush.specs.Flushes.{Flush, Follows, HasAt, home_after, raised, record_after, tree_after}
 use Rattle.fjall_flush.proofs.AfterHomes.{versions_at}
 use Rattle.fjall_flush.proofs.AfterRecords.{raised_is}
+use Rattle.fjall_flush.proofs.Finishing.{begin_behind, past_is_beyond}
 use Rattle.fjall_flush.proofs.SameStore.{same_store}
 use Rattle.fjall_flush.proofs.Taken.{counts, follows_from}
 use Rattle.fjall_home.specs.Homes.{Home}
@@ -31,7 +32,6 @@ use Rattle.fjall_recovery.specs.Homes.{ClearsAreWithin, stored_at, stored_in, st
 use Rattle.fjall_recovery.specs.Journals.{batches_in}
 use Rattle.fjall_recovery.specs.Places.{Journaling, contents_with, journals_with}
 use Rattle.fjall_replay.specs.Beside.{ShowsWith}
-use Rattle.fjall_replay.specs.Replayed.{past}
 use Rattle.fjall_sorted.specs.Sorted.{flat}
 use Rattle.fjall_table.specs.Blocks.{Entry}
 use Rattle.fjall_tree.specs.Records.{Fields}
@@ -46,7 +46,7 @@ use Rattle.fjall_ingest.specs.Commands.{MayCome, MayIngestSynced}
 use Rattle.fjall_ingest.specs.Whole.{CanIngest, home_flushed, last_flushed, memory_flush, tree_flushed, versions_flushed}
 use Rattle.fjall_ingest.proofs.Following.{may_follow}
 use Rattle.fjall_ingest.proofs.Numbers.{is_later}
-use Rattle.fjall_ingest.proofs.WholeMemory.{begin_from, begins_before, nothing_held, nothing_made, takes_all}
+use Rattle.fjall_ingest.proofs.WholeMemory.{begins_before, nothing_held, nothing_made, takes_all}
 
 -- Between the two the tree has this home of the keyspace, with these versions in its tables, and an ingestion may come. All else is as it
 -- was: the store, and what other keyspaces have. The home's record is that one, it has these clears, and the versions are those.
@@ -59,11 +59,6 @@ pub record IsBetween (j : Journaling) (t : Tree) (id n : ℕ) (last : Fields) (c
   pub clears_are : clears ≡ h.last.clears
   pub stored_are : stored ≡ versions
   pub store : store_of (contents_with j m []) ≡ store_of (contents_with j t [])
-
--- a number that isn't below where what is persisted ends is beyond it
-past_is_beyond : (p : Option ℕ) (n : ℕ) → past p ≤ n → is_beyond p n ≡ true
-past_is_beyond None n le = refl
-past_is_beyond (Some m) n le = lt-ltb m n (omega (arith, le))
 
 module _ (j : Journaling) (t : Tree) (trees : Forest) (entries : ℕ → List (List Entry)) (records : LastFields) (k : LivingKeyspace) (n : ℕ) (can : CanIngest j t trees entries records k n) where
   abbrev shape : Shape
@@ -180,7 +175,7 @@ module _ (j : Journaling) (t : Tree) (trees : Forest) (entries : ℕ → List (L
             follows_from number task parts [] taken tables (clears_in parts) made h.last small (subst Ascends goes_on.clears tree.clears.ascend) within
             (All-weaker (λ (p : Held). floor_of memory ≤ p.from) (λ p. is_beyond h.last.persisted p.from ≡ true)
             (λ p le. past_is_beyond h.last.persisted p.from (let ends = goes_on.beyond in omega (arith, ends, le))) parts
-            (begin_from memory.sealed memory.active tree.held tree.apart))
+            (begin_behind memory.sealed memory.active tree.held tree.apart))
 
         flushed : IsBetween j t k.id n (record_after f h.last) (clears_of shape) (stored ++ flat made.lists) (tree_after k.id f made.lists h stored t) (home_after f h) (stored ++ flat made.lists)
         flushed = record {

@@ -37,7 +37,7 @@ use Rattle.fjall_writes.specs.Ingestions.{KeyOp}
 use Rattle.fjall_ingest.specs.Ingests.{ingestion, tree_with}
 use Rattle.fjall_ingest.specs.Plans.{AreOf}
 use Rattle.fjall_ingest.specs.Whole.{CanIngest, home_flushed, last_flushed, last_ingested, memory_flush, tree_behind, tree_between, versions_flushed}
-use Rattle.fjall_ingest.proofs.Crashes.{base_kept, synced_stands}
+use Rattle.fjall_ingest.proofs.Crashes.{base_kept, none_behind, synced_stands}
 use Rattle.fjall_ingest.proofs.Numbers.{own_number}
 use Rattle.fjall_ingest.proofs.WholeAfter.{are_known}
 use Rattle.fjall_ingest.proofs.WholeBetween as Between
@@ -62,11 +62,6 @@ pub whole_beyond : (j : Journaling) (t : Tree) (trees : Forest) (entries : ℕ �
 whole_beyond j t trees entries records k n can flushes h home = Between.persisted_below j t trees entries records k n can h home flushes
 
 -- ---- what a crash leaves
-
--- no later batch is there where there is none
-none_behind : (j : Journaling) (behind rest : List Written) → behind ++ rest ≡ j.later → j.later ≡ [] → behind ≡ []
-none_behind j [] rest all none = refl
-none_behind j (b ∷ behind) rest all none = absurd (let never : b ∷ (behind ++ rest) ≡ [] = all ∙ none in cc)
 
 -- the base without the command is there, or all of the command
 module _ (j : Journaling) (t : Tree) (id n : ℕ) (last : Fields) (clears : List ℕ) (stored : List Entry) (m : Tree) (h : Home) (versions : List Entry)

@@ -6,7 +6,7 @@ use Rattle.std.proofs.lemmas.List.{append-nil}
 use Rattle.std.proofs.lemmas.List.Elements.{All-cons, All-head, All-nil, All-tail, All-weaker}
 use Rattle.fjall_flush.specs.Covering.{Takes}
 use Rattle.fjall_flush.proofs.Covered.{made_of}
-use Rattle.fjall_flush.proofs.Taken.{from_on}
+use Rattle.fjall_flush.proofs.Finishing.{some_between}
 use Rattle.fjall_lsm.specs.Ingestions.{has_memory, memory_task}
 use Rattle.fjall_lsm.specs.Trees.{first_from}
 use Rattle.fjall_parts.specs.Parts.{AreApart, Held, IsHeld, Memory, clears_in, holds_nothing, parts_of, versions_in}
@@ -29,27 +29,6 @@ end_by (h ∷ g ∷ sealed) active held apart =
     let end = All-head (λ (k : Held). k.until ≤ active.until) g (sealed ++ active ∷ []) rest in
     let next = apart.0 in
     All-cons (λ (k : Held). k.until ≤ active.until) h (g ∷ (sealed ++ active ∷ [])) (omega (arith, bounds, next, end)) rest
-
--- and begins where memory does, or behind it
-pub begin_from : (sealed : List Held) (active : Held) → All IsHeld (sealed ++ active ∷ []) → AreApart (sealed ++ active ∷ []) → All (λ h. first_from sealed active ≤ h.from) (sealed ++ active ∷ [])
-begin_from [] active held apart = from_on active.from active [] apart held (omega arith)
-begin_from (h ∷ sealed) active held apart = from_on h.from h (sealed ++ active ∷ []) apart held (omega arith)
-
--- a part that holds something ends behind where it begins
-some_between : (h : Held) → IsHeld h → holds_nothing h ≡ false → h.from < h.until
-some_between h held some = by h.versions h.clears some held.low held.high held.low_clears held.high_clears
-  where
-    by : (versions : List Entry) (clears : List ℕ) → (length versions == 0 && length clears == 0) ≡ false → All (λ v. h.from ≤ v.number) versions → All (λ v. v.number < h.until) versions
-        → All (λ n. h.from ≤ n) clears → All (λ n. n < h.until) clears → h.from < h.until
-    by [] [] some low high low_clears high_clears = absurd cc
-    by [] (n ∷ clears) some low high low_clears high_clears =
-        let one = All-head (λ (n : ℕ). h.from ≤ n) n clears low_clears in
-        let two = All-head (λ (n : ℕ). n < h.until) n clears high_clears in
-        omega (arith, one, two)
-    by (v ∷ versions) clears some low high low_clears high_clears =
-        let one = All-head (λ (v : Entry). h.from ≤ v.number) v versions low in
-        let two = All-head (λ (v : Entry). v.number < h.until) v versions high in
-        omega (arith, one, two)
 
 not_true : (b : Bool) → not b ≡ true → b ≡ false
 not_true true is = absurd cc

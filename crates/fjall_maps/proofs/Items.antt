@@ -16,8 +16,7 @@ use Rattle.fjall_table.specs.Blocks.{Entry, IsEntry, value_bytes}
 use Rattle.fjall_views.specs.Views.{IsView}
 use Rattle.fjall_views.proofs.Tests.{all_of}
 use Rattle.fjall_views.proofs.Writing.{write_alters}
-use Rattle.fjall_versions.specs.declared.version.Version.{Version}
-use Rattle.fjall_versions.specs.Versions.{pairs_after, version_made}
+use Rattle.fjall_versions.specs.Versions.{Version, pairs_after, version_made}
 use Rattle.fjall_versions.proofs.Newest.{pairs_at}
 use Rattle.fjall_versions.proofs.Slots.{slot_after, slot_at}
 use Rattle.fjall_versions.proofs.Viewing.{as_view}

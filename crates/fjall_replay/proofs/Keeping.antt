@@ -1,5 +1,5 @@
 -- What batches keep of trees.
-use Rattle.std.proofs.Common.{◌≡◌, ℕ, ◌+◌, ◌<◌, ◌≤◌, ◌==◌, Bool, true, false, cond, List, [], ◌∷◌, ◌++◌, Some, get_or, length, take, map, add-one, refl, sym, ◌∙◌, ap, arith}
+use Rattle.std.proofs.Common.{◌≡◌, ℕ, ◌+◌, ◌<◌, ◌≤◌, ◌==◌, Bool, true, false, cond, List, [], ◌∷◌, ◌++◌, get_or, length, take, map, add-one, refl, sym, ◌∙◌, ap}
 use Rattle.std.specs.List.{All}
 use Rattle.std.proofs.Math.Seq.{take-suc}
 use Rattle.std.proofs.lemmas.List.{map-append}
@@ -11,13 +11,10 @@ use Rattle.fjall_table.specs.Blocks.{Entry}
 use Rattle.fjall_versions.specs.Views.{entry_of}
 use Rattle.fjall_lsm.specs.Puts.{emptied_once, put}
 use Rattle.fjall_lsm.specs.Trees.{Shape}
-use Rattle.fjall_trees.specs.Forests.{AreBefore, Forest, IsForest, IsTree, Planted, altered_at, tree_at}
-use Rattle.fjall_trees.proofs.Places.{tree_has}
-use Rattle.fjall_trees.specs.Writes.{AreBare}
-use Rattle.fjall_replay.specs.Replayed.{AreBegun, MayReplay, ids_of}
+use Rattle.fjall_trees.specs.Forests.{AreBefore, Forest, Planted, altered_at}
+use Rattle.fjall_replay.specs.Replayed.{ids_of}
 use Rattle.fjall_replay.specs.Steps.{with_batch, with_batches, with_clears, with_item, with_items}
-use Rattle.fjall_replay.proofs.Putting.{put_from}
-use Rattle.fjall_replay.proofs.Stepping.{emptied_from, emptied_tables, emptied_tree, emptied_until, put_tables, put_tree, put_until}
+use Rattle.fjall_replay.proofs.Stepping.{emptied_until, put_until}
 
 -- ---- one tree changed
 
@@ -111,47 +108,11 @@ batches_ids counted (b ∷ batches) trees =
 
 -- ---- what they keep
 
-pub keeps_bare : (b : Shown) → Keeps (λ shape. shape.tables ≡ []) b
-keeps_bare b = record {
-  puts = λ i d lt shape bare. put_tables (entry_of b.number (get_or b.items i d)) shape ∙ bare;
-  clears = λ shape bare. emptied_tables b.number shape ∙ bare;
-}
-
-pub keeps_begun : (b : Shown) → Keeps (λ shape. shape.memory.active.from ≡ 0) b
-keeps_begun b = record {
-  puts = λ i d lt shape begun. put_from (entry_of b.number (get_or b.items i d)) shape ∙ begun;
-  clears = λ shape begun. emptied_from b.number shape ∙ begun;
-}
-
 pub keeps_before : (b : Shown) (bound : ℕ) → b.number < bound → Keeps (λ shape. shape.memory.active.until ≤ bound) b
 keeps_before b bound low = record {
   puts = λ i d lt shape le. put_until (entry_of b.number (get_or b.items i d)) shape bound low le;
   clears = λ shape le. emptied_until b.number shape bound low le;
 }
-
--- a tree that takes any number
-pub record IsBegun (shape : Shape) : Type 0 where
-  pub tree : IsTree shape
-  pub begun : shape.memory.active.from ≡ 0
-
-pub keeps_tree : (b : Shown) → MayReplay b → Keeps IsBegun b
-keeps_tree b may = record {
-  puts = λ i d lt shape is. let begun = is.begun in record {
-    tree = put_tree (entry_of b.number (get_or b.items i d)) shape (record { is = may.items i d lt; from = omega (arith, begun); small = may.small }) is.tree;
-    begun = put_from (entry_of b.number (get_or b.items i d)) shape ∙ begun;
-  };
-  clears = λ shape is. let begun = is.begun in record {
-    tree = emptied_tree b.number shape (omega (arith, begun)) may.small is.tree;
-    begun = emptied_from b.number shape ∙ begun;
-  };
-}
-
--- all trees are such where they are a forest and take any number
-pub all_begun : (trees : Forest) → IsForest trees → AreBegun trees → All (λ k. IsBegun k.shape) trees
-all_begun trees is begun i d lt = record { tree = is.each i d lt; begun = begun i d lt }
-
-pub batches_bare : (counted : ℕ → ℕ → Bool) (batches : List Shown) (trees : Forest) → AreBare trees → AreBare (with_batches counted batches trees)
-batches_bare counted batches trees = batches_all (λ shape. shape.tables ≡ []) counted batches trees (λ i d lt. keeps_bare (get_or batches i d))
 
 pub batches_before : (counted : ℕ → ℕ → Bool) (bound : ℕ) (batches : List Shown) (trees : Forest) → All (λ b. b.number < bound) batches → AreBefore bound trees
     → AreBefore bound (with_batches counted batches trees)
@@ -177,24 +138,6 @@ pub batch_last : (counted : ℕ → ℕ → Bool) (front : List Shown) (b : Show
 batch_last counted [] b trees = refl
 batch_last counted (a ∷ front) b trees = batch_last counted front b (with_batch (counted a.number) a trees)
 
--- trees that take any number still do after each step
-pub item_begun : (counted : ℕ → Bool) (n : ℕ) (item : ReadBatchItem) (trees : Forest) → AreBegun trees → AreBegun (with_item counted n item trees)
-item_begun counted n item trees begun = by (counted item.keyspace_id)
-  where
-    by : (c : Bool) → AreBegun (cond c (altered_at item.keyspace_id (put (entry_of n item)) trees) trees)
-    by true = altered_all (λ shape. shape.memory.active.from ≡ 0) item.keyspace_id (put (entry_of n item)) trees (λ shape from. put_from (entry_of n item) shape ∙ from) begun
-    by false = begun
-
-pub clears_begun : (counted : ℕ → Bool) (n : ℕ) (ids : List ℕ) (trees : Forest) → AreBegun trees → AreBegun (with_clears counted n ids trees)
-clears_begun counted n ids trees = clears_all (λ shape. shape.memory.active.from ≡ 0) counted n ids trees (λ shape from. emptied_from n shape ∙ from)
-
-pub batches_begun : (counted : ℕ → ℕ → Bool) (batches : List Shown) (trees : Forest) → AreBegun trees → AreBegun (with_batches counted batches trees)
-batches_begun counted batches trees = batches_all (λ shape. shape.memory.active.from ≡ 0) counted batches trees (λ i d lt. keeps_begun (get_or batches i d))
-
--- so the one of a keyspace begins at any number or before
-pub begins : (trees : Forest) (id : ℕ) (shape : Shape) (n : ℕ) → AreBegun trees → tree_at id trees ≡ Some shape → shape.memory.active.from ≤ n
-begins trees id shape n begun at = let from = tree_has (λ s. s.memory.active.from ≡ 0) trees id shape begun at in omega (arith, from)
-
 -- a clear more
 pub clear_step : (counted : ℕ → Bool) (n : ℕ) (ids : List ℕ) (i : ℕ) (trees old new : Forest) → i < length ids → old ≡ with_clears counted n (take i ids) trees
     → new ≡ cond (counted (get_or ids i 0)) (altered_at (get_or ids i 0) (emptied_once n) old) old → new ≡ with_clears counted n (take (i + 1) ids) trees
@@ -209,10 +152,6 @@ tested b c new changed old same is = is ∙ ap (λ t. cond t changed old) same
 pub all_but_last : {X : Type 0} (P : X → Type 0) (front : List X) (x : X) → All P (front ++ x ∷ []) → All P front
 all_but_last P [] x all = All-nil P
 all_but_last P (y ∷ front) x all = All-cons P y front (All-head P y (front ++ x ∷ []) all) (all_but_last P front x (All-tail P y (front ++ x ∷ []) all))
-
-pub the_last : {X : Type 0} (P : X → Type 0) (front : List X) (x : X) → All P (front ++ x ∷ []) → P x
-the_last P [] x all = All-head P x [] all
-the_last P (y ∷ front) x all = the_last P front x (All-tail P y (front ++ x ∷ []) all)
 
 -- a batch more
 pub batch_step : (counted : ℕ → ℕ → Bool) (batches : List Batch) (i : ℕ) (d : Batch) (trees old new : Forest) → i < length batches → old ≡ with_batches counted (map view (take i batches)) trees

@@ -18,7 +18,7 @@ use Rattle.fjall_trees.specs.Forests.{Forest, Planted, altered_at, tree_at}
 use Rattle.fjall_trees.specs.Tables.{AreReadOn}
 use Rattle.fjall_trees.proofs.Changing.{put_has, tree_under}
 use Rattle.fjall_replay.specs.Beside.{AreEndedBy, BeginBy, all_at_rest, at_rest}
-use Rattle.fjall_replay.specs.Replayed.{AreBegun, past}
+use Rattle.fjall_replay.specs.Replayed.{past}
 use Rattle.fjall_replay.specs.Steps.{with_batch, with_batches, with_clears, with_item, with_items}
 use Rattle.fjall_replay.proofs.Putting.{put_from}
 use Rattle.fjall_replay.proofs.Stepping.{emptied_from, emptied_until, put_until}
@@ -103,10 +103,6 @@ clears_begin test counted n m ids trees =
 -- so the tree of a keyspace for which it counts begins there or before
 pub begin_at : (counted : ℕ → Bool) (n : ℕ) (trees : Forest) (id : ℕ) (shape : Shape) → BeginBy counted n trees → tree_at id trees ≡ Some shape → counted id ≡ true → shape.memory.active.from ≤ n
 begin_at counted n trees id shape all at = tree_under (λ k. counted k.id ≡ true → k.shape.memory.active.from ≤ n) trees id shape all at
-
--- those that take any number do
-pub begun_begin : (counted : ℕ → Bool) (n : ℕ) (trees : Forest) → AreBegun trees → BeginBy counted n trees
-begun_begin counted n trees begun i d lt counts = let from = begun i d lt in omega (arith, from)
 
 -- ---- where it ends
 

@@ -1,17 +1,15 @@
 -- What a batch makes of one tree.
 use Rattle.std.proofs.Common.{◌≡◌, ℕ, ◌<◌, ◌≤◌, ◌^◌, ◌==◌, ◌&&◌, ◌||◌, Bool, true, false, cond, List, [], ◌∷◌, ◌++◌, filter, nat_le, refl, sym, ◌∙◌, ap, subst, append_assoc, arith}
 use Rattle.std.specs.List.{All, list_any}
-use Rattle.std.proofs.lemmas.Bool.{false_from_ne_true, or_parts}
+use Rattle.std.proofs.lemmas.Bool.{or_parts}
 use Rattle.std.proofs.lemmas.Bool.Decides.{nat_tests}
 use Rattle.std.proofs.lemmas.List.{append-nil}
 use Rattle.std.proofs.lemmas.List.Elements.{All-append, All-cons, All-filter, All-head, All-map, All-nil, All-tail, All-weaker}
 use Rattle.std.proofs.lemmas.List.Folds.{list_any-append, list_any_none}
 use Rattle.fjall_journal.specs.declared.batch.ReadBatchItem.{ReadBatchItem}
 use Rattle.fjall_journal.specs.Batches.{Shown}
-use Rattle.fjall_table.specs.Blocks.{Entry, IsEntry}
-use Rattle.fjall_views.specs.Jobs.{AreBelow, is_at}
-use Rattle.fjall_views.specs.Views.{value_at}
-use Rattle.fjall_views.proofs.Sameness.{at-true}
+use Rattle.fjall_table.specs.Blocks.{Entry}
+use Rattle.fjall_views.specs.Jobs.{AreBelow}
 use Rattle.fjall_parts.specs.Parts.{AreApart, Held, IsHeld, clears_in, versions_in, with_clear, with_version}
 use Rattle.fjall_parts.proofs.Apart.{apart_with, clears_numbered, held_behind, numbers_below, versions_numbered}
 use Rattle.fjall_parts.proofs.Changes.{clear_held, version_held}
@@ -20,11 +18,9 @@ use Rattle.fjall_versions.specs.Views.{entry_of}
 use Rattle.fjall_contents.proofs.Beyond.{clear_where, entries_where}
 use Rattle.fjall_lsm.specs.Puts.{emptied_once, has_stamp, put, put_all}
 use Rattle.fjall_lsm.specs.Trees.{Shape, clears_of, emptied, first_from, floor_of, versions_of, written}
-use Rattle.fjall_lsm.proofs.Changes.{emptied_clears, emptied_versions, first_same}
+use Rattle.fjall_lsm.proofs.Changes.{first_same}
 use Rattle.fjall_trees.specs.Forests.{IsTree}
-use Rattle.fjall_replay.specs.Replayed.{MayReplay, Shows}
-use Rattle.fjall_replay.proofs.Adding.{same_added}
-use Rattle.fjall_replay.proofs.Putting.{MayPut, put_all_shows}
+use Rattle.fjall_replay.proofs.Putting.{MayPut}
 
 -- ---- numbers in a tree
 
@@ -107,36 +103,12 @@ put_until v shape bound low le = by (has_stamp v shape)
     by true = le
     by false = omega arith
 
-pub put_tables : (v : Entry) (shape : Shape) → (put v shape).tables ≡ shape.tables
-unfolding put
-put_tables v shape = by (has_stamp v shape)
-  where
-    by : (b : Bool) → (cond b shape (written v shape)).tables ≡ shape.tables
-    by true = refl
-    by false = refl
-
 pub put_all_until : (vs : List Entry) (shape : Shape) (bound : ℕ) → All (λ v. v.number < bound) vs → shape.memory.active.until ≤ bound → (put_all vs shape).memory.active.until ≤ bound
 put_all_until [] shape bound low le = le
 put_all_until (v ∷ vs) shape bound low le =
     put_until v (put_all vs shape) bound (All-head (λ (w : Entry). w.number < bound) v vs low) (put_all_until vs shape bound (All-tail (λ (w : Entry). w.number < bound) v vs low) le)
 
-pub put_all_tables : (vs : List Entry) (shape : Shape) → (put_all vs shape).tables ≡ shape.tables
-put_all_tables [] shape = refl
-put_all_tables (v ∷ vs) shape = put_tables v (put_all vs shape) ∙ put_all_tables vs shape
-
--- a tree has none of a number that all its numbers are below
-pub no_stamp : (v : Entry) (shape : Shape) → IsTree shape → shape.memory.active.until ≤ v.number → has_stamp v shape ≡ false
-no_stamp v shape is le =
-    list_any_none (is_at v) shape.memory.active.versions
-    (All-weaker (λ (w : Entry). w.number < shape.memory.active.until) (λ (w : Entry). is_at v w ≡ false) other shape.memory.active.versions (last_held shape is).high)
-  where
-    other : (w : Entry) → w.number < shape.memory.active.until → is_at v w ≡ false
-    other w low = false_from_ne_true (is_at v w) (λ t. let p = at-true v w t in let same = p.1 in absurd (omega (arith, same)))
-
 -- ---- clears
-
-has_later : ℕ → Shape → Bool
-has_later n shape = list_any (λ m. nat_le n m) shape.memory.active.clears
 
 none_later : (n : ℕ) (clears : List ℕ) → All (λ m. m < n) clears → list_any (λ m. nat_le n m) clears ≡ false
 none_later n clears low = list_any_none (λ m. nat_le n m) clears (All-weaker (λ m. m < n) (λ m. nat_le n m ≡ false) (λ m h. grind (arith, nat_tests)) clears low)
@@ -189,14 +161,6 @@ emptied_until n shape bound low le = by (list_any (λ m. nat_le n m) shape.memor
     by true = le
     by false = omega arith
 
-pub emptied_tables : (n : ℕ) (shape : Shape) → (emptied_once n shape).tables ≡ shape.tables
-unfolding emptied_once
-emptied_tables n shape = by (list_any (λ m. nat_le n m) shape.memory.active.clears)
-  where
-    by : (b : Bool) → (cond b shape (emptied n shape)).tables ≡ shape.tables
-    by true = refl
-    by false = refl
-
 pub emptied_from : (n : ℕ) (shape : Shape) → (emptied_once n shape).memory.active.from ≡ shape.memory.active.from
 unfolding emptied_once
 emptied_from n shape = by (list_any (λ m. nat_le n m) shape.memory.active.clears)
@@ -230,73 +194,13 @@ same_clear counted id b = by (counted && list_any (λ k. k == id) b.clears)
     by true = All-cons (λ n. n ≡ b.number) b.number [] refl (All-nil (λ n. n ≡ b.number))
     by false = All-nil (λ n. n ≡ b.number)
 
--- its clear is one clear more, behind all others
-cleared_is : (t : Bool) (n : ℕ) (shape : Shape) → All (λ m. m < n) shape.memory.active.clears
-    → (clears_of (cond t (emptied_once n shape) shape) ≡ clears_of shape ++ cond t (n ∷ []) []) × (versions_of (cond t (emptied_once n shape) shape) [] ≡ versions_of shape [])
-cleared_is true n shape low = (
-  ap clears_of (emptied_new n shape low) ∙ emptied_clears shape n,
-  ap (λ (s : Shape). versions_of s []) (emptied_new n shape low) ∙ emptied_versions shape [] n,
-)
-cleared_is false n shape low = (sym (append-nil (clears_of shape)), refl)
-
 pub cleared_held : (t : Bool) (n : ℕ) (shape : Shape) → shape.memory.active.from ≤ n → n < 2 ^ 63 → IsTree shape → IsTree (cond t (emptied_once n shape) shape)
 cleared_held true n shape from small is = emptied_tree n shape from small is
 cleared_held false n shape from small is = is
 
-pub cleared_stamp : (v : Entry) (t : Bool) (n : ℕ) (shape : Shape) → has_stamp v (cond t (emptied_once n shape) shape) ≡ has_stamp v shape
-unfolding emptied_once
-cleared_stamp v false n shape = refl
-cleared_stamp v true n shape = by (list_any (λ m. nat_le n m) shape.memory.active.clears)
-  where
-    by : (b : Bool) → has_stamp v (cond b shape (emptied n shape)) ≡ has_stamp v shape
-    by true = refl
-    by false = refl
-
 pub cleared_from : (t : Bool) (n : ℕ) (shape : Shape) → (cond t (emptied_once n shape) shape).memory.active.from ≡ shape.memory.active.from
 cleared_from true n shape = emptied_from n shape
 cleared_from false n shape = refl
-
--- To each view the batch's clear and its versions come behind all others, where it counts for the tree.
-pub stepped_shows : (counted : Bool) (id : ℕ) (b : Shown) (shape : Shape) (clears : List ℕ) (versions : List Entry) → MayReplay b → IsTree shape → shape.memory.active.from ≡ 0
-    → (counted ≡ true → shape.memory.active.until ≤ b.number) → (counted ≡ true → All (λ n. n < b.number) clears) → (counted ≡ true → AreBelow b.number versions)
-    → Shows clears versions shape → Shows (clears ++ clear_where counted id b) (versions ++ entries_where counted id b) (stepped counted id b shape)
-stepped_shows false id b shape clears versions may is from until low below shows key instant =
-    shows key instant ∙ (λ i. value_at key instant (sym (append-nil clears) i) (sym (append-nil versions) i))
-stepped_shows true id b shape clears versions may is from until low below shows key instant =
-    put_all_shows key instant entries one (last_held one tree) fits none
-    ∙ (λ i. value_at key instant (made.0 i) (made.1 i ++ entries))
-    ∙ same_added key instant n (clears_of shape) clears (clear_where true id b) (versions_of shape []) versions entries (clears_below shape is n (until refl)) (low refl)
-    (versions_below shape is n (until refl)) (below refl) (same_clear true id b) (numbered true id b) (shows key instant)
-  where
-    n : ℕ
-    n = b.number
-
-    t : Bool
-    t = list_any (λ k. k == id) b.clears
-
-    entries : List Entry
-    entries = entries_where true id b
-
-    one : Shape
-    one = cleared_by true id b shape
-
-    begun : shape.memory.active.from ≤ n
-    begun = omega (arith, from)
-
-    tree : IsTree one
-    tree = cleared_held t n shape begun may.small is
-
-    made : (clears_of one ≡ clears_of shape ++ clear_where true id b) × (versions_of one [] ≡ versions_of shape [])
-    made = cleared_is t n shape (All-weaker (λ m. m < shape.memory.active.until) (λ m. m < n) (λ m h. let le = until refl in omega (arith, le, h)) shape.memory.active.clears (last_held shape is).high_clears)
-
-    fits : All (λ v. MayPut v one) entries
-    fits = entries_have (λ v. MayPut v one) true id b
-        (All-weaker (λ item. IsEntry (entry_of n item)) (λ item. MayPut (entry_of n item) one)
-        (λ item e. record { is = e; from = subst (λ m. m ≤ n) (sym (cleared_from t n shape)) begun; small = may.small }) b.items may.items)
-
-    none : All (λ v. has_stamp v one ≡ false) entries
-    none = All-weaker (λ v. v.number ≡ n) (λ v. has_stamp v one ≡ false)
-        (λ v e. cleared_stamp v t n shape ∙ no_stamp v shape is (let le = until refl in omega (arith, le, e))) entries (numbered true id b)
 
 -- where it ends then
 pub stepped_until : (counted : Bool) (id : ℕ) (b : Shown) (shape : Shape) (bound : ℕ) → (counted ≡ true → b.number < bound) → shape.memory.active.until ≤ bound

@@ -1,5 +1,5 @@
 -- What journals leave of memory, where memtables are sealed behind each but the last.
-use Rattle.std.specs.Prelude.{◌≡◌, ℕ, Bool, true, false, not, List, [], All, IsTrue, map}
+use Rattle.std.specs.Prelude.{◌≡◌, ℕ, Bool, true, false, not, [], All, IsTrue, map}
 use Rattle.fjall_lsm.specs.Trees.{Shape, floor_of, with_memory}
 use Rattle.fjall_parts.specs.Parts.{Held, Memory, empty_from, holds_nothing}
 use Rattle.fjall_trees.specs.Forests.{Forest}

@@ -7,24 +7,16 @@ ghost use Rattle.fjall_journal.specs.Batches.{Shown, shown};
 ghost use Rattle.fjall_journal.specs.Changes.{Emptied, Items, of_change};
 ghost use Rattle.fjall_journal.specs.Ops.{BatchItem, items_refusal};
 ghost use Rattle.fjall_lsm.specs.Trees.{emptied, sealed_off};
-ghost use Rattle.fjall_maps.specs.Maps.{store_of};
 ghost use Rattle.fjall_maps.specs.Tables.{store_with};
 ghost use Rattle.fjall_meta.specs.Keyspaces.{AreKeyspaces, Keyspaces, keyspace_at, with_keyspace, without_keyspace};
 ghost use Rattle.fjall_replay.specs.Beside.{AreReplayedWith, IsUnstored, MayComeNext};
-ghost use Rattle.fjall_replay.specs.Replayed.{AreReplayed};
 ghost use Rattle.fjall_table.specs.Blocks.{Entry};
 ghost use Rattle.fjall_trees.specs.Forests.{Forest, altered_at, without};
 ghost use Rattle.fjall_trees.specs.Tables.{AreSameTrees};
 ghost use Rattle.fjall_trees.specs.Writes.{pushed, with_tree};
 
-/// Where the trees show what files hold and what batches make beyond that, they stand for the store that keyspaces, files and
-/// batches stand for.
-pub fn replayed_trees_show_the_store()
-    ensures { (s : Keyspaces) (stored : ℕ → Stored) (batches : List Shown) (trees : Forest) → AreReplayed s stored batches trees
-        → store_of s trees ≡ store_held s stored batches }
-{}
-
-/// The same of trees over tables.
+/// Where the trees show, with their tables, what files hold and what batches make beyond that, they stand for the store that keyspaces,
+/// files and batches stand for.
 pub fn replayed_trees_beside_tables_show_the_store()
     ensures { (entries : ℕ → List (List Entry)) (s : Keyspaces) (stored : ℕ → Stored) (batches : List Shown) (trees : Forest) → AreReplayedWith entries s stored batches trees
         → store_with entries s trees ≡ store_held s stored batches }

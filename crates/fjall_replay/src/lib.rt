@@ -9,7 +9,5 @@ mod replaying;
 pub use fjall_versions::Persisted;
 pub use journals::{replay_journal, seal_all};
 pub use laws::{
-    a_change_is_one_batch_more, replayed_trees_beside_tables_show_the_store,
-    replayed_trees_show_the_store, what_trees_show_stays,
+    a_change_is_one_batch_more, replayed_trees_beside_tables_show_the_store, what_trees_show_stays,
 };
-pub use replaying::replay_beyond;

@@ -1,17 +1,14 @@
 //! The batches of journals, replayed beyond what files hold.
 
-ghost use Rattle.std.specs.Prelude.{◌≡◌, ◌<◌, ◌^◌, ℕ, All, None, map, OnOk, IsOkUnless};
+ghost use Rattle.std.specs.Prelude.{◌≡◌, ◌<◌, ◌^◌, All, None, OnOk};
 ghost use Rattle.std.specs.Option.{option_map};
-ghost use Rattle.fjall_contents.specs.Contents.{AreWithin, Stored};
 ghost use Rattle.fjall_journal.specs.Batches.{view};
 ghost use Rattle.fjall_replay.specs.Beside.{BeginBy};
-ghost use Rattle.fjall_replay.specs.Replayed.{AreBegun, AreLoaded, AreReplayed, AreTold, MayReplay, ids_of};
-ghost use Rattle.fjall_replay.specs.Steps.{with_batch, with_batches, with_clears, with_item, with_items};
+ghost use Rattle.fjall_replay.specs.Replayed.{MayReplay};
+ghost use Rattle.fjall_replay.specs.Steps.{with_batch, with_clears, with_item, with_items};
 ghost use Rattle.fjall_table.specs.Blocks.{IsEntry};
-ghost use Rattle.fjall_trees.specs.Forests.{AreBefore};
 ghost use Rattle.fjall_trees.specs.Views.{forest_of};
-ghost use Rattle.fjall_trees.specs.Writes.{AreBare};
-ghost use Rattle.fjall_versions.specs.Replays.{counts_unpersisted, first_fault, value_of};
+ghost use Rattle.fjall_versions.specs.Replays.{counts_unpersisted, value_of};
 ghost use Rattle.fjall_versions.specs.Views.{entry_of};
 
 use crate::counting::counts_unpersisted;
@@ -117,33 +114,4 @@ pub(crate) fn take(
         trees,
     )?;
     put_items(keyspaces, persisted, number, &batch.items, trees)
-}
-
-/// Replays these batches, in order, into the trees of the keyspaces that live, beyond what their files hold: `persisted`
-/// tells of each living keyspace up to which number that is. Where it doesn't, nothing of it is held. Of each batch first its
-/// clears are taken and then its items, each under the batch's number, so that a clear hides what its keyspace had before,
-/// also from its files, and no item of its own batch.
-///
-/// Refuses for want of memory alone, and then doesn't tell what the trees hold.
-pub fn replay_beyond(
-    keyspaces: &MetaKeyspace,
-    persisted: &[Persisted],
-    batches: Vec<Batch>,
-    trees: &mut Trees,
-) -> Result<()>
-    requires fits { All (λ b. MayReplay (view b)) batches.items }
-    requires begun { AreBegun (forest_of trees.old) }
-    ensures ok { (stored : ℕ → Stored) → AreTold keyspaces.now stored persisted.now → AreWithin keyspaces.now stored → AreLoaded keyspaces.now stored (forest_of trees.old)
-        → (least : ℕ) → first_fault least (map view batches.items) ≡ None
-        → OnOk result (AreReplayed keyspaces.now stored (map view batches.items) (forest_of trees.new)) }
-    ensures ids { OnOk result (ids_of (forest_of trees.new) ≡ ids_of (forest_of trees.old)) }
-    ensures bare { AreBare (forest_of trees.old) → OnOk result (AreBare (forest_of trees.new)) }
-    ensures before { (bound : ℕ) → AreBefore bound (forest_of trees.old) → All (λ b. b.seqno < bound) batches.items
-        → OnOk result (AreBefore bound (forest_of trees.new)) }
-    ensures only { IsOkUnless result Error.OutOfMemory }
-{
-    for batch in &batches {
-        take(keyspaces, persisted, batch, trees)?;
-    }
-    Ok(())
 }

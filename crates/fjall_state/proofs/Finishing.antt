@@ -1,17 +1,15 @@
 -- A flush that is finished, on the disk and in memory.
-use Rattle.std.proofs.Common.{◌≡◌, ◌⊎◌, inl, ℕ, ◌-◌, ◌==◌, true, List, [], take, Option, Some, None, unwrap_or, refl, sym, ap, subst, ◌∙◌}
+use Rattle.std.proofs.Common.{◌≡◌, ℕ, ◌-◌, ◌==◌, true, List, take, Option, Some, None, unwrap_or, sym, ap, subst, ◌∙◌}
 use Rattle.std.proofs.Math.Logic.{∥∥₁_elim}
 use Rattle.std.proofs.lemmas.Bool.{true≢false}
-use Rattle.std.proofs.lemmas.List.{append-nil}
 use Rattle.std.specs.Coded.{Coded-set, coded_list, coded_ℕ}
 use Rattle.std.specs.FinMap.{get}
 use Rattle.std.specs.Option.{is_some}
-use Rattle.fjall_base.specs.Disk.{LeavesOnly, Meaning, state_in}
+use Rattle.fjall_base.specs.Disk.{Meaning}
 use Rattle.fjall_base.specs.declared.error.Error.{Error}
 use Rattle.fjall_base.specs.declared.error.Error.TheVariants.{Io}
 use Rattle.fjall_blocks.specs.Readers.{Reader}
 use Rattle.fjall_catalog.specs.Catalog.{fields, first_of}
-use Rattle.fjall_files.proofs.Parts.{in_region}
 use Rattle.fjall_flush.specs.declared.plan.FlushPlan.{FlushPlan}
 use Rattle.fjall_flush.specs.Flushes.{Flush, Follows, flush_of, record_after, tree_after}
 use Rattle.fjall_flush.specs.Plans.{ForFlushOn, IsPlan, IsPlanRefusal}
@@ -25,9 +23,7 @@ use Rattle.fjall_maps.specs.Maps.{store_of}
 use Rattle.fjall_meta.specs.declared.living.LivingKeyspace.{LivingKeyspace}
 use Rattle.fjall_meta.specs.Keyspaces.{keyspace_at}
 use Rattle.fjall_parts.specs.Parts.{clears_in}
-use Rattle.fjall_recovery.specs.Halves.{HasTree, Tree, is_of_keyspaces}
-use Rattle.fjall_recovery.specs.Places.{LiesInTree}
-use Rattle.fjall_recovery.proofs.Trees.{crashes_leave_the_tree}
+use Rattle.fjall_recovery.specs.Halves.{Tree}
 use Rattle.fjall_tree.specs.Records.{Fields}
 use Rattle.fjall_trees.specs.Tables.{shape_in}
 use Rattle.fjall_versions.proofs.Found.{found_has, found_passes}
@@ -124,11 +120,3 @@ module _ (m : Remembered) (made : FlushMade) (last : Fields) (number : ℕ) (may
     are = subst (λ (l : Fields). AreReadersOf id l.next_table_id made.tables.items readers) (last_is k at) are;
     is = is ∙ (λ i. with_flush id out readers ((says ∙ (λ j. record_after (flush_is out was j) (last_is k at j))) i) (same i));
   }
-
--- nothing was written: a crash leaves the tree
-pub nothing_written : (disk : Meaning) (records : List Fields) (t next : Tree) → LiesInTree (state_in disk) records t → LeavesOnly disk disk (λ image. HasTree image t ⊎ HasTree image next)
-nothing_written disk records t next lies = record {
-  added = [];
-  took = record { state = refl; steps = sym (append-nil disk.steps) };
-  each = λ image is. inl (crashes_leave_the_tree (state_in disk) image records t lies.rests (in_region is_of_keyspaces (state_in disk) image is));
-}

@@ -45,12 +45,12 @@ flush_altered id other change leaves trees = flush_each (λ k shape. cond (k == 
     by true shape = leaves shape
     by false shape = refl
 
-flush_pushed : (n : ℕ) (items : List BatchItem) (id : ℕ) (trees : Forest) → (shape_in id (pushed n items trees)).flush ≡ (shape_in id trees).flush
+pub flush_pushed : (n : ℕ) (items : List BatchItem) (id : ℕ) (trees : Forest) → (shape_in id (pushed n items trees)).flush ≡ (shape_in id trees).flush
 unfolding pushed
 flush_pushed n items id trees =
     flush_each (λ k. put_all (entries_of k n items)) (λ k shape. put_all_keeps (λ (s : Shape). s.flush ≡ shape.flush) (λ v s same. same) (entries_of k n items) shape refl) id trees
 
-flush_planted : (id other from : ℕ) (trees : Forest) → (shape_in id (with_tree other from trees)).flush ≡ (shape_in id trees).flush
+pub flush_planted : (id other from : ℕ) (trees : Forest) → (shape_in id (with_tree other from trees)).flush ≡ (shape_in id trees).flush
 flush_planted id other from trees =
     ap (λ (o : Option Shape). (unwrap_or o (bare_tree 0)).flush) (tree_with id trees (record { id = other; shape = bare_tree from })) ∙ by (tree_at id trees) (other == id)
   where

@@ -4,7 +4,7 @@ use fjall_base::{Slice, UserKey, UserValue};
 use fjall_history::{JobId, Ticket, View};
 use fjall_journal::{BatchItem, Op, PersistMode};
 use fjall_options::KeyspaceCreateOptions;
-use fjall_versions::KeyRange;
+use fjall_reading::KeyRange;
 
 /// One call of a core, for [`run`](crate::Core::run). Within a list of calls a ticket is named by the place of the call that
 /// opened it, and a job by the place of the call that began it.

@@ -15,8 +15,7 @@ ghost use Rattle.fjall_state.specs.Remembered.{facts_of, instant_in, with_trees}
 use crate::engine_state::EngineState;
 use fjall_base::{Disk, KvPair, Result, UserValue};
 use fjall_history::View;
-use fjall_reading::bounds_of;
-use fjall_versions::KeyRange;
+use fjall_reading::{KeyRange, bounds_of};
 use std::alloc::Global;
 
 impl EngineState {

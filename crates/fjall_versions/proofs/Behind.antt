@@ -7,9 +7,8 @@ use Rattle.fjall_base.specs.Pairs.{Pairs}
 use Rattle.fjall_base.specs.Store.{Store}
 use Rattle.fjall_journal.specs.Batches.{Shown}
 use Rattle.fjall_meta.specs.Keyspaces.{Keyspaces}
-use Rattle.fjall_versions.specs.declared.version.Version.{Version}
 use Rattle.fjall_versions.specs.Replays.{bare, counts, store_in}
-use Rattle.fjall_versions.specs.Versions.{version_of, versions_after, versions_behind, versions_made, versions_put}
+use Rattle.fjall_versions.specs.Versions.{Version, version_of, versions_after, versions_behind, versions_in}
 use Rattle.fjall_versions.proofs.Slots.{SameButMaps, writes_maps, slot_after, slot_at, slot-append, slot-filter}
 use Rattle.fjall_versions.proofs.Replaying.{among, replay_makes_the_store}
 
@@ -23,24 +22,21 @@ by_what_counts true true nothing id made slot = refl
 by_what_counts true false nothing id made slot = refl
 by_what_counts false is_cleared nothing id made slot = refl
 
--- a batch that counts for the ids that pass a test
-pub put_at : (counted : ℕ → Bool) (versions : List Version) (batch : Shown) (nothing : Option Pairs) (id : ℕ)
-    → slot_after nothing id (versions_put counted versions batch)
-    ≡ slot_step (counted id) (list_any (λ k. k == id) batch.clears) nothing id (map (version_of batch.number) batch.items) (slot_after nothing id versions)
-put_at counted versions batch nothing id =
+-- after a batch
+pub after_at : (s : Keyspaces) (versions : List Version) (batch : Shown) (nothing : Option Pairs) (id : ℕ)
+    → slot_after nothing id (versions_after s versions batch)
+    ≡ slot_step (counts s batch.number id) (list_any (λ k. k == id) batch.clears) nothing id (map (version_of batch.number) batch.items) (slot_after nothing id versions)
+after_at s versions batch nothing id =
+    let counted = counts s batch.number in
     let ids = filter counted batch.clears in
     let made = map (version_of batch.number) batch.items in
     let slot = slot_after nothing id versions in
     let left = λ (b : Bool). cond (not b) slot nothing in
     let rest = filter (λ (v : Version). not (list_any (λ (q : ℕ). q == v.keyspace_id) ids)) versions in
-    slot-append nothing id rest (versions_made counted batch.number batch.items)
+    slot-append nothing id rest (versions_in s batch.number batch.items)
     ∙ slot-filter made counted (slot_after nothing id rest) id
     ∙ ap (λ before. cond (counted id) (slot_after before id made) before) (slot-filter versions (λ q. not (list_any (λ k. k == q) ids)) nothing id ∙ ap left (among counted batch.clears id))
     ∙ by_what_counts (counted id) (list_any (λ k. k == id) batch.clears) nothing id made slot
-
-pub after_at : (s : Keyspaces) (versions : List Version) (batch : Shown) (nothing : Option Pairs) (id : ℕ)
-    → slot_after nothing id (versions_after s versions batch) ≡ slot_step (counts s batch.number id) (list_any (λ k. k == id) batch.clears) nothing id (map (version_of batch.number) batch.items) (slot_after nothing id versions)
-after_at s versions batch nothing id = put_at (counts s batch.number) versions batch nothing id
 
 -- where the same counts, the same is left
 pub same_behind : (s t : Keyspaces) (nothing : Option Pairs) (id : ℕ) (batches : List Shown) → All (λ b. counts s b.number id ≡ counts t b.number id) batches → (versions others : List Version)

@@ -1,28 +1,16 @@
 -- A keyspace more is a creation of the store.
-use Rattle.std.proofs.Common.{◌≡◌, ℕ, ◌+◌, ◌<◌, ◌==◌, Bool, true, false, cond, List, [], ◌∷◌, All, get_or, Option, None, Some, unwrap_or, nat_lt, refl, sym, ◌∙◌, ap, arith}
+use Rattle.std.proofs.Common.{◌≡◌, ℕ, ◌+◌, ◌<◌, ◌==◌, Bool, true, false, cond, List, [], All, get_or, None, Some, nat_lt, refl, sym, ◌∙◌, ap, arith}
 use Rattle.std.proofs.lemmas.Bool.Decides.{nat_tests}
-use Rattle.std.proofs.lemmas.List.Elements.{All-head, All-tail}
 use Rattle.std.specs.FinMap.{empty, get, insert}
-use Rattle.fjall_base.specs.Pairs.{Pairs, altered}
 use Rattle.fjall_base.specs.Store.{Store, Create, apply}
 use Rattle.fjall_journal.specs.Batches.{Shown}
 use Rattle.fjall_meta.specs.declared.living.LivingKeyspace.{LivingKeyspace}
 use Rattle.fjall_meta.specs.Keyspaces.{Keyspaces, AreKeyspaces, keyspace_at, with_keyspace}
-use Rattle.fjall_versions.specs.declared.version.Version.{Version}
 use Rattle.fjall_versions.specs.Replays.{option_pairs, bare, counts, store_in}
-use Rattle.fjall_versions.specs.Versions.{store_of, versions_behind}
-use Rattle.fjall_versions.proofs.Slots.{same_id, get_put, same_store, writes_maps, slot_after, slot_at}
+use Rattle.fjall_versions.specs.Versions.{versions_behind}
+use Rattle.fjall_versions.proofs.Slots.{same_id, get_put, same_store, slot_after}
 use Rattle.fjall_versions.proofs.Living.{none_found, no_pairs, counts_of, by_id-push, found_other, found_new}
 use Rattle.fjall_versions.proofs.Behind.{same_behind, none_behind, stored_at, batches_change_maps}
-
--- versions of lesser ids say nothing of this one
-none_of : (versions : List Version) (next : ℕ) (slot : Option Pairs) → All (λ v. v.keyspace_id < next) versions → slot_after slot next versions ≡ slot
-none_of [] next slot below = refl
-none_of (v ∷ versions) next slot below =
-    let lt : v.keyspace_id < next = All-head (λ (w : Version). w.keyspace_id < next) v versions below in
-    let other : (next == v.keyspace_id) ≡ false = grind (arith, nat_tests) in
-    let altered_slot = Some (altered (unwrap_or slot empty) v.key v.value) in
-    ap (λ b. slot_after (cond b altered_slot slot) next versions) other ∙ none_of versions next slot (All-tail (λ (w : Version). w.keyspace_id < next) v versions below)
 
 module _ (name : List ℕ) (options : List (List ℕ)) (number : ℕ) (s : Keyspaces) (all : AreKeyspaces s) where
   abbrev new : LivingKeyspace
@@ -85,14 +73,3 @@ module _ (name : List ℕ) (options : List (List ℕ)) (number : ℕ) (s : Keysp
       let same : get (bare more).maps q ≡ get (bare s).maps q = map_created q ∙ ap (λ b. cond b (Some empty) (get (bare s).maps q)) other in
       stored_at more batches q ∙ same_behind more s (get (bare more).maps q) q batches (λ i d within. others_count (get_or batches i d).number q other) [] [] refl
       ∙ ap (λ slot. slot_after slot q (versions_behind s [] batches)) same ∙ sym (stored_at s batches q))
-
-  -- of versions of keyspaces that were there before
-  pub creation_of_versions : (versions : List Version) → All (λ v. v.keyspace_id < s.next) versions → store_of more versions ≡ apply (store_of s versions) (Create name (option_pairs options))
-  creation_of_versions versions below =
-      let was = writes_maps versions (bare s) in
-      let is = writes_maps versions (bare more) in
-      let start : get (bare more).maps s.next ≡ Some empty = map_created s.next ∙ ap (λ b. cond b (Some empty) (get (bare s).maps s.next)) itself in
-      created (store_of more versions) (store_of s versions) is.0 is.1 is.2 was.0 was.1 was.2
-      (slot_at versions (bare more) s.next ∙ none_of versions s.next (get (bare more).maps s.next) below ∙ start)
-      (λ q other.
-      slot_at versions (bare more) q ∙ ap (λ slot. slot_after slot q versions) (map_created q ∙ ap (λ b. cond b (Some empty) (get (bare s).maps q)) other) ∙ sym (slot_at versions (bare s) q))

@@ -8,10 +8,9 @@ use Rattle.fjall_base.specs.Store.{Store, Delete, apply, kept}
 use Rattle.fjall_journal.specs.Batches.{Shown}
 use Rattle.fjall_meta.specs.declared.living.LivingKeyspace.{LivingKeyspace}
 use Rattle.fjall_meta.specs.Keyspaces.{Keyspaces, keyspace_at, without_keyspace}
-use Rattle.fjall_versions.specs.declared.version.Version.{Version}
 use Rattle.fjall_versions.specs.Replays.{option_pairs, by_id, bare, counts, store_in}
-use Rattle.fjall_versions.specs.Versions.{store_of, versions_behind}
-use Rattle.fjall_versions.proofs.Slots.{ties, same_maps, writes_maps, slot_after, slot_at}
+use Rattle.fjall_versions.specs.Versions.{versions_behind}
+use Rattle.fjall_versions.proofs.Slots.{ties, same_maps, slot_after}
 use Rattle.fjall_versions.proofs.Kept.{same_kept, all_are_kept}
 use Rattle.fjall_versions.proofs.Living.{get_by_id, counts_of, found_without}
 use Rattle.fjall_versions.proofs.Behind.{same_behind, none_behind, stored_at, batches_change_maps}
@@ -102,10 +101,3 @@ module _ (id : ℕ) (s : Keyspaces) where
       (λ q other.
       stored_at less batches q ∙ same_behind less s (get (bare less).maps q) q batches (λ i d within. others_count (get_or batches i d).number q other) [] [] refl
       ∙ ap (λ slot. slot_after slot q (versions_behind s [] batches)) (map_left q other) ∙ sym (stored_at s batches q))
-
-  pub deletion_of_versions : (versions : List Version) → kept (store_of less versions) ≡ kept (apply (store_of s versions) (Delete id))
-  deletion_of_versions versions =
-      let was = writes_maps versions (bare s) in
-      let is = writes_maps versions (bare less) in
-      deleted (store_of less versions) (store_of s versions) is.0 is.1 is.2 was.0 was.1 was.2
-      (λ q other. slot_at versions (bare less) q ∙ ap (λ slot. slot_after slot q versions) (map_left q other) ∙ sym (slot_at versions (bare s) q))

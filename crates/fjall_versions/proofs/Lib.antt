@@ -3,7 +3,6 @@ pub mod Slots
 pub mod Living
 pub mod Replaying
 pub mod Newest
-pub mod Seen
 pub mod Writes
 pub mod Behind
 pub mod Creating
@@ -12,6 +11,4 @@ pub mod Keeping
 pub mod Found
 pub mod Ids
 pub mod Naming
-mod Taking
-mod Gathering
 pub mod Viewing

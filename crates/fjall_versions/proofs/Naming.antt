@@ -1,33 +1,28 @@
 -- The names and settings in a store are those of the living keyspaces.
-use Rattle.std.proofs.Common.{◌≡◌, ◌≢◌, ℕ, ◌<◌, ◌==◌, ◌↔◌, not, Bool, true, false, List, [], ◌∷◌, map, filter, find, length, All, Option, None, Some, refl, sym, ◌∙◌, ap, subst, arith}
+use Rattle.std.proofs.Common.{◌≡◌, ◌≢◌, ℕ, ◌<◌, ◌==◌, ◌&&◌, ◌↔◌, Bool, true, false, List, [], ◌∷◌, map, find, length, All, Option, None, Some, refl, sym, ◌∙◌, ap, subst, arith}
 use Rattle.std.proofs.lemmas.Bool.Decides.{nat_tests}
 use Rattle.std.proofs.lemmas.Bool.{true≢false, false_from_ne_true}
 use Rattle.std.proofs.lemmas.List.{length-map}
-use Rattle.std.proofs.lemmas.List.Elements.{All-head, All-tail, All-append, All-filter, All-weaker, filter_passes}
+use Rattle.std.proofs.lemmas.List.Elements.{All-head, All-tail}
 use Rattle.std.proofs.lemmas.Slice.Eq.{bytes_eq-Decides}
 use Rattle.std.specs.Prelude.{T}
 use Rattle.std.specs.declared.cmp.Ordering.TheVariants.{Less}
 use Rattle.std.specs.Option.{option_map, is_some}
-use Rattle.std.specs.List.{list_any}
 use Rattle.std.specs.Ordering.{nat_cmp, is_lt}
 use Rattle.std.specs.Str.{bytes_eq}
 use Rattle.std.specs.Cmp.{nat_cmp_total}
 use Rattle.std.specs.FinMap.{entries, from_entries, from_sorted, get, contains_key, values, len, is_sorted, entries-from_sorted, get-from_sorted, get-from_entries, len-entries}
 use Rattle.std.specs.FinMap.Entries.{below_all}
 use Rattle.fjall_base.specs.Pairs.{Bytes}
-use Rattle.fjall_journal.specs.Batches.{Shown}
 use Rattle.fjall_meta.specs.declared.living.LivingKeyspace.{LivingKeyspace}
 use Rattle.fjall_meta.specs.Keyspaces.{Keyspaces, AreKeyspaces, keyspace_at, id_of}
 use Rattle.fjall_meta.proofs.Rising.{Rises, from_pairs}
-use Rattle.fjall_versions.specs.declared.version.Version.{Version}
-use Rattle.fjall_versions.specs.Replays.{option_pairs, by_id, bare, counts}
-use Rattle.fjall_versions.specs.Versions.{store_of, version_of, versions_behind, versions_put, versions_where}
-use Rattle.fjall_versions.proofs.Gathering.{both}
+use Rattle.fjall_versions.specs.Replays.{option_pairs, by_id, bare}
+use Rattle.fjall_versions.specs.Versions.{Version, store_of}
 use Rattle.fjall_versions.proofs.Slots.{SameButMaps, same_id, same_maps, writes_maps}
-use Rattle.fjall_versions.proofs.Living.{get_by_id, counts_of}
+use Rattle.fjall_versions.proofs.Living.{get_by_id}
 use Rattle.fjall_versions.proofs.Keeping.{lives}
-use Rattle.fjall_versions.proofs.Taking.{behind_is}
-use Rattle.fjall_versions.proofs.Found.{same_some, found_passes, found_has, found_alone}
+use Rattle.fjall_versions.proofs.Found.{same_some, found_passes, found_alone}
 
 -- ---- versions leave names and settings
 
@@ -41,6 +36,10 @@ pub settings : (s : Keyspaces) (versions : List Version) (id : ℕ) → get (sto
 settings s versions id = ap (λ o. get o id) (rest_is_bare s versions).1 ∙ get_by_id (λ k. option_pairs k.options) s.living id
 
 -- ---- in the ids' order
+
+both : (a b : Bool) → T a → T b → T (a && b)
+both true b p q = q
+both false b p q = p
 
 below : {X : Type 0} (has : LivingKeyspace → X) (id : ℕ) (living : List LivingKeyspace) → All (λ k. id < k.id) living → T (below_all nat_cmp id (map (λ (k : LivingKeyspace). (k.id, has k)) living))
 below has id [] above = tt
@@ -119,32 +118,3 @@ module _ (s : Keyspaces) (all : AreKeyspaces s) where
   names_answer versions id name =
       let same = ap (λ n. get n id) (rest_is_bare s versions).0 in
       (λ e. same ∙ name_of_id id name e, λ e. id_of_name id name (sym same ∙ e))
-
--- ---- ids that were given out
-
-counts_given : (s : Keyspaces) → AreKeyspaces s → (number id : ℕ) → counts s number id ≡ true → id < s.next
-counts_given s all number id e = lives_below (keyspace_at id s.living) refl e
-  where
-    lives_below : (found : Option LivingKeyspace) → keyspace_at id s.living ≡ found → counts_of number found ≡ true → id < s.next
-    lives_below None is counted = absurd (true≢false (sym counted))
-    lives_below (Some k) is counted =
-        let lt : k.id < s.next = found_has (λ j. j.id == id) (λ j. j.id < s.next) s.living k is all.given in
-        let here : k.id ≡ id = same_id k.id id (found_passes (λ j. j.id == id) s.living k is) in
-        subst (λ i. i < s.next) here lt
-
--- what batches make is of ids that were given out, whichever test tells what counts of them
-pub made_were_given : (s : Keyspaces) → AreKeyspaces s → (counted : ℕ → ℕ → Bool) → ((number id : ℕ) → counted number id ≡ true → counts s number id ≡ true)
-    → (batches : List Shown) (versions : List Version) → All (λ v. v.keyspace_id < s.next) versions → All (λ v. v.keyspace_id < s.next) (versions_where counted versions batches)
-made_were_given s all counted to [] versions given = given
-made_were_given s all counted to (batch ∷ batches) versions given =
-    let Given : Version → Type 0 = λ v. v.keyspace_id < s.next in
-    let test = λ (v : Version). counted batch.number v.keyspace_id in
-    let made = map (version_of batch.number) batch.items in
-    made_were_given s all counted to batches (versions_put (counted batch.number) versions batch)
-    (All-append Given (filter (λ (v : Version). not (list_any (λ id. id == v.keyspace_id) (filter (counted batch.number) batch.clears))) versions) (filter test made)
-    (All-filter _ Given versions given)
-    (All-weaker (λ v. test v ≡ true) Given (λ v e. counts_given s all batch.number v.keyspace_id (to batch.number v.keyspace_id e)) (filter test made) (filter_passes test made)))
-
-pub replayed_were_given : (s : Keyspaces) → AreKeyspaces s → (batches : List Shown) (versions : List Version) → All (λ v. v.keyspace_id < s.next) versions → All (λ v. v.keyspace_id < s.next) (versions_behind s versions batches)
-replayed_were_given s all batches versions given =
-    subst (All (λ v. v.keyspace_id < s.next)) (behind_is s versions batches) (made_were_given s all (counts s) (λ number id e. e) batches versions given)

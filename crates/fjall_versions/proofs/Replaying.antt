@@ -13,9 +13,8 @@ use Rattle.fjall_journal.specs.declared.entry.ValueType.{ValueType}
 use Rattle.fjall_journal.specs.declared.batch.ReadBatchItem.{ReadBatchItem}
 use Rattle.fjall_journal.specs.Batches.{Shown, shown, of_item}
 use Rattle.fjall_meta.specs.Keyspaces.{Keyspaces}
-use Rattle.fjall_versions.specs.declared.version.Version.{Version}
 use Rattle.fjall_versions.specs.Replays.{bare, counts, emptied, item_of, value_of, writing, commands_of, journal_commands, store_in}
-use Rattle.fjall_versions.specs.Versions.{command_of, store_of, version_of, versions_in, cleared, versions_after, versions_behind}
+use Rattle.fjall_versions.specs.Versions.{Version, command_of, store_of, version_of, versions_in, cleared, versions_after, versions_behind}
 use Rattle.fjall_versions.proofs.Slots.{get_put, same_store, fold-append, writes_maps, clears_maps, slot_after, slot_at, slot-filter}
 use Rattle.fjall_versions.proofs.Living.{counted_map}
 
@@ -112,9 +111,6 @@ replay_makes_the_store s batches = batches_make s [] batches
 
 -- ---- one more
 
-pub one_more_version : (s : Keyspaces) (versions : List Version) (version : Version) → store_of s (versions ++ version ∷ []) ≡ apply (store_of s versions) (command_of version)
-one_more_version s versions version = ap (fold (bare s)) (map-append command_of versions (version ∷ [])) ∙ fold-append (bare s) (map command_of versions) (command_of version ∷ [])
-
 pub commands-append : (s : Keyspaces) (front behind : List Shown) → journal_commands s (front ++ behind) ≡ journal_commands s front ++ journal_commands s behind
 commands-append s front behind = flat_map-append (commands_of s) front behind
 
@@ -128,7 +124,3 @@ one_more_batch s batches batch = store-append s batches (batch ∷ []) ∙ ap (f
 pub one_item : (s : Keyspaces) (id : ℕ) (key value : Bytes) (kind : ValueType) (number : ℕ) → counts s number id ≡ true
     → commands_of s (shown (of_item id key value kind number)) ≡ Write (record { id = id; key = key; value = value_of kind value } ∷ []) ∷ []
 one_item s id key value kind number counted = ap (λ b. writing (map item_of (cond b (record { keyspace_id = id; key = key; value = value; value_type = kind } ∷ []) []))) counted
-
-pub versions_behind-append : (s : Keyspaces) (versions : List Version) (front behind : List Shown) → versions_behind s versions (front ++ behind) ≡ versions_behind s (versions_behind s versions front) behind
-versions_behind-append s versions [] behind = refl
-versions_behind-append s versions (batch ∷ front) behind = versions_behind-append s (versions_after s versions batch) front behind

@@ -7,8 +7,7 @@ use Rattle.std.specs.Cmp.{nat_cmp_total}
 use Rattle.std.specs.FinMap.{FinMap, empty, get, insert, get-insert, same_map, nat_cmp-IsAntisymmetric}
 use Rattle.fjall_base.specs.Pairs.{Pairs, altered}
 use Rattle.fjall_base.specs.Store.{Store, Command, Clear, map_at, apply, fold}
-use Rattle.fjall_versions.specs.declared.version.Version.{Version}
-use Rattle.fjall_versions.specs.Versions.{command_of}
+use Rattle.fjall_versions.specs.Versions.{Version, command_of}
 
 -- ---- maps by id
 

@@ -17,9 +17,8 @@ use Rattle.fjall_views.specs.Jobs.{AreBelow}
 use Rattle.fjall_views.specs.Views.{IsView, value_at}
 use Rattle.fjall_views.proofs.Tests.{all_of}
 use Rattle.fjall_views.proofs.Writing.{write_alters, clear_empties}
-use Rattle.fjall_versions.specs.declared.version.Version.{Version}
 use Rattle.fjall_versions.specs.Replays.{Fault, Unordered, Indirect, bare, counts, fault_of, first_fault, is_indirect, store_in}
-use Rattle.fjall_versions.specs.Versions.{version_of, versions_after, versions_behind}
+use Rattle.fjall_versions.specs.Versions.{Version, version_of, versions_after, versions_behind}
 use Rattle.fjall_versions.specs.Views.{entry_of, entries_in, clear_in, versions_of, clears_of}
 use Rattle.fjall_versions.proofs.Behind.{slot_step, after_at}
 use Rattle.fjall_versions.proofs.Living.{get_by_id, no_pairs}

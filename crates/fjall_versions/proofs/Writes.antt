@@ -1,22 +1,16 @@
 -- The items of a batch are one write, and make versions that stand for it.
-use Rattle.std.proofs.Common.{◌≡◌, ◌≢◌, ℕ, ◌==◌, ◌||◌, true, false, cond, List, [], ◌∷◌, ◌++◌, map, filter, All, unwrap_or, refl, sym, ◌∙◌, ap}
-use Rattle.std.proofs.lemmas.List.{map-append}
+use Rattle.std.proofs.Common.{◌≡◌, ◌≢◌, ℕ, ◌||◌, true, false, cond, List, [], ◌∷◌, ◌++◌, map, filter, All, refl, ◌∙◌, ap}
 use Rattle.std.proofs.lemmas.List.Elements.{All-head, All-tail}
 use Rattle.std.specs.List.{list_any}
-use Rattle.std.specs.FinMap.{empty, get}
-use Rattle.fjall_base.specs.Pairs.{Pairs, altered}
-use Rattle.fjall_base.specs.Store.{Store, Clear, apply, fold, map_at}
+use Rattle.fjall_base.specs.Store.{Store, Clear, apply, fold}
 use Rattle.fjall_journal.specs.Batches.{clears_of, items_of, shown}
 use Rattle.fjall_journal.specs.Ops.{BatchItem, bytes_in, entry_of, item_in, kind_of, of_items, value_in, write_of}
 use Rattle.fjall_journal.specs.Changes.{Emptied, of_change}
 use Rattle.fjall_journal.specs.declared.op.Op.{Op}
 use Rattle.fjall_journal.specs.declared.op.Op.TheVariants.{Put, Remove, RemoveWeak}
 use Rattle.fjall_meta.specs.Keyspaces.{Keyspaces}
-use Rattle.fjall_versions.specs.declared.version.Version.{Version}
-use Rattle.fjall_versions.specs.Replays.{bare, commands_of, counts, is_indirect, is_indirection, item_of, value_of, writing}
-use Rattle.fjall_versions.specs.Versions.{command_of, pairs_after, pairs_in, store_of, version_made}
-use Rattle.fjall_versions.proofs.Newest.{pairs_at}
-use Rattle.fjall_versions.proofs.Slots.{fold-append, slot_at}
+use Rattle.fjall_versions.specs.Replays.{commands_of, counts, is_indirect, is_indirection, item_of, value_of, writing}
+use Rattle.fjall_versions.specs.Versions.{command_of, version_made}
 
 -- ---- versions
 
@@ -24,27 +18,6 @@ use Rattle.fjall_versions.proofs.Slots.{fold-append, slot_at}
 pub write_by_versions : (items : List BatchItem) (number : ℕ) (t : Store) → apply t (write_of items) ≡ fold t (map command_of (map (version_made number) items))
 write_by_versions [] number t = refl
 write_by_versions (item ∷ items) number t = write_by_versions items number (apply t (command_of (version_made number item)))
-
--- the store of a batch's versions behind others
-pub items_store : (s : Keyspaces) (versions : List Version) (items : List BatchItem) (number : ℕ)
-    → store_of s (versions ++ map (version_made number) items) ≡ apply (store_of s versions) (write_of items)
-items_store s versions items number =
-    ap (fold (bare s)) (map-append command_of versions (map (version_made number) items))
-    ∙ fold-append (bare s) (map command_of versions) (map command_of (map (version_made number) items))
-    ∙ sym (write_by_versions items number (store_of s versions))
-
-pub pairs-append : (front behind : List Version) (pairs : Pairs) (id : ℕ) → pairs_after pairs id (front ++ behind) ≡ pairs_after (pairs_after pairs id front) id behind
-pairs-append [] behind pairs id = refl
-pairs-append (v ∷ front) behind pairs id = pairs-append front behind (cond (id == v.keyspace_id) (altered pairs v.key v.value) pairs) id
-
--- the map of a keyspace, in whatever store has what the versions make of it
-pub items_map : (t : Store) (versions : List Version) (items : List BatchItem) (number id : ℕ) → map_at t.maps id ≡ pairs_in id versions
-    → map_at (apply t (write_of items)).maps id ≡ pairs_in id (versions ++ map (version_made number) items)
-items_map t versions items number id same =
-    let made = map (version_made number) items in
-    ap (λ (u : Store). map_at u.maps id) (write_by_versions items number t)
-    ∙ ap (λ slot. unwrap_or slot empty) (slot_at made t id) ∙ pairs_at made (get t.maps id) id
-    ∙ ap (λ pairs. pairs_after pairs id made) same ∙ sym (pairs-append versions made empty id)
 
 -- ---- batches
 

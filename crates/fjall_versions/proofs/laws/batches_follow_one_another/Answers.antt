@@ -8,8 +8,5 @@ returns-clause-least c = Faults.least_after-append
 pub returns-clause-faults : goal.returns-clause-faults
 returns-clause-faults c = Faults.first_fault-append
 
-pub returns-clause-versions : goal.returns-clause-versions
-returns-clause-versions c = Replaying.versions_behind-append
-
 pub returns-clause-stores : goal.returns-clause-stores
 returns-clause-stores c = Replaying.store-append

@@ -5,6 +5,7 @@ use Rattle.fjall_files.specs.Calls.{AllServed}
 use Rattle.fjall_files.specs.Names.{table_name}
 use Rattle.fjall_flush.specs.Plans.{HaveFiles, KeepsTables}
 use Rattle.fjall_flush.proofs.Beside.{tables_stay}
+use Rattle.fjall_ingest.proofs.Behind.{nothing_written}
 use Rattle.fjall_recovery.specs.Halves.{HasTree}
 use Rattle.fjall_recovery.specs.Places.{LiesInTree}
 use Rattle.fjall_tree.specs.Records.{Fields, view}
@@ -15,7 +16,7 @@ use Rattle.fjall_state.specs.Finishing.{keyspace_of}
 use Rattle.fjall_state.specs.Remembered.{IsLawful, Remembered, journals_of, with_flush}
 use Rattle.fjall_state.proofs.Inside.{memory_in}
 use Rattle.fjall_state.proofs.Counting.{map_of}
-use Rattle.fjall_state.proofs.Finishing.{finished, last_is, made_clears, may_finish, none_missing, nothing_written, on_disk, refused}
+use Rattle.fjall_state.proofs.Finishing.{finished, last_is, made_clears, may_finish, none_missing, on_disk, refused}
 use Rattle.fjall_state.proofs.Facts.{living_given}
 use Rattle.fjall_state.proofs.Flushing.{finished_is_lawful}
 use Rattle.fjall_state.proofs.Lawful.{alike}
