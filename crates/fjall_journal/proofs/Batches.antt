@@ -13,12 +13,12 @@ use Rattle.fjall_base.specs.Results.{◌>>=◌}
 use Rattle.fjall_base.specs.Check.{check}
 use Rattle.fjall_base.proofs.Checks.{check_len}
 use Rattle.fjall_journal.specs.Batches.{Written, IsChange, begun, checked, batch_text, IsWritten, NoneAt, IsWhole, EndsEarly, GoesOn, HasOtherCheck, IsTail, Shown, items_of, clears_of, shown}
-use Rattle.fjall_journal.specs.Steps.{opening_at, changes_at, closing_at, some_batch_at, batch_at}
+use Rattle.fjall_journal.specs.Steps.{opening_at, changes_at, closing_at, unclosed_at, some_batch_at, batch_at, known_at}
 use Rattle.fjall_base.proofs.Codecs.{IsBytes, one_behind, each_more}
 use Rattle.fjall_base.proofs.Results.{bind_ok}
 use Rattle.fjall_journal.proofs.Fields.{Takes, Takes-then}
 use Rattle.fjall_journal.proofs.Entries.{bind_is, text_some}
-use Rattle.fjall_journal.proofs.Changes.{bind_err, opening_takes, opening_err, opening_again, changes_take, changes_err, changes_again, changes_early, closing_takes, closing_err, closing_again, closing_other, closing_another}
+use Rattle.fjall_journal.proofs.Changes.{bind_err, opening_takes, opening_err, opening_again, changes_take, changes_err, changes_again, changes_early, closing_takes, closing_err, closing_again, closing_other, closing_another, ending_again}
 
 front_is : (bytes text rest : List ℕ) → bytes ≡ text ++ rest → take (length bytes - length rest) bytes ≡ text
 front_is bytes text rest e =
@@ -56,9 +56,25 @@ closed bytes number changes = closing_at (check (take (length bytes - length cha
 abbrev opened : List ℕ → (ℕ × ℕ) × List ℕ → Result (Shown × List ℕ) Tail
 opened bytes opening = changes_at opening.0.0 opening.1 >>= λ changes. closed bytes opening.0.1 changes
 
+-- two steps, whose value a third takes
+bind_two : {A B C D E : Type 0} (r : Result A E) (f : A → Result B E) (g : A → B → C) (h : C → Result D E) → ((r >>= λ a. f a >>= λ b. Ok (g a b)) >>= h) ≡ (r >>= λ a. f a >>= λ b. h (g a b))
+bind_two {B = B} {C = C} {D = D} {E = E} (Ok a) f g h = then_both (f a)
+  where
+    then_both : (s : Result B E) → ((s >>= λ b. Ok (g a b)) >>= h) ≡ (s >>= λ b. h (g a b))
+    then_both (Ok b) = refl
+    then_both (Err d) = refl
+bind_two (Err d) f g h = refl
+
+-- the steps of a batch, one behind another
+some_steps : (bytes : List ℕ) → some_batch_at bytes ≡ (opening_at bytes >>= λ opening. opened bytes opening)
+unfolding unclosed_at
+some_steps bytes =
+    bind_two (opening_at bytes) (λ opening. changes_at opening.0.0 opening.1) (λ opening changes. made opening.0.1 changes.0 changes.1)
+    (λ batch. closing_at (check (take (length bytes - length batch.1) bytes)) batch.1 >>= λ rest. Ok (batch.0, rest))
+
 some_takes : (bytes : List ℕ) (x : Shown × List ℕ) → IsBytes bytes → some_batch_at bytes ≡ Ok x → BatchRead bytes x
 some_takes bytes x fits e =
-    let a = bind_ok (opening_at bytes) (opened bytes) x e in
+    let a = bind_ok (opening_at bytes) (opened bytes) x (sym (some_steps bytes) ∙ e) in
     let b = bind_ok (changes_at a.0.0.0 a.0.1) (closed bytes a.0.0.1) x a.2 in
     let d = bind_ok (closing_at (check (take (length bytes - length b.0.1) bytes)) b.0.1) (λ rest. Ok (made a.0.0.1 b.0.0 rest)) x b.2 in
     let t0 = opening_takes bytes a.0 fits a.1 in
@@ -81,15 +97,19 @@ opened_front : (count number : ℕ) (changes : List Entry) (tail : List ℕ) →
 opened_front count number changes tail = append_assoc (spelling (Start count number)) (flat_map spelling changes) tail
 
 -- up to its End
+unclosed_again : (b : Written) (tail : List ℕ) → IsEntry (Start (length b.changes) b.number) → AllByRecursion IsChange b.changes → unclosed_at (checked b ++ tail) ≡ Ok (shown b, tail)
+unfolding unclosed_at
+unclosed_again b tail start each =
+    let count = length b.changes in
+    bind_is _ _ ((count, b.number), flat_map spelling b.changes ++ tail) _
+    (ap opening_at (opened_front count b.number b.changes tail) ∙ opening_again count b.number (flat_map spelling b.changes ++ tail) start)
+    (bind_is _ _ ((items_of b.changes, clears_of b.changes), tail) _ (changes_again b.changes tail each) refl)
+
 some_front : (b : Written) (tail : List ℕ) → IsEntry (Start (length b.changes) b.number) → AllByRecursion IsChange b.changes
     → some_batch_at (checked b ++ tail) ≡ (closing_at (check (checked b)) tail >>= λ rest. Ok (shown b, rest))
 some_front b tail start each =
-    let bytes = checked b ++ tail in
-    let count = length b.changes in
-    bind_is _ (opened bytes) ((count, b.number), flat_map spelling b.changes ++ tail) _
-    (ap opening_at (opened_front count b.number b.changes tail) ∙ opening_again count b.number (flat_map spelling b.changes ++ tail) start)
-    (bind_is _ (closed bytes b.number) ((items_of b.changes, clears_of b.changes), tail) _ (changes_again b.changes tail each)
-    (ap (λ (s : List ℕ). closing_at (check s) tail >>= λ rest. Ok (shown b, rest)) (front_is bytes (checked b) tail refl)))
+    bind_is _ _ (shown b, tail) _ (unclosed_again b tail start each)
+    (ap (λ (s : List ℕ). closing_at (check s) tail >>= λ rest. Ok (shown b, rest)) (front_is (checked b ++ tail) (checked b) tail refl))
 
 some_again : (b : Written) (rest : List ℕ) → IsWritten b → IsEntry (End (check (checked b))) → some_batch_at (batch_text b ++ rest) ≡ Ok (shown b, rest)
 some_again b rest is end =
@@ -101,7 +121,7 @@ pub some_early : (bytes : List ℕ) → EndsEarly bytes → some_batch_at bytes 
 some_early bytes h =
     let tail = spelling (End h.found) ++ h.more in
     let regrouped : bytes ≡ spelling (Start h.count h.number) ++ (flat_map spelling h.changes ++ tail) = h.text ∙ opened_front h.count h.number h.changes tail in
-    bind_is _ (opened bytes) ((h.count, h.number), flat_map spelling h.changes ++ tail) _ (ap opening_at regrouped ∙ opening_again h.count h.number (flat_map spelling h.changes ++ tail) h.start)
+    some_steps bytes ∙ bind_is _ (opened bytes) ((h.count, h.number), flat_map spelling h.changes ++ tail) _ (ap opening_at regrouped ∙ opening_again h.count h.number (flat_map spelling h.changes ++ tail) h.start)
     (ap (λ (r : Result ((List ReadBatchItem × List ℕ) × List ℕ) Tail). r >>= closed bytes h.number) (changes_early h.changes h.count h.found h.more h.each h.fewer h.end))
 
 pub some_goes_on : (bytes : List ℕ) → GoesOn bytes → some_batch_at bytes ≡ Err (Damaged TooManyItems)
@@ -123,7 +143,7 @@ Told bytes t = (t ≡ Torn) ⊎ (((t ≡ Damaged InsufficientLength) × EndsEarl
 
 some_err : (bytes : List ℕ) (t : Tail) → IsBytes bytes → some_batch_at bytes ≡ Err t → Told bytes t
 some_err bytes t fits e =
-    elim (bind_err (opening_at bytes) (opened bytes) t e) [
+    elim (bind_err (opening_at bytes) (opened bytes) t (sym (some_steps bytes) ∙ e)) [
       | inl h ↦ inl (opening_err bytes t h)
       | inr a ↦
           let t0 = opening_takes bytes a.0 fits a.1 in
@@ -232,6 +252,15 @@ batch_again b rest is =
     let some = batch_some b in
     let l = length-append (batch_text b) rest in
     as_some (batch_text b ++ rest) (omega arith) ∙ some_again b rest is (check_len (checked b))
+
+-- where the check is passed over too
+pub known_again : (b : Written) (rest : List ℕ) → IsWritten b → known_at (batch_text b ++ rest) ≡ Ok (shown b, rest)
+unfolding known_at
+known_again b rest is =
+    let end = spelling (End (check (checked b))) in
+    ap known_at (append_assoc (checked b) end rest)
+    ∙ bind_is _ _ (shown b, end ++ rest) _ (unclosed_again b (end ++ rest) (is.count, is.number) is.each)
+    (bind_is _ _ (check (checked b), rest) _ (ending_again (check (checked b)) rest (check_len (checked b))) refl)
 
 -- where a tail is told no batch stands
 pub no_batch : (bytes : List ℕ) (t : Tail) → batch_at bytes ≡ Err t → (b : Written) (more : List ℕ) → IsWritten b → bytes ≡ batch_text b ++ more → ⊥

@@ -14,7 +14,7 @@ use Rattle.fjall_journal.specs.Spelling.{spelling, IsEntry}
 use Rattle.fjall_base.specs.Results.{◌>>=◌}
 use Rattle.fjall_journal.specs.Reading.{Fault, entry_at}
 use Rattle.fjall_journal.specs.Batches.{IsChange, items_of, clears_of}
-use Rattle.fjall_journal.specs.Steps.{or_torn, as_start, as_change, as_end, opening_at, change_at, changes_at, closing_at}
+use Rattle.fjall_journal.specs.Steps.{or_torn, as_start, as_change, as_end, as_closing, opening_at, change_at, changes_at, ending_at, closing_at}
 use Rattle.fjall_base.proofs.Codecs.{IsBytes}
 use Rattle.fjall_base.proofs.Results.{bind_ok}
 use Rattle.fjall_journal.proofs.Fields.{Takes, Takes-then}
@@ -248,11 +248,28 @@ changes_early (change ∷ changes) (suc n) found more each fewer is =
 
 -- ---- the End
 
+-- An End is read whatever its check.
+pub ending_again : (found rest : List ℕ) → IsEntry (End found) → ending_at (spelling (End found) ++ rest) ≡ Ok (found, rest)
+unfolding ending_at
+ending_again found rest is = bind_is _ _ (End found, rest) _ (or_torn_again (End found) rest is) refl
+
+-- an End with this check
+abbrev closes : List ℕ → Entry → List ℕ → Result (List ℕ) Tail
+closes sum entry rest = as_end entry rest >>= λ end. as_closing sum end
+
+closing_is : (sum bytes : List ℕ) → closing_at sum bytes ≡ (or_torn (entry_at bytes) >>= λ y. closes sum y.0 y.1)
+unfolding closing_at ending_at
+closing_is sum bytes = then_closes (or_torn (entry_at bytes))
+  where
+    then_closes : (r : Result (Entry × List ℕ) Tail) → ((r >>= λ y. as_end y.0 y.1) >>= λ end. as_closing sum end) ≡ (r >>= λ y. closes sum y.0 y.1)
+    then_closes (Ok y) = refl
+    then_closes (Err t) = refl
+
 pub record ClosesOn (sum bytes : List ℕ) (entry : Entry) (rest : List ℕ) : Type 0 where
   pub takes : Takes bytes (spelling entry) rest
   pub is : IsEntry entry
 
-end_is : (sum : List ℕ) (entry : Entry) (rest after : List ℕ) → as_end sum entry rest ≡ Ok after → (entry ≡ End sum) × (rest ≡ after)
+end_is : (sum : List ℕ) (entry : Entry) (rest after : List ℕ) → closes sum entry rest ≡ Ok after → (entry ≡ End sum) × (rest ≡ after)
 end_is sum (Start count number) rest after e = absurd cc
 end_is sum (Item id key value kind compression) rest after e = absurd cc
 end_is sum (Clear id) rest after e = absurd cc
@@ -263,9 +280,8 @@ end_is sum (End found) rest after e = right (bytes_eq found sum) refl e
     right false t e = absurd cc
 
 pub closing_takes : (sum bytes rest : List ℕ) → IsBytes bytes → closing_at sum bytes ≡ Ok rest → Takes bytes (spelling (End sum)) rest × IsEntry (End sum)
-unfolding closing_at
 closing_takes sum bytes rest fits e =
-    let a = bind_ok (or_torn (entry_at bytes)) (λ y. as_end sum y.0 y.1) rest e in
+    let a = bind_ok (or_torn (entry_at bytes)) (λ y. closes sum y.0 y.1) rest (sym (closing_is sum bytes) ∙ e) in
     let t = or_torn_takes bytes a.0 fits a.1 in
     let s = end_is sum a.0.0 a.0.1 rest a.2 in
     let t' : Takes bytes (spelling (End sum)) a.0.1 × IsEntry (End sum) = subst (λ (y : Entry). Takes bytes (spelling y) a.0.1 × IsEntry y) s.0 t in
@@ -287,7 +303,7 @@ pub record OtherHere (sum bytes : List ℕ) : Type 0 where
 abbrev pub ClosingFails : Tail → List ℕ → List ℕ → Type 0
 ClosingFails t sum bytes = (t ≡ Torn) ⊎ (((t ≡ Damaged TooManyItems) × AnotherHere bytes) ⊎ ((t ≡ Damaged ChecksumMismatch) × OtherHere sum bytes))
 
-end_fails : (sum bytes : List ℕ) (entry : Entry) (rest : List ℕ) (t : Tail) → Takes bytes (spelling entry) rest → IsEntry entry → as_end sum entry rest ≡ Err t → ClosingFails t sum bytes
+end_fails : (sum bytes : List ℕ) (entry : Entry) (rest : List ℕ) (t : Tail) → Takes bytes (spelling entry) rest → IsEntry entry → closes sum entry rest ≡ Err t → ClosingFails t sum bytes
 end_fails sum bytes (Start count number) rest t takes is e = inl cc
 end_fails sum bytes (Item id key value kind compression) rest t takes is e = inr (inl (cc, record { another = Item id key value kind compression; more = rest; change = is; text = takes.parts }))
 end_fails sum bytes (Clear id) rest t takes is e = inr (inl (cc, record { another = Clear id; more = rest; change = is; text = takes.parts }))
@@ -298,33 +314,31 @@ end_fails sum bytes (End found) rest t takes is e = wrong (bytes_eq found sum) r
     wrong false h e = inr (inr (cc, record { found = found; more = rest; end = is; other = (λ same. let yes = (bytes_eq-Decides found sum).1 same in absurd cc); text = takes.parts }))
 
 pub closing_err : (sum bytes : List ℕ) (t : Tail) → IsBytes bytes → closing_at sum bytes ≡ Err t → ClosingFails t sum bytes
-unfolding closing_at
 closing_err sum bytes t fits e =
-    elim (bind_err (or_torn (entry_at bytes)) (λ y. as_end sum y.0 y.1) t e) [
+    elim (bind_err (or_torn (entry_at bytes)) (λ y. closes sum y.0 y.1) t (sym (closing_is sum bytes) ∙ e)) [
       | inl h ↦ inl (or_torn_err (entry_at bytes) t h)
       | inr h ↦ let k = or_torn_takes bytes h.0 fits h.1 in end_fails sum bytes h.0.0 h.0.1 t k.0 k.1 h.2
     ]
 
 pub closing_again : (sum rest : List ℕ) → IsEntry (End sum) → closing_at sum (spelling (End sum) ++ rest) ≡ Ok rest
 unfolding closing_at
-closing_again sum rest is = bind_is _ _ (End sum, rest) _ (or_torn_again (End sum) rest is) (let yes : bytes_eq sum sum ≡ true = (bytes_eq-Decides sum sum).1 refl in rw yes refl)
+closing_again sum rest is = bind_is _ _ (sum, rest) _ (ending_again sum rest is) (let yes : bytes_eq sum sum ≡ true = (bytes_eq-Decides sum sum).1 refl in rw yes refl)
 
 pub closing_other : (sum found more : List ℕ) → IsEntry (End found) → found ≢ sum → closing_at sum (spelling (End found) ++ more) ≡ Err (Damaged ChecksumMismatch)
 unfolding closing_at
-closing_other sum found more is other = bind_is _ _ (End found, more) _ (or_torn_again (End found) more is) (not_same (bytes_eq found sum) refl)
+closing_other sum found more is other = bind_is _ _ (found, more) _ (ending_again found more is) (not_same (bytes_eq found sum) refl)
   where
     not_same : (b : Bool) → bytes_eq found sum ≡ b → cond b (Ok more) (Err (Damaged ChecksumMismatch)) ≡ Err (Damaged ChecksumMismatch)
     not_same true t = absurd (other ((bytes_eq-Decides found sum).0 t))
     not_same false t = refl
 
-as_end_another : (sum : List ℕ) (another : Entry) (more : List ℕ) → IsChange another → (as_end sum another more ≡ Err (Damaged TooManyItems)) × IsEntry another
-as_end_another sum (Start count number) more h = absurd h
-as_end_another sum (Item id key value kind compression) more h = (refl, h)
-as_end_another sum (End found) more h = absurd h
-as_end_another sum (Clear id) more h = (refl, h)
+closes_another : (sum : List ℕ) (another : Entry) (more : List ℕ) → IsChange another → (closes sum another more ≡ Err (Damaged TooManyItems)) × IsEntry another
+closes_another sum (Start count number) more h = absurd h
+closes_another sum (Item id key value kind compression) more h = (refl, h)
+closes_another sum (End found) more h = absurd h
+closes_another sum (Clear id) more h = (refl, h)
 
 pub closing_another : (sum : List ℕ) (another : Entry) (more : List ℕ) → IsChange another → closing_at sum (spelling another ++ more) ≡ Err (Damaged TooManyItems)
-unfolding closing_at
 closing_another sum another more h =
-    let a = as_end_another sum another more h in
-    bind_is _ _ (another, more) _ (or_torn_again another more a.1) a.0
+    let a = closes_another sum another more h in
+    closing_is sum (spelling another ++ more) ∙ bind_is _ _ (another, more) _ (or_torn_again another more a.1) a.0

@@ -4,6 +4,7 @@ pub mod Changes
 pub mod Batches
 pub mod Loops
 pub mod Cuts
+pub mod Known
 pub mod Writing
 pub mod Rotating
 pub mod Readings

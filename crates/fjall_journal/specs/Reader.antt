@@ -53,3 +53,8 @@ abbrev pub Next : Reading → Option (Result Batch Error) → Reading → Type 0
 Next s (Some (Ok batch)) t = (s.over ≡ false) × (t ≡ record s { rest = t.rest }) × Leads s.rest batch t.rest
 Next s (Some (Err error)) t = (s.over ≡ false) × NextFails s error t
 Next s None t = NextEnds s t s.over
+
+-- A batch was found, and it shows as this one.
+abbrev pub Finds : Option Batch → Written → Type 0
+Finds (Some batch) written = view batch ≡ shown written
+Finds None written = ⊥

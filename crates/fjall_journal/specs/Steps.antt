@@ -39,11 +39,16 @@ as_change (Item id key value kind compression) rest = Ok (Item id key value kind
 as_change (End found) rest = Err (Damaged InsufficientLength)
 as_change (Clear id) rest = Ok (Clear id, rest)
 
-abbrev pub as_end : List ℕ → Entry → List ℕ → Result (List ℕ) Tail
-as_end sum (Start count number) rest = Err Torn
-as_end sum (Item id key value kind compression) rest = Err (Damaged TooManyItems)
-as_end sum (End found) rest = if bytes_eq found sum then Ok rest else Err (Damaged ChecksumMismatch)
-as_end sum (Clear id) rest = Err (Damaged TooManyItems)
+-- the check in an End
+abbrev pub as_end : Entry → List ℕ → Result (List ℕ × List ℕ) Tail
+as_end (Start count number) rest = Err Torn
+as_end (Item id key value kind compression) rest = Err (Damaged TooManyItems)
+as_end (End found) rest = Ok (found, rest)
+as_end (Clear id) rest = Err (Damaged TooManyItems)
+
+-- what stands behind an End whose check is the sum
+abbrev pub as_closing : List ℕ → List ℕ × List ℕ → Result (List ℕ) Tail
+as_closing sum end = if bytes_eq end.0 sum then Ok end.1 else Err (Damaged ChecksumMismatch)
 
 unfoldable pub opening_at : List ℕ → Result ((ℕ × ℕ) × List ℕ) Tail
 opening_at bytes = or_torn (entry_at bytes) >>= λ x. as_start x.0 x.1
@@ -59,16 +64,32 @@ changes_at (suc n) bytes = do
   others ← changes_at n first.1
   Ok ((items_of (first.0 ∷ []) ++ others.0.0, clears_of (first.0 ∷ []) ++ others.0.1), others.1)
 
+unfoldable pub ending_at : List ℕ → Result (List ℕ × List ℕ) Tail
+ending_at bytes = or_torn (entry_at bytes) >>= λ x. as_end x.0 x.1
+
 unfoldable pub closing_at : List ℕ → List ℕ → Result (List ℕ) Tail
-closing_at sum bytes = or_torn (entry_at bytes) >>= λ x. as_end sum x.0 x.1
+closing_at sum bytes = ending_at bytes >>= λ end. as_closing sum end
+
+-- a batch up to its End, which stands at the front of the rest
+unfoldable pub unclosed_at : List ℕ → Result (Shown × List ℕ) Tail
+unclosed_at bytes = do
+  opening ← opening_at bytes
+  changes ← changes_at opening.0.0 opening.1
+  Ok (record { number = opening.0.1; items = changes.0.0; clears = changes.0.1 }, changes.1)
 
 -- a batch, behind which the rest stands
 abbrev pub some_batch_at : List ℕ → Result (Shown × List ℕ) Tail
 some_batch_at bytes = do
-  opening ← opening_at bytes
-  changes ← changes_at opening.0.0 opening.1
-  rest ← closing_at (check (take (length bytes - length changes.1) bytes)) changes.1
-  Ok (record { number = opening.0.1; items = changes.0.0; clears = changes.0.1 }, rest)
+  batch ← unclosed_at bytes
+  rest ← closing_at (check (take (length bytes - length batch.1) bytes)) batch.1
+  Ok (batch.0, rest)
+
+-- the same, where the check in the End is passed over
+unfoldable pub known_at : List ℕ → Result (Shown × List ℕ) Tail
+known_at bytes = do
+  batch ← unclosed_at bytes
+  end ← ending_at batch.1
+  Ok (batch.0, end.1)
 
 unfoldable pub batch_at : List ℕ → Result (Shown × List ℕ) Tail
 batch_at [] = Err Clean

@@ -8,6 +8,7 @@ mod contents;
 mod decoding;
 mod encoding;
 mod entry;
+mod known_batches;
 mod laws;
 mod op;
 mod parsing;
@@ -21,6 +22,7 @@ pub use batch_reader::JournalBatchReader;
 pub use contents::{Contents, read_journal};
 pub use encoding::serialize_marker_item;
 pub use entry::{Entry, Tag, ValueType};
+pub use known_batches::KnownBatches;
 pub use laws::{
     cut_reads, one_reading, one_spelling, one_tail, texts_are_whole, whole_behind, whole_grows,
 };

@@ -5,7 +5,7 @@ ghost use Rattle.std.specs.Str.{bytes_eq};
 ghost use Rattle.fjall_journal.specs.Reading.{entry_at};
 ghost use Rattle.fjall_journal.specs.Batches.{items_of, clears_of, view};
 ghost use Rattle.fjall_journal.specs.Reader.{Leads, StopsHere};
-ghost use Rattle.fjall_journal.specs.Steps.{Reads, or_torn, opening_at, change_at, changes_at, closing_at, batch_at};
+ghost use Rattle.fjall_journal.specs.Steps.{Reads, or_torn, opening_at, change_at, changes_at, ending_at, closing_at, unclosed_at, batch_at, known_at};
 
 use crate::batch::{Batch, ReadBatchItem, Stop, Tail};
 use crate::decoding::entry_of;
@@ -57,6 +57,21 @@ fn change_of(alloc: Global, bytes: &[u8]) -> std::result::Result<(Entry, &[u8]),
     }
 }
 
+/// The check in the End at the front, and the bytes after it.
+#[tactic(auto, unfolding(crate::specs::Steps::ending_at))]
+fn ending_of(alloc: Global, bytes: &[u8]) -> std::result::Result<([u8; 8], &[u8]), Stop>
+    ensures gives { Reads (λ x. (x.0, x.1.now)) result (ending_at bytes.now) }
+    ensures shorter { IfOk result (λ x. length x.1.now < length bytes.now) }
+{
+    let (entry, rest) = entry_or_torn(alloc, bytes)?;
+    match entry {
+        Entry::Start { .. } => Err(Stop::Tail(Tail::Torn)),
+        Entry::End(found) => Ok((found, rest)),
+        Entry::Item { .. } => Err(Stop::Tail(Tail::Damaged(JournalRecoveryError::TooManyItems))),
+        Entry::Clear { .. } => Err(Stop::Tail(Tail::Damaged(JournalRecoveryError::TooManyItems))),
+    }
+}
+
 #[tactic(auto, unfolding(crate::specs::Steps::closing_at))]
 fn closing_of<'a>(
     alloc: Global,
@@ -66,18 +81,11 @@ fn closing_of<'a>(
     ensures gives { Reads (λ x. x.now) result (closing_at sum.now bytes.now) }
     ensures shorter { IfOk result (λ x. length x.now < length bytes.now) }
 {
-    let (entry, rest) = entry_or_torn(alloc, bytes)?;
-    match entry {
-        Entry::Start { .. } => Err(Stop::Tail(Tail::Torn)),
-        Entry::End(found) => {
-            if !is_same(&found, sum) {
-                return Err(Stop::Tail(Tail::Damaged(JournalRecoveryError::ChecksumMismatch)));
-            }
-            Ok(rest)
-        }
-        Entry::Item { .. } => Err(Stop::Tail(Tail::Damaged(JournalRecoveryError::TooManyItems))),
-        Entry::Clear { .. } => Err(Stop::Tail(Tail::Damaged(JournalRecoveryError::TooManyItems))),
+    let (found, rest) = ending_of(alloc, bytes)?;
+    if !is_same(&found, sum) {
+        return Err(Stop::Tail(Tail::Damaged(JournalRecoveryError::ChecksumMismatch)));
     }
+    Ok(rest)
 }
 
 /// Puts an item or a clear to its kind.
@@ -128,6 +136,22 @@ fn changes_of(
     Ok(((items, clears), rest))
 }
 
+/// A batch up to its End, and the bytes from there.
+#[tactic(auto, unfolding(crate::specs::Steps::unclosed_at))]
+fn unclosed_of(alloc: Global, bytes: &[u8]) -> std::result::Result<(Batch, &[u8]), Stop>
+    ensures gives { Reads (λ x. (view x.0, x.1.now)) result (unclosed_at bytes.now) }
+    ensures shorter { IfOk result (λ x. length x.1.now < length bytes.now) }
+{
+    let ((item_count, seqno), rest) = opening_of(alloc, bytes)?;
+    let ((items, cleared_keyspaces), rest) = changes_of(alloc, item_count, rest)?;
+    let batch = Batch {
+        seqno,
+        items,
+        cleared_keyspaces,
+    };
+    Ok((batch, rest))
+}
+
 #[tactic(auto, unfolding(crate::specs::Steps::batch_at))]
 fn parse_batch(alloc: Global, bytes: &[u8]) -> std::result::Result<(Batch, &[u8]), Stop>
     ensures gives { Reads (λ x. (view x.0, x.1.now)) result (batch_at bytes.now) }
@@ -136,15 +160,9 @@ fn parse_batch(alloc: Global, bytes: &[u8]) -> std::result::Result<(Batch, &[u8]
     if bytes.is_empty() {
         return Err(Stop::Tail(Tail::Clean));
     }
-    let ((item_count, seqno), rest) = opening_of(alloc, bytes)?;
-    let ((items, cleared_keyspaces), rest) = changes_of(alloc, item_count, rest)?;
+    let (batch, rest) = unclosed_of(alloc, bytes)?;
     let sum = checksum(&bytes[..bytes.len() - rest.len()]);
     let rest = closing_of(alloc, &sum, rest)?;
-    let batch = Batch {
-        seqno,
-        items,
-        cleared_keyspaces,
-    };
     Ok((batch, rest))
 }
 
@@ -154,4 +172,18 @@ pub(crate) fn batch_of(alloc: Global, bytes: &[u8]) -> std::result::Result<(Batc
     ensures tail { IfErr result (StopsHere bytes.now) }
 {
     parse_batch(alloc, bytes)
+}
+
+/// The batch at the front and the bytes after it, where its check was taken before: it is passed over.
+#[tactic(auto, unfolding(crate::specs::Steps::known_at))]
+pub(crate) fn known_batch_of(
+    alloc: Global,
+    bytes: &[u8],
+) -> std::result::Result<(Batch, &[u8]), Stop>
+    ensures gives { Reads (λ x. (view x.0, x.1.now)) result (known_at bytes.now) }
+    ensures shorter { IfOk result (λ x. length x.1.now < length bytes.now) }
+{
+    let (batch, rest) = unclosed_of(alloc, bytes)?;
+    let (_check, rest) = ending_of(alloc, rest)?;
+    Ok((batch, rest))
 }
