@@ -91,13 +91,12 @@ pub fn scan<D: Disk>(core: &mut Core<D>, id: u64, back: bool) -> Result<u64> {
     Ok(found)
 }
 
-// How many pairs a range has that begins at a number's key: the first ones of the page that an iterator fetches.
+// How many pairs a range has that begins at a number's key, of which no more are asked for than a range has.
 fn count_range<D: Disk>(alloc: Global, core: &mut Core<D>, id: u64, number: u64) -> Result<u64> {
     let start = Bound::Included(Slice::new(alloc, &key_of(number))?);
     let range = (start, Bound::Unbounded);
-    let pairs = core.page_at(View::Present, id, &range, false, PAGE_PAIRS)?;
-    let (first, _) = pairs.split_at(pairs.len().min(PAIRS_TOGETHER));
-    Ok(count_whole(first))
+    let pairs = core.page_at(View::Present, id, &range, false, PAIRS_TOGETHER)?;
+    Ok(count_whole(&pairs))
 }
 
 /// Reads a range from each number's key on, and says how many pairs all had.

@@ -59,7 +59,7 @@ const MEND: Task = Task {
         On(Append("3.jnl", TORN)),
     ],
     step: Mend("3.jnl"),
-    after: &[Ask(Batches)],
+    after: &[Ask(Ends)],
 };
 
 // Three calls read, and fourteen change the folder: the last of them sync the marker and the names of the root.
@@ -122,9 +122,9 @@ const STRETCHES: &[Stretch] = &[
         SERVED,
         &[1, 1, 55],
     ),
-    (MEND, (1, 14), &[0], STAYS, FAILS, &[1, 2, 49, 1]),
-    (MEND, (15, 16), &[0], STAYS, FAILS, &[1, 2, 49, 0]),
-    (MEND, (17, 19), &[0], STAYS, SERVED, &[1, 1, 2, 49, 0]),
+    (MEND, (1, 14), &[0], STAYS, FAILS, &[0, 2, 49, 1]),
+    (MEND, (15, 16), &[0], STAYS, FAILS, &[0, 2, 49, 0]),
+    (MEND, (17, 19), &[0], STAYS, SERVED, &[1, 0, 2, 49, 0]),
     (
         BEGIN,
         (1, 15),
@@ -153,7 +153,7 @@ const STRETCHES: &[Stretch] = &[
     (BEGIN, (18, 18), &[0], STAYS, SERVED, &[0, 0, 0, 1]),
     (
         OPEN,
-        (1, 25),
+        (1, 26),
         &[0, 2],
         &[Some(0), Some(2)],
         FAILS,
@@ -161,7 +161,7 @@ const STRETCHES: &[Stretch] = &[
     ),
     (
         OPEN,
-        (26, 60),
+        (27, 60),
         &[0, 2],
         &[Some(0), Some(2)],
         SERVED,

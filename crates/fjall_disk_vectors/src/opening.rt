@@ -26,10 +26,10 @@ pub fn add_some_id(seen: &mut Vec<u64>, id: Option<u64>) -> Result<()> {
     Ok(())
 }
 
-// Adds how many batches there are, their least next number, and the end of the last journal, and whether it is torn.
-fn add_batches(journals: &RecoveredJournals, seen: &mut Vec<u64>) -> Result<()> {
+// Adds how many journals are sealed, the least next number, and the end of the last journal, and whether it is torn.
+fn add_journals(journals: &RecoveredJournals, seen: &mut Vec<u64>) -> Result<()> {
     seen.extend_from_slice(&[
-        journals.batches.len() as u64,
+        journals.sealed.sealed_journal_count() as u64,
         journals.least,
         journals.end as u64,
         u64::from(journals.torn),
@@ -46,7 +46,7 @@ fn add_seen(folder: &RecoveredFolder, question: Question, seen: &mut Vec<u64>) -
         Folders => Ok(seen.extend_from_slice(&folder.folder_ids)?),
         Named(name) => add_some_id(seen, keyspaces.resolve_id(name)),
         NextId => add_some_id(seen, Some(keyspaces.next_id())),
-        Batches => add_batches(&folder.journals, seen),
+        Ends => add_journals(&folder.journals, seen),
         _ => add_homes(folder, seen),
     }
 }
@@ -76,7 +76,7 @@ pub const SCRIPT: &[Row] = &[
     (On(Append("1.jnl", TORN)), DONE),
     (Ask(Journals), Ok(&[0, 1])),
     (Ask(Folders), Ok(&[0, 1])),
-    (Ask(Batches), Ok(&[2, 3, 49, 1])),
+    (Ask(Ends), Ok(&[1, 3, 49, 1])),
     (Ask(Named(b"items")), Ok(&[1])),
     (Ask(Homes), Ok(&[1, 55, 55])),
     // Numbers.

@@ -93,8 +93,8 @@ pub enum Question {
     Journals,
     Folders,
     NextId,
-    /// How many batches there are, their least next number, and the end of the last journal, and whether it is torn.
-    Batches,
+    /// How many journals are sealed, the least next number, the end of the last journal, and whether it is torn.
+    Ends,
     /// Each keyspace's id, the end of its records, and the length of their file.
     Homes,
     /// The id of the keyspace of this name.

@@ -22,7 +22,7 @@ pub struct Contents {
 
 /// The reader's `next`. A loop that calls it by this name ends by a measure of its own: a reader alone isn't known to
 /// end, since it can be called again for want of memory.
-fn next_batch(reader: &mut JournalBatchReader<'_>) -> Option<Result<Batch>>
+pub fn next_batch(reader: &mut JournalBatchReader<'_>) -> Option<Result<Batch>>
     ensures { Next reader.old result reader.new }
 {
     reader.next()

@@ -19,7 +19,7 @@ mod writer;
 
 pub use batch::{Batch, ReadBatchItem, Tail};
 pub use batch_reader::JournalBatchReader;
-pub use contents::{Contents, read_journal};
+pub use contents::{Contents, next_batch, read_journal};
 pub use encoding::serialize_marker_item;
 pub use entry::{Entry, Tag, ValueType};
 pub use known_batches::KnownBatches;

@@ -44,8 +44,8 @@ due_as P Q OutOfMemory f is = tt
 due_as P Q (Io kind) f is = tt
 due_as P Q error f is = f error is
 
-pub holds_journals : (image : Image) (ids : List ℕ) (batches : List Shown) (least end : ℕ) (torn : Bool) → AreJournalIds image ids → AreFound image ids batches least end torn → (journals : List Journal) × HoldsJournals image journals
-holds_journals image ids batches least end torn are found =
+pub holds_journals : (image : Image) (ids : List ℕ) (least end : ℕ) (torn : Bool) → AreJournalIds image ids → AreFound image ids least end torn → (journals : List Journal) × HoldsJournals image journals
+holds_journals image ids least end torn are found =
     (found.journals, record { ids = subst (AreJournalIds image) (sym found.named) are; read = found.read; sound = found.gathers.sound })
 
 pub journals_refuse : (image : Image) (ids : List ℕ) (error : Error) → AreJournalIds image ids → IsDue (JournalsRefuse image 0 ids) error → IsDue (FinishedRefuses image) error
@@ -148,7 +148,6 @@ held image f marker named finished =
       };
       shows = record {
         ids = sym found.named;
-        batches = found.gathers.all;
         least = found.gathers.next;
         keyspaces = refl;
         last = refl;
@@ -166,14 +165,14 @@ journals_along a b ids others same is are = subst (AreJournalIds b) (sym is) (su
 
 pub finished_of : (image one two three : Image) (f : RecoveredFolder) (journal_ids : List ℕ) (living : List LivingKeyspace) → one ≡ image → two ≡ image → three ≡ image
     → journal_ids ≡ f.journal_ids.items → AreJournalIds image f.journal_ids.items
-    → AreFound image journal_ids (map view f.journals.batches.items) f.journals.least f.journals.end f.journals.torn
+    → AreFound image journal_ids f.journals.least f.journals.end f.journals.torn
     → AreTold image journal_ids f.journals.sealed f.journals.watermarks
     → AreFolderIds one f.folder_ids.items → KeyspacesAreNamed one → two (keyspace_folder 0) ≡ Folder
     → (records : List Fields) × Says two records f.catalog.catalog f.catalog.keyspaces → HasEnd two f.catalog.end f.catalog.is_torn → AreMade f.catalog.catalog f.catalog.keyspaces
     → living ≡ f.catalog.keyspaces.living → AreHomesRead three living f.homes.items → IsFinished image f
 finished_of image one two three f journal_ids living at_one at_two at_three ids are found told folders named folder says ends made is homes = record {
   journal_ids = are;
-  journals = subst (λ (l : List ℕ). AreFound image l (map view f.journals.batches.items) f.journals.least f.journals.end f.journals.torn) ids found;
+  journals = subst (λ (l : List ℕ). AreFound image l f.journals.least f.journals.end f.journals.torn) ids found;
   told = subst (λ (l : List ℕ). AreTold image l f.journals.sealed f.journals.watermarks) ids told;
   folder_ids = subst (λ i. AreFolderIds i f.folder_ids.items) at_one folders;
   keyspaces_named = subst KeyspacesAreNamed at_one named;

@@ -3,30 +3,18 @@ use Rattle.std.proofs.Common.{◌≡◌, ◌⊎◌, inl, inr, ⊎_elim, ℕ, suc
 use Rattle.std.proofs.lemmas.List.{append-nil, map-append, drop_more, take_all}
 use Rattle.std.proofs.Math.Seq.{take-suc}
 use Rattle.std.proofs.lemmas.Grind.{flat_map-append}
-use Rattle.std.specs.Prelude.{IfOk}
 use Rattle.std.specs.List.{AllByRecursion}
 use Rattle.std.specs.Option.{option_or}
 use Rattle.fjall_base.specs.Disk.{Image}
 use Rattle.fjall_base.specs.declared.error.Error.{Error}
 use Rattle.fjall_base.specs.declared.error.Error.TheVariants.{OutOfMemory, Io}
-use Rattle.fjall_journal.specs.declared.contents.Contents.{Contents}
 use Rattle.fjall_journal.specs.declared.batch.Tail.{Tail}
 use Rattle.fjall_journal.specs.declared.batch.Tail.TheVariants.{Clean, Torn}
-use Rattle.fjall_journal.specs.Batches.{Written, Shown, IsWhole, IsTail, shown, view}
+use Rattle.fjall_journal.specs.Batches.{Written, Shown, IsWhole, IsTail, shown}
 use Rattle.fjall_versions.specs.Replays.{Fault, first_fault, least_after, NamesFault}
 use Rattle.fjall_recovery.specs.Journals.{Journal, ReadsAs, AreRead, IsSealed, batches_in, EndsAt, Gathers, AreSealed, AreFound, IsReadAs, journal_text, tail_of}
 use Rattle.fjall_recovery.specs.Refusals.{IsDue, JournalsRefuse, TailRefuses, is_last}
 pub use Rattle.fjall_versions.proofs.Faults.{first_fault-append, least_after-append}
-
--- ---- one journal
-
-pub read_as : (result : Result Contents Error) (text other : List ℕ) → text ≡ other
-    → IfOk result (λ c. (bs : List Written) × (map view c.batches.items ≡ map shown bs) × IsWhole text bs c.end)
-    → IfOk result (λ c. IsTail (drop c.end text) c.tail)
-    → IfOk result (λ c. IsReadAs other (map view c.batches.items) c.end c.tail)
-read_as (Ok c) text other same whole tail =
-    subst (λ t. IsReadAs t (map view c.batches.items) c.end c.tail) same (record { written = whole.0; shows = whole.1; whole = whole.2; behind = tail })
-read_as (Err e) text other same whole tail = tt
 
 -- ---- batches behind batches
 
@@ -40,19 +28,18 @@ none_of_both : (a b : Option Fault) → a ≡ None → b ≡ None → option_or 
 none_of_both a b none other = ap (λ x. option_or x b) none ∙ other
 
 -- one journal more is gathered
-pub gathers_more : (front : List Journal) (j : Journal) (batches new more : List Shown) (least next : ℕ) → Gathers front batches least → more ≡ map shown j.batches → new ≡ batches ++ more
-    → first_fault least more ≡ None → next ≡ least_after least more → Gathers (front ++ j ∷ []) new next
-gathers_more front j batches new more least next gathers shows is sound least_is =
+pub gathers_more : (front : List Journal) (j : Journal) (more : List Shown) (least next : ℕ) → Gathers front least → more ≡ map shown j.batches → first_fault least more ≡ None
+    → next ≡ least_after least more → Gathers (front ++ j ∷ []) next
+gathers_more front j more least next gathers shows sound least_is =
     let shown_front = map shown (batches_in front) in
     let all : map shown (batches_in (front ++ j ∷ [])) ≡ shown_front ++ more = batches-append front (j ∷ []) ∙ ap (λ (l : List Shown). shown_front ++ l) (one_journal j ∙ sym shows) in
     record {
       sound = ap (first_fault 0) all ∙ first_fault-append 0 shown_front more ∙ none_of_both (first_fault 0 shown_front) _ gathers.sound (ap (λ n. first_fault n more) (sym gathers.next) ∙ sound);
-      all = is ∙ ap (λ (l : List Shown). l ++ more) gathers.all ∙ sym all;
       next = least_is ∙ ap (λ n. least_after n more) gathers.next ∙ sym (least_after-append 0 shown_front more) ∙ ap (least_after 0) (sym all);
     }
 
-pub none_gathered : (batches : List Shown) (least : ℕ) → batches ≡ [] → least ≡ 0 → Gathers [] batches least
-none_gathered batches least none zero = record { sound = refl; all = none; next = zero }
+pub none_gathered : (least : ℕ) → least ≡ 0 → Gathers [] least
+none_gathered least zero = record { sound = refl; next = zero }
 
 -- ---- sealed journals
 
@@ -66,15 +53,15 @@ ids-append front j = map-append (λ (k : Journal). k.id) front (j ∷ [])
 pub clean_end : (text : List ℕ) (batches : List Shown) (end : ℕ) (tail : Tail) (read : IsReadAs text batches end tail) → tail ≡ Clean → ReadsAs text read.written Clean
 clean_end text batches end tail read clean = record { end = end; whole = read.whole; behind = subst (IsTail (drop end text)) clean read.behind }
 
-pub one_sealed_more : (image : Image) (ids : List ℕ) (id : ℕ) (batches new more : List Shown) (least next end : ℕ) (tail : Tail) → AreSealed image ids batches least
-    → IsReadAs (journal_text image id) more end tail → tail ≡ Clean → new ≡ batches ++ more → first_fault least more ≡ None → next ≡ least_after least more → AreSealed image (ids ++ id ∷ []) new next
-one_sealed_more image ids id batches new more least next end tail so_far read clean is sound least_is =
+pub one_sealed_more : (image : Image) (ids : List ℕ) (id : ℕ) (more : List Shown) (least next end : ℕ) (tail : Tail) → AreSealed image ids least
+    → IsReadAs (journal_text image id) more end tail → tail ≡ Clean → first_fault least more ≡ None → next ≡ least_after least more → AreSealed image (ids ++ id ∷ []) next
+one_sealed_more image ids id more least next end tail so_far read clean sound least_is =
     let j : Journal = record { id = id; batches = read.written } in
     record {
       journals = so_far.journals ++ j ∷ [];
       named = ids-append so_far.journals j ∙ ap (λ (l : List ℕ). l ++ id ∷ []) so_far.named;
       sealed = sealed_more image so_far.journals j so_far.sealed (clean_end (journal_text image id) more end tail read clean);
-      gathers = gathers_more so_far.journals j batches new more least next so_far.gathers read.shows is sound least_is;
+      gathers = gathers_more so_far.journals j more least next so_far.gathers read.shows sound least_is;
     }
 
 -- ---- the active one behind them
@@ -93,21 +80,21 @@ pub either_tail : (text : List ℕ) (batches : List Written) (end : ℕ) (torn :
 either_tail text batches end false whole tail = inl (record { end = end; whole = whole; behind = tail })
 either_tail text batches end true whole tail = inr (record { end = end; whole = whole; behind = tail })
 
-pub active_found : (image : Image) (ids : List ℕ) (id : ℕ) (batches new more : List Shown) (least next end : ℕ) (tail : Tail) (torn : Bool) → AreSealed image ids batches least
-    → IsReadAs (journal_text image id) more end tail → tail ≡ tail_of torn → new ≡ batches ++ more → first_fault least more ≡ None → next ≡ least_after least more → AreFound image (ids ++ id ∷ []) new next end torn
-active_found image ids id batches new more least next end tail torn so_far read told is sound least_is =
+pub active_found : (image : Image) (ids : List ℕ) (id : ℕ) (more : List Shown) (least next end : ℕ) (tail : Tail) (torn : Bool) → AreSealed image ids least
+    → IsReadAs (journal_text image id) more end tail → tail ≡ tail_of torn → first_fault least more ≡ None → next ≡ least_after least more → AreFound image (ids ++ id ∷ []) next end torn
+active_found image ids id more least next end tail torn so_far read told sound least_is =
     let j : Journal = record { id = id; batches = read.written } in
     let behind = subst (IsTail (drop end (journal_text image id))) told read.behind in
     record {
       journals = so_far.journals ++ j ∷ [];
       named = ids-append so_far.journals j ∙ ap (λ (l : List ℕ). l ++ id ∷ []) so_far.named;
       read = read_last image so_far.journals j so_far.sealed (either_tail (journal_text image id) read.written end torn read.whole behind);
-      gathers = gathers_more so_far.journals j batches new more least next so_far.gathers read.shows is sound least_is;
+      gathers = gathers_more so_far.journals j more least next so_far.gathers read.shows sound least_is;
       ends = ends_last image so_far.journals j end torn (read.whole, behind);
     }
 
-pub none_found : (image : Image) (batches : List Shown) (least end : ℕ) (torn : Bool) → batches ≡ [] → least ≡ 0 → end ≡ 0 → torn ≡ false → AreFound image [] batches least end torn
-none_found image batches least end torn none zero start clean = record { journals = []; named = refl; read = tt; gathers = none_gathered batches least none zero; ends = (start, clean) }
+pub none_found : (image : Image) (least end : ℕ) (torn : Bool) → least ≡ 0 → end ≡ 0 → torn ≡ false → AreFound image [] least end torn
+none_found image least end torn zero start clean = record { journals = []; named = refl; read = tt; gathers = none_gathered least zero; ends = (start, clean) }
 
 -- ---- refusals
 
@@ -146,10 +133,6 @@ due P OutOfMemory is = tt
 due P (Io kind) is = tt
 due P error is = is
 
-pub due_or : (P : Error → Type 0) (error : Error) → (error ≡ OutOfMemory) ⊎ P error → IsDue P error
-due_or P error (inl memory) = subst (λ e. IsDue P e) (sym memory) tt
-due_or P error (inr is) = due P error is
-
 -- what refuses the rest of a list refuses all of it, where it does so behind its front
 module _ (image : Image) (ids : List ℕ) (n least : ℕ) (active : ℕ) (lt : n < length ids)
     (so_far : (error : Error) → JournalsRefuse image least (drop n ids ++ active ∷ []) error → JournalsRefuse image 0 (ids ++ active ∷ []) error) where
@@ -167,10 +150,10 @@ module _ (image : Image) (ids : List ℕ) (n least : ℕ) (active : ℕ) (lt : n
   not_last (x ∷ l) = refl
 
   pub turn_batch : (text_image : Image) (end : ℕ) (more : List Shown) (tail : Tail) (error : Error) → text_image ≡ image → IsReadAs (journal_text text_image (get_or ids n 0)) more end tail
-      → (error ≡ OutOfMemory) ⊎ NamesFault (first_fault least more) error → IsDue (JournalsRefuse image 0 (ids ++ active ∷ [])) error
-  turn_batch text_image end more tail error same read cause =
-      due_or (JournalsRefuse image 0 (ids ++ active ∷ [])) error
-      (⊎_elim (λ memory. inl memory) (λ named. inr (here error (refuses_batch image id rest least end more tail error (subst (λ i. IsReadAs (journal_text i id) more end tail) same read) named))) cause)
+      → NamesFault (first_fault least more) error → IsDue (JournalsRefuse image 0 (ids ++ active ∷ [])) error
+  turn_batch text_image end more tail error same read named =
+      due (JournalsRefuse image 0 (ids ++ active ∷ [])) error
+      (here error (refuses_batch image id rest least end more tail error (subst (λ i. IsReadAs (journal_text i id) more end tail) same read) named))
 
   pub turn_tail : (text_image : Image) (end : ℕ) (more : List Shown) (tail : Tail) (error : Error) → text_image ≡ image → IsReadAs (journal_text text_image (get_or ids n 0)) more end tail → first_fault least more ≡ None
       → TailRefuses false tail error → IsDue (JournalsRefuse image 0 (ids ++ active ∷ [])) error
@@ -184,11 +167,11 @@ module _ (image : Image) (ids : List ℕ) (n least : ℕ) (active : ℕ) (lt : n
   turn_on text_image next end more tail error same read clean sound least_is refused =
       here error (refuses_behind image id rest least next end more tail error (subst (λ i. IsReadAs (journal_text i id) more end tail) same read) clean sound least_is refused)
 
-pub turn_found : (image text_image : Image) (ids : List ℕ) (n least next end : ℕ) (batches new more : List Shown) (tail : Tail) → n < length ids → text_image ≡ image → AreSealed image (take n ids) batches least
-    → IsReadAs (journal_text text_image (get_or ids n 0)) more end tail → tail ≡ Clean → new ≡ batches ++ more → first_fault least more ≡ None → next ≡ least_after least more → AreSealed image (take (n + 1) ids) new next
-turn_found image text_image ids n least next end batches new more tail lt same so_far read clean is sound least_is =
-    subst (λ (l : List ℕ). AreSealed image l new next) (sym (ap (λ m. take m ids) (add-one n) ∙ take-suc ids n 0 lt))
-    (one_sealed_more image (take n ids) (get_or ids n 0) batches new more least next end tail so_far (subst (λ i. IsReadAs (journal_text i (get_or ids n 0)) more end tail) same read) clean is sound least_is)
+pub turn_found : (image text_image : Image) (ids : List ℕ) (n least next end : ℕ) (more : List Shown) (tail : Tail) → n < length ids → text_image ≡ image → AreSealed image (take n ids) least
+    → IsReadAs (journal_text text_image (get_or ids n 0)) more end tail → tail ≡ Clean → first_fault least more ≡ None → next ≡ least_after least more → AreSealed image (take (n + 1) ids) next
+turn_found image text_image ids n least next end more tail lt same so_far read clean sound least_is =
+    subst (λ (l : List ℕ). AreSealed image l next) (sym (ap (λ m. take m ids) (add-one n) ∙ take-suc ids n 0 lt))
+    (one_sealed_more image (take n ids) (get_or ids n 0) more least next end tail so_far (subst (λ i. IsReadAs (journal_text i (get_or ids n 0)) more end tail) same read) clean sound least_is)
 
 -- ---- the last of a list
 
@@ -212,9 +195,8 @@ module _ (image text_image : Image) (ids : List ℕ) (some : 1 ≤ length ids) (
 
   pub active_batch : (least end : ℕ) (more : List Shown) (tail : Tail) (error : Error) → IsReadAs (journal_text text_image (get_or ids (length ids - 1) 0)) more end tail
       → (JournalsRefuse image least (get_or ids (length ids - 1) 0 ∷ []) error → JournalsRefuse image 0 (take (length ids - 1) ids ++ get_or ids (length ids - 1) 0 ∷ []) error)
-      → (error ≡ OutOfMemory) ⊎ NamesFault (first_fault least more) error → IsDue (JournalsRefuse image 0 ids) error
-  active_batch least end more tail error read behind (inl memory) = due_or (JournalsRefuse image 0 ids) error (inl memory)
-  active_batch least end more tail error read behind (inr named) =
+      → NamesFault (first_fault least more) error → IsDue (JournalsRefuse image 0 ids) error
+  active_batch least end more tail error read behind named =
       all error (behind (refuses_batch image active [] least end more tail error (subst (λ i. IsReadAs (journal_text i active) more end tail) same read) named))
 
   pub active_tail : (least end : ℕ) (more : List Shown) (tail : Tail) (error : Error) → IsReadAs (journal_text text_image (get_or ids (length ids - 1) 0)) more end tail
@@ -223,9 +205,9 @@ module _ (image text_image : Image) (ids : List ℕ) (some : 1 ≤ length ids) (
   active_tail least end more tail error read behind sound refused =
       all error (behind (refuses_tail image active [] least end more tail error (subst (λ i. IsReadAs (journal_text i active) more end tail) same read) sound refused))
 
-  pub last_found : (batches new more : List Shown) (least next end stop : ℕ) (tail : Tail) (torn : Bool) → stop ≡ end → AreSealed image (take (length ids - 1) ids) batches least
-      → IsReadAs (journal_text text_image (get_or ids (length ids - 1) 0)) more end tail → tail ≡ tail_of torn → new ≡ batches ++ more → first_fault least more ≡ None → next ≡ least_after least more → AreFound image ids new next stop torn
-  last_found batches new more least next end stop tail torn at sealed read told is sound least_is =
-      subst (λ e. AreFound image ids new next e torn) (sym at)
-      (subst (λ (l : List ℕ). AreFound image l new next end torn) (split_last ids some)
-      (active_found image front active batches new more least next end tail torn sealed (subst (λ i. IsReadAs (journal_text i active) more end tail) same read) told is sound least_is))
+  pub last_found : (more : List Shown) (least next end stop : ℕ) (tail : Tail) (torn : Bool) → stop ≡ end → AreSealed image (take (length ids - 1) ids) least
+      → IsReadAs (journal_text text_image (get_or ids (length ids - 1) 0)) more end tail → tail ≡ tail_of torn → first_fault least more ≡ None → next ≡ least_after least more → AreFound image ids next stop torn
+  last_found more least next end stop tail torn at sealed read told sound least_is =
+      subst (λ e. AreFound image ids next e torn) (sym at)
+      (subst (λ (l : List ℕ). AreFound image l next end torn) (split_last ids some)
+      (active_found image front active more least next end tail torn sealed (subst (λ i. IsReadAs (journal_text i active) more end tail) same read) told sound least_is))

@@ -1,5 +1,6 @@
 pub mod Listed
 pub mod Gathering
+pub mod Looking
 pub mod Telling
 pub mod Homing
 pub mod Alone

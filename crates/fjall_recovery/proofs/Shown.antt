@@ -36,7 +36,7 @@ persisted_told homes versions have id = persisted_at (get homes id) (get version
 
 -- what was read shows no versions
 other_versions : (f : RecoveredFolder) (c : Contents) (versions : Versions) → Shows f c → Shows f (with_versions versions c)
-other_versions f c versions shows = record { ids = shows.ids; batches = shows.batches; least = shows.least; keyspaces = shows.keyspaces; last = shows.last; homes = shows.homes }
+other_versions f c versions shows = record { ids = shows.ids; least = shows.least; keyspaces = shows.keyspaces; last = shows.last; homes = shows.homes }
 
 -- so it shows whatever an opening finds there
 pub shows_alike : (f : RecoveredFolder) (image : Image) (c d : Contents) → IsOpenable image c → IsOpenable image d → Shows f c → Shows f d

@@ -50,6 +50,15 @@ sealed_as_more image ids id sealed journal batches end tail so_far read clean to
       tell = tell_more so_far.journals sealed j journal so_far.tell tells;
     }
 
+-- a sealed journal is told of by what was found of it
+pub sealed_as : (id : ℕ) (batches : List Shown) (end : ℕ) (journal : Sealed) (len : ℕ) (marks : Marks) → journal ≡ record { id = id; len = len; watermarks = marks } → len ≡ end → AreMarksOf batches marks
+    → IsSealedAs id batches end journal
+sealed_as id batches end journal len marks is at are = record {
+  id_is = ap (λ (s : Sealed). s.id) is;
+  len_is = ap (λ (s : Sealed). s.len) is ∙ at;
+  marks = subst (AreMarksOf batches) (sym (ap (λ (s : Sealed). s.watermarks) is)) are;
+}
+
 pub turn_told : (image text_image : Image) (ids : List ℕ) (n : ℕ) (sealed : List Sealed) (journal : Sealed) (batches : List Shown) (end : ℕ) (tail : Tail) → n < length ids → text_image ≡ image
     → AreSealedAs image (take n ids) sealed → IsReadAs (journal_text text_image (get_or ids n 0)) batches end tail → tail ≡ Clean → IsSealedAs (get_or ids n 0) batches end journal
     → AreSealedAs image (take (n + 1) ids) (sealed ++ journal ∷ [])

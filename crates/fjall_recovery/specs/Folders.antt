@@ -3,7 +3,7 @@ use Rattle.std.specs.Prelude.{◌≡◌, ◌⊎◌, ℕ, ◌+◌, ◌-◌, ◌<�
 use Rattle.std.specs.List.Sorted.{IsStrictlyIncreasing}
 use Rattle.fjall_base.specs.Store.{Store}
 use Rattle.fjall_base.specs.Disk.{Entry, File, Folder, Image}
-use Rattle.fjall_journal.specs.Batches.{NoneAt, shown, view}
+use Rattle.fjall_journal.specs.Batches.{NoneAt, shown}
 use Rattle.fjall_tree.specs.Records.{Fields, IsRecords}
 use Rattle.fjall_tree.specs.Records as records
 use Rattle.fjall_meta.specs.Keyspaces.{Keyspaces, no_keyspaces}
@@ -114,7 +114,7 @@ StandsFor image store = ((c : Contents) × IsSound image c × (store ≡ store_o
 -- What was read of a folder that was made to its end.
 pub record IsFinished (image : Image) (f : RecoveredFolder) : Type 0 where
   pub journal_ids : AreJournalIds image f.journal_ids.items
-  pub journals : AreFound image f.journal_ids.items (map view f.journals.batches.items) f.journals.least f.journals.end f.journals.torn
+  pub journals : AreFound image f.journal_ids.items f.journals.least f.journals.end f.journals.torn
   pub told : AreTold image f.journal_ids.items f.journals.sealed f.journals.watermarks
   pub folder_ids : AreFolderIds image f.folder_ids.items
   pub keyspaces_named : KeyspacesAreNamed image
@@ -133,7 +133,6 @@ pub record IsNumbered (f : RecoveredFolder) : Type 0 where
 -- what was read is what the folder holds
 pub record Shows (f : RecoveredFolder) (c : Contents) : Type 0 where
   pub ids : f.journal_ids.items ≡ map (λ j. j.id) c.journals
-  pub batches : map view f.journals.batches.items ≡ map shown (batches_in c.journals)
   pub least : f.journals.least ≡ least_after 0 (map shown (batches_in c.journals))
   pub keyspaces : f.catalog.keyspaces ≡ c.keyspaces
   pub last : f.catalog.catalog ≡ c.last

@@ -61,26 +61,24 @@ EndsAt image [] end torn = (end ≡ 0) × (torn ≡ false)
 EndsAt image (j ∷ []) end torn = IsWhole (journal_text image j.id) j.batches end × IsTail (drop end (journal_text image j.id)) (tail_of torn)
 EndsAt image (j ∷ k ∷ journals) end torn = EndsAt image (k ∷ journals) end torn
 
--- What was gathered of journals: their batches in order, which have no fault, and the least number that a next batch may
--- have.
-pub record Gathers (journals : List Journal) (batches : List Shown) (least : ℕ) : Type 0 where
+-- What was gathered of journals: their batches have no fault, and this is the least number that a next batch may have.
+pub record Gathers (journals : List Journal) (least : ℕ) : Type 0 where
   pub sound : first_fault 0 (map shown (batches_in journals)) ≡ None
-  pub all : batches ≡ map shown (batches_in journals)
   pub next : least ≡ least_after 0 (map shown (batches_in journals))
 
 -- What was read of the sealed journals of these ids.
-pub record AreSealed (image : Image) (ids : List ℕ) (batches : List Shown) (least : ℕ) : Type 0 where
+pub record AreSealed (image : Image) (ids : List ℕ) (least : ℕ) : Type 0 where
   pub journals : List Journal
   pub named : map (λ j. j.id) journals ≡ ids
   pub sealed : AllByRecursion (IsSealed image) journals
-  pub gathers : Gathers journals batches least
+  pub gathers : Gathers journals least
 
 -- What was read of the journals of these ids, of which the last is active.
-pub record AreFound (image : Image) (ids : List ℕ) (batches : List Shown) (least end : ℕ) (torn : Bool) : Type 0 where
+pub record AreFound (image : Image) (ids : List ℕ) (least end : ℕ) (torn : Bool) : Type 0 where
   pub journals : List Journal
   pub named : map (λ j. j.id) journals ≡ ids
   pub read : AreRead image journals
-  pub gathers : Gathers journals batches least
+  pub gathers : Gathers journals least
   pub ends : EndsAt image journals end torn
 
 -- One journal as it was read: its batches, and where they end before which tail.

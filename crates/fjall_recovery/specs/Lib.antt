@@ -1,6 +1,7 @@
 pub mod Naming
 pub mod Journals
 pub mod Told
+pub mod Looks
 pub mod Homes
 pub mod Folders
 pub mod Refusals

@@ -9,7 +9,7 @@ use fjall_base::{Disk, Result};
 use std::alloc::Global;
 
 /// The bytes of a file, none where there is no file.
-pub(crate) fn read_text<D: Disk>(alloc: Global, disk: &mut D, name: &str) -> Result<Vec<u8>>
+pub fn read_text<D: Disk>(alloc: Global, disk: &mut D, name: &str) -> Result<Vec<u8>>
     ensures text { IsTrue D.honest → IfOk result (λ text. text.items ≡ text_in (seen (D.meaning disk.old) name.now)) }
     ensures same { IsTrue D.honest → Took (D.meaning disk.old) (D.meaning disk.new) [] }
     ensures served { IsTrue D.honest → AllServed (D.meaning disk.old) (D.meaning disk.new) }

@@ -1,30 +1,28 @@
 //! The journals of a folder, read one after another.
 
-ghost use Rattle.std.specs.Prelude.{◌≡◌, ◌≤◌, ◌⊎◌, ◌++◌, ◌∷◌, ◌-◌, [], false, true, IsTrue, IfOk, IfErr, OnOk, IsOkUnless, ℕ, length, map, take, None};
+ghost use Rattle.std.specs.Prelude.{◌≡◌, ◌≤◌, ◌++◌, ◌∷◌, ◌-◌, [], false, true, IsTrue, IfOk, IfErr, OnOk, ℕ, List, length, map, take, None};
 ghost use Rattle.fjall_base.specs.Disk.{Took};
 ghost use Rattle.fjall_base.specs.declared.error.Error.{Error};
-ghost use Rattle.fjall_journal.specs.Batches.{view};
+ghost use Rattle.fjall_journal.specs.Batches.{Shown};
 ghost use Rattle.fjall_journal.specs.declared.batch.Tail.TheVariants.{Clean};
-ghost use Rattle.fjall_manager.specs.Telling.{AreMarksOf, IsSealedAs};
 ghost use Rattle.fjall_versions.specs.Replays.{first_fault, least_after, NamesFault};
-ghost use Rattle.fjall_recovery.specs.Journals.{AreFound, AreSealed, IsReadAs, journal_text, tail_of};
+ghost use Rattle.fjall_recovery.specs.Journals.{AreFound, AreSealed, journal_text, tail_of};
+ghost use Rattle.fjall_recovery.specs.Looks.{IsChecked, IsLook};
 ghost use Rattle.fjall_recovery.specs.Told.{AreSealedAs, AreTold};
 ghost use Rattle.fjall_recovery.specs.Refusals.{HasRisen, IsDue, IsOpeningRefusal, JournalsRefuse, TailRefuses};
 ghost use Rattle.fjall_files.specs.Calls.{seen, AllServed};
 
 use crate::file::read_text;
+use crate::look::{Look, look_through};
 use fjall_base::{Disk, Error, Result};
 use fjall_files::journal_name;
-use fjall_journal::{Batch, Contents, Tail, read_journal};
+use fjall_journal::Tail;
 use fjall_manager::{JournalManager, SealedJournal, Watermarks};
-use fjall_versions::check_batches;
 use std::alloc::Global;
 
 /// What the journals of a folder hold.
 #[derive(Drop)]
 pub struct RecoveredJournals {
-    /// The whole batches of all of them, in order.
-    pub batches: Vec<Batch>,
     /// The least number that a next batch may have.
     pub least: u64,
     /// Where the whole batches of the active journal end, which is the last one; 0 where there is no journal.
@@ -61,9 +59,10 @@ fn check_active(tail: Tail) -> Result<bool>
     }
 }
 
-/// Reads the journal of this id.
-pub(crate) fn read_one<D: Disk>(alloc: Global, disk: &mut D, id: u64) -> Result<Contents>
-    ensures found { IsTrue D.honest → IfOk result (λ c. IsReadAs (journal_text (seen (D.meaning disk.old)) id) (map view c.batches.items) c.end c.tail) }
+/// Looks through the journal of this id, whose first batch may have that number or a greater one.
+pub(crate) fn read_one<D: Disk>(alloc: Global, disk: &mut D, id: u64, least: u64) -> Result<Look>
+    ensures looks { IfOk result (λ look. (text : List ℕ) × IsLook text least look) }
+    ensures found { IsTrue D.honest → IfOk result (IsLook (journal_text (seen (D.meaning disk.old)) id) least) }
     ensures same { IsTrue D.honest → Took (D.meaning disk.old) (D.meaning disk.new) [] }
     ensures served { IsTrue D.honest → AllServed (D.meaning disk.old) (D.meaning disk.new) }
     ensures later { (D.meaning disk.old).faults ≤ (D.meaning disk.new).faults }
@@ -72,32 +71,12 @@ pub(crate) fn read_one<D: Disk>(alloc: Global, disk: &mut D, id: u64) -> Result<
 {
     let name = journal_name(alloc, id)?;
     let text = read_text(alloc, disk, &name)?;
-    read_journal(alloc, &text)
-}
-
-/// The watermarks of a journal with these batches.
-fn watermarks_of(alloc: Global, batches: &[Batch]) -> Result<Watermarks>
-    ensures ok { IfOk result (AreMarksOf (map view batches.now)) }
-    ensures only { IsOkUnless result Error.OutOfMemory }
-{
-    let mut watermarks = Watermarks::new(alloc);
-    watermarks.raise_batches(batches)?;
-    Ok(watermarks)
-}
-
-/// What is told of a sealed journal: its file ends where its batches do.
-fn told_of(alloc: Global, id: u64, contents: &Contents) -> Result<SealedJournal>
-    ensures ok { IfOk result (IsSealedAs id (map view contents.now.batches.items) contents.now.end) }
-    ensures only { IsOkUnless result Error.OutOfMemory }
-{
-    let watermarks = watermarks_of(alloc, &contents.batches)?;
-    SealedJournal::new(alloc, id, contents.end as u64, watermarks)
+    look_through(alloc, &text, least)
 }
 
 impl RecoveredJournals {
     /// No journal yet.
     fn new(alloc: Global) -> RecoveredJournals
-        ensures batches { result.batches.items ≡ [] }
         ensures least { result.least ≡ 0 }
         ensures end { result.end ≡ 0 }
         ensures torn { result.torn ≡ false }
@@ -105,7 +84,6 @@ impl RecoveredJournals {
         ensures watermarks { result.watermarks ≡ [] }
     {
         RecoveredJournals {
-            batches: Vec::new(alloc),
             least: 0,
             end: 0,
             torn: false,
@@ -114,28 +92,32 @@ impl RecoveredJournals {
         }
     }
 
-    /// Puts a journal's batches behind those that were read, where none of them has a fault.
-    fn take(&mut self, contents: Contents) -> Result<Tail>
-        ensures batches { IfOk result (λ tail. map view self.new.batches.items ≡ map view self.old.batches.items ++ map view contents.batches.items) }
-        ensures sound { OnOk result (first_fault self.old.least (map view contents.batches.items) ≡ None) }
-        ensures least { OnOk result (self.new.least ≡ least_after self.old.least (map view contents.batches.items)) }
-        ensures end { OnOk result (self.new.end ≡ contents.end) }
+    /// Goes on behind a journal that was looked through, where none of its batches has a fault.
+    fn take(&mut self, look: Look) -> Result<(Tail, Watermarks)>
+        ensures sound { (least : ℕ) (batches : List Shown) → IsChecked least batches look.checked
+            → OnOk result ((first_fault least batches ≡ None) × (self.new.least ≡ least_after least batches)) }
+        ensures end { OnOk result (self.new.end ≡ look.end) }
         ensures torn { OnOk result (self.new.torn ≡ self.old.torn) }
         ensures sealed { OnOk result (self.new.sealed ≡ self.old.sealed) }
-        ensures tail { IfOk result (λ tail. tail ≡ contents.tail) }
-        ensures cause { IfErr result (λ error. (error ≡ Error.OutOfMemory) ⊎ NamesFault (first_fault self.old.least (map view contents.batches.items)) error) }
+        ensures tail { IfOk result (λ taken. taken.0 ≡ look.tail) }
+        ensures marks { IfOk result (λ taken. taken.1 ≡ look.watermarks) }
+        ensures cause { (least : ℕ) (batches : List Shown) → IsChecked least batches look.checked → IfErr result (NamesFault (first_fault least batches)) }
     {
-        let mut batches = contents.batches;
-        self.least = check_batches(&batches, self.least)?;
-        self.end = contents.end;
-        self.batches.append(&mut batches)?;
-        Ok(contents.tail)
+        let Look {
+            checked,
+            watermarks,
+            end,
+            tail,
+        } = look;
+        self.least = checked?;
+        self.end = end;
+        Ok((tail, watermarks))
     }
 }
 
 /// Reads sealed journals, one after another.
 fn read_sealed<D: Disk>(alloc: Global, disk: &mut D, ids: &[u64]) -> Result<RecoveredJournals>
-    ensures found { IsTrue D.honest → IfOk result (λ found. AreSealed (seen (D.meaning disk.old)) ids.now (map view found.batches.items) found.least) }
+    ensures found { IsTrue D.honest → IfOk result (λ found. AreSealed (seen (D.meaning disk.old)) ids.now found.least) }
     ensures torn { IfOk result (λ found. found.torn ≡ false) }
     ensures told { IsTrue D.honest → IfOk result (λ found. AreSealedAs (seen (D.meaning disk.old)) ids.now found.sealed) }
     ensures ids { IfOk result (λ found. map (λ s. s.id) found.sealed ≡ ids.now) }
@@ -151,10 +133,10 @@ fn read_sealed<D: Disk>(alloc: Global, disk: &mut D, ids: &[u64]) -> Result<Reco
 {
     let mut journals = RecoveredJournals::new(alloc);
     for id in ids {
-        let contents = read_one(alloc, disk, *id)?;
-        let sealed = told_of(alloc, *id, &contents)?;
-        let tail = journals.take(contents)?;
+        let look = read_one(alloc, disk, *id, journals.least)?;
+        let (tail, watermarks) = journals.take(look)?;
         check_sealed(tail)?;
+        let sealed = SealedJournal::new(alloc, *id, journals.end as u64, watermarks)?;
         journals.sealed.enqueue(sealed)?;
     }
     Ok(journals)
@@ -165,9 +147,11 @@ fn read_sealed<D: Disk>(alloc: Global, disk: &mut D, ids: &[u64]) -> Result<Reco
 /// By the formats page numbers ascend over all their batches and lie below 2^63, and a sealed journal is whole to its
 /// end (`Unrecoverable`); no item has the value type 4 (`InvalidTag`); and a damaged tail has its name
 /// (`JournalRecovery`). The first of these in the order of the bytes refuses. Nothing of the disk changes.
+///
+/// One journal's text at a time is in memory, and one of its batches.
 pub fn read_journals<D: Disk>(alloc: Global, disk: &mut D, ids: &[u64]) -> Result<RecoveredJournals>
     ensures found { IsTrue D.honest
-        → IfOk result (λ found. AreFound (seen (D.meaning disk.old)) ids.now (map view found.batches.items) found.least found.end found.torn) }
+        → IfOk result (λ found. AreFound (seen (D.meaning disk.old)) ids.now found.least found.end found.torn) }
     ensures told { IsTrue D.honest → IfOk result (λ found. AreTold (seen (D.meaning disk.old)) ids.now found.sealed found.watermarks) }
     // Of whatever disk, the sealed ones are those of all ids but the last.
     ensures ids { IfOk result (λ found. map (λ s. s.id) found.sealed ≡ take (length ids.now - 1) ids.now) }
@@ -182,9 +166,8 @@ pub fn read_journals<D: Disk>(alloc: Global, disk: &mut D, ids: &[u64]) -> Resul
         return Ok(RecoveredJournals::new(alloc));
     };
     let mut journals = read_sealed(alloc, disk, sealed)?;
-    let contents = read_one(alloc, disk, *active)?;
-    let watermarks = watermarks_of(alloc, &contents.batches)?;
-    let tail = journals.take(contents)?;
+    let look = read_one(alloc, disk, *active, journals.least)?;
+    let (tail, watermarks) = journals.take(look)?;
     journals.torn = check_active(tail)?;
     journals.watermarks = watermarks;
     Ok(journals)

@@ -8,8 +8,10 @@ mod homes;
 mod journals;
 mod laws;
 mod listing;
+mod look;
 mod unfinished;
 
+pub use file::read_text;
 pub use folder::{RecoveredFolder, read_folder};
 pub use homes::is_beyond;
 pub use journals::{RecoveredJournals, read_journals};

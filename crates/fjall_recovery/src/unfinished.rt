@@ -30,8 +30,8 @@ fn check_journals<D: Disk>(alloc: Global, disk: &mut D, ids: &[u64]) -> Result<(
     ensures listed { IfErr result IsOpeningRefusal }
 {
     for id in ids {
-        let contents = read_one(alloc, disk, *id)?;
-        if contents.end > 0 {
+        let look = read_one(alloc, disk, *id, 0)?;
+        if look.end > 0 {
             return Err(Error::Unrecoverable);
         }
     }

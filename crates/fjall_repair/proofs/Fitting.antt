@@ -4,7 +4,6 @@ use Rattle.std.proofs.lemmas.List.Elements.{All-from_recursion, All-head, All-ta
 use Rattle.std.specs.List.{AllByRecursion}
 use Rattle.std.specs.Prelude.{IfSome}
 use Rattle.fjall_base.specs.Disk.{Image}
-use Rattle.fjall_journal.specs.declared.batch.Batch.{Batch}
 use Rattle.fjall_journal.specs.declared.batch.ReadBatchItem.{ReadBatchItem}
 use Rattle.fjall_journal.specs.declared.entry.Entry.{Entry}
 use Rattle.fjall_journal.specs.declared.entry.Entry.TheVariants.{Start, Item, End, Clear}
@@ -34,10 +33,10 @@ value_size Indirection value lt = omega arith
 item_fits : (number : ℕ) (item : ReadBatchItem) → number < 2 ^ 63 → HasSizes item → IsEntry (entry_of number item)
 item_fits number item small is = record { some = is.some; key = is.key; number = omega (arith, small); value = value_size item.value_type item.value is.value }
 
-pub may_replay : (b : Batch) → IsFit b → MayReplay (view b)
-may_replay b is = record {
-  small = is.small;
-  items = All-weaker HasSizes (λ (item : ReadBatchItem). IsEntry (entry_of b.seqno item)) (λ item sizes. item_fits b.seqno item is.small sizes) b.items.items is.items;
+pub may_replay : (b : Shown) → b.number < 2 ^ 63 → IsFit b → MayReplay b
+may_replay b small is = record {
+  small = small;
+  items = All-weaker HasSizes (λ (item : ReadBatchItem). IsEntry (entry_of b.number item)) (λ item sizes. item_fits b.number item small sizes) b.items is;
 }
 
 -- ---- what was read
@@ -61,40 +60,14 @@ read_written image (j ∷ []) (inl read) = both j.batches [] read.whole.each tt
 read_written image (j ∷ []) (inr read) = both j.batches [] read.whole.each tt
 read_written image (j ∷ k ∷ journals) read = both j.batches (batches_in (k ∷ journals)) read.0.whole.each (read_written image (k ∷ journals) read.1)
 
--- the items of a batch have such sizes
-AreSized : Shown → Type 0
-AreSized b = AllByRecursion HasSizes b.items
+-- the items of each batch have such sizes
+fit : (bs : List Written) → AllByRecursion IsWritten bs → AllByRecursion IsFit (map shown bs)
+fit [] are = tt
+fit (b ∷ bs) are = (All-from_recursion HasSizes (items_of b.changes) (item_sizes b.changes are.0.each), fit bs are.1)
 
-shown_sized : (bs : List Written) → AllByRecursion IsWritten bs → AllByRecursion AreSized (map shown bs)
-unfolding AreSized
-shown_sized [] are = tt
-shown_sized (b ∷ bs) are = (item_sizes b.changes are.0.each, shown_sized bs are.1)
-
--- its number is one of a change
-IsLow : Shown → Type 0
-IsLow b = b.number < 2 ^ 63
-
-low_numbers : (least : ℕ) (batches : List Shown) → first_fault least batches ≡ None → AllByRecursion IsLow batches
-unfolding IsLow
-low_numbers least [] sound = tt
-low_numbers least (b ∷ batches) sound =
-    let parts = no_fault (fault_of least b) (first_fault (b.number + 1) batches) sound in
-    ((number_fits least b parts.0).1, low_numbers (b.number + 1) batches parts.1)
-
-fit : (read : List Batch) → AllByRecursion AreSized (map view read) → AllByRecursion IsLow (map view read) → AllByRecursion IsFit read
-unfolding AreSized IsLow
-fit [] sized low = tt
-fit (b ∷ read) sized low = (record { small = low.0; items = All-from_recursion HasSizes b.items.items sized.0 }, fit read sized.1 low.1)
-
--- so each batch of a folder that was read is one that trees take
-pub read_fit : (image : Image) (found : RecoveredFolder) → IsFinished image found → All IsFit found.journals.batches.items
-read_fit image found read =
-    let journals = read.journals in
-    let gathers = journals.gathers in
-    let batches = found.journals.batches.items in
-    All-from_recursion IsFit batches
-    (fit batches (subst (AllByRecursion AreSized) (sym gathers.all) (shown_sized (batches_in journals.journals) (read_written image journals.journals journals.read)))
-    (low_numbers 0 (map view batches) (ap (first_fault 0) gathers.all ∙ gathers.sound)))
+-- so each batch of journals that were read is one that trees take
+pub written_fit : (image : Image) (journals : List Journal) → AreRead image journals → All IsFit (map shown (batches_in journals))
+written_fit image journals read = All-from_recursion IsFit (map shown (batches_in journals)) (fit (batches_in journals) (read_written image journals read))
 
 -- ---- numbers
 

@@ -51,8 +51,10 @@ pub mod Numbering
 pub mod Fitting
 pub mod Replayed
 pub mod Sealings
+pub mod Taking
 pub mod OpenedTrees
 pub mod Openings
+pub mod JournalByJournal
 pub mod Amid
 pub mod SweepServed
 pub mod Counting

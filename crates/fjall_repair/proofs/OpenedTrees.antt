@@ -40,6 +40,7 @@ use Rattle.fjall_loading.proofs.Opening.{other_id}
 use Rattle.fjall_repair.specs.declared.opened.Opened.{Opened}
 use Rattle.fjall_repair.specs.Opened.{KeepsNamed, ReadsFrom, Takes, nothing}
 use Rattle.fjall_repair.specs.Readings.{TakesRead, persisted_of}
+use Rattle.fjall_repair.specs.Replaying.{ShowBeyond}
 use Rattle.fjall_repair.proofs.Replayed.{rest_tables, told_sound, told_with}
 
 -- ---- the tables of trees that were opened
@@ -112,22 +113,13 @@ all_within_entries disk c entries have i d lt =
 
 -- ---- what was opened
 
--- over the tables of those that were loaded they show what files hold and what the batches make beyond that
-abbrev Replays : Keyspaces → List Persisted → Forest → List Shown → Forest → Type 0
-Replays s persisted loaded batches trees =
-    (entries : ℕ → List (List Entry)) (stored : ℕ → Stored) → AreTold s stored persisted → AreWithin s stored → AreReplayedWith entries s stored [] loaded
-    → AreReplayedWith entries s stored batches trees
-
 -- what was read is what the folder holds
 pub takes_contents : (found : RecoveredFolder) (contents : Contents) (o : Opened) (active : Name) (loaded : Forest) → Shows found contents
-    → Takes o active found.journals.end found.catalog.catalog found.catalog.keyspaces (persisted_of found) loaded (map view found.journals.batches.items)
-    → Takes o active found.journals.end contents.last contents.keyspaces (persisted_of found) loaded (map shown (batches_in contents.journals))
+    → Takes o active found.journals.end found.catalog.catalog found.catalog.keyspaces loaded → Takes o active found.journals.end contents.last contents.keyspaces loaded
 takes_contents found contents o active loaded shows takes = record {
   journal = takes.journal;
   last_is = takes.last_is ∙ shows.last;
   keyspaces = takes.keyspaces ∙ shows.keyspaces;
-  trees = subst (λ (batches : List Shown). Replays contents.keyspaces (persisted_of found) loaded batches (forest_of o.trees)) shows.batches
-      (subst (λ (s : Keyspaces). Replays s (persisted_of found) loaded (map view found.journals.batches.items) (forest_of o.trees)) shows.keyspaces takes.trees);
   reads = takes.reads;
   rest = takes.rest;
   parted = takes.parted;
@@ -147,8 +139,8 @@ pub record ShowStore (disk : Meaning) (o : Opened) (c : Contents) : Type 0 where
 
 module _ (old new : Meaning) (found : RecoveredFolder) (c : Contents) (active : Name) (o : Opened) (read : IsFinished (seen old) found) (shows : Shows found c) (openable : IsOpenable (seen old) c)
     (takes : TakesRead old o active found) (kept : KeepsNamed old new c.homes) where
-  own : Takes o active found.journals.end c.last c.keyspaces (persisted_of found) takes.loaded (map shown (batches_in c.journals))
-  own = takes_contents found c o active takes.loaded shows takes.takes
+  own : ShowBeyond c.keyspaces (persisted_of found) takes.loaded (map shown (batches_in c.journals)) (forest_of o.trees)
+  own = takes.trees c openable shows
 
   each : All (IsOpenedOn old c) takes.loaded
   each = takes.opened c openable shows
@@ -166,7 +158,7 @@ module _ (old new : Meaning) (found : RecoveredFolder) (c : Contents) (active : 
       → AreReplayedWith entries c.keyspaces stored [] takes.loaded → store_with entries o.keyspaces (forest_of o.trees) ≡ store_beyond c.keyspaces stored (map shown (batches_in c.journals))
   store_is entries stored told within shown_with =
       ap (λ (s : Keyspaces). store_with entries s (forest_of o.trees)) (takes.takes.keyspaces ∙ shows.keyspaces)
-      ∙ replayed_store_beside entries c.keyspaces stored (map shown (batches_in c.journals)) (forest_of o.trees) (own.trees entries stored told within shown_with)
+      ∙ replayed_store_beside entries c.keyspaces stored (map shown (batches_in c.journals)) (forest_of o.trees) (own entries stored told within shown_with)
 
   read_on : (entries : ℕ → List (List Entry)) → AreReadOn old takes.loaded entries → AreReadOn new (forest_of o.trees) entries
   read_on entries on = takes.takes.reads new entries (all_files_read old new takes.loaded entries on stay)
@@ -199,7 +191,7 @@ module _ (old new : Meaning) (found : RecoveredFolder) (c : Contents) (active : 
             (λ i d lt. still_right old new (get_or takes.loaded i d).shape.tables (stay i d lt) (sound.right i d lt));
         unused = unused sound.entries sound.are.none;
         made = store_is sound.entries (stored_in c.homes c.versions) told within sound.shown;
-        shows = own.trees sound.entries (stored_in c.homes c.versions) told within sound.shown;
+        shows = own sound.entries (stored_in c.homes c.versions) told within sound.shown;
         known = λ i d lt. known_still o.records takes.loaded (forest_of o.trees) sound.entries c.homes c.versions (get_or c.keyspaces.living i d) takes.takes.rest
             (λ j e less. (takes.takes.parted j e less).some) (knows.known i d lt);
       }
@@ -212,7 +204,7 @@ no_trees [] same = refl
 no_trees (k ∷ trees) same = absurd cc
 
 -- it shows the store that holds nothing
-pub makes_nothing : (disk : Meaning) (active : Name) (o : Opened) → Takes o active 0 first_catalog no_keyspaces [] [] [] → ShowStore disk o nothing
+pub makes_nothing : (disk : Meaning) (active : Name) (o : Opened) → Takes o active 0 first_catalog no_keyspaces [] → ShowStore disk o nothing
 makes_nothing disk active o takes =
     let none : [] ≡ forest_of o.trees = sym (no_trees (forest_of o.trees) takes.rest) in
     record {

@@ -1,16 +1,16 @@
 -- What was opened, and the disk until then.
-use Rattle.std.proofs.Common.{◌≡◌, inl, inr, ℕ, zero, suc, ◌<◌, ◌≤◌, ◌^◌, ◌==◌, Bool, true, false, if◌then◌else◌, max, List, [], ◌∷◌, length, get_or, map, All, Option, None, Some, unwrap_or, Result, Ok, Err, refl, sym, ◌∙◌, ap, subst, arith}
+use Rattle.std.proofs.Common.{◌≡◌, ◌⊎◌, inl, inr, ℕ, zero, suc, ◌<◌, ◌≤◌, ◌^◌, ◌==◌, Bool, true, false, if◌then◌else◌, max, List, [], ◌∷◌, length, get_or, map, All, Option, None, Some, unwrap_or, Result, Ok, Err, refl, sym, ◌∙◌, ap, subst, arith}
 use Rattle.std.specs.List.{AllByRecursion}
-use Rattle.std.proofs.lemmas.List.{get_or-map, length-map}
 use Rattle.std.proofs.lemmas.List.Elements.{All-from_recursion, All-nil}
 use Rattle.std.specs.Prelude.{IfOk, IfErr, IfSome}
 use Rattle.std.specs.FinMap.{get}
 use Rattle.fjall_base.specs.Disk.{Name, State, Image, Survives, LeavesBy, LeavesOnly, Meaning, Took, standing, state_in}
 use Rattle.fjall_base.specs.declared.error.Error.{Error}
-use Rattle.fjall_base.specs.declared.error.Error.TheVariants.{Io, OutOfMemory}
+use Rattle.fjall_base.specs.declared.error.Error.TheVariants.{Io, OutOfMemory, Storage, Unrecoverable}
+use Rattle.fjall_base.specs.declared.error.StorageError.TheVariants.{TableDamaged}
 use Rattle.fjall_base.proofs.Moments.{started}
 use Rattle.fjall_files.proofs.Made.{took_both}
-use Rattle.fjall_journal.specs.Batches.{Shown, Written, shown, view}
+use Rattle.fjall_journal.specs.Batches.{Shown, Written, shown}
 use Rattle.fjall_meta.specs.Keyspaces.{Keyspaces, no_keyspaces}
 use Rattle.fjall_journal.specs.Writer.{Journal}
 use Rattle.fjall_files.specs.Names.{journal_name}
@@ -39,7 +39,7 @@ use Rattle.fjall_recovery.specs.declared.folder.RecoveredFolder.{RecoveredFolder
 use Rattle.fjall_home.specs.declared.reading.LoadedHome.{LoadedHome}
 use Rattle.fjall_recovery.specs.Homes.{AreHomesRead, lasts, no_fields, stored_in}
 use Rattle.fjall_loading.specs.Known.{AreAtHome, IsGiven}
-use Rattle.fjall_recovery.specs.Refusals.{FolderRefuses, HasRisen, IsDue}
+use Rattle.fjall_recovery.specs.Refusals.{FolderRefuses, HasRisen, IsDue, IsOpeningRefusal}
 use Rattle.fjall_journal.proofs.Writing.{took_none}
 use Rattle.fjall_files.specs.declared.marker.Marker.TheVariants.{Whole, Unfinished}
 use Rattle.fjall_recovery.specs.Journals.{Journal as FoundJournal, batches_in}
@@ -51,7 +51,9 @@ use Rattle.fjall_recovery.specs.Held.{Holds, IsFolder, number_held, store_held}
 use Rattle.fjall_recovery.proofs.Holding.{folder_stands, tree_of}
 use Rattle.fjall_repair.proofs.Begun as Beginning
 use Rattle.fjall_repair.proofs.Agreeing.{homes_are}
-use Rattle.fjall_repair.proofs.Fitting.{least_small, records_small}
+use Rattle.fjall_repair.proofs.Fitting.{least_small, records_small, written_fit}
+use Rattle.fjall_repair.specs.declared.replaying.Replay.{Replay}
+use Rattle.fjall_repair.specs.Replaying.{MayTake}
 use Rattle.fjall_contents.proofs.Following.{before_least}
 use Rattle.fjall_repair.specs.Readings.{names_read}
 use Rattle.fjall_repair.specs.declared.opened.Opened.{Opened}
@@ -91,10 +93,10 @@ module _ (disk : Meaning) (contents : Contents) (journals : List FoundJournal) (
       writing ∙ ap (λ (n : Name). let w : Journal = record { name = n; buffer = []; len = end } in w) (sym is.active_is)
       ∙ ap (λ (n : ℕ). let w : Journal = record { name = journal_name is.j.active; buffer = []; len = n } in w) (sym is.end_is)
 
-  pub opens_of : (folder : Option Contents) (persisted : List Persisted) (loaded : Forest) (o : Opened)
-      → Takes o active end contents.last contents.keyspaces persisted loaded (map shown (batches_in contents.journals)) → TellOf journals o.sealed (told_in o.watermarks) → o.active ≡ active_of (ids_of journals)
+  pub opens_of : (folder : Option Contents) (loaded : Forest) (o : Opened)
+      → Takes o active end contents.last contents.keyspaces loaded → TellOf journals o.sealed (told_in o.watermarks) → o.active ≡ active_of (ids_of journals)
       → ShowStore disk o contents → store_of contents ≡ store_held folder → o.number ≡ number_of contents → number_of contents ≡ number_held folder → Opens disk folder o
-  opens_of folder persisted loaded o takes tell active_told shows store number held = record {
+  opens_of folder loaded o takes tell active_told shows store number held = record {
     j = is.j;
     records = is.records;
     t = tree_of contents;
@@ -186,27 +188,27 @@ module _ (image : Image) (found : RecoveredFolder) (read : IsFinished image foun
       let all : number ≡ max found.journals.least (max first rest) = is in
       omega (arith, made, all)
 
-  -- and so is all that was read of batches and of what is persisted
+  -- and so is what is persisted
   pub told_below : (number : ℕ) → number ≡ max found.journals.least (past_records (records_of found)) → TellsBelow number found
   told_below number is =
-      let gathers = read.journals.gathers in
       let least = found.journals.least in
       let rest = past_records (map (λ h. records.view h.record) found.homes.items) in
       let first = past_record (fields found.catalog.catalog) in
       let all : number ≡ max least (max first rest) = is in
-      let batches = map view found.journals.batches.items in
-      let sound : first_fault 0 batches ≡ None = ap (first_fault 0) gathers.all ∙ gathers.sound in
-      let next : least ≡ least_after 0 batches = gathers.next ∙ ap (least_after 0) (sym gathers.all) in
+      λ i d lt.
+          let one : past_record (records.view (get_or found.homes.items i d).record) ≤ rest = among_homes found.homes.items i d lt in
+          persisted_below (get_or found.homes.items i d).record.persisted (past (get_or found.homes.items i d).record.highest) number (omega (arith, one, all))
+
+  -- its batches may be replayed
+  pub may_replay_all : (r : Replay) (number : ℕ) → r.bound ≡ number → number ≡ max found.journals.least (past_records (records_of found)) → MayTake r 0 (map shown (batches_in read.journals.journals))
+  may_replay_all r number bound is =
+      let gathers = read.journals.gathers in
+      let batches = map shown (batches_in read.journals.journals) in
+      let next : found.journals.least ≡ least_after 0 batches = gathers.next in
       record {
-        batches = λ i d lt.
-            let b : Shown = view d in
-            let low : (get_or batches i b).number < least_after 0 batches = (before_least 0 batches sound).1 i b (subst (λ (n : ℕ). i < n) (sym (length-map found.journals.batches.items view)) lt) in
-            let here : get_or batches i b ≡ view (get_or found.journals.batches.items i d) = get_or-map view found.journals.batches.items i d b lt in
-            let it : (get_or found.journals.batches.items i d).seqno < least_after 0 batches = subst (λ (s : Shown). s.number < least_after 0 batches) here low in
-            omega (arith, it, next, all);
-        homes = λ i d lt.
-            let one : past_record (records.view (get_or found.homes.items i d).record) ≤ rest = among_homes found.homes.items i d lt in
-            persisted_below (get_or found.homes.items i d).record.persisted (past (get_or found.homes.items i d).record.highest) number (omega (arith, one, all));
+        fit = written_fit image read.journals.journals read.journals.read;
+        sound = gathers.sound;
+        below = λ i d lt. let low : (get_or batches i d).number < least_after 0 batches = (before_least 0 batches gathers.sound).1 i d lt in omega (arith, low, next, is, bound);
       }
 
   pub number_is : (contents : Contents) (number : ℕ) → Shows found contents → number ≡ max found.journals.least (past_records (records_of found)) → number ≡ number_of contents
@@ -214,6 +216,15 @@ module _ (image : Image) (found : RecoveredFolder) (read : IsFinished image foun
       is ∙ ap (λ n. max n (past_records (records_of found))) shows.least
       ∙ ap (λ n. max (least_after 0 (map shown (batches_in contents.journals))) n) (ap (λ last. past_records (fields last ∷ map (λ h. records.view h.record) found.homes.items)) shows.last ∙ ap
       (λ homes. past_records (fields contents.last ∷ homes)) shows.homes)
+
+-- a folder that contradicts its number is no fault of the disk's
+pub number_risen : (old new : ℕ) (error : Error) → (error ≡ Unrecoverable) ⊎ (error ≡ Storage TableDamaged) → HasRisen old new error
+number_risen old new error (inl is) = subst (HasRisen old new) (sym is) tt
+number_risen old new error (inr is) = subst (HasRisen old new) (sym is) tt
+
+pub number_listed : (error : Error) → (error ≡ Unrecoverable) ⊎ (error ≡ Storage TableDamaged) → IsOpeningRefusal error
+number_listed error (inl is) = subst IsOpeningRefusal (sym is) tt
+number_listed error (inr is) = subst IsOpeningRefusal (sym is) tt
 
 -- ---- which folder it is
 

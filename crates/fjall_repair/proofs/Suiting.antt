@@ -41,7 +41,7 @@ ends_found image f c sound finished =
     let holds : HoldsJournals image found.journals = record { ids = subst (AreJournalIds image) (sym found.named) finished.journal_ids; read = found.read; sound = found.gathers.sound } in
     subst (λ (js : List Journal). EndsAt image js f.journals.end f.journals.torn) (one_list_of_journals image found.journals c.journals holds sound.journals) found.ends
 
-ends_last : (image : Image) (front : List Journal) (a : Journal) (end : ℕ) (torn : Bool) → EndsAt image (front ++ a ∷ []) end torn → IsWhole (journal_text image a.id) a.batches end × IsTail (drop end (journal_text image a.id)) (tail_of torn)
+pub ends_last : (image : Image) (front : List Journal) (a : Journal) (end : ℕ) (torn : Bool) → EndsAt image (front ++ a ∷ []) end torn → IsWhole (journal_text image a.id) a.batches end × IsTail (drop end (journal_text image a.id)) (tail_of torn)
 ends_last image [] a end torn ends = ends
 ends_last image (j ∷ []) a end torn ends = ends
 ends_last image (j ∷ k ∷ front) a end torn ends = ends_last image (k ∷ front) a end torn ends

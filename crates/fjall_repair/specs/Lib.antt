@@ -7,4 +7,5 @@ pub mod Amids
 pub mod Listing
 pub mod Sweeps
 pub mod Opened
+pub mod Replaying
 pub mod Readings

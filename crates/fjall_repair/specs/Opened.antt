@@ -101,14 +101,11 @@ pub record IsLawful (o : Opened) : Type 0 where
   pub parted : ArePartedBy (some_reaches o.sealed) (forest_of o.trees)
 
 -- This is opened: a writer at the end of the active journal, what the last record of tree 0 says, the keyspaces that live, and
--- trees over the tables of those that were loaded, into whose memory the batches were replayed: they show what files hold and what
--- the batches make beyond that, where those that were loaded show what files hold. What the sealed journals have is sealed.
-pub record Takes (o : Opened) (active : Name) (end : ℕ) (last : Catalog) (s : Keyspaces) (persisted : List Persisted) (loaded : Forest) (batches : List Shown) : Type 0 where
+-- trees over the tables of those that were loaded, which differ in what is in memory alone. What the sealed journals have is sealed.
+pub record Takes (o : Opened) (active : Name) (end : ℕ) (last : Catalog) (s : Keyspaces) (loaded : Forest) : Type 0 where
   pub journal : o.journal ≡ record { name = active; buffer = []; len = end }
   pub last_is : o.catalog ≡ last
   pub keyspaces : o.keyspaces ≡ s
-  pub trees : (entries : ℕ → List (List Entry)) (stored : ℕ → Stored) → AreTold s stored persisted → AreWithin s stored → AreReplayedWith entries s stored [] loaded
-      → AreReplayedWith entries s stored batches (forest_of o.trees)
   pub reads : (disk : Meaning) (entries : ℕ → List (List Entry)) → AreReadOn disk loaded entries → AreReadOn disk (forest_of o.trees) entries
   pub rest : all_unwritten (forest_of o.trees) ≡ all_unwritten loaded
   pub parted : ArePartedBy (some_reaches o.sealed) (forest_of o.trees)
@@ -194,10 +191,9 @@ HasNumbers r = IfSome r.persisted (λ n. n < 2 ^ 63) × IfSome r.highest (λ n. 
 abbrev pub records_of : RecoveredFolder → List Fields
 records_of f = fields f.catalog.catalog ∷ map (λ h. records.view h.record) f.homes.items
 
--- each batch that was read, and what each keyspace's record tells as persisted, is numbered below this
-pub record TellsBelow (number : ℕ) (f : RecoveredFolder) : Type 0 where
-  pub batches : All (λ b. b.seqno < number) f.journals.batches.items
-  pub homes : All (λ h. IfSome h.record.persisted (λ n. n < number)) f.homes.items
+-- what each keyspace's record tells as persisted is numbered below this
+abbrev pub TellsBelow : ℕ → RecoveredFolder → Type 0
+TellsBelow number f = All (λ h. IfSome h.record.persisted (λ n. n < number)) f.homes.items
 
 -- ---- sizes
 
@@ -207,10 +203,9 @@ pub record HasSizes (item : ReadBatchItem) : Type 0 where
   pub key : length item.key < 2 ^ 16
   pub value : length item.value < 2 ^ 32
 
--- the batch has a number that a change may have, and items of such lengths
-pub record IsFit (b : Batch) : Type 0 where
-  pub small : b.seqno < 2 ^ 63
-  pub items : All HasSizes b.items.items
+-- the items of the batch have such lengths
+abbrev pub IsFit : Shown → Type 0
+IsFit b = All HasSizes b.items
 
 -- ---- why it isn't opened
 

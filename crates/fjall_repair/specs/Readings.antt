@@ -2,11 +2,13 @@
 use Rattle.std.specs.Prelude.{All, ℕ, List, map, string_bytes}
 use Rattle.fjall_base.specs.Disk.{Meaning, Name, State}
 use Rattle.fjall_files.specs.Calls.{seen}
-use Rattle.fjall_journal.specs.Batches.{view}
+use Rattle.fjall_journal.specs.Batches.{shown}
 use Rattle.fjall_home.specs.declared.reading.LoadedHome.{LoadedHome}
 use Rattle.fjall_catalog.specs.Catalog.{listed}
 use Rattle.fjall_versions.specs.declared.recovery.Persisted.{Persisted}
 use Rattle.fjall_trees.specs.Forests.{Forest}
+use Rattle.fjall_trees.specs.Views.{forest_of}
+use Rattle.fjall_recovery.specs.Journals.{batches_in}
 use Rattle.fjall_recovery.specs.declared.folder.RecoveredFolder.{RecoveredFolder}
 use Rattle.fjall_recovery.specs.Folders.{Contents, IsFinished, IsOpenable, IsSound, Shows}
 use Rattle.fjall_table.specs.Blocks.{Entry}
@@ -16,6 +18,7 @@ use Rattle.fjall_loading.specs.Opening.{HaveEntries, IsOpenedOn, KnowsStored, Sh
 use Rattle.fjall_repair.specs.declared.opened.Opened.{Opened}
 use Rattle.fjall_repair.specs.declared.plan.SweepPlan.{SweepPlan}
 use Rattle.fjall_repair.specs.Opened.{HasJournals, Takes}
+use Rattle.fjall_repair.specs.Replaying.{ShowBeyond}
 use Rattle.fjall_repair.specs.Steps.{active_of}
 use Rattle.fjall_repair.specs.Sweeps.{FindsAll, FindsTables, IsPlan, Names, names_of}
 
@@ -55,10 +58,12 @@ persisted_in home = record { id = home.id; number = home.record.persisted }
 abbrev pub persisted_of : RecoveredFolder → List Persisted
 persisted_of found = map persisted_in found.homes.items
 
--- This is opened of the folder that was read from this disk, with that active journal, and over the tables there.
+-- This is opened of the folder that was read from this disk, with that active journal, and over the tables there. Its trees show
+-- what files hold and what all batches make beyond that.
 pub record TakesRead (disk : Meaning) (o : Opened) (active : Name) (found : RecoveredFolder) : Type 0 where
   pub loaded : Forest
-  pub takes : Takes o active found.journals.end found.catalog.catalog found.catalog.keyspaces (persisted_of found) loaded (map view found.journals.batches.items)
+  pub takes : Takes o active found.journals.end found.catalog.catalog found.catalog.keyspaces loaded
+  pub trees : (c : Contents) → IsOpenable (seen disk) c → Shows found c → ShowBeyond c.keyspaces (persisted_of found) loaded (map shown (batches_in c.journals)) (forest_of o.trees)
   pub journals : HasJournals o found.journals.sealed (active_of found.journal_ids.items) found.journals.watermarks
   pub opened : (c : Contents) → IsOpenable (seen disk) c → Shows found c → All (IsOpenedOn disk c) loaded
   pub named : AreAtHome o.records loaded

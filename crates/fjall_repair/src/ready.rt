@@ -21,11 +21,10 @@ ghost use Rattle.fjall_repair.specs.Opened.{HasNumbers, IsLawful, Takes, records
 ghost use Rattle.fjall_repair.specs.Sweeps.{FindsAll, IsPlan, no_names};
 
 use crate::mending::active_id;
-use crate::numbers::{check_made, check_small, check_told, number_of};
+use crate::numbers::checked_number;
 use crate::opened::Opened;
 use crate::plan::{SweepPlan, plan_sweep};
-use crate::replaying::replayed;
-use crate::sizes::check_sizes;
+use crate::replaying::Replay;
 use crate::{BeginPlan, MendPlan, plan_beginning, plan_mending};
 use fjall_base::{Disk, Error, Result};
 use fjall_catalog::Catalog;
@@ -39,7 +38,6 @@ use fjall_recovery::{RecoveredFolder, list_keyspaces};
 use fjall_replay::Persisted;
 use fjall_table::TableInfo;
 use fjall_trees::Trees;
-use fjall_versions::check_batches;
 use std::alloc::Global;
 
 /// What is opened once a database is begun.
@@ -81,7 +79,7 @@ fn empty_journals(alloc: Global, ids: &[u64]) -> Result<JournalManager>
 /// What a database without keyspaces opens as, whose journals have these numbers.
 fn new_database(alloc: Global, sealed: &[u64], active: u64) -> Result<Opened>
     requires { IsStrictlyIncreasing (sealed.now ++ active ∷ []) }
-    ensures opened { IfOk result (λ o. Takes o (journal_name active) 0 first_catalog no_keyspaces [] [] []) }
+    ensures opened { IfOk result (λ o. Takes o (journal_name active) 0 first_catalog no_keyspaces []) }
     ensures journals { IfOk result (λ o. TellOf (journals_with (empty_journals sealed.now active) []) o.sealed (told o.watermarks)) }
     ensures active { IfOk result (λ o. o.active ≡ active) }
     ensures number { IfOk result (λ o. o.number ≡ 0) }
@@ -108,7 +106,7 @@ pub(crate) fn ready_to_begin<D: Disk>(alloc: Global, disk: &mut D) -> Result<ToB
     ensures sweep { IsTrue D.honest → IfOk result (λ r. IsPlan no_names [] r.sweep) }
     ensures finds { IsTrue D.honest
         → IfOk result (λ r. (ids : List ℕ) × AreFolderIds (seen (D.meaning disk.old)) ids × FindsAll (state_in (D.meaning disk.old)) no_names [] ids r.sweep) }
-    ensures opened { IfOk result (λ r. Takes r.opened (journal_name r.making.active) 0 first_catalog no_keyspaces [] [] []) }
+    ensures opened { IfOk result (λ r. Takes r.opened (journal_name r.making.active) 0 first_catalog no_keyspaces []) }
     ensures journals { IfOk result (λ r. TellOf (journals_begun r.making) r.opened.sealed (told r.opened.watermarks)) }
     ensures active { IfOk result (λ r. r.opened.active ≡ r.making.active) }
     ensures number { IfOk result (λ r. r.opened.number ≡ 0) }
@@ -159,39 +157,45 @@ fn persisted_of(alloc: Global, homes: &[LoadedHome]) -> Result<Vec<Persisted>>
 
 /// What a folder opens as that was read, and whose journal goes on at the end of this file: trees over the tables of its homes,
 /// into whose memory its journals are replayed, which is sealed behind each but the active one, and the homes' last records.
-fn database_of(alloc: Global, found: RecoveredFolder, active: &str) -> Result<Opened>
+/// Each journal is read once more.
+fn database_of<D: Disk>(
+    alloc: Global,
+    disk: &mut D,
+    found: RecoveredFolder,
+    active: &str,
+) -> Result<Opened>
     requires numbered { IsNumbered found }
-    ensures opened { (disk : Meaning) → IsFinished (seen disk) found → IfOk result (λ o. TakesRead disk o active.now found) }
+    ensures opened { IsTrue D.honest → (old : Meaning) → seen old ≡ seen (D.meaning disk.old) → IsFinished (seen old) found → IfOk result (λ o. TakesRead old o active.now found) }
     ensures number { All HasNumbers (records_of found) → IfOk result (λ o. o.number ≡ max found.journals.least (past_records (records_of found))) }
     ensures lawful { IfOk result IsLawful }
-    ensures risen { (faults : ℕ) → IfErr result (HasRisen faults faults) }
-    ensures only { (image : Image) → IsFinished image found → IsOkUnless result Error.OutOfMemory }
+    ensures same { IsTrue D.honest → Took (D.meaning disk.old) (D.meaning disk.new) [] }
+    ensures served { IsTrue D.honest → AllServed (D.meaning disk.old) (D.meaning disk.new) }
+    ensures later { (D.meaning disk.old).faults ≤ (D.meaning disk.new).faults }
+    ensures risen { IfErr result (HasRisen (D.meaning disk.old).faults (D.meaning disk.new).faults) }
+    ensures due { IsTrue D.honest → IsFinished (seen (D.meaning disk.old)) found → IfErr result (IsDue (λ error. ⊥)) }
     ensures listed { IfErr result IsOpeningRefusal }
 {
-    let number = number_of(&found);
-    check_small(number)?;
-    check_made(found.catalog.keyspaces.living(), number)?;
-    check_told(&found, number)?;
-    check_sizes(&found.journals.batches)?;
-    check_batches(&found.journals.batches, 0)?;
+    let number = checked_number(&found)?;
     let journal = Writer::from_file(alloc, active, found.journals.end as u64)?;
     let id = active_id(&found.journal_ids);
     let watermarks = ActiveWatermarks::from_watermarks(alloc, &found.journals.watermarks)?;
     let RecoveredFolder {
+        journal_ids,
         journals,
         catalog,
         homes,
         ..
     } = found;
+    prove!(0 < catalog.keyspaces.next_id());
     let persisted = persisted_of(alloc, &homes)?;
     let loaded = open_homes(alloc, &catalog.keyspaces, homes)?;
-    let trees = replayed(
-        &catalog.keyspaces,
-        &persisted,
-        loaded.trees,
-        &journals.sealed,
-        &journals.batches,
-    )?;
+    let replay = Replay {
+        keyspaces: &catalog.keyspaces,
+        persisted: &persisted,
+        sealed: &journals.sealed,
+        bound: number,
+    };
+    let trees = replay.replay_journals(alloc, disk, &journal_ids, journals.end, loaded.trees)?;
     Ok(Opened {
         trees,
         records: loaded.records,
@@ -224,7 +228,7 @@ pub(crate) fn ready_to_mend<D: Disk>(
     ensures served { IsTrue D.honest → AllServed (D.meaning disk.old) (D.meaning disk.new) }
     ensures later { (D.meaning disk.old).faults ≤ (D.meaning disk.new).faults }
     ensures risen { IfErr result (HasRisen (D.meaning disk.old).faults (D.meaning disk.new).faults) }
-    ensures due { IsTrue D.honest → (image : Image) → IsFinished image found → IfErr result (IsDue (λ error. ⊥)) }
+    ensures due { IsTrue D.honest → IsFinished (seen (D.meaning disk.old)) found → IfErr result (IsDue (λ error. ⊥)) }
     ensures listed { IfErr result IsOpeningRefusal }
 {
     let tree = tables_of(alloc, &found.catalog.catalog)?;
@@ -239,7 +243,7 @@ pub(crate) fn ready_to_mend<D: Disk>(
     )?;
     let mending = plan_mending(alloc, &found)?;
     Ok(ToMend {
-        opened: database_of(alloc, found, mending.active.as_str())?,
+        opened: database_of(alloc, disk, found, mending.active.as_str())?,
         mending,
         sweep,
     })

@@ -1,74 +1,271 @@
-//! The journals of a folder, replayed one after another.
+//! The journals of a folder, replayed one after another, batch by batch.
 
-ghost use Rattle.std.specs.Prelude.{◌≡◌, ◌<◌, ◌≤◌, ◌++◌, [], ℕ, List, All, IfOk, IsOkUnless, None, drop, false, length, map, take, true};
-ghost use Rattle.std.specs.List.Sorted.{IsNonDecreasingBy};
-ghost use Rattle.fjall_base.specs.Disk.{Meaning};
-ghost use Rattle.fjall_journal.specs.Batches.{view};
-ghost use Rattle.fjall_meta.specs.Keyspaces.{AreKeyspaces};
-ghost use Rattle.fjall_contents.specs.Contents.{AreWithin, Stored};
+ghost use Rattle.std.specs.Prelude.{◌≡◌, ◌⊎◌, ◌<◌, ◌≤◌, ◌+◌, ◌++◌, ◌∷◌, Bool, [], false, true, ℕ, List, All, IfErr, IfOk, IsErrOf, IsOkUnless, IsTrue, MatchOption, None, OnOk, Some, length, map, slice_get, take};
+ghost use Rattle.std.specs.List.{AllByRecursion, flat_map};
+ghost use Rattle.fjall_base.specs.declared.error.Error.{Error};
+ghost use Rattle.fjall_base.specs.Disk.{Meaning, Took};
+ghost use Rattle.fjall_files.specs.Calls.{seen, AllServed};
+ghost use Rattle.fjall_journal.specs.Batches.{Shown, Written, IsWritten, batch_text, shown, view};
+ghost use Rattle.fjall_manager.specs.Journals.{Sealed};
 ghost use Rattle.fjall_manager.specs.Reaching.{reaches, some_reaches};
-ghost use Rattle.fjall_replay.specs.Beside.{AreEndedBy, AreReplayedWith};
+ghost use Rattle.fjall_recovery.specs.Journals.{IsSealed, Journal, batches_in, journal_text};
+ghost use Rattle.fjall_recovery.specs.Refusals.{HasRisen, IsDue, IsOpeningRefusal};
+ghost use Rattle.fjall_replay.specs.Beside.{AreEndedBy};
 ghost use Rattle.fjall_replay.specs.Parted.{ArePartedBy, AreUnwritten, all_unwritten};
-ghost use Rattle.fjall_replay.specs.Replayed.{AreTold, MayReplay, ids_of};
-ghost use Rattle.fjall_table.specs.Blocks.{Entry};
-ghost use Rattle.fjall_trees.specs.Tables.{AreReadOn};
-ghost use Rattle.fjall_trees.specs.Forests.{AreBefore};
+ghost use Rattle.fjall_trees.specs.Forests.{AreBefore, Forest};
 ghost use Rattle.fjall_trees.specs.Views.{forest_of};
-ghost use Rattle.fjall_versions.specs.Replays.{first_fault};
+ghost use Rattle.fjall_repair.specs.Replaying.{AreAt, ArePast, IsHeldBy, IsReplayed, IsTextOf, IsUnderway, MayGoOn, MayTake};
 
-use fjall_base::{Error, Result};
-use fjall_journal::Batch;
-use fjall_manager::{JournalManager, Watermarks};
+use crate::sizes::is_fit;
+use fjall_base::{Disk, Error, Result};
+use fjall_files::journal_name;
+use fjall_journal::{Batch, KnownBatches};
+use fjall_manager::JournalManager;
 use fjall_meta::MetaKeyspace;
+use fjall_recovery::read_text;
 use fjall_replay::{Persisted, replay_journal, seal_all};
 use fjall_trees::Trees;
+use fjall_versions::check_batches;
+use std::alloc::Global;
+use std::slice;
 
-/// How many batches at the front are a journal's that has these watermarks. They are in order.
-fn count_reached(batches: &[Batch], watermarks: &Watermarks) -> usize
-    requires { IsNonDecreasingBy (λ b. b.seqno) batches.now }
-    ensures bound { result ≤ length batches.now }
-    ensures front { All (λ b. reaches watermarks.now b.seqno ≡ true) (take result batches.now) }
-    ensures behind { All (λ b. reaches watermarks.now b.seqno ≡ false) (drop result batches.now) }
-{
-    batches.partition_point(|batch| watermarks.reaches(batch.seqno))
+/// What a replay goes by.
+#[derive(Drop)]
+pub(crate) struct Replay<'a> {
+    /// The keyspaces that live.
+    pub keyspaces: &'a MetaKeyspace,
+    /// Up to which number each of them is persisted.
+    pub persisted: &'a [Persisted],
+    /// The sealed journals, the oldest first.
+    pub sealed: &'a JournalManager,
+    /// The batches are numbered below it.
+    pub bound: u64,
 }
 
-/// These trees of the keyspaces that live, with what the batches of the journals make, each beyond its keyspace's persisted
-/// number. Behind each of the sealed journals what it made is sealed, so that a flush takes it; what the active one made isn't.
-pub(crate) fn replayed(
-    keyspaces: &MetaKeyspace,
-    persisted: &[Persisted],
-    loaded: Trees,
-    sealed: &JournalManager,
-    batches: &[Batch],
-) -> Result<Trees>
-    requires fits { All (λ b. MayReplay (view b)) batches.now }
-    requires sound { first_fault 0 (map view batches.now) ≡ None }
-    requires ended { AreEndedBy persisted.now 0 (forest_of loaded) }
-    requires unwritten { AreUnwritten (forest_of loaded) }
-    ensures ok { (entries : ℕ → List (List Entry)) (stored : ℕ → Stored) → AreTold keyspaces.now stored persisted.now → AreWithin keyspaces.now stored
-        → AreReplayedWith entries keyspaces.now stored [] (forest_of loaded)
-        → IfOk result (λ trees. AreReplayedWith entries keyspaces.now stored (map view batches.now) (forest_of trees)) }
-    ensures reads { (disk : Meaning) (entries : ℕ → List (List Entry)) → AreReadOn disk (forest_of loaded) entries
-        → IfOk result (λ trees. AreReadOn disk (forest_of trees) entries) }
-    ensures rest { IfOk result (λ trees. all_unwritten (forest_of trees) ≡ all_unwritten (forest_of loaded)) }
-    // What is numbered up to a watermark of a sealed journal is in sealed memtables, and all else in active ones.
-    ensures parted { IfOk result (λ trees. ArePartedBy (some_reaches sealed.now) (forest_of trees)) }
-    ensures ids { IfOk result (λ trees. ids_of (forest_of trees) ≡ ids_of (forest_of loaded)) }
-    ensures below { (bound : ℕ) → AreBefore bound (forest_of loaded) → All (λ b. b.seqno < bound) batches.now
-        → IfOk result (λ trees. AreBefore bound (forest_of trees)) }
-    ensures lawful { AreKeyspaces keyspaces.now }
-    ensures only { IsOkUnless result Error.OutOfMemory }
+/// How far a replay is.
+#[derive(Drop)]
+pub(crate) struct Progress {
+    /// The trees, with all that was replayed.
+    pub trees: Trees,
+    /// So many of the sealed journals are behind it: what they made is sealed.
+    pub place: usize,
+    /// The least number that the next batch may have.
+    pub least: u64,
+}
+
+// The first bytes of a text, up to an end, where there is one.
+fn part_of(text: &[u8], end: Option<usize>) -> &[u8]
+    ensures { MatchOption end (result.now ≡ text.now) (λ n. result.now ≡ take n text.now) }
 {
-    prove!(0 < keyspaces.next_id());
-    let mut trees = loaded;
-    let mut rest = batches;
-    for journal in sealed.journals() {
-        let (own, behind) = rest.split_at(count_reached(rest, journal.watermarks()));
-        replay_journal(keyspaces, persisted, own, &mut trees)?;
-        seal_all(&mut trees)?;
-        rest = behind;
+    match end {
+        Some(end) => text.get(..end).unwrap_or(text),
+        None => text,
     }
-    replay_journal(keyspaces, persisted, rest, &mut trees)?;
-    Ok(trees)
+}
+
+impl<'a> Replay<'a> {
+    // Whether the sealed journal at this place has no watermark that reaches the number, so that it ends before it.
+    fn ends_before(&self, place: usize, number: u64) -> bool
+        ensures left { IsTrue result → (journal : Sealed) × (slice_get self.now.sealed.now place ≡ Some journal) × (reaches journal.watermarks number ≡ false) }
+        ensures here { (journal : Sealed) → slice_get self.now.sealed.now place ≡ Some journal → reaches journal.watermarks number ≡ false → IsTrue result }
+    {
+        match self.sealed.journals().get(place) {
+            Some(journal) => !journal.watermarks().reaches(number),
+            None => false,
+        }
+    }
+
+    // Seals what the next sealed journal made.
+    fn seal_next(&self, progress: &mut Progress) -> Result<()>
+        requires { progress.old.place < length self.now.sealed.now }
+        ensures ok { (loaded : Forest) (front : List Shown) → AreAt self.now loaded front progress.old.place (forest_of progress.old.trees)
+            → OnOk result (AreAt self.now loaded front progress.new.place (forest_of progress.new.trees)) }
+        ensures place { OnOk result (progress.new.place ≡ progress.old.place + 1) }
+        ensures least { progress.new.least ≡ progress.old.least }
+        ensures ended { MayGoOn self.now progress.old → OnOk result (MayGoOn self.now progress.new) }
+        ensures only { IsOkUnless result Error.OutOfMemory }
+    {
+        let count = self.sealed.journals().len();
+        prove!(progress.place < count);
+        seal_all(&mut progress.trees)?;
+        progress.place += 1;
+        Ok(())
+    }
+
+    // Seals what those made that end before a number, from which on none of the journals behind reaches one.
+    fn seal_before(&self, progress: &mut Progress, number: u64) -> Result<()>
+        ensures ok { (loaded : Forest) (front : List Shown) → AreAt self.now loaded front progress.old.place (forest_of progress.old.trees)
+            → OnOk result (AreAt self.now loaded front progress.new.place (forest_of progress.new.trees)) }
+        ensures past { ArePast self.now progress.old.place number → OnOk result (ArePast self.now progress.new.place number) }
+        ensures here { (journal : Sealed) → OnOk result (slice_get self.now.sealed.now progress.new.place ≡ Some journal → reaches journal.watermarks number ≡ true) }
+        ensures least { progress.new.least ≡ progress.old.least }
+        ensures ended { MayGoOn self.now progress.old → OnOk result (MayGoOn self.now progress.new) }
+        ensures only { IsOkUnless result Error.OutOfMemory }
+    {
+        'sealing: while self.ends_before(progress.place, number) {
+            self.seal_next(progress)?;
+        }
+        Ok(())
+    }
+
+    // Takes the next batch. Of what an honest disk holds none is refused.
+    fn take(&self, progress: &mut Progress, batch: &Batch) -> Result<()>
+        requires { MayGoOn self.now progress.old }
+        ensures ok { (loaded : Forest) (front : List Shown) → IsUnderway self.now loaded front progress.old
+            → OnOk result (IsUnderway self.now loaded (front ++ view batch.now ∷ []) progress.new) }
+        ensures ended { OnOk result (MayGoOn self.now progress.new) }
+        ensures least { OnOk result (progress.new.least ≡ batch.now.seqno + 1) }
+        ensures only { MayTake self.now progress.old.least (view batch.now ∷ []) → IsOkUnless result Error.OutOfMemory }
+        ensures risen { (faults : ℕ) → IfErr result (HasRisen faults faults) }
+        ensures listed { IfErr result IsOpeningRefusal }
+    {
+        let one = slice::from_ref(batch);
+        if batch.seqno >= self.bound || !is_fit(batch) {
+            return Err(Error::Unrecoverable);
+        }
+        let least = check_batches(one, progress.least)?;
+        self.seal_before(progress, batch.seqno)?;
+        replay_journal(self.keyspaces, self.persisted, one, &mut progress.trees)?;
+        progress.least = least;
+        Ok(())
+    }
+
+    // Takes the batches of a text that was read before. Of another text some batches or none.
+    fn replay_text(&self, alloc: Global, progress: &mut Progress, text: &[u8]) -> Result<()>
+        requires { MayGoOn self.now progress.old }
+        ensures ok { (batches : List Written) (loaded : Forest) (front : List Shown) → AllByRecursion IsWritten batches → text.now ≡ flat_map batch_text batches
+            → IsUnderway self.now loaded front progress.old → OnOk result (IsUnderway self.now loaded (front ++ map shown batches) progress.new) }
+        ensures some { (loaded : Forest) (front : List Shown) → IsUnderway self.now loaded front progress.old
+            → OnOk result ((more : List Shown) × IsUnderway self.now loaded (front ++ more) progress.new) }
+        ensures ended { OnOk result (MayGoOn self.now progress.new) }
+        ensures only { (batches : List Written) → AllByRecursion IsWritten batches → text.now ≡ flat_map batch_text batches
+            → MayTake self.now progress.old.least (map shown batches) → IsOkUnless result Error.OutOfMemory }
+        ensures risen { (faults : ℕ) → IfErr result (HasRisen faults faults) }
+        ensures listed { IfErr result IsOpeningRefusal }
+    {
+        let mut reader = KnownBatches::new(alloc, text);
+        'batches: while let Some(batch) = reader.next_batch()? {
+            self.take(progress, &batch)?;
+        }
+        Ok(())
+    }
+
+    // Takes the batches of a journal that was read before, up to the end of its whole batches, where something stands behind it.
+    fn replay_file<D: Disk>(
+        &self,
+        alloc: Global,
+        disk: &mut D,
+        progress: &mut Progress,
+        id: u64,
+        end: Option<usize>,
+    ) -> Result<()>
+        requires { MayGoOn self.now progress.old }
+        ensures ok { IsTrue D.honest → (batches : List Written) (loaded : Forest) (front : List Shown) → AllByRecursion IsWritten batches
+            → IsTextOf batches end (journal_text (seen (D.meaning disk.old)) id)
+            → IsUnderway self.now loaded front progress.old → OnOk result (IsUnderway self.now loaded (front ++ map shown batches) progress.new) }
+        ensures some { (loaded : Forest) (front : List Shown) → IsUnderway self.now loaded front progress.old
+            → OnOk result ((more : List Shown) × IsUnderway self.now loaded (front ++ more) progress.new) }
+        ensures ended { OnOk result (MayGoOn self.now progress.new) }
+        ensures due { IsTrue D.honest → (batches : List Written) → AllByRecursion IsWritten batches
+            → IsTextOf batches end (journal_text (seen (D.meaning disk.old)) id)
+            → MayTake self.now progress.old.least (map shown batches) → IfErr result (IsDue (λ error. ⊥)) }
+        ensures same { IsTrue D.honest → Took (D.meaning disk.old) (D.meaning disk.new) [] }
+        ensures served { IsTrue D.honest → AllServed (D.meaning disk.old) (D.meaning disk.new) }
+        ensures later { (D.meaning disk.old).faults ≤ (D.meaning disk.new).faults }
+        ensures risen { IfErr result (HasRisen (D.meaning disk.old).faults (D.meaning disk.new).faults) }
+        ensures listed { IfErr result IsOpeningRefusal }
+    {
+        let name = journal_name(alloc, id)?;
+        let text = read_text(alloc, disk, &name)?;
+        self.replay_text(alloc, progress, part_of(&text, end))
+    }
+
+    // Takes the batches of sealed journals, one after another.
+    fn replay_sealed<D: Disk>(
+        &self,
+        alloc: Global,
+        disk: &mut D,
+        progress: &mut Progress,
+        ids: &[u64],
+    ) -> Result<()>
+        requires { MayGoOn self.now progress.old }
+        ensures ok { IsTrue D.honest → (journals : List Journal) (loaded : Forest) (front : List Shown) → map (λ j. j.id) journals ≡ ids.now
+            → AllByRecursion (IsSealed (seen (D.meaning disk.old))) journals → IsUnderway self.now loaded front progress.old
+            → OnOk result (IsUnderway self.now loaded (front ++ map shown (batches_in journals)) progress.new) }
+        ensures some { (loaded : Forest) (front : List Shown) → IsUnderway self.now loaded front progress.old
+            → OnOk result ((more : List Shown) × IsUnderway self.now loaded (front ++ more) progress.new) }
+        ensures ended { OnOk result (MayGoOn self.now progress.new) }
+        ensures due { IsTrue D.honest → (journals : List Journal) (loaded : Forest) (front : List Shown) → map (λ j. j.id) journals ≡ ids.now
+            → AllByRecursion (IsSealed (seen (D.meaning disk.old))) journals → IsUnderway self.now loaded front progress.old
+            → MayTake self.now progress.old.least (map shown (batches_in journals)) → IfErr result (IsDue (λ error. ⊥)) }
+        ensures same { IsTrue D.honest → Took (D.meaning disk.old) (D.meaning disk.new) [] }
+        ensures served { IsTrue D.honest → AllServed (D.meaning disk.old) (D.meaning disk.new) }
+        ensures later { (D.meaning disk.old).faults ≤ (D.meaning disk.new).faults }
+        ensures risen { IfErr result (HasRisen (D.meaning disk.old).faults (D.meaning disk.new).faults) }
+        ensures listed { IfErr result IsOpeningRefusal }
+    {
+        for id in ids {
+            self.replay_file(alloc, disk, progress, *id, None)?;
+        }
+        Ok(())
+    }
+
+    // Seals what the sealed journals made that aren't behind yet.
+    fn finish(&self, progress: Progress) -> Result<Trees>
+        ensures ok { (loaded : Forest) (front : List Shown) → AreAt self.now loaded front progress.place (forest_of progress.trees)
+            → IfOk result (λ trees. IsReplayed self.now.keyspaces.now self.now.persisted.now loaded front (forest_of trees)) }
+        ensures before { (loaded : Forest) (front : List Shown) → AreAt self.now loaded front progress.place (forest_of progress.trees)
+            → IfOk result (λ trees. AreBefore self.now.bound loaded → AreBefore self.now.bound (forest_of trees)) }
+        ensures parted { (loaded : Forest) (front : List Shown) → AreAt self.now loaded front progress.place (forest_of progress.trees)
+            → IfOk result (λ trees. ArePartedBy (some_reaches self.now.sealed.now) (forest_of trees)) }
+        ensures only { IsOkUnless result Error.OutOfMemory }
+    {
+        let mut rest = progress;
+        'sealing: while rest.place < self.sealed.journals().len() {
+            self.seal_next(&mut rest)?;
+        }
+        Ok(rest.trees)
+    }
+
+    /// Replays the journals of these ids, which were read before, into these trees of the keyspaces that live, each batch beyond its
+    /// keyspace's persisted number. The last one is active, and its whole batches end there. Behind each of the sealed ones what it
+    /// made is sealed, so that a flush takes it; what the active one made isn't.
+    ///
+    /// One journal's text at a time is in memory, and one of its batches. The checks of the batches are passed over: they were taken
+    /// when the journals were read.
+    pub(crate) fn replay_journals<D: Disk>(
+        &self,
+        alloc: Global,
+        disk: &mut D,
+        ids: &[u64],
+        end: usize,
+        loaded: Trees,
+    ) -> Result<Trees>
+        requires ended { AreEndedBy self.now.persisted.now 0 (forest_of loaded) }
+        requires unwritten { AreUnwritten (forest_of loaded) }
+        ensures ok { IsTrue D.honest → (journals : List Journal) (torn : Bool) → IsHeldBy (seen (D.meaning disk.old)) ids.now end torn journals
+            → IfOk result (λ trees. IsReplayed self.now.keyspaces.now self.now.persisted.now (forest_of loaded) (map shown (batches_in journals)) (forest_of trees)) }
+        ensures some { IfOk result (λ trees. (front : List Shown) × IsReplayed self.now.keyspaces.now self.now.persisted.now (forest_of loaded) front (forest_of trees)) }
+        // What is numbered up to a watermark of a sealed journal is in sealed memtables, and all else in active ones.
+        ensures parted { IfOk result (λ trees. ArePartedBy (some_reaches self.now.sealed.now) (forest_of trees)) }
+        ensures below { AreBefore self.now.bound (forest_of loaded) → IfOk result (λ trees. AreBefore self.now.bound (forest_of trees)) }
+        ensures due { IsTrue D.honest → (journals : List Journal) (torn : Bool) → IsHeldBy (seen (D.meaning disk.old)) ids.now end torn journals
+            → MayTake self.now 0 (map shown (batches_in journals)) → IfErr result (IsDue (λ error. ⊥)) }
+        ensures same { IsTrue D.honest → Took (D.meaning disk.old) (D.meaning disk.new) [] }
+        ensures served { IsTrue D.honest → AllServed (D.meaning disk.old) (D.meaning disk.new) }
+        ensures later { (D.meaning disk.old).faults ≤ (D.meaning disk.new).faults }
+        ensures risen { IfErr result (HasRisen (D.meaning disk.old).faults (D.meaning disk.new).faults) }
+        ensures listed { IfErr result IsOpeningRefusal }
+    {
+        let mut progress = Progress {
+            trees: loaded,
+            place: 0,
+            least: 0,
+        };
+        if let [sealed @ .., active] = ids {
+            self.replay_sealed(alloc, disk, &mut progress, sealed)?;
+            self.replay_file(alloc, disk, &mut progress, *active, Some(end))?;
+        }
+        self.finish(progress)
+    }
 }

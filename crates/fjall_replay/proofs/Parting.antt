@@ -16,7 +16,7 @@ use Rattle.fjall_trees.specs.Forests.{Forest, Planted}
 use Rattle.fjall_trees.specs.Sealing.{all_sealed, sealed_once}
 use Rattle.fjall_trees.proofs.Changing.{put_has}
 use Rattle.fjall_replay.specs.Beside.{all_at_rest, at_rest}
-use Rattle.fjall_replay.specs.Parted.{ActivesPass, AllPass, AreUnwritten, all_unwritten}
+use Rattle.fjall_replay.specs.Parted.{ActivesEmpty, ActivesPass, AllPass, AreUnwritten, HasSealed, all_unwritten}
 use Rattle.fjall_replay.specs.Steps.{with_batches}
 use Rattle.fjall_replay.proofs.Behind.{un_map}
 use Rattle.fjall_replay.proofs.Resting.{KeepsEach, each_batches, floor_at_rest}
@@ -62,19 +62,10 @@ none_pass test h none = by h.versions h.clears none
     by (v ∷ versions) clears none =
         let no = eqb-true (length (v ∷ versions)) 0 (and_parts (length (v ∷ versions) == 0) (length clears == 0) none).0 in absurd (omega (arith, no))
 
--- nothing is in the active memtables of these trees
-abbrev pub ActivesEmpty : Forest → Type 0
-ActivesEmpty trees = All (λ k. IsTrue (holds_nothing k.shape.memory.active)) trees
-
 pub empty_pass : (test : ℕ → Bool) (trees : Forest) → ActivesEmpty trees → ActivesPass test trees
 empty_pass test trees none i d lt = none_pass test (get_or trees i d).shape.memory.active (none i d lt)
 
 -- ---- what is sealed
-
--- sealed memtables hold something, and what they hold passes the test
-pub record HasSealed (test : ℕ → Bool) (memory : Memory) : Type 0 where
-  pub some : All (λ h. holds_nothing h ≡ false) memory.sealed
-  pub pass : All (AllPass test) memory.sealed
 
 none_sealed : (test : ℕ → Bool) (memory : Memory) → memory.sealed ≡ [] → HasSealed test memory
 none_sealed test memory none = record {

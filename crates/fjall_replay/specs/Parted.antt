@@ -24,6 +24,15 @@ pub record IsPartedBy (test : ℕ → Bool) (memory : Memory) : Type 0 where
 abbrev pub ArePartedBy : (ℕ → Bool) → Forest → Type 0
 ArePartedBy test trees = All (λ k. IsPartedBy test k.shape.memory) trees
 
+-- nothing is in the active memtables of these trees
+abbrev pub ActivesEmpty : Forest → Type 0
+ActivesEmpty trees = All (λ k. IsTrue (holds_nothing k.shape.memory.active)) trees
+
+-- sealed memtables hold something, and what they hold passes the test
+pub record HasSealed (test : ℕ → Bool) (memory : Memory) : Type 0 where
+  pub some : All (λ h. holds_nothing h ≡ false) memory.sealed
+  pub pass : All (AllPass test) memory.sealed
+
 -- ---- but for what is in memory
 
 -- nothing is in the memory of these trees

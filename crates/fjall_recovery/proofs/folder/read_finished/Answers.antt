@@ -14,14 +14,14 @@ pub returns-in_err-folder_ids-clause-cause : goal.returns-in_err-folder_ids-clau
 returns-in_err-folder_ids-clause-cause g c honest ids =
     let p = err_from_is_err_and c.from_residual-in_err-folder_ids.result c.from_residual-in_err-folder_ids.ensures.1 in
     let image : Image = standing (state_in (g.D.Disk.meaning c.args.disk.now)) in
-    let holds = holds_journals image c.deref.result.now _ _ _ _ (subst (AreJournalIds image) (sym c.deref.ensures.value) ids) (c.in_ok-journals.ensures.found honest) in
+    let holds = holds_journals image c.deref.result.now _ _ _ (subst (AreJournalIds image) (sym c.deref.ensures.value) ids) (c.in_ok-journals.ensures.found honest) in
     rw (p.1, p.2) (names_refuse image _ c.in_err-folder_ids.field-0.0 (ap standing (c.in_ok-journals.ensures.same honest).state) holds (c.in_err-folder_ids.ensures.cause honest))
 
 pub returns-in_err-catalog-clause-cause : goal.returns-in_err-catalog-clause-cause
 returns-in_err-catalog-clause-cause g c honest ids =
     let p = err_from_is_err_and c.from_residual-in_err-catalog.result c.from_residual-in_err-catalog.ensures.1 in
     let image : Image = standing (state_in (g.D.Disk.meaning c.args.disk.now)) in
-    let holds = holds_journals image c.deref.result.now _ _ _ _ (subst (AreJournalIds image) (sym c.deref.ensures.value) ids) (c.in_ok-journals.ensures.found honest) in
+    let holds = holds_journals image c.deref.result.now _ _ _ (subst (AreJournalIds image) (sym c.deref.ensures.value) ids) (c.in_ok-journals.ensures.found honest) in
     let one = ap standing (c.in_ok-journals.ensures.same honest).state in
     let step = ap standing (c.in_ok-folder_ids.ensures.same honest).state in
     let folders = folders_along _ _ _ _ (sym step) c.deref-2.ensures.value (c.in_ok-folder_ids.ensures.ids honest) in
@@ -32,7 +32,7 @@ pub returns-in_err-homes-clause-cause : goal.returns-in_err-homes-clause-cause
 returns-in_err-homes-clause-cause g c honest ids =
     let p = err_from_is_err_and c.from_residual-in_err-homes.result c.from_residual-in_err-homes.ensures.1 in
     let image : Image = standing (state_in (g.D.Disk.meaning c.args.disk.now)) in
-    let holds = holds_journals image c.deref.result.now _ _ _ _ (subst (AreJournalIds image) (sym c.deref.ensures.value) ids) (c.in_ok-journals.ensures.found honest) in
+    let holds = holds_journals image c.deref.result.now _ _ _ (subst (AreJournalIds image) (sym c.deref.ensures.value) ids) (c.in_ok-journals.ensures.found honest) in
     let one = ap standing (c.in_ok-journals.ensures.same honest).state in
     let step = ap standing (c.in_ok-folder_ids.ensures.same honest).state in
     let next = ap standing (c.in_ok-catalog.ensures.same honest).state in

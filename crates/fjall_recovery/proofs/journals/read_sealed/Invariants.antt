@@ -2,7 +2,6 @@ use Rattle.std.proofs.Common.{◌≡◌, ◌≤◌, ◌++◌, ◌∷◌, [], fal
 use Rattle.std.specs.Prelude.{IsTrue}
 use Rattle.fjall_base.specs.declared.error.Error.{Error}
 use Rattle.fjall_base.specs.Disk.{Took, standing, state_in}
-use Rattle.fjall_journal.specs.Batches.{view}
 use Rattle.fjall_recovery.specs.Journals.{AreSealed}
 use Rattle.fjall_recovery.specs.Told.{AreSealedAs}
 use Rattle.fjall_recovery.specs.Refusals.{JournalsRefuse}
@@ -10,7 +9,7 @@ use Rattle.fjall_recovery.proofs.journals.read_sealed.Given as goal
 
 abbrev pub invariant-loop-id : goal.invariant-loop-id
 invariant-loop-id g l = record {
-  found : IsTrue g.D.Disk.honest → AreSealed (standing (state_in (g.D.Disk.meaning l.fn.disk))) (take l.id-index l.ids) (map view l.journals.batches.items) l.journals.least;
+  found : IsTrue g.D.Disk.honest → AreSealed (standing (state_in (g.D.Disk.meaning l.fn.disk))) (take l.id-index l.ids) l.journals.least;
   torn : l.journals.torn ≡ false;
   told : IsTrue g.D.Disk.honest → AreSealedAs (standing (state_in (g.D.Disk.meaning l.fn.disk))) (take l.id-index l.ids) l.journals.sealed;
   ids : map (λ s. s.id) l.journals.sealed ≡ take l.id-index l.ids;

@@ -31,7 +31,7 @@ pub returns-in_err-opened-clause-due : goal.returns-in_err-opened-clause-due
 returns-in_err-opened-clause-due g c honest contents read shows =
     let m : _ → Meaning = g.D.Disk.meaning in
     let p = err_from_is_err_and c.from_residual.result c.from_residual.ensures.1 in
-    rw (p.1, p.2) (held_early (m c.args.disk.now) (m c.ready_to_mend.new.disk) c.in_err-opened.field-0.0 (c.in_err-opened.ensures.due honest (standing (state_in (m c.args.disk.now))) read) (c.in_err-opened.ensures.same honest))
+    rw (p.1, p.2) (held_early (m c.args.disk.now) (m c.ready_to_mend.new.disk) c.in_err-opened.field-0.0 (c.in_err-opened.ensures.due honest read) (c.in_err-opened.ensures.same honest))
 
 pub returns-in_err-mend_and_sweep-clause-any_moment : goal.returns-in_err-mend_and_sweep-clause-any_moment
 returns-in_err-mend_and_sweep-clause-any_moment g c honest contents read shows holds =
@@ -62,7 +62,7 @@ returns-clause-opened g c honest contents read shows holds =
     (subst (λ (s : State). IsMendingOf (standing s) found ready.mending) (sym same.state) (c.in_ok-opened.ensures.mending _ read)) (c.in_ok-opened.ensures.sweep honest _ read)) in
     let made = makes_sound (m c.args.disk.now) (m c.mend_and_sweep.new.disk) found contents (string_bytes ready.mending.active) ready.opened read shows holds.now.openable takes kept holds.now.versions in
     let told = told_contents image found contents read shows holds.now.openable in
-    opens_of (m c.mend_and_sweep.new.disk) contents (opened contents.journals) (string_bytes ready.mending.active) found.journals.end repaired (Some contents) (persisted_of found) takes.loaded ready.opened
+    opens_of (m c.mend_and_sweep.new.disk) contents (opened contents.journals) (string_bytes ready.mending.active) found.journals.end repaired (Some contents) takes.loaded ready.opened
     (takes_contents found contents ready.opened (string_bytes ready.mending.active) takes.loaded shows takes.takes) (tell_as (opened contents.journals) found ready.opened takes.journals told)
     (takes.journals.active_is ∙ active_contents found contents shows) made refl
     (number_is image found read contents ready.opened.number shows (c.in_ok-opened.ensures.number (numbers image found read))) refl
@@ -245,7 +245,7 @@ returns-clause-opens g c honest contents read shows sound base pending holds =
     (subst (λ (s : State). IsMendingOf (standing s) found ready.mending) (sym same.state) (c.in_ok-opened.ensures.mending _ read)) (c.in_ok-opened.ensures.sweep honest _ read)) in
     let made = makes_sound (m c.args.disk.now) (m c.mend_and_sweep.new.disk) found contents (string_bytes ready.mending.active) ready.opened read shows sound.openable takes kept sound.versions in
     let told = told_contents image found contents read shows sound.openable in
-    opens_of (m c.mend_and_sweep.new.disk) contents (opened contents.journals) (string_bytes ready.mending.active) found.journals.end repaired (Some contents) (persisted_of found) takes.loaded ready.opened
+    opens_of (m c.mend_and_sweep.new.disk) contents (opened contents.journals) (string_bytes ready.mending.active) found.journals.end repaired (Some contents) takes.loaded ready.opened
     (takes_contents found contents ready.opened (string_bytes ready.mending.active) takes.loaded shows takes.takes) (tell_as (opened contents.journals) found ready.opened takes.journals told)
     (takes.journals.active_is ∙ active_contents found contents shows) made refl
     (number_is image found read contents ready.opened.number shows (c.in_ok-opened.ensures.number (numbers image found read))) refl

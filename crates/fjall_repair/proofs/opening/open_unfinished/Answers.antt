@@ -55,7 +55,7 @@ returns-clause-opened g c honest holds =
     let repaired = c.in_ok-begin_and_sweep.ensures.ok honest (holds_on (m c.args.disk.now) (m c.ready_to_begin.new.disk) same None holds)
     (subst (λ (s : State). IsMakingOf (standing s) ready.making) (sym same.state) (c.in_ok-opened.ensures.making honest)) (c.in_ok-opened.ensures.sweep honest)
     (subst (λ (s : State). FindsTables s no_names (map string_bytes ready.sweep.tables.items)) (sym same.state) (c.in_ok-opened.ensures.finds honest).2.tables) in
-    opens_of (m c.begin_and_sweep.new.disk) nothing (journals_begun ready.making) (journal_name ready.making.active) 0 repaired None [] [] ready.opened c.in_ok-opened.ensures.opened c.in_ok-opened.ensures.journals
+    opens_of (m c.begin_and_sweep.new.disk) nothing (journals_begun ready.making) (journal_name ready.making.active) 0 repaired None [] ready.opened c.in_ok-opened.ensures.opened c.in_ok-opened.ensures.journals
     (c.in_ok-opened.ensures.active ∙ active_begun ready.making)
     (makes_nothing (m c.begin_and_sweep.new.disk) (journal_name ready.making.active) ready.opened c.in_ok-opened.ensures.opened) refl c.in_ok-opened.ensures.number refl
 
@@ -171,7 +171,7 @@ returns-clause-opens g c honest unfinished =
     let repaired = c.in_ok-begin_and_sweep.ensures.repaired honest (subst (λ (s : State). IsUnfinished (standing s)) (sym same.state) unfinished)
     (subst (λ (s : State). IsMakingOf (standing s) ready.making) (sym same.state) (c.in_ok-opened.ensures.making honest)) (c.in_ok-opened.ensures.sweep honest)
     (subst (λ (s : State). FindsTables s no_names (map string_bytes ready.sweep.tables.items)) (sym same.state) (c.in_ok-opened.ensures.finds honest).2.tables) in
-    opens_of (m c.begin_and_sweep.new.disk) nothing (journals_begun ready.making) (journal_name ready.making.active) 0 repaired None [] [] ready.opened c.in_ok-opened.ensures.opened c.in_ok-opened.ensures.journals
+    opens_of (m c.begin_and_sweep.new.disk) nothing (journals_begun ready.making) (journal_name ready.making.active) 0 repaired None [] ready.opened c.in_ok-opened.ensures.opened c.in_ok-opened.ensures.journals
     (c.in_ok-opened.ensures.active ∙ active_begun ready.making)
     (makes_nothing (m c.begin_and_sweep.new.disk) (journal_name ready.making.active) ready.opened c.in_ok-opened.ensures.opened) refl c.in_ok-opened.ensures.number refl
 

@@ -17,7 +17,6 @@ returns-clause-opened c = record {
   journal = search rules;
   last_is = search rules;
   keyspaces = search rules;
-  trees = search rules;
   reads = search rules;
   rest = search rules;
   parted = none_parted c.in_ok-empty_journals.field-0 (forest_of c.new.result) c.new.ensures;

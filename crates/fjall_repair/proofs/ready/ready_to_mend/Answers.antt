@@ -1,22 +1,18 @@
-use Rattle.std.proofs.Common.{◌∙◌, ℕ, List, subst}
+use Rattle.std.proofs.Common.{◌≡◌, ◌∙◌, ℕ, List, ap, subst, sym}
 use Rattle.std.proofs.lemmas.Result.{err_from_is_err_and}
-use Rattle.fjall_base.specs.Disk.{Meaning, Name, State, state_in}
+use Rattle.fjall_base.specs.Disk.{Image, Name, State, standing, state_in}
 use Rattle.fjall_meta.specs.declared.living.LivingKeyspace.{LivingKeyspace}
+use Rattle.fjall_recovery.specs.Folders.{IsFinished}
 use Rattle.fjall_repair.specs.Readings.{TakesRead, names_read}
 use Rattle.fjall_repair.specs.Sweeps.{FindsAll, IsPlan, Names}
-use Rattle.fjall_repair.proofs.Openings.{due_to_memory, homes_as, named_as, no_fault}
+use Rattle.fjall_repair.proofs.Openings.{homes_as, named_as}
 use Rattle.fjall_repair.proofs.ready.ready_to_mend.Goals as goal
 
-pub returns-in_err-database_of-clause-risen : goal.returns-in_err-database_of-clause-risen
-returns-in_err-database_of-clause-risen g c =
-    let m : _ → Meaning = g.D.Disk.meaning in
-    let p = err_from_is_err_and c.from_residual-in_err-database_of.result c.from_residual-in_err-database_of.ensures.1 in
-    rw (p.1, p.2) (no_fault (m c.args.disk.now).faults (m c.plan_sweep.new.disk).faults c.in_err-database_of.field-0.0 (c.in_err-database_of.ensures.risen (m c.args.disk.now).faults))
-
 pub returns-in_err-database_of-clause-due : goal.returns-in_err-database_of-clause-due
-returns-in_err-database_of-clause-due g c honest image read =
+returns-in_err-database_of-clause-due g c honest read =
     let p = err_from_is_err_and c.from_residual-in_err-database_of.result c.from_residual-in_err-database_of.ensures.1 in
-    rw (p.1, p.2) (due_to_memory c.in_err-database_of.field-0.0 (c.in_err-database_of.ensures.only image read))
+    let same : standing (state_in (g.D.Disk.meaning c.plan_sweep.new.disk)) ≡ standing (state_in (g.D.Disk.meaning c.args.disk.now)) = ap standing (c.in_ok-sweep.ensures.same honest).state in
+    rw (p.1, p.2) (c.in_err-database_of.ensures.due honest (subst (λ (i : Image). IsFinished i c.args.found) (sym same) read))
 
 pub returns-clause-sweep : goal.returns-clause-sweep
 returns-clause-sweep g c honest image read =
@@ -39,7 +35,7 @@ returns-clause-finds g c honest image read =
 
 pub returns-clause-opened : goal.returns-clause-opened
 returns-clause-opened g c honest read =
-    subst (λ (active : Name). TakesRead (g.D.Disk.meaning c.args.disk.now) c.in_ok-database_of.field-0 active c.args.found) c.as_str.ensures.value (c.in_ok-database_of.ensures.opened (g.D.Disk.meaning c.args.disk.now) read)
+    subst (λ (active : Name). TakesRead (g.D.Disk.meaning c.args.disk.now) c.in_ok-database_of.field-0 active c.args.found) c.as_str.ensures.value (c.in_ok-database_of.ensures.opened honest (g.D.Disk.meaning c.args.disk.now) (sym (ap standing (c.in_ok-sweep.ensures.same honest).state)) read)
 
 pub returns-clause-mending : goal.returns-clause-mending
 returns-clause-mending g c image read = c.in_ok-mending.ensures.plan image read
