@@ -1,3 +1,4 @@
+pub mod Aheads
 pub mod Places
 pub mod Searches
 pub mod Spans

@@ -1,6 +1,6 @@
 //! A data block in one buffer, checked and decoded.
 
-ghost use Rattle.std.specs.Prelude.{◌≡◌, ◌-◌, ◌<◌, ◌≤◌, length, slice_get, take, drop, filter, Some, IfOk, IfErr, IfSome};
+ghost use Rattle.std.specs.Prelude.{◌≡◌, ◌-◌, ◌<◌, ◌≤◌, length, slice_get, take, drop, filter, Some, None, IfOk, IfErr, IfSome};
 ghost use Rattle.std.specs.Option.{option_map};
 ghost use Rattle.std.specs.Range.Bound.{bound_map};
 ghost use Rattle.fjall_base.specs.declared.error.StorageError.TheVariants.{TableDamaged};
@@ -16,7 +16,6 @@ use crate::place::{EntryPlace, places_of};
 use fjall_base::{KeyBounds, Result};
 use fjall_table::{BlockHandle, TableEntry};
 use std::alloc::Global;
-use std::cmp::Ordering;
 use std::marker::Model;
 use std::ops::{Bound, Range};
 
@@ -44,6 +43,28 @@ impl Model for Block {
     ghost view = { λ b. entries_in b.text.items b.places.items };
 
     ghost invariant = { λ b. ArePlaced b.text.items b.places.items };
+}
+
+/// A version of a key, to be compared with others.
+fn version(key: &[u8], number: u64) -> TableEntry<'_>
+    ensures { seen result ≡ record { key = key.now; number = number; value = None } }
+{
+    TableEntry {
+        key,
+        number,
+        value: None,
+    }
+}
+
+/// Whether an entry stands before all those of a key that are numbered below an instant, or, with none, before all of the
+/// key: it doesn't come behind the one at the instant.
+fn stands_ahead(entry: &TableEntry<'_>, key: &[u8], instant: Option<u64>) -> bool
+    ensures { result ≡ stands_ahead key.now instant (seen entry.now) }
+{
+    match instant {
+        Some(instant) => !version(key, instant).is_before(entry),
+        None => version(entry.key, 0).is_before(&version(key, 0)),
+    }
 }
 
 impl Block {
@@ -145,12 +166,7 @@ impl Block {
         requires { at < length self.now }
         ensures { IfSome (slice_get self.now at) (λ e. result ≡ stands_ahead key.now instant e) }
     {
-        let place = &self.places[at];
-        match (place.key_in(&self.text).cmp(key), instant) {
-            (Ordering::Less, _) => true,
-            (Ordering::Equal, Some(instant)) => instant <= place.number,
-            (Ordering::Equal, None) | (Ordering::Greater, _) => false,
-        }
+        stands_ahead(&self.entry(at), key, instant)
     }
 
     /// How many entries stand so before those of a key.

@@ -1,17 +1,46 @@
 //! Comparisons of keys, byte by byte, a beginning first.
 
-ghost use Rattle.std.specs.Prelude.{◌≡◌};
+ghost use Rattle.std.specs.Prelude.{◌≡◌, length};
 ghost use Rattle.std.specs.Ordering.{is_lt, is_le};
 ghost use Rattle.fjall_base.specs.Pairs.{byte_order};
+
+use std::cmp::Ordering;
+
+// Eight bytes compare as the number that they spell, the greatest first.
+fn compare_words(word: &[u8; 8], other: &[u8; 8]) -> Ordering
+    ensures { result ≡ byte_order word.now other.now }
+{
+    u64::from_be_bytes(*word).cmp(&u64::from_be_bytes(*other))
+}
+
+/// How keys compare: eight bytes at a time, as long as both have so many.
+pub(crate) fn compare(key: &[u8], other: &[u8]) -> Ordering
+    ensures { result ≡ byte_order key.now other.now }
+{
+    let mut rest = key;
+    let mut other_rest = other;
+    'words: while let Some((word, behind)) = rest.split_first_chunk::<8>() {
+        let Some((other_word, other_behind)) = other_rest.split_first_chunk::<8>() else {
+            return rest.cmp(other_rest);
+        };
+        let order = compare_words(word, other_word);
+        if order.is_ne() {
+            return order;
+        }
+        rest = behind;
+        other_rest = other_behind;
+    }
+    rest.cmp(other_rest)
+}
 
 pub(crate) fn is_below(key: &[u8], other: &[u8]) -> bool
     ensures { result ≡ is_lt (byte_order key.now other.now) }
 {
-    key.cmp(other).is_lt()
+    compare(key, other).is_lt()
 }
 
 pub(crate) fn is_at_most(key: &[u8], other: &[u8]) -> bool
     ensures { result ≡ is_le (byte_order key.now other.now) }
 {
-    key.cmp(other).is_le()
+    compare(key, other).is_le()
 }

@@ -6,6 +6,7 @@ ghost use Rattle.fjall_base.specs.Fields.{Shows};
 ghost use Rattle.fjall_base.specs.Limits.{item_refusal};
 ghost use Rattle.fjall_table.specs.Blocks.{seen, entry_header, entry_text, IsEntry, IsBefore, refusal, value_of, entry_at};
 
+use crate::keys::compare;
 use byteorder::{ByteOrder, LittleEndian};
 use fjall_base::{Error, Result, bytes_of, check_item, u8_of, u16_of, u32_of, u64_of};
 use std::cmp::Ordering;
@@ -80,7 +81,7 @@ impl<'a> TableEntry<'a> {
     pub fn is_before(&self, other: &TableEntry<'_>) -> bool
         ensures { IsTrue result ↔ IsBefore (seen self.now) (seen other.now) }
     {
-        match self.key.cmp(other.key) {
+        match compare(self.key, other.key) {
             Ordering::Less => true,
             Ordering::Equal => other.number < self.number,
             Ordering::Greater => false,
