@@ -1,5 +1,5 @@
 -- Pages over runs some of which stand only partly in memory.
-use Rattle.std.proofs.Common.{◌≡◌, ℕ, zero, suc, ◌+◌, ◌-◌, ◌<◌, ◌≤◌, Bool, true, false, cond, List, [], ◌∷◌, ◌++◌, length, map, take, drop, reverse, get_or, slice_get, slice_set, position, Option, Some, None, refl, sym, ap, subst, ◌∙◌, arith, ◌&&◌, ltb, inl, inr}
+use Rattle.std.proofs.Common.{◌≡◌, ℕ, zero, suc, ◌+◌, ◌-◌, ◌<◌, ◌≤◌, Bool, true, false, cond, List, [], ◌∷◌, ◌++◌, length, map, take, drop, reverse, get_or, slice_get, slice_set, position, Option, Some, None, IfSome, refl, sym, ap, subst, ◌∙◌, arith, ◌&&◌, ltb, inl, inr}
 use Rattle.std.specs.List.{AllByRecursion, position_or_len}
 use Rattle.std.proofs.lemmas.Bool.{cases_Bool, ltb-false}
 use Rattle.std.proofs.lemmas.List.{append-nil, reverse-reverse, take-append-le}
@@ -7,7 +7,7 @@ use Rattle.std.proofs.lemmas.List.Elements.{All-from_recursion, recursion_from_A
 use Rattle.fjall_base.specs.Pairs.{Bytes, KeyRange}
 use Rattle.fjall_table.specs.Blocks.{Entry}
 use Rattle.fjall_table.specs.Tables.{entries_of, entries_within}
-use Rattle.fjall_sorted.specs.Sorted.{IsFirst, IsUpToFirst, in_turn}
+use Rattle.fjall_sorted.specs.Sorted.{IsFirst, IsUpToFirst, flat, in_turn}
 use Rattle.fjall_runs.proofs.Paging as runs
 use Rattle.fjall_runs.proofs.Paging.{made_more, made_all, set_run, got_run}
 use Rattle.fjall_pages.specs.declared.page_run.PageRun.{PageRun}
@@ -70,8 +70,11 @@ none_passes : (t : Bool) (at : ℕ) → cond t (Some at) None ≡ None → t ≡
 none_passes true at e = absurd (cc e)
 none_passes false at e = refl
 
+pub all_undry : (runs : List PageRun) → position is_dry runs ≡ None → AllByRecursion (λ run. is_dry run ≡ false) runs
+all_undry runs e = none_found is_dry runs (ltb-false (position_or_len is_dry runs) (length runs) (none_passes (ltb (position_or_len is_dry runs) (length runs)) (position_or_len is_dry runs) e))
+
 pub none_dry : (range : KeyRange) (tables : List (List (List Entry))) (runs : List PageRun) → position is_dry runs ≡ None → Ready (map left_in runs) (all_behind range tables (map ahead_of runs))
-none_dry range tables runs e = ready_all range tables runs (none_found is_dry runs (ltb-false (position_or_len is_dry runs) (length runs) (none_passes (ltb (position_or_len is_dry runs) (length runs)) (position_or_len is_dry runs) e)))
+none_dry range tables runs e = ready_all range tables runs (all_undry runs e)
 
 -- ---- the first version of all
 
@@ -177,7 +180,7 @@ pub record Going (back : Bool) (max : ℕ) (first_page page : PageMaker) (first_
   pub few : length (made first_page) ≤ max → length (made page) ≤ max
 
 pub going_more : (back : Bool) (max : ℕ) (first_page page after : PageMaker) (first_runs runs : List PageRun) (at : ℕ) (d new : PageRun) → Going back max first_page page first_runs runs
-    → length (made page) < max → position is_dry runs ≡ None → IsFirst back (map left_in runs) (Some at) → at < length runs
+    → length (made page) < max → AllByRecursion (λ run. is_dry run ≡ false) runs → IsFirst back (map left_in runs) (Some at) → at < length runs
     → ahead_of new ≡ ahead_of (get_or runs at d) → goes_back after ≡ goes_back page
     → ((v : Entry) (rest : List Entry) → left_in (get_or runs at d) ≡ v ∷ rest → left_in new ≡ rest)
     → ((v : Entry) (rest versions : List Entry) → left_in (get_or runs at d) ≡ v ∷ rest → made_with after versions ≡ made_with page (v ∷ versions))
@@ -191,6 +194,78 @@ going_more back max first_page page after first_runs runs at d new g lt dry firs
       all = λ range tables whole is.
           subst (λ (ahead : List (Option Ahead)). IsMade back (joined (map left_in (slice_set runs at new)) (all_behind range tables ahead)) whole (made_with after) (made after) max) (sym kept)
           (joined_more back (map left_in runs) (all_behind range tables (map ahead_of runs)) (map left_in (slice_set runs at new)) at (left_in (get_or runs at d)) (left_in new) whole (made_with page) (made_with after) (made page) (made after) max
-          (g.all range tables whole is) (none_dry range tables runs dry) first (got_run left_in runs at d within) (set_run left_in runs at new) passed looked few lt);
+          (g.all range tables whole is) (ready_all range tables runs dry) first (got_run left_in runs at d within) (set_run left_in runs at new) passed looked few lt);
       few = λ le. omega (arith, few, lt);
     }
+
+-- ---- a run that goes on
+
+-- None of the runs has to be filled, but maybe the one at a place.
+abbrev UndryBut : ℕ → List PageRun → Type 0
+UndryBut at [] = Unit {0}
+UndryBut zero (run ∷ runs) = AllByRecursion (λ run. is_dry run ≡ false) runs
+UndryBut (suc at) (run ∷ runs) = (is_dry run ≡ false) × UndryBut at runs
+
+undry_but : (at : ℕ) (runs : List PageRun) → AllByRecursion (λ run. is_dry run ≡ false) runs → UndryBut at runs
+undry_but at [] each = tt
+undry_but zero (run ∷ runs) each = each.1
+undry_but (suc at) (run ∷ runs) each = (each.0, undry_but at runs each.1)
+
+undry_set : (at : ℕ) (runs : List PageRun) (new : PageRun) → UndryBut at runs → UndryBut at (slice_set runs at new)
+undry_set at [] new each = tt
+undry_set zero (run ∷ runs) new each = each
+undry_set (suc at) (run ∷ runs) new each = (each.0, undry_set at runs new each.1)
+
+-- what has a version in memory needn't be filled
+undry_one : (run : PageRun) (v : Entry) (rest : List Entry) → left_in run ≡ v ∷ rest → is_dry run ≡ false
+undry_one (Memory run) v rest e = refl
+undry_one (Table part) v rest e = by part.held refl
+  where
+    by : (held : List Entry) → part.held ≡ held → (is_empty part.held && ltb part.ahead.next part.ahead.last) ≡ false
+    by [] none = absurd (nothing_first (sym e ∙ ap (in_turn part.ahead.back) none ∙ turned_none part.ahead.back))
+      where
+        nothing_first : v ∷ rest ≡ [] → ⊥
+        nothing_first f = cc f
+    by (h ∷ held) some = rw some refl
+
+undry_all : (at : ℕ) (runs : List PageRun) (v : Entry) (rest : List Entry) → UndryBut at runs → slice_get (map left_in runs) at ≡ Some (v ∷ rest) → AllByRecursion (λ run. is_dry run ≡ false) runs
+undry_all at [] v rest each e = tt
+undry_all zero (run ∷ runs) v rest each e = (undry_one run v rest (cc e), each)
+undry_all (suc at) (run ∷ runs) v rest each e = (each.0, undry_all at runs v rest each.1 e)
+
+set_again : {A : Type 0} (xs : List A) (i : ℕ) (x y : A) → slice_set (slice_set xs i x) i y ≡ slice_set xs i y
+set_again [] i x y = refl
+set_again (z ∷ xs) zero x y = refl
+set_again (z ∷ xs) (suc i) x y = ap (λ (zs : List _). z ∷ zs) (set_again xs i x y)
+
+set_length : {A : Type 0} (xs : List A) (i : ℕ) (x : A) → length (slice_set xs i x) ≡ length xs
+set_length [] i x = refl
+set_length (y ∷ xs) zero x = refl
+set_length (y ∷ xs) (suc i) x = ap suc (set_length xs i x)
+
+-- A run is gone on with while it begins with the first version of all.
+pub record Leading (back : Bool) (runs : List PageRun) (at : ℕ) (other : Option ℕ) : Type 0 where
+  pub within : at < length runs
+  pub other_within : IfSome other (λ other. other < length runs)
+  pub second : IsFirst back (slice_set (map left_in runs) at []) other
+  pub undry : UndryBut at runs
+
+pub leading : (back : Bool) (runs : List PageRun) (at : ℕ) (other : Option ℕ) → position is_dry runs ≡ None → at < length runs → IfSome other (λ other. other < length runs) → IsFirst back (slice_set (map left_in runs) at []) other → Leading back runs at other
+leading back runs at other dry within other_within second = record { within = within; other_within = other_within; second = second; undry = undry_but at runs (all_undry runs dry) }
+
+pub leading_on : (back : Bool) (runs : List PageRun) (at : ℕ) (other : Option ℕ) (new : PageRun) → Leading back runs at other → Leading back (slice_set runs at new) at other
+leading_on back runs at other new l =
+    let long = sym (set_length runs at new) in
+    record {
+      within = subst (λ (n : ℕ). at < n) long l.within;
+      other_within = subst (λ (n : ℕ). IfSome other (λ other. other < n)) long l.other_within;
+      second = subst (λ (rs : List (List Entry)). IsFirst back rs other) (sym (ap (λ (rs : List (List Entry)). slice_set rs at []) (set_run left_in runs at new) ∙ set_again (map left_in runs) at (left_in new) [])) l.second;
+      undry = undry_set at runs new l.undry;
+    }
+
+pub leading_undry : (back : Bool) (runs : List PageRun) (at : ℕ) (other : Option ℕ) → Leading back runs at other → IsFirst back (map left_in runs) (Some at) → AllByRecursion (λ run. is_dry run ≡ false) runs
+leading_undry back runs at other l first = undry_all at runs first.0 first.1 l.undry first.2.here
+
+-- as many versions are left as there were at first, or fewer
+pub record Fewer (runs first : List PageRun) : Type 0 where
+  pub most : length (flat (map left_in runs)) ≤ length (flat (map left_in first))

@@ -9,7 +9,7 @@ ghost use Rattle.fjall_pages.specs.Pages.{IsMade, goes_back, made, made_with, pa
 
 use crate::page_run::{PageRun, first_dry};
 use fjall_base::KvPair;
-use fjall_runs::{BackPage, FrontPage, Run, first_of};
+use fjall_runs::{BackPage, FrontPage, Run, first_two_of, is_still_first};
 use fjall_table::TableEntry;
 use std::alloc::{AllocError, Global};
 
@@ -93,10 +93,13 @@ impl PageMaker {
             if let Some(at) = first_dry(runs) {
                 return Ok(Some(at));
             }
-            let Some(at) = first_of(runs, back) else {
+            let Some((at, other)) = first_two_of(runs, back) else {
                 return Ok(None);
             };
             self.look_at(&mut runs[at])?;
+            'ahead: while self.len() < max && is_still_first(runs, at, other, back) {
+                self.look_at(&mut runs[at])?;
+            }
         }
         Ok(None)
     }

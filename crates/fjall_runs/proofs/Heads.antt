@@ -1,13 +1,13 @@
 -- The first of the heads of runs.
-use Rattle.std.proofs.Common.{◌≡◌, ℕ, zero, suc, ◌+◌, ◌<◌, ◌≤◌, Bool, true, false, List, [], ◌∷◌, ◌++◌, length, map, take, get_or, Option, Some, None, refl, sym, ap, subst, ◌∙◌, arith}
-use Rattle.std.specs.List.{All, slice_get}
+use Rattle.std.proofs.Common.{◌≡◌, ℕ, zero, suc, ◌+◌, ◌<◌, ◌≤◌, Bool, true, false, List, [], ◌∷◌, ◌++◌, length, map, take, get_or, Option, Some, None, refl, sym, ap, subst, ◌∙◌, arith, ◌⊎◌, inl, inr}
+use Rattle.std.specs.List.{All, AllByRecursion, slice_get, slice_set}
 use Rattle.std.specs.Option.{option_map}
 use Rattle.std.specs.Cmp.{IsTotalOrder}
 use Rattle.std.specs.Ordering.{nat_cmp, ordering_then}
 use Rattle.std.specs.declared.cmp.Ordering.{Ordering}
 use Rattle.std.specs.declared.cmp.Ordering.TheVariants.{Less, Equal, Greater}
 use Rattle.std.proofs.lemmas.Cmp.{ranked, on_total, tied_itself}
-use Rattle.std.proofs.lemmas.List.Elements.{All-push}
+use Rattle.std.proofs.lemmas.List.Elements.{All-from_recursion, All-push, recursion_from_All}
 use Rattle.fjall_base.specs.Pairs.{byte_order}
 use Rattle.fjall_table.specs.Blocks.{Entry, seen, StandsBefore, IsBefore}
 use Rattle.fjall_table.specs.declared.table_entry.TableEntry.{TableEntry}
@@ -15,7 +15,7 @@ use Rattle.fjall_memtable.specs.Stamps.{stamp_cmp, stamp_total}
 use Rattle.fjall_memtable.specs.Entries.{stamp_of}
 use Rattle.fjall_memtable.proofs.Fronts.{less}
 use Rattle.fjall_sorted.specs.Sorted.{IsFirst, IsUpTo, IsUpToFirst}
-use Rattle.fjall_runs.specs.Heads.{ComesBefore, HasFirst}
+use Rattle.fjall_runs.specs.Heads.{ComesBefore, HasFirst, HasTwo}
 
 -- ---- the order
 
@@ -133,6 +133,101 @@ farther_found back runs run w first e behind has =
       },
     )
 
+-- ---- the first of the others
+
+set_last : {A : Type 0} (xs : List A) (x y : A) → slice_set (xs ++ x ∷ []) (length xs) y ≡ xs ++ y ∷ []
+set_last [] x y = refl
+set_last (z ∷ xs) x y = ap (λ (zs : List _). z ∷ zs) (set_last xs x y)
+
+set_front : {A : Type 0} (xs : List A) (i : ℕ) (x y z : A) → slice_get xs i ≡ Some z → slice_set (xs ++ x ∷ []) i y ≡ slice_set xs i y ++ x ∷ []
+set_front [] i x y z e = absurd (cc e)
+set_front (w ∷ xs) zero x y z e = refl
+set_front (w ∷ xs) (suc i) x y z e = ap (λ (zs : List _). w ∷ zs) (set_front xs i x y z e)
+
+same_length : {A : Type 0} (xs : List A) (i : ℕ) (x : A) → length (slice_set xs i x) ≡ length xs
+same_length [] i x = refl
+same_length (y ∷ xs) zero x = refl
+same_length (y ∷ xs) (suc i) x = ap suc (same_length xs i x)
+
+-- a run more that has no version
+pub two_same : (back : Bool) (runs : List (List Entry)) (run : List Entry) (best second : Option (ℕ × TableEntry)) → None ≡ slice_get run 0 → HasTwo back runs best second → HasTwo back (runs ++ run ∷ []) best second
+two_same back runs run None second e has = (has.0, empty_more back runs run None e has.1)
+two_same back runs run (Some first) second e has = (
+  empty_more back runs run (Some first) e has.0,
+  subst (λ (rs : List (List Entry)). HasFirst back rs second) (sym (set_front runs first.0 run [] (seen first.1 ∷ has.0.0) has.0.1.here)) (empty_more back (slice_set runs first.0 []) run second e has.1),
+)
+
+-- one that begins with the first of all, where another was the first yet, or none
+pub two_nearer : (back : Bool) (runs : List (List Entry)) (run : List Entry) (at : ℕ) (w : TableEntry) (best : Option (ℕ × TableEntry)) → at ≡ length runs → HasFirst back runs best → HasFirst back (runs ++ run ∷ []) (Some (at, w))
+    → HasTwo back (runs ++ run ∷ []) (Some (at, w)) best
+two_nearer back runs run at w best is has first = (
+  first,
+  subst (λ (rs : List (List Entry)). HasFirst back rs best) (sym (ap (λ (i : ℕ). slice_set (runs ++ run ∷ []) i []) is ∙ set_last runs run [])) (empty_more back runs [] best refl has),
+)
+
+-- one that doesn't
+pub two_farther : (back : Bool) (runs : List (List Entry)) (run : List Entry) (at : ℕ) (first : ℕ × TableEntry) (second : Option (ℕ × TableEntry)) → at ≡ length runs → HasFirst back runs (Some first) → HasFirst back (runs ++ run ∷ []) (Some first)
+    → (at ≡ length (slice_set runs first.0 []) → HasFirst back (slice_set runs first.0 [] ++ run ∷ []) second) → HasTwo back (runs ++ run ∷ []) (Some first) second
+two_farther back runs run at first second is before has more = (
+  has,
+  subst (λ (rs : List (List Entry)). HasFirst back rs second) (sym (set_front runs first.0 run [] (seen first.1 ∷ before.0) before.1.here)) (more (is ∙ sym (same_length runs first.0 []))),
+)
+
+-- ---- a run that goes on
+
+-- what comes before a version that is up to the first of each of the other runs is up to those too
+up_to_others : (back : Bool) (u w : Entry) (rest : List Entry) (runs : List (List Entry)) (at : ℕ) → ComesBefore back u w → slice_get runs at ≡ Some (u ∷ rest) → AllByRecursion (IsUpToFirst back w) (slice_set runs at []) → AllByRecursion (IsUpToFirst back u) runs
+up_to_others back u w rest [] at before here each = tt
+up_to_others back u w rest (run ∷ runs) zero before here each =
+    let is : run ≡ u ∷ rest = cc here in
+    (subst (IsUpToFirst back u) (sym is) (up_to_itself back u), up_to_each runs each.1)
+  where
+    up_to_each : (runs : List (List Entry)) → AllByRecursion (IsUpToFirst back w) runs → AllByRecursion (IsUpToFirst back u) runs
+    up_to_each [] h = tt
+    up_to_each (run ∷ runs) h = (run_before back u w run before h.0, up_to_each runs h.1)
+up_to_others back u w rest (run ∷ runs) (suc at) before here each = (run_before back u w run before each.0, up_to_others back u w rest runs at before here each.1)
+
+-- the same where the other runs have no version
+up_to_none : (back : Bool) (u : Entry) (rest : List Entry) (runs : List (List Entry)) (at : ℕ) → slice_get runs at ≡ Some (u ∷ rest) → AllByRecursion (λ run. run ≡ []) (slice_set runs at []) → AllByRecursion (IsUpToFirst back u) runs
+up_to_none back u rest [] at here each = tt
+up_to_none back u rest (run ∷ runs) zero here each =
+    let is : run ≡ u ∷ rest = cc here in
+    (subst (IsUpToFirst back u) (sym is) (up_to_itself back u), up_to_each runs each.1)
+  where
+    up_to_each : (runs : List (List Entry)) → AllByRecursion (λ run. run ≡ []) runs → AllByRecursion (IsUpToFirst back u) runs
+    up_to_each [] h = tt
+    up_to_each (run ∷ runs) h = (subst (IsUpToFirst back u) (sym h.0) tt, up_to_each runs h.1)
+up_to_none back u rest (run ∷ runs) (suc at) here each = (subst (IsUpToFirst back u) (sym each.0) tt, up_to_none back u rest runs at here each.1)
+
+-- where no other run has a version
+pub alone_first : (back : Bool) (runs : List (List Entry)) (at : ℕ) (run : List Entry) (u : Entry) → slice_get runs at ≡ Some run → Some u ≡ slice_get run 0 → IsFirst back (slice_set runs at []) None → IsFirst back runs (Some at)
+alone_first back runs at run u get head none =
+    let h = headed run u head in
+    let here : slice_get runs at ≡ Some (u ∷ h.0) = get ∙ ap Some h.1 in
+    (u, h.0, record { here = here; first = All-from_recursion (IsUpToFirst back u) runs (up_to_none back u h.0 runs at here (recursion_from_All (λ run. run ≡ []) (slice_set runs at []) none)) })
+
+-- another place stands as it stood
+other_stands : {A : Type 0} (xs : List A) (i j : ℕ) (x y : A) (none : A) → slice_get xs j ≡ Some x → slice_get (slice_set xs i none) j ≡ Some y → (x ≡ y) ⊎ (none ≡ y)
+other_stands [] i j x y none e f = absurd (cc e)
+other_stands (z ∷ xs) zero zero x y none e f = inr (cc f)
+other_stands (z ∷ xs) zero (suc j) x y none e f = inl (cc (e, f))
+other_stands (z ∷ xs) (suc i) zero x y none e f = inl (cc (e, f))
+other_stands (z ∷ xs) (suc i) (suc j) x y none e f = other_stands xs i j x y none e f
+
+-- where its first version comes before that of the first of the others
+pub ahead_first : (back : Bool) (runs : List (List Entry)) (at other : ℕ) (run next : List Entry) (u w : Entry) → slice_get runs at ≡ Some run → Some u ≡ slice_get run 0 → slice_get runs other ≡ Some next → Some w ≡ slice_get next 0 → ComesBefore back u w
+    → IsFirst back (slice_set runs at []) (Some other) → IsFirst back runs (Some at)
+ahead_first back runs at other run next u w get head get_next head_next before second =
+    let h = headed run u head in
+    let k = headed next w head_next in
+    let here : slice_get runs at ≡ Some (u ∷ h.0) = get ∙ ap Some h.1 in
+    let same : second.0 ≡ w = elim (other_stands runs at other next (second.0 ∷ second.1) [] get_next second.2.here) [
+      | inl e ↦ cc (e, k.1)
+      | inr e ↦ absurd (cc e)
+    ] in
+    let each = subst (λ (v : Entry). All (IsUpToFirst back v) (slice_set runs at [])) same second.2.first in
+    (u, h.0, record { here = here; first = All-from_recursion (IsUpToFirst back u) runs (up_to_others back u w h.0 runs at before here (recursion_from_All (IsUpToFirst back w) (slice_set runs at []) each)) })
+
 -- ---- all runs
 
 pub is_first : (back : Bool) (runs : List (List Entry)) (best : Option (ℕ × TableEntry)) → HasFirst back runs best → IsFirst back runs (option_map (λ first. first.0) best)
@@ -159,3 +254,14 @@ taken_whole f [] zero le = refl
 taken_whole f [] (suc i) le = refl
 taken_whole f (x ∷ xs) zero le = absurd (omega arith)
 taken_whole f (x ∷ xs) (suc i) le = ap (λ (zs : List _). f x ∷ zs) (taken_whole f xs i (omega arith))
+
+-- the run at a place
+pub got_at : {A B : Type 0} (f : A → B) (xs : List A) (i : ℕ) (x : A) → i < length xs → x ≡ get_or xs i x → slice_get (map f xs) i ≡ Some (f x)
+got_at f [] i x lt e = absurd (omega arith)
+got_at f (y ∷ xs) zero x lt e = ap (λ z. Some (f z)) (sym e)
+got_at f (y ∷ xs) (suc i) x lt e = got_at f xs i x (omega arith) e
+
+pub got_within : {A B : Type 0} (f : A → B) (xs : List A) (i : ℕ) (y : B) → slice_get (map f xs) i ≡ Some y → i < length xs
+got_within f [] i y e = absurd (cc e)
+got_within f (x ∷ xs) zero y e = omega arith
+got_within f (x ∷ xs) (suc i) y e = let lt = got_within f xs i y e in omega (arith, lt)

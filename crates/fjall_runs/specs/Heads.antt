@@ -1,5 +1,5 @@
 -- Which version comes first, where only some of several runs have been looked at.
-use Rattle.std.specs.Prelude.{◌≡◌, ℕ, Bool, true, false, List, [], ◌∷◌, Option, Some, None}
+use Rattle.std.specs.Prelude.{◌≡◌, ℕ, Bool, true, false, List, [], ◌∷◌, Option, Some, None, slice_set}
 use Rattle.std.specs.List.{All}
 use Rattle.fjall_table.specs.Blocks.{Entry, seen, IsBefore}
 use Rattle.fjall_table.specs.declared.table_entry.TableEntry.{TableEntry}
@@ -14,6 +14,11 @@ ComesBefore true v w = IsBefore w v
 abbrev pub HasFirst : Bool → List (List Entry) → Option (ℕ × TableEntry) → Type 0
 HasFirst back runs None = All (λ run. run ≡ []) runs
 HasFirst back runs (Some first) = (rest : List Entry) × IsFirstOf back runs first.0 (seen first.1) rest
+
+-- which of the runs begins with what comes first of all, and which of the others does
+abbrev pub HasTwo : Bool → List (List Entry) → Option (ℕ × TableEntry) → Option (ℕ × TableEntry) → Type 0
+HasTwo back runs None second = (second ≡ None) × HasFirst back runs None
+HasTwo back runs (Some first) second = HasFirst back runs (Some first) × HasFirst back (slice_set runs first.0 []) second
 
 -- a version that was taken off, and those behind it; without one there are none
 abbrev pub with_head : Option TableEntry → List Entry → List Entry

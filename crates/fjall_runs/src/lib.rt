@@ -15,4 +15,4 @@ pub use front_page::FrontPage;
 pub use memtable_run::MemtableRun;
 pub use pages::page;
 pub use pair_text::PairText;
-pub use run::{Run, first_of};
+pub use run::{Run, first_of, first_two_of, is_still_first};

@@ -1,9 +1,9 @@
 //! Runs of versions, and which of several comes first.
 
-ghost use Rattle.std.specs.Prelude.{◌≡◌, ◌↔◌, ◌<◌, ◌+◌, ◌++◌, ◌∷◌, [], ℕ, List, length, map, drop, slice_get, IfSome, IsTrue};
+ghost use Rattle.std.specs.Prelude.{◌≡◌, ◌↔◌, ◌<◌, ◌+◌, ◌++◌, ◌∷◌, [], ℕ, List, length, map, drop, slice_get, slice_set, Some, IfSome, IsTrue};
 ghost use Rattle.std.specs.Option.{option_map};
 ghost use Rattle.fjall_table.specs.Blocks.{Entry, seen};
-ghost use Rattle.fjall_runs.specs.Heads.{ComesBefore, HasFirst};
+ghost use Rattle.fjall_runs.specs.Heads.{ComesBefore, HasFirst, HasTwo};
 ghost use Rattle.fjall_sorted.specs.Sorted.{IsFirst};
 
 use fjall_table::TableEntry;
@@ -52,6 +52,28 @@ fn first_with<'a>(
     best
 }
 
+// The first two of some runs and one more, whose first version is the head: the first of all, and the first of the others.
+fn two_with<'a>(
+    best: Option<(usize, TableEntry<'a>)>,
+    second: Option<(usize, TableEntry<'a>)>,
+    at: usize,
+    head: Option<TableEntry<'a>>,
+    back: bool,
+) -> (Option<(usize, TableEntry<'a>)>, Option<(usize, TableEntry<'a>)>)
+    ensures two { (runs : List (List Entry)) (run : List Entry) → at ≡ length runs → option_map seen head.entry ≡ slice_get run 0 → HasTwo back runs best.entry second.entry → HasTwo back (runs ++ run ∷ []) result.0 result.1 }
+{
+    let Some(version) = head else {
+        return (best, second);
+    };
+    let Some((_, first)) = &best else {
+        return (Some((at, version)), None);
+    };
+    if comes_before(&version, first, back) {
+        return (Some((at, version)), best);
+    }
+    (best, first_with(second, at, head, back))
+}
+
 /// Which of the runs begins with what comes first of all: from the start, or from behind where they are gone through so.
 /// None where no run has a version. It takes no memory, and looks at the first version of each run once.
 pub fn first_of<R: Run>(runs: &[R], back: bool) -> Option<usize>
@@ -64,4 +86,43 @@ pub fn first_of<R: Run>(runs: &[R], back: bool) -> Option<usize>
     }
     let (at, _) = best?;
     Some(at)
+}
+
+/// The same, and which of the other runs begins with what comes first of all of these.
+pub fn first_two_of<R: Run>(runs: &[R], back: bool) -> Option<(usize, Option<usize>)>
+    ensures first { IsFirst back (map R.left runs.now) (option_map (λ two. two.0) result) }
+    ensures second { IfSome result (λ two. IsFirst back (slice_set (map R.left runs.now) two.0 []) two.1) }
+    ensures within { IfSome result (λ two. two.0 < length runs.now) }
+    ensures other { IfSome result (λ two. IfSome two.1 (λ at. at < length runs.now)) }
+{
+    let mut best: Option<(usize, TableEntry<'_>)> = None;
+    let mut second: Option<(usize, TableEntry<'_>)> = None;
+    for (at, run) in runs.iter().enumerate() {
+        let (first, next) = two_with(best, second, at, run.first(), back);
+        best = first;
+        second = next;
+    }
+    let (at, _) = best?;
+    match second {
+        Some((other, _)) => Some((at, Some(other))),
+        None => Some((at, None)),
+    }
+}
+
+/// Whether a run begins with what comes first of all, where that other one comes first of all others, if one does.
+pub fn is_still_first<R: Run>(runs: &[R], at: usize, other: Option<usize>, back: bool) -> bool
+    requires within { at < length runs.now }
+    requires other { IfSome other (λ other. other < length runs.now) }
+    ensures { IsFirst back (slice_set (map R.left runs.now) at []) other → IsTrue result → IsFirst back (map R.left runs.now) (Some at) }
+{
+    let Some(version) = runs[at].first() else {
+        return false;
+    };
+    let Some(other) = other else {
+        return true;
+    };
+    match runs[other].first() {
+        Some(next) => comes_before(&version, &next, back),
+        None => false,
+    }
 }
