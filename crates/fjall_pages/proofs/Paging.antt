@@ -17,6 +17,7 @@ use Rattle.fjall_pages.specs.declared.page_maker.PageMaker.TheVariants.{Front, B
 use Rattle.fjall_pages.specs.Parts.{Ahead}
 use Rattle.fjall_pages.specs.Runs.{ahead_of, all_behind, all_of, behind_of, is_dry, is_empty, joined, left_in}
 use Rattle.fjall_pages.specs.Pages.{IsMade, goes_back, made, made_with}
+use Rattle.fjall_pages.specs.Leads.{Leading, UndryBut}
 
 -- ---- runs none of which has to be filled
 
@@ -200,12 +201,6 @@ going_more back max first_page page after first_runs runs at d new g lt dry firs
 
 -- ---- a run that goes on
 
--- None of the runs has to be filled, but maybe the one at a place.
-abbrev UndryBut : ℕ → List PageRun → Type 0
-UndryBut at [] = Unit {0}
-UndryBut zero (run ∷ runs) = AllByRecursion (λ run. is_dry run ≡ false) runs
-UndryBut (suc at) (run ∷ runs) = (is_dry run ≡ false) × UndryBut at runs
-
 undry_but : (at : ℕ) (runs : List PageRun) → AllByRecursion (λ run. is_dry run ≡ false) runs → UndryBut at runs
 undry_but at [] each = tt
 undry_but zero (run ∷ runs) each = each.1
@@ -243,29 +238,42 @@ set_length [] i x = refl
 set_length (y ∷ xs) zero x = refl
 set_length (y ∷ xs) (suc i) x = ap suc (set_length xs i x)
 
--- A run is gone on with while it begins with the first version of all.
-pub record Leading (back : Bool) (runs : List PageRun) (at : ℕ) (other : Option ℕ) : Type 0 where
+-- the two runs that come first, of some none of which has to be filled
+pub leading : (back : Bool) (runs : List PageRun) (two : ℕ × Option ℕ) → AllByRecursion (λ run. is_dry run ≡ false) runs → IsFirst back (map left_in runs) (Some two.0) → IsFirst back (slice_set (map left_in runs) two.0 []) two.1 → two.0 < length runs → IfSome two.1 (λ other. other < length runs)
+    → Leading back runs two.0 two.1
+leading back runs two undry first second within other_within = record { within = within; other_within = other_within; first = first; second = second; undry = undry }
+
+pub undry_has : (runs : List PageRun) (at : ℕ) → UndryBut at runs → ((v : Entry) × (rest : List Entry) × (slice_get (map left_in runs) at ≡ Some (v ∷ rest))) → AllByRecursion (λ run. is_dry run ≡ false) runs
+undry_has runs at undry has = undry_all at runs has.0 has.1 undry has.2
+
+pub leading_of : (back : Bool) (runs : List PageRun) (at : ℕ) (next : Option (ℕ × Option ℕ)) → UndryBut at runs → IfSome next (λ two. IsFirst back (map left_in runs) (Some two.0)) → IfSome next (λ two. IsFirst back (slice_set (map left_in runs) two.0 []) two.1)
+    → IfSome next (λ two. two.0 < length runs) → IfSome next (λ two. IfSome two.1 (λ other. other < length runs)) → IfSome next (λ _. (v : Entry) × (rest : List Entry) × (slice_get (map left_in runs) at ≡ Some (v ∷ rest))) → IfSome next (λ two. Leading back runs two.0 two.1)
+leading_of back runs at None undry first second within other has = tt
+leading_of back runs at (Some two) undry first second within other has = leading back runs two (undry_has runs at undry has) first second within other
+
+-- what stands of the first of them, once it was passed on
+pub record Passed (back : Bool) (runs : List PageRun) (at : ℕ) (other : Option ℕ) : Type 0 where
   pub within : at < length runs
   pub other_within : IfSome other (λ other. other < length runs)
-  pub second : IsFirst back (slice_set (map left_in runs) at []) other
   pub undry : UndryBut at runs
+  pub second : IsFirst back (slice_set (map left_in runs) at []) other
 
-pub leading : (back : Bool) (runs : List PageRun) (at : ℕ) (other : Option ℕ) → position is_dry runs ≡ None → at < length runs → IfSome other (λ other. other < length runs) → IsFirst back (slice_set (map left_in runs) at []) other → Leading back runs at other
-leading back runs at other dry within other_within second = record { within = within; other_within = other_within; second = second; undry = undry_but at runs (all_undry runs dry) }
-
-pub leading_on : (back : Bool) (runs : List PageRun) (at : ℕ) (other : Option ℕ) (new : PageRun) → Leading back runs at other → Leading back (slice_set runs at new) at other
-leading_on back runs at other new l =
+pub passed_on : (back : Bool) (runs : List PageRun) (at : ℕ) (other : Option ℕ) (new : PageRun) → Leading back runs at other → Passed back (slice_set runs at new) at other
+passed_on back runs at other new l =
     let long = sym (set_length runs at new) in
     record {
       within = subst (λ (n : ℕ). at < n) long l.within;
       other_within = subst (λ (n : ℕ). IfSome other (λ other. other < n)) long l.other_within;
+      undry = undry_set at runs new (undry_but at runs l.undry);
       second = subst (λ (rs : List (List Entry)). IsFirst back rs other) (sym (ap (λ (rs : List (List Entry)). slice_set rs at []) (set_run left_in runs at new) ∙ set_again (map left_in runs) at (left_in new) [])) l.second;
-      undry = undry_set at runs new l.undry;
     }
 
-pub leading_undry : (back : Bool) (runs : List PageRun) (at : ℕ) (other : Option ℕ) → Leading back runs at other → IsFirst back (map left_in runs) (Some at) → AllByRecursion (λ run. is_dry run ≡ false) runs
-leading_undry back runs at other l first = undry_all at runs first.0 first.1 l.undry first.2.here
+-- The two runs that a page goes on with, if any, and fewer versions are left than at first, or as many before one was looked at.
+abbrev pub IsNext : Bool → ℕ → List PageRun → PageMaker → List PageRun → Option (ℕ × Option ℕ) → Type 0
+IsNext back max first page runs None = length (flat (map left_in runs)) < length (flat (map left_in first))
+IsNext back max first page runs (Some two) = Leading back runs two.0 two.1 × (length (made page) < max) × (length (flat (map left_in runs)) ≤ length (flat (map left_in first)))
 
--- as many versions are left as there were at first, or fewer
-pub record Fewer (runs first : List PageRun) : Type 0 where
-  pub most : length (flat (map left_in runs)) ≤ length (flat (map left_in first))
+pub next_of : (back : Bool) (max : ℕ) (first : List PageRun) (page : PageMaker) (runs : List PageRun) (next : Option (ℕ × Option ℕ)) → length (flat (map left_in runs)) < length (flat (map left_in first)) → IfSome next (λ _. length (made page) < max) → IfSome next (λ two. Leading back runs two.0 two.1)
+    → IsNext back max first page runs next
+next_of back max first page runs None fewer room leads = fewer
+next_of back max first page runs (Some two) fewer room leads = (leads, room, omega (arith, fewer))

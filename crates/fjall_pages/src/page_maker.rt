@@ -1,15 +1,16 @@
 //! A page in the making, from the start or from behind.
 
-ghost use Rattle.std.specs.Prelude.{◌≡◌, ◌≤◌, ◌+◌, ◌∷◌, [], List, None, Some, length, map, position, take, IfOk, IfSome, OnOk};
+ghost use Rattle.std.specs.Prelude.{◌≡◌, ◌≤◌, ◌<◌, ◌+◌, ◌∷◌, [], List, None, Some, length, map, position, slice_set, take, IfOk, IfSome, OnOk};
 ghost use Rattle.fjall_base.specs.Pairs.{Bytes, KeyRange};
 ghost use Rattle.fjall_table.specs.Blocks.{Entry, seen};
-ghost use Rattle.fjall_sorted.specs.Sorted.{in_turn};
+ghost use Rattle.fjall_sorted.specs.Sorted.{IsFirst, in_turn};
 ghost use Rattle.fjall_pages.specs.Runs.{ahead_of, all_of, is_dry, left_in};
 ghost use Rattle.fjall_pages.specs.Pages.{IsMade, goes_back, made, made_with, page_of};
+ghost use Rattle.fjall_pages.specs.Leads.{Leading, UndryBut};
 
 use crate::page_run::{PageRun, first_dry};
 use fjall_base::KvPair;
-use fjall_runs::{BackPage, FrontPage, Run, first_two_of, is_still_first};
+use fjall_runs::{BackPage, FrontPage, Run, first_two_of, next_two_of};
 use fjall_table::TableEntry;
 use std::alloc::{AllocError, Global};
 
@@ -44,6 +45,7 @@ impl PageMaker {
     }
 
     /// Looks at the next version.
+    #[inline(always)]
     fn look(&mut self, version: &TableEntry<'_>) -> Result<(), AllocError>
         ensures back { goes_back self.new ≡ goes_back self.old }
         ensures all { OnOk result ((versions : List Entry) → made_with self.new versions ≡ made_with self.old (seen version.now ∷ versions)) }
@@ -56,6 +58,7 @@ impl PageMaker {
     }
 
     /// Looks at the first version of a run, and passes it over.
+    #[inline(always)]
     fn look_at(&mut self, run: &mut PageRun<'_>) -> Result<(), AllocError>
         ensures ahead { ahead_of run.new ≡ ahead_of run.old }
         ensures back { goes_back self.new ≡ goes_back self.old }
@@ -69,6 +72,27 @@ impl PageMaker {
         self.look(&version)?;
         run.skip();
         Ok(())
+    }
+
+    // Where a page goes on that isn't full, once versions of the first of two runs were passed over. It is None also where
+    // these two alone don't tell.
+    fn next_two(
+        &self,
+        runs: &[PageRun<'_>],
+        at: usize,
+        other: Option<usize>,
+        back: bool,
+        max: usize,
+    ) -> Option<(usize, Option<usize>)>
+        requires within { at < length runs.now }
+        requires other { IfSome other (λ other. other < length runs.now) }
+        ensures room { IfSome result (λ _. length (made self.now) < max) }
+        ensures next { UndryBut at runs.now → IsFirst back (slice_set (map left_in runs.now) at []) other → IfSome result (λ two. Leading back runs.now two.0 two.1) }
+    {
+        if self.len() >= max {
+            return None;
+        }
+        next_two_of(runs, at, other, back)
     }
 
     /// Looks at the versions of the runs as they come, until the page is full, a run has to be filled, or no version is
@@ -93,12 +117,13 @@ impl PageMaker {
             if let Some(at) = first_dry(runs) {
                 return Ok(Some(at));
             }
-            let Some((at, other)) = first_two_of(runs, back) else {
+            let Some(two) = first_two_of(runs, back) else {
                 return Ok(None);
             };
-            self.look_at(&mut runs[at])?;
-            'ahead: while self.len() < max && is_still_first(runs, at, other, back) {
+            let mut next = Some(two);
+            'ahead: while let Some((at, other)) = next {
                 self.look_at(&mut runs[at])?;
+                next = self.next_two(runs, at, other, back, max);
             }
         }
         Ok(None)

@@ -228,6 +228,62 @@ ahead_first back runs at other run next u w get head get_next head_next before s
     let each = subst (λ (v : Entry). All (IsUpToFirst back v) (slice_set runs at [])) same second.2.first in
     (u, h.0, record { here = here; first = All-from_recursion (IsUpToFirst back u) runs (up_to_others back u w h.0 runs at before here (recursion_from_All (IsUpToFirst back w) (slice_set runs at []) each)) })
 
+-- ---- a run that another one overtakes
+
+-- the run at a place, where the first of the others stands
+other_there : (back : Bool) (runs : List (List Entry)) (at other : ℕ) (next : List Entry) (w : Entry) → slice_get runs other ≡ Some next → Some w ≡ slice_get next 0 → (second : IsFirst back (slice_set runs at []) (Some other)) → second.0 ≡ w
+other_there back runs at other next w get head second =
+    let k = headed next w head in
+    elim (other_stands runs at other next (second.0 ∷ second.1) [] get second.2.here) [
+      | inl e ↦ cc (e, k.1)
+      | inr e ↦ absurd (cc e)
+    ]
+
+up_to_with : (back : Bool) (w v : Entry) (rest : List Entry) (runs : List (List Entry)) (at : ℕ) → IsUpTo back w v → slice_get runs at ≡ Some (v ∷ rest) → AllByRecursion (IsUpToFirst back w) (slice_set runs at []) → AllByRecursion (IsUpToFirst back w) runs
+up_to_with back w v rest [] at up here each = tt
+up_to_with back w v rest (run ∷ runs) zero up here each =
+    let is : run ≡ v ∷ rest = cc here in
+    (subst (IsUpToFirst back w) (sym is) up, each.1)
+up_to_with back w v rest (run ∷ runs) (suc at) up here each = (each.0, up_to_with back w v rest runs at up here each.1)
+
+-- the first of the others is the first of all where the run's own version doesn't come before it
+pub overtaken : (back : Bool) (runs : List (List Entry)) (at other : ℕ) (run next : List Entry) (v w : Entry) → slice_get runs at ≡ Some run → Some v ≡ slice_get run 0 → slice_get runs other ≡ Some next → Some w ≡ slice_get next 0 → (ComesBefore back v w → ⊥)
+    → IsFirst back (slice_set runs at []) (Some other) → IsFirst back runs (Some other)
+overtaken back runs at other run next v w get head get_next head_next behind second =
+    let h = headed run v head in
+    let k = headed next w head_next in
+    let each = subst (λ (u : Entry). All (IsUpToFirst back u) (slice_set runs at [])) (other_there back runs at other next w get_next head_next second) second.2.first in
+    (w, k.0, record {
+      here = get_next ∙ ap Some k.1;
+      first = All-from_recursion (IsUpToFirst back w) runs (up_to_with back w v h.0 runs at (not_before back v w behind) (get ∙ ap Some h.1) (recursion_from_All (IsUpToFirst back w) (slice_set runs at []) each));
+    })
+
+-- of two runs, the other one is then the first of the others
+two_turned : (back : Bool) (runs : List (List Entry)) (at other : ℕ) (v w : Entry) (rest behind : List Entry) → length runs ≡ 2 → slice_get runs at ≡ Some (v ∷ rest) → slice_get (slice_set runs at []) other ≡ Some (w ∷ behind) → IsFirst back (slice_set runs other []) (Some at)
+two_turned back [] at other v w rest behind two here there = absurd (cc here)
+two_turned back (x ∷ []) at other v w rest behind two here there = absurd (omega (arith, two))
+two_turned back (x ∷ y ∷ z ∷ runs) at other v w rest behind two here there = absurd (omega (arith, two))
+two_turned back (x ∷ y ∷ []) zero zero v w rest behind two here there = absurd (cc there)
+two_turned back (x ∷ y ∷ []) zero (suc zero) v w rest behind two here there =
+    let is : x ≡ v ∷ rest = cc here in
+    (v, rest, record { here = here; first = All-from_recursion (IsUpToFirst back v) (x ∷ [] ∷ []) (subst (IsUpToFirst back v) (sym is) (up_to_itself back v), (tt, tt)) })
+two_turned back (x ∷ y ∷ []) zero (suc (suc other)) v w rest behind two here there = absurd (cc there)
+two_turned back (x ∷ y ∷ []) (suc zero) zero v w rest behind two here there =
+    let is : y ≡ v ∷ rest = cc here in
+    (v, rest, record { here = here; first = All-from_recursion (IsUpToFirst back v) ([] ∷ y ∷ []) (tt, (subst (IsUpToFirst back v) (sym is) (up_to_itself back v), tt)) })
+two_turned back (x ∷ y ∷ []) (suc zero) (suc zero) v w rest behind two here there = absurd (cc there)
+two_turned back (x ∷ y ∷ []) (suc zero) (suc (suc other)) v w rest behind two here there = absurd (cc there)
+two_turned back (x ∷ y ∷ []) (suc (suc at)) other v w rest behind two here there = absurd (cc here)
+
+pub turned : (back : Bool) (runs : List (List Entry)) (at other : ℕ) (run : List Entry) (v : Entry) → length runs ≡ 2 → slice_get runs at ≡ Some run → Some v ≡ slice_get run 0 → IsFirst back (slice_set runs at []) (Some other) → IsFirst back (slice_set runs other []) (Some at)
+turned back runs at other run v two get head second =
+    let h = headed run v head in
+    two_turned back runs at other v second.0 h.0 second.1 two (get ∙ ap Some h.1) second.2.here
+
+-- a run that has a version
+pub has_one : (runs : List (List Entry)) (at : ℕ) (run : List Entry) (v : Entry) → slice_get runs at ≡ Some run → Some v ≡ slice_get run 0 → (v : Entry) × (rest : List Entry) × (slice_get runs at ≡ Some (v ∷ rest))
+has_one runs at run v get head = let h = headed run v head in (v, h.0, get ∙ ap Some h.1)
+
 -- ---- all runs
 
 pub is_first : (back : Bool) (runs : List (List Entry)) (best : Option (ℕ × TableEntry)) → HasFirst back runs best → IsFirst back runs (option_map (λ first. first.0) best)
@@ -261,7 +317,6 @@ got_at f [] i x lt e = absurd (omega arith)
 got_at f (y ∷ xs) zero x lt e = ap (λ z. Some (f z)) (sym e)
 got_at f (y ∷ xs) (suc i) x lt e = got_at f xs i x (omega arith) e
 
-pub got_within : {A B : Type 0} (f : A → B) (xs : List A) (i : ℕ) (y : B) → slice_get (map f xs) i ≡ Some y → i < length xs
-got_within f [] i y e = absurd (cc e)
-got_within f (x ∷ xs) zero y e = omega arith
-got_within f (x ∷ xs) (suc i) y e = let lt = got_within f xs i y e in omega (arith, lt)
+pub length_of : {A B : Type 0} (f : A → B) (xs : List A) → length (map f xs) ≡ length xs
+length_of f [] = refl
+length_of f (x ∷ xs) = ap suc (length_of f xs)

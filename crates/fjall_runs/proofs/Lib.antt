@@ -1,3 +1,4 @@
 pub mod Heads
 pub mod Texts
 pub mod Paging
+pub mod Keyeds

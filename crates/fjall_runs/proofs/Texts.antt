@@ -22,7 +22,7 @@ pub behind : (len : ℕ × ℕ) (lens : List (ℕ × ℕ)) (text : Bytes) → Ar
 behind len lens text all = let a = length-drop len.1 (drop len.0 text) in let b = length-drop len.0 text in let s = sum_by-cons (λ (len : ℕ × ℕ). len.0 + len.1) len lens in omega (arith, all, a, b, s)
 
 -- pairs behind others
-more_pairs : (lens : List (ℕ × ℕ)) (len : ℕ × ℕ) (text more : Bytes) → AreAllOf lens text → pairs_in (lens ++ len ∷ []) (text ++ more) ≡ pairs_in lens text ++ pairs_in (len ∷ []) more
+pub more_pairs : (lens : List (ℕ × ℕ)) (len : ℕ × ℕ) (text more : Bytes) → AreAllOf lens text → pairs_in (lens ++ len ∷ []) (text ++ more) ≡ pairs_in lens text ++ pairs_in (len ∷ []) more
 more_pairs [] len text more all = ap (λ (t : Bytes). pairs_in (len ∷ []) (t ++ more)) (nothing text all)
 more_pairs (l ∷ lens) len text more all =
     let within = fits l lens text all in

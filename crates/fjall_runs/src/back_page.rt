@@ -1,12 +1,13 @@
 //! Pages from behind.
 
-ghost use Rattle.std.specs.Prelude.{◌≡◌, ◌≤◌, ◌+◌, ◌++◌, ◌∷◌, [], List, None, false, length, reverse, take, IfOk, OnOk, IsTrue, ◌↔◌};
+ghost use Rattle.std.specs.Prelude.{◌≡◌, ◌≤◌, ◌+◌, ◌∷◌, [], List, None, false, length, reverse, take, IfOk, OnOk, IsTrue, ◌↔◌};
 ghost use Rattle.fjall_table.specs.Blocks.{Entry, seen};
-ghost use Rattle.fjall_sorted.specs.Pages.{is_another, pair_found, pairs_back};
+ghost use Rattle.fjall_sorted.specs.Pages.{is_another, pairs_back};
+ghost use Rattle.fjall_runs.specs.Keyed.{found_in};
 
-use crate::front_page::put_pair;
-use crate::last_found::LastFound;
-use crate::pair_text::PairText;
+use crate::front_page::value_shown;
+use crate::keyed_text::KeyedText;
+use crate::keys::is_same;
 use fjall_base::KvPair;
 use fjall_table::TableEntry;
 use std::alloc::{AllocError, Global};
@@ -16,17 +17,17 @@ use std::alloc::{AllocError, Global};
 pub struct BackPage {
     instant: u64,
     bound: u64,
-    pairs: PairText,
-    found: LastFound,
+    text: KeyedText,
 }
 
-// Adds the pair of the version that was found, where it has one.
-fn put_found(pairs: &mut PairText, found: &LastFound, bound: u64) -> Result<(), AllocError>
-    ensures { OnOk result (pairs.new ≡ pairs.old ++ pair_found bound found.now) }
+// Whether there is a last key, and the version is of another one.
+#[inline(always)]
+fn is_of_another(text: &KeyedText, version: &TableEntry<'_>, bound: u64) -> bool
+    ensures { result ≡ is_another (found_in bound text.now.last) (seen version.now) }
 {
-    match found.version() {
-        Some(version) => put_pair(pairs, &version, bound),
-        None => Ok(()),
+    match text.last_key() {
+        Some(key) => !is_same(version.key, key),
+        None => false,
     }
 }
 
@@ -42,8 +43,7 @@ impl BackPage {
         BackPage {
             instant,
             bound,
-            pairs: PairText::new(alloc),
-            found: LastFound::new(alloc),
+            text: KeyedText::new(alloc),
         }
     }
 
@@ -51,28 +51,26 @@ impl BackPage {
     pub fn len(&self) -> usize
         ensures { result ≡ length (back_pairs self.now) }
     {
-        self.pairs.len()
+        self.text.count_before()
     }
 
     /// Whether it has no pair yet.
     pub fn is_empty(&self) -> bool
         ensures { IsTrue result ↔ (back_pairs self.now ≡ []) }
     {
-        self.pairs.is_empty()
+        self.len() == 0
     }
 
     // Settles the key whose newest version was found last, where a version is of another key.
     fn settle_before(&mut self, version: &TableEntry<'_>) -> Result<(), AllocError>
         ensures all { OnOk result ((versions : List Entry) → back_with self.new (seen version.now ∷ versions) ≡ back_with self.old (seen version.now ∷ versions)) }
-        ensures same { OnOk result (is_another self.new.found (seen version.now) ≡ false) }
+        ensures same { OnOk result (is_another (found_in self.new.bound self.new.text.last) (seen version.now) ≡ false) }
         ensures few { OnOk result (length (back_pairs self.new) ≤ length (back_pairs self.old) + 1) }
     {
-        if !self.found.is_another(version) {
+        if !is_of_another(&self.text, version, self.bound) {
             return Ok(());
         }
-        put_found(&mut self.pairs, &self.found, self.bound)?;
-        self.found.forget();
-        Ok(())
+        self.text.settle()
     }
 
     /// Looks at the next version from behind, and adds the pair of the key that it settles. It is refused for want of memory
@@ -85,7 +83,9 @@ impl BackPage {
         if version.number >= self.instant {
             return Ok(());
         }
-        self.found.set(version)
+        self.text
+            .set_last(version.key, value_shown(version, self.bound))?;
+        Ok(())
     }
 
     /// The pairs where no version is left to be looked at, in the order of their keys, and at most `max` of them. It is
@@ -94,16 +94,11 @@ impl BackPage {
         requires { length (back_pairs self) ≤ max }
         ensures { IfOk result (λ pairs. pairs.items ≡ reverse (take max (back_with self []))) }
     {
-        let BackPage {
-            bound,
-            mut pairs,
-            found,
-            ..
-        } = self;
-        if pairs.len() >= max {
-            return pairs.finish(true);
+        let BackPage { mut text, .. } = self;
+        if text.count_before() >= max {
+            return text.finish(true);
         }
-        put_found(&mut pairs, &found, bound)?;
-        pairs.finish(true)
+        text.settle()?;
+        text.finish(true)
     }
 }

@@ -1,11 +1,13 @@
 //! Pages from the start.
 
 ghost use Rattle.std.specs.Prelude.{◌≡◌, ◌≤◌, ◌+◌, ◌++◌, ◌∷◌, [], List, None, length, IfOk, OnOk, IsTrue, ◌↔◌};
+ghost use Rattle.std.specs.Option.{option_map};
 ghost use Rattle.fjall_table.specs.Blocks.{Entry, seen};
-ghost use Rattle.fjall_sorted.specs.Pages.{pair_of, pairs_of};
+ghost use Rattle.fjall_sorted.specs.Pages.{is_settled, pair_in, pair_of, pairs_of};
+ghost use Rattle.fjall_runs.specs.Keyed.{key_of};
 
-use crate::last_key::LastKey;
-use crate::pair_text::PairText;
+use crate::keyed_text::KeyedText;
+use crate::keys::is_same;
 use fjall_base::KvPair;
 use fjall_table::TableEntry;
 use std::alloc::{AllocError, Global};
@@ -15,24 +17,28 @@ use std::alloc::{AllocError, Global};
 pub struct FrontPage {
     instant: u64,
     bound: u64,
-    pairs: PairText,
-    settled: LastKey,
+    text: KeyedText,
 }
 
-// Adds the pair of a key's newest version, where it has one.
-pub(crate) fn put_pair(
-    pairs: &mut PairText,
-    version: &TableEntry<'_>,
-    bound: u64,
-) -> Result<(), AllocError>
-    ensures { OnOk result (pairs.new ≡ pairs.old ++ pair_of bound (seen version.now)) }
+// The value of a key's newest version, where it has a pair.
+#[inline(always)]
+pub(crate) fn value_shown<'a>(version: &TableEntry<'a>, bound: u64) -> Option<&'a [u8]>
+    ensures { pair_in version.now.key.now (option_map (λ value. value.now) result) ≡ pair_of bound (seen version.now) }
 {
     if version.number < bound {
-        return Ok(());
+        return None;
     }
-    match version.value {
-        Some(value) => pairs.push(version.key, value),
-        None => Ok(()),
+    version.value
+}
+
+// Whether the version is of the last key.
+#[inline(always)]
+fn is_of(text: &KeyedText, version: &TableEntry<'_>) -> bool
+    ensures { result ≡ is_settled (key_of text.now.last) (seen version.now) }
+{
+    match text.last_key() {
+        Some(key) => is_same(version.key, key),
+        None => false,
     }
 }
 
@@ -48,8 +54,7 @@ impl FrontPage {
         FrontPage {
             instant,
             bound,
-            pairs: PairText::new(alloc),
-            settled: LastKey::new(alloc),
+            text: KeyedText::new(alloc),
         }
     }
 
@@ -57,14 +62,14 @@ impl FrontPage {
     pub fn len(&self) -> usize
         ensures { result ≡ length (front_pairs self.now) }
     {
-        self.pairs.len()
+        self.text.len()
     }
 
     /// Whether it has no pair yet.
     pub fn is_empty(&self) -> bool
         ensures { IsTrue result ↔ (front_pairs self.now ≡ []) }
     {
-        self.pairs.is_empty()
+        self.len() == 0
     }
 
     /// Looks at the next version, and adds the pair that it makes. It is refused for want of memory alone; the page is of
@@ -73,18 +78,19 @@ impl FrontPage {
         ensures all { OnOk result ((versions : List Entry) → front_with self.new versions ≡ front_with self.old (seen version.now ∷ versions)) }
         ensures few { OnOk result (length (front_pairs self.new) ≤ length (front_pairs self.old) + 1) }
     {
-        if self.settled.is_of(version) || version.number >= self.instant {
+        if is_of(&self.text, version) || version.number >= self.instant {
             return Ok(());
         }
-        self.settled.set(version.key)?;
-        put_pair(&mut self.pairs, version, self.bound)
+        self.text.settle()?;
+        self.text.set_last(version.key, value_shown(version, self.bound))
     }
 
     /// The pairs in order. It is refused for want of memory alone.
     pub fn finish(self) -> Result<Vec<KvPair>, AllocError>
         ensures { IfOk result (λ pairs. pairs.items ≡ front_pairs self) }
     {
-        let FrontPage { pairs, .. } = self;
-        pairs.finish(false)
+        let FrontPage { mut text, .. } = self;
+        text.settle()?;
+        text.finish(false)
     }
 }

@@ -3,8 +3,8 @@
 
 mod back_page;
 mod front_page;
-mod last_found;
-mod last_key;
+mod keyed_text;
+mod keys;
 mod memtable_run;
 mod pages;
 mod pair_text;
@@ -15,4 +15,4 @@ pub use front_page::FrontPage;
 pub use memtable_run::MemtableRun;
 pub use pages::page;
 pub use pair_text::PairText;
-pub use run::{Run, first_of, first_two_of, is_still_first};
+pub use run::{Run, first_of, first_two_of, next_two_of};

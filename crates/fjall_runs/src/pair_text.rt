@@ -67,6 +67,14 @@ impl PairText {
         }
     }
 
+    /// The pairs of so many bytes each, which are the whole text.
+    pub(crate) fn from_parts(alloc: Global, text: Vec<u8>, lens: Vec<(usize, usize)>) -> PairText
+        requires { AreAllOf lens.items text.items }
+        ensures { result ≡ pairs_in lens.items text.items }
+    {
+        PairText { alloc, text, lens }
+    }
+
     /// How many pairs there are.
     pub fn len(&self) -> usize
         ensures { result ≡ length self.now }

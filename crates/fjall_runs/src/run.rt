@@ -21,6 +21,7 @@ pub trait Run {
         ensures { left self.new ≡ drop 1 (left self.old) };
 }
 
+#[inline(always)]
 fn comes_before(version: &TableEntry<'_>, other: &TableEntry<'_>, back: bool) -> bool
     ensures { IsTrue result ↔ ComesBefore back (seen version.now) (seen other.now) }
 {
@@ -109,20 +110,33 @@ pub fn first_two_of<R: Run>(runs: &[R], back: bool) -> Option<(usize, Option<usi
     }
 }
 
-/// Whether a run begins with what comes first of all, where that other one comes first of all others, if one does.
-pub fn is_still_first<R: Run>(runs: &[R], at: usize, other: Option<usize>, back: bool) -> bool
+/// The same two once more, where versions of the first of them were passed over. It looks at these two runs alone, and is
+/// None also where that isn't enough.
+#[inline(always)]
+pub fn next_two_of<R: Run>(
+    runs: &[R],
+    at: usize,
+    other: Option<usize>,
+    back: bool,
+) -> Option<(usize, Option<usize>)>
     requires within { at < length runs.now }
     requires other { IfSome other (λ other. other < length runs.now) }
-    ensures { IsFirst back (slice_set (map R.left runs.now) at []) other → IsTrue result → IsFirst back (map R.left runs.now) (Some at) }
+    ensures first { IsFirst back (slice_set (map R.left runs.now) at []) other → IfSome result (λ two. IsFirst back (map R.left runs.now) (Some two.0)) }
+    ensures second { IsFirst back (slice_set (map R.left runs.now) at []) other → IfSome result (λ two. IsFirst back (slice_set (map R.left runs.now) two.0 []) two.1) }
+    ensures within { IfSome result (λ two. two.0 < length runs.now) }
+    ensures other { IfSome result (λ two. IfSome two.1 (λ at. at < length runs.now)) }
+    ensures left { IfSome result (λ _. (v : Entry) × (rest : List Entry) × (slice_get (map R.left runs.now) at ≡ Some (v ∷ rest))) }
 {
-    let Some(version) = runs[at].first() else {
-        return false;
+    let version = runs[at].first()?;
+    let Some(next) = other else {
+        return Some((at, None));
     };
-    let Some(other) = other else {
-        return true;
-    };
-    match runs[other].first() {
-        Some(next) => comes_before(&version, &next, back),
-        None => false,
+    let head = runs[next].first()?;
+    if comes_before(&version, &head, back) {
+        return Some((at, Some(next)));
     }
+    if runs.len() == 2 {
+        return Some((next, Some(at)));
+    }
+    None
 }

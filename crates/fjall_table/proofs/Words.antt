@@ -1,9 +1,9 @@
 -- Keys that are compared eight bytes at a time.
-use Rattle.std.proofs.Common.{◌≡◌, ℕ, zero, suc, ◌+◌, ◌-◌, ◌*◌, ◌^◌, ◌<◌, ◌≤◌, List, [], ◌∷◌, length, get_or, slice_index, refl, sym, ap, subst, ◌∙◌, arith, inl, inr}
+use Rattle.std.proofs.Common.{◌≡◌, ℕ, zero, suc, ◌+◌, ◌-◌, ◌*◌, ◌^◌, ◌<◌, ◌≤◌, true, false, List, [], ◌∷◌, length, get_or, slice_index, take, drop, refl, sym, ap, subst, ◌∙◌, arith, inl, inr}
 use Rattle.std.specs.Cmp.{nat_cmp_is}
 use Rattle.std.specs.Cmp.Lexicographic.{slice_cmp}
-use Rattle.std.specs.Int.{w64, from_be_bytes, byte_worth, sum_through}
-use Rattle.std.specs.Ordering.{nat_cmp, ordering_then}
+use Rattle.std.specs.Int.{w64, w128, from_be_bytes, byte_worth, sum_through}
+use Rattle.std.specs.Ordering.{nat_cmp, is_ne, ordering_then}
 use Rattle.std.specs.declared.cmp.Ordering.{Ordering}
 use Rattle.std.specs.declared.cmp.Ordering.TheVariants.{Less, Equal, Greater}
 use Rattle.std.proofs.Math.Nat.{mul-le-mul_right}
@@ -116,3 +116,52 @@ pub words_order : (xs ys : List ℕ) → length xs ≡ 8 → length ys ≡ 8 →
 words_order xs ys long other_long bx by =
     (λ i. nat_cmp (value_is 7 xs long i) (value_is 7 ys other_long i))
     ∙ value_order xs ys (long ∙ sym other_long) bx by
+
+-- and sixteen
+pub fronts_order : (xs ys : List ℕ) → length xs ≡ 16 → length ys ≡ 16 → Bytes xs → Bytes ys → nat_cmp (from_be_bytes w128 xs) (from_be_bytes w128 ys) ≡ slice_cmp nat_cmp xs ys
+fronts_order xs ys long other_long bx by =
+    (λ i. nat_cmp (value_is 15 xs long i) (value_is 15 ys other_long i))
+    ∙ value_order xs ys (long ∙ sym other_long) bx by
+
+-- ---- keys in two parts
+
+then_assoc : (o p q : Ordering) → ordering_then (ordering_then o p) q ≡ ordering_then o (ordering_then p q)
+then_assoc Less p q = refl
+then_assoc Equal p q = refl
+then_assoc Greater p q = refl
+
+parted_order : (n : ℕ) (xs ys : List ℕ) → n ≤ length xs → n ≤ length ys → ordering_then (slice_cmp nat_cmp (take n xs) (take n ys)) (slice_cmp nat_cmp (drop n xs) (drop n ys)) ≡ slice_cmp nat_cmp xs ys
+parted_order zero xs ys le other_le = refl
+parted_order (suc n) [] ys le other_le = absurd (omega arith)
+parted_order (suc n) (x ∷ xs) [] le other_le = absurd (omega arith)
+parted_order (suc n) (x ∷ xs) (y ∷ ys) le other_le =
+    then_assoc (nat_cmp x y) (slice_cmp nat_cmp (take n xs) (take n ys)) (slice_cmp nat_cmp (drop n xs) (drop n ys))
+    ∙ ap (ordering_then (nat_cmp x y)) (parted_order n xs ys (omega arith) (omega arith))
+
+-- The front of a key, and what is behind it.
+pub record IsParted (n : ℕ) (key front rest : List ℕ) : Type 0 where
+  pub front_is : front ≡ take n key
+  pub rest_is : rest ≡ drop n key
+  pub long : n ≤ length key
+
+by_parts : (n : ℕ) (xs front rest ys other_front other_rest : List ℕ) → IsParted n xs front rest → IsParted n ys other_front other_rest → ordering_then (slice_cmp nat_cmp front other_front) (slice_cmp nat_cmp rest other_rest) ≡ slice_cmp nat_cmp xs ys
+by_parts n xs front rest ys other_front other_rest p q =
+    (λ i. ordering_then (slice_cmp nat_cmp (p.front_is i) (q.front_is i)) (slice_cmp nat_cmp (p.rest_is i) (q.rest_is i))) ∙ parted_order n xs ys p.long q.long
+
+-- keys compare by their fronts where these are unlike
+pub by_fronts : (n : ℕ) (xs front rest ys other_front other_rest : List ℕ) (o : Ordering) → IsParted n xs front rest → IsParted n ys other_front other_rest → o ≡ slice_cmp nat_cmp front other_front → is_ne o ≡ true → o ≡ slice_cmp nat_cmp xs ys
+by_fronts n xs front rest ys other_front other_rest o p q is unlike = sym (decided o unlike) ∙ ap (λ (r : Ordering). ordering_then r (slice_cmp nat_cmp rest other_rest)) is ∙ by_parts n xs front rest ys other_front other_rest p q
+  where
+    decided : (o : Ordering) → is_ne o ≡ true → ordering_then o (slice_cmp nat_cmp rest other_rest) ≡ o
+    decided Less e = refl
+    decided Equal e = absurd (cc e)
+    decided Greater e = refl
+
+-- and by what is behind these where they are alike
+pub by_rests : (n : ℕ) (xs front rest ys other_front other_rest : List ℕ) (o r : Ordering) → IsParted n xs front rest → IsParted n ys other_front other_rest → o ≡ slice_cmp nat_cmp front other_front → is_ne o ≡ false → r ≡ slice_cmp nat_cmp rest other_rest → r ≡ slice_cmp nat_cmp xs ys
+by_rests n xs front rest ys other_front other_rest o r p q is alike told = told ∙ left_open o alike ∙ ap (λ (s : Ordering). ordering_then s (slice_cmp nat_cmp rest other_rest)) is ∙ by_parts n xs front rest ys other_front other_rest p q
+  where
+    left_open : (o : Ordering) → is_ne o ≡ false → slice_cmp nat_cmp rest other_rest ≡ ordering_then o (slice_cmp nat_cmp rest other_rest)
+    left_open Less e = absurd (cc e)
+    left_open Equal e = refl
+    left_open Greater e = absurd (cc e)

@@ -13,8 +13,16 @@ fn compare_words(word: &[u8; 8], other: &[u8; 8]) -> Ordering
     u64::from_be_bytes(*word).cmp(&u64::from_be_bytes(*other))
 }
 
-/// How keys compare: eight bytes at a time, as long as both have so many.
-pub(crate) fn compare(key: &[u8], other: &[u8]) -> Ordering
+// Sixteen bytes compare so too.
+fn compare_fronts(front: &[u8; 16], other: &[u8; 16]) -> Ordering
+    ensures { result ≡ byte_order front.now other.now }
+{
+    u128::from_be_bytes(*front).cmp(&u128::from_be_bytes(*other))
+}
+
+// How keys compare: eight bytes at a time, as long as both have so many.
+#[inline(never)]
+fn compare_rests(key: &[u8], other: &[u8]) -> Ordering
     ensures { result ≡ byte_order key.now other.now }
 {
     let mut rest = key;
@@ -31,6 +39,24 @@ pub(crate) fn compare(key: &[u8], other: &[u8]) -> Ordering
         other_rest = other_behind;
     }
     rest.cmp(other_rest)
+}
+
+/// How keys compare: most by their first sixteen bytes alone.
+#[inline(always)]
+pub(crate) fn compare(key: &[u8], other: &[u8]) -> Ordering
+    ensures { result ≡ byte_order key.now other.now }
+{
+    let Some((front, rest)) = key.split_first_chunk::<16>() else {
+        return compare_rests(key, other);
+    };
+    let Some((other_front, other_rest)) = other.split_first_chunk::<16>() else {
+        return compare_rests(key, other);
+    };
+    let order = compare_fronts(front, other_front);
+    if order.is_ne() {
+        return order;
+    }
+    compare_rests(rest, other_rest)
 }
 
 pub(crate) fn is_below(key: &[u8], other: &[u8]) -> bool

@@ -78,6 +78,7 @@ impl<'a> TableEntry<'a> {
     }
 
     /// Whether it stands before another one: by key ascending, then by number descending.
+    #[inline(always)]
     pub fn is_before(&self, other: &TableEntry<'_>) -> bool
         ensures { IsTrue result ↔ IsBefore (seen self.now) (seen other.now) }
     {

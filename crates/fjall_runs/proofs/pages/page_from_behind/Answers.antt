@@ -2,6 +2,7 @@ use Rattle.std.proofs.Common.{◌≡◌, List, true, None, IfOk, length, map, ta
 use Rattle.fjall_base.specs.Pairs.{Bytes}
 use Rattle.fjall_sorted.specs.Pages.{pair_found, pairs_back}
 use Rattle.fjall_sorted.specs.Sorted.{flat, sorted}
+use Rattle.fjall_runs.specs.Keyed.{found_in}
 use Rattle.fjall_runs.specs.Pages.{back_pairs, back_with}
 use Rattle.fjall_runs.proofs.Paging.{made_more, fewer_left, got_run, set_run, made_all, full_page}
 use Rattle.fjall_runs.proofs.pages.page_from_behind.Goals as goal
@@ -27,7 +28,7 @@ returns g c =
     let few = c.loop-runs.invariant.few in
     let ge : max ≤ length (back_pairs page) = omega (arith, len, test) in
     subst (λ (w : List (Bytes × Bytes)). IfOk c.finish-2.result (λ pairs. pairs.items ≡ reverse w))
-    (full_page max (back_pairs page) (pair_found page.bound page.found) ge few ∙ sym (full_page max (back_pairs page) (pairs_back page.instant page.bound page.found (reverse (sorted (flat runs)))) ge few) ∙ ap (take max) c.loop-runs.invariant.told) c.finish-2.ensures
+    (full_page max (back_pairs page) (pair_found page.bound (found_in page.bound page.text.last)) ge few ∙ sym (full_page max (back_pairs page) (pairs_back page.instant page.bound (found_in page.bound page.text.last) (reverse (sorted (flat runs)))) ge few) ∙ ap (take max) c.loop-runs.invariant.told) c.finish-2.ensures
 
 pub loop-runs-smaller : goal.loop-runs-smaller
 loop-runs-smaller g c =

@@ -2,6 +2,7 @@ use Rattle.std.proofs.Common.{◌≡◌, List, false, None, IfOk, length, map, t
 use Rattle.fjall_base.specs.Pairs.{Bytes}
 use Rattle.fjall_sorted.specs.Pages.{pairs_of}
 use Rattle.fjall_sorted.specs.Sorted.{flat, sorted}
+use Rattle.fjall_runs.specs.Keyed.{key_of}
 use Rattle.fjall_runs.specs.Pages.{front_pairs, front_with}
 use Rattle.fjall_runs.proofs.Paging.{made_more, fewer_left, got_run, set_run, made_all, full_page, short_page}
 use Rattle.fjall_runs.proofs.pages.page_from_front.Goals as goal
@@ -26,7 +27,7 @@ returns g c =
     let test = c.loop-runs-test.false in
     let few = c.loop-runs.invariant.few in
     let ge : max ≤ length (front_pairs page) = omega (arith, len, test) in
-    subst (λ (w : List (Bytes × Bytes)). IfOk c.finish-2.result (λ pairs. pairs.items ≡ w)) (sym (full_page max (front_pairs page) (pairs_of page.instant page.bound page.settled (sorted (flat runs))) ge few) ∙ ap (take max) c.loop-runs.invariant.told) c.finish-2.ensures
+    subst (λ (w : List (Bytes × Bytes)). IfOk c.finish-2.result (λ pairs. pairs.items ≡ w)) (sym (full_page max (front_pairs page) (pairs_of page.instant page.bound (key_of page.text.last) (sorted (flat runs))) ge few) ∙ ap (take max) c.loop-runs.invariant.told) c.finish-2.ensures
 
 pub loop-runs-smaller : goal.loop-runs-smaller
 loop-runs-smaller g c =

@@ -1,4 +1,4 @@
-use Rattle.std.proofs.Common.{◌<◌, IfSome, map, take}
+use Rattle.std.proofs.Common.{map, take}
 use Rattle.fjall_runs.specs.Heads.{HasTwo}
 use Rattle.fjall_runs.proofs.run.first_two_of.Given as goal
 

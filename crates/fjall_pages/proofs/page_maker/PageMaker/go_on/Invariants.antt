@@ -1,7 +1,7 @@
 use Rattle.std.proofs.Common.{length, map}
 use Rattle.fjall_sorted.specs.Sorted.{flat}
 use Rattle.fjall_pages.specs.Runs.{left_in}
-use Rattle.fjall_pages.proofs.Paging.{Fewer, Going, Leading}
+use Rattle.fjall_pages.proofs.Paging.{Going, IsNext}
 use Rattle.fjall_pages.proofs.page_maker.PageMaker.go_on.Given as goal
 
 abbrev pub invariant-versions : goal.invariant-versions
@@ -11,7 +11,7 @@ abbrev pub decreases-versions : goal.decreases-versions
 decreases-versions l = length (flat (map left_in l.runs))
 
 abbrev pub invariant-ahead : goal.invariant-ahead
-invariant-ahead l = Going l.back l.max l.fn.self l.self l.fn.runs l.runs × Leading l.back l.runs l.at l.other × Fewer l.runs l.initial.runs
+invariant-ahead l = Going l.back l.max l.fn.self l.self l.fn.runs l.runs × IsNext l.back l.max l.initial.runs l.self l.runs l.next
 
 abbrev pub decreases-ahead : goal.decreases-ahead
 decreases-ahead l = length (flat (map left_in l.runs))

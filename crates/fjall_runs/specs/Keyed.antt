@@ -1,0 +1,45 @@
+-- Pairs that are settled, and the key that was set last.
+use Rattle.std.specs.Prelude.{ℕ, ◌+◌, ◌≤◌, Bool, if◌then◌else◌, List, [], ◌++◌, Option, Some, None, length, take, drop}
+use Rattle.fjall_base.specs.Pairs.{Bytes}
+use Rattle.fjall_table.specs.Blocks.{Entry}
+use Rattle.fjall_sorted.specs.Pages.{pair_in}
+use Rattle.fjall_runs.specs.Texts.{AreAllOf}
+
+-- the pairs before the last key, and that key, with its value if it has one
+pub record Keyed : Type 0 where
+  pub before : List (Bytes × Bytes)
+  pub last : Option (Bytes × Option Bytes)
+
+-- the last key
+abbrev pub key_of : Option (Bytes × Option Bytes) → Option Bytes
+key_of None = None
+key_of (Some last) = Some last.0
+
+-- its pair, if it has one
+abbrev pub pairs_of_last : Option (Bytes × Option Bytes) → List (Bytes × Bytes)
+pairs_of_last None = []
+pairs_of_last (Some last) = pair_in last.0 last.1
+
+-- all pairs, that of the last key among them
+abbrev pub all_pairs : Keyed → List (Bytes × Bytes)
+all_pairs keyed = keyed.before ++ pairs_of_last keyed.last
+
+-- the same pairs, none of which is the last key's
+abbrev pub settled : Keyed → Keyed
+settled keyed = record { before = all_pairs keyed; last = None }
+
+-- a version of the last key that is numbered by the bound, and so makes the key's pair
+abbrev pub found_in : ℕ → Option (Bytes × Option Bytes) → Option Entry
+found_in bound None = None
+found_in bound (Some last) = Some (record { key = last.0; number = bound; value = last.1 })
+
+-- the last key in a text that begins there: with all behind it as its value, or without one, or none
+abbrev pub last_in : Bool → Bool → ℕ → ℕ → Bytes → Option (Bytes × Option Bytes)
+last_in is_key is_pair start key_len text =
+    if is_pair then Some (take key_len (drop start text), Some (drop key_len (drop start text)))
+    else (if is_key then Some (take key_len (drop start text), None) else None)
+
+-- The settled pairs are all of the text up to the last key, which is within the text.
+pub record IsKeyed (lens : List (ℕ × ℕ)) (text : Bytes) (start key_len : ℕ) : Type 0 where
+  pub all : AreAllOf lens (take start text)
+  pub within : start + key_len ≤ length text
