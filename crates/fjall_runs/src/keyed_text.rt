@@ -127,6 +127,7 @@ impl KeyedText {
     }
 
     /// Sets the last key, in place of the one that is there, with its value if it has one.
+    #[inline(always)]
     pub fn set_last(&mut self, key: &[u8], value: Option<&[u8]>) -> Result<(), AllocError>
         ensures before { self.new.before ≡ self.old.before }
         ensures last { OnOk result (self.new.last ≡ Some (key.now, option_map (λ value. value.now) value.entry)) }

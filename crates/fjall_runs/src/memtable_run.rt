@@ -31,6 +31,7 @@ impl<'a> Model for MemtableRun<'a> {
 }
 
 // Takes the next version off.
+#[inline(always)]
 fn take_next<'a>(versions: &mut Versions<'a>, back: bool) -> Option<TableEntry<'a>>
     ensures { in_turn back versions.old ≡ with_head result (in_turn back versions.new) }
 {

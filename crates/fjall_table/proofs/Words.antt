@@ -1,5 +1,5 @@
 -- Keys that are compared eight bytes at a time.
-use Rattle.std.proofs.Common.{◌≡◌, ℕ, zero, suc, ◌+◌, ◌-◌, ◌*◌, ◌^◌, ◌<◌, ◌≤◌, true, false, List, [], ◌∷◌, length, get_or, slice_index, take, drop, refl, sym, ap, subst, ◌∙◌, arith, inl, inr}
+use Rattle.std.proofs.Common.{◌≡◌, ℕ, zero, suc, ◌+◌, ◌-◌, ◌*◌, ◌^◌, ◌<◌, ◌≤◌, true, List, [], ◌∷◌, length, get_or, slice_index, take, drop, refl, sym, ap, subst, ◌∙◌, arith, inl, inr}
 use Rattle.std.specs.Cmp.{nat_cmp_is}
 use Rattle.std.specs.Cmp.Lexicographic.{slice_cmp}
 use Rattle.std.specs.Int.{w64, w128, from_be_bytes, byte_worth, sum_through}
@@ -156,12 +156,3 @@ by_fronts n xs front rest ys other_front other_rest o p q is unlike = sym (decid
     decided Less e = refl
     decided Equal e = absurd (cc e)
     decided Greater e = refl
-
--- and by what is behind these where they are alike
-pub by_rests : (n : ℕ) (xs front rest ys other_front other_rest : List ℕ) (o r : Ordering) → IsParted n xs front rest → IsParted n ys other_front other_rest → o ≡ slice_cmp nat_cmp front other_front → is_ne o ≡ false → r ≡ slice_cmp nat_cmp rest other_rest → r ≡ slice_cmp nat_cmp xs ys
-by_rests n xs front rest ys other_front other_rest o r p q is alike told = told ∙ left_open o alike ∙ ap (λ (s : Ordering). ordering_then s (slice_cmp nat_cmp rest other_rest)) is ∙ by_parts n xs front rest ys other_front other_rest p q
-  where
-    left_open : (o : Ordering) → is_ne o ≡ false → slice_cmp nat_cmp rest other_rest ≡ ordering_then o (slice_cmp nat_cmp rest other_rest)
-    left_open Less e = absurd (cc e)
-    left_open Equal e = refl
-    left_open Greater e = absurd (cc e)

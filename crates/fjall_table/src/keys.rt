@@ -20,9 +20,9 @@ fn compare_fronts(front: &[u8; 16], other: &[u8; 16]) -> Ordering
     u128::from_be_bytes(*front).cmp(&u128::from_be_bytes(*other))
 }
 
-// How keys compare: eight bytes at a time, as long as both have so many.
+// The same, eight bytes at a time, as long as both have so many.
 #[inline(never)]
-fn compare_rests(key: &[u8], other: &[u8]) -> Ordering
+fn compare_by_words(key: &[u8], other: &[u8]) -> Ordering
     ensures { result ≡ byte_order key.now other.now }
 {
     let mut rest = key;
@@ -46,25 +46,25 @@ fn compare_rests(key: &[u8], other: &[u8]) -> Ordering
 pub(crate) fn compare(key: &[u8], other: &[u8]) -> Ordering
     ensures { result ≡ byte_order key.now other.now }
 {
-    let Some((front, rest)) = key.split_first_chunk::<16>() else {
-        return compare_rests(key, other);
-    };
-    let Some((other_front, other_rest)) = other.split_first_chunk::<16>() else {
-        return compare_rests(key, other);
-    };
-    let order = compare_fronts(front, other_front);
-    if order.is_ne() {
-        return order;
+    if let Some((front, _)) = key.split_first_chunk::<16>()
+        && let Some((other_front, _)) = other.split_first_chunk::<16>()
+    {
+        let order = compare_fronts(front, other_front);
+        if order.is_ne() {
+            return order;
+        }
     }
-    compare_rests(rest, other_rest)
+    compare_by_words(key, other)
 }
 
+#[inline(always)]
 pub(crate) fn is_below(key: &[u8], other: &[u8]) -> bool
     ensures { result ≡ is_lt (byte_order key.now other.now) }
 {
     compare(key, other).is_lt()
 }
 
+#[inline(always)]
 pub(crate) fn is_at_most(key: &[u8], other: &[u8]) -> bool
     ensures { result ≡ is_le (byte_order key.now other.now) }
 {
