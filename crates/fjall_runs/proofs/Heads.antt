@@ -252,11 +252,14 @@ pub overtaken : (back : Bool) (runs : List (List Entry)) (at other : ℕ) (run n
 overtaken back runs at other run next v w get head get_next head_next behind second =
     let h = headed run v head in
     let k = headed next w head_next in
-    let each = subst (λ (u : Entry). All (IsUpToFirst back u) (slice_set runs at [])) (other_there back runs at other next w get_next head_next second) second.2.first in
-    (w, k.0, record {
-      here = get_next ∙ ap Some k.1;
-      first = All-from_recursion (IsUpToFirst back w) runs (up_to_with back w v h.0 runs at (not_before back v w behind) (get ∙ ap Some h.1) (recursion_from_All (IsUpToFirst back w) (slice_set runs at []) each));
-    })
+    let each = subst (λ (u : Entry). All (IsUpToFirst back u) (slice_set runs at [])) (other_there back runs at other next w get_next head_next second) second.2.first in (
+      w,
+      k.0,
+      record {
+        here = get_next ∙ ap Some k.1;
+        first = All-from_recursion (IsUpToFirst back w) runs (up_to_with back w v h.0 runs at (not_before back v w behind) (get ∙ ap Some h.1) (recursion_from_All (IsUpToFirst back w) (slice_set runs at []) each));
+      },
+    )
 
 -- of two runs, the other one is then the first of the others
 two_turned : (back : Bool) (runs : List (List Entry)) (at other : ℕ) (v w : Entry) (rest behind : List Entry) → length runs ≡ 2 → slice_get runs at ≡ Some (v ∷ rest) → slice_get (slice_set runs at []) other ≡ Some (w ∷ behind) → IsFirst back (slice_set runs other []) (Some at)

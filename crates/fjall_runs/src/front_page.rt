@@ -82,7 +82,8 @@ impl FrontPage {
             return Ok(());
         }
         self.text.settle()?;
-        self.text.set_last(version.key, value_shown(version, self.bound))
+        self.text
+            .set_last(version.key, value_shown(version, self.bound))
     }
 
     /// The pairs in order. It is refused for want of memory alone.

@@ -37,8 +37,10 @@ fn take_pair(rest: &mut Bytes, len: (usize, usize)) -> Result<KvPair, AllocError
     ensures rest { OnOk result (rest.new ≡ drop len.1 (drop len.0 rest.old)) }
 {
     let (key_len, value_len) = len;
-    let key = rest.split_to(key_len)?;
-    let value = rest.split_to(value_len)?;
+    let key = rest.slice(0..key_len)?;
+    rest.advance(key_len);
+    let value = rest.slice(0..value_len)?;
+    rest.advance(value_len);
     Ok((Slice::from(key), Slice::from(value)))
 }
 

@@ -60,7 +60,10 @@ fn two_with<'a>(
     at: usize,
     head: Option<TableEntry<'a>>,
     back: bool,
-) -> (Option<(usize, TableEntry<'a>)>, Option<(usize, TableEntry<'a>)>)
+) -> (
+    Option<(usize, TableEntry<'a>)>,
+    Option<(usize, TableEntry<'a>)>,
+)
     ensures two { (runs : List (List Entry)) (run : List Entry) → at ≡ length runs → option_map seen head.entry ≡ slice_get run 0 → HasTwo back runs best.entry second.entry → HasTwo back (runs ++ run ∷ []) result.0 result.1 }
 {
     let Some(version) = head else {

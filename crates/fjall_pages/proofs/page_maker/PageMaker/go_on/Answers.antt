@@ -67,4 +67,3 @@ returns-clause-done c range tables whole is none =
     let made_yet = c.versions.invariant.all range tables whole is in
     let le : c.args.max ≤ length (made page) = omega (arith, len, test) in
     full page c.args.max (in_turn c.args.back (sorted (flat (all_of range tables c.versions.runs)))) le ∙ ap (take c.args.max) made_yet.told
-

@@ -15,7 +15,7 @@ returns c =
     let value_is : value_len ≡ length text - t.start - t.key_len = ap (λ n. n - t.start - t.key_len) (omega (arith, len, ok)) in
     let long : c.len-self-inside.result ≡ length text = omega (arith, whole, ok) in
     let pairs =
-        (λ i. pairs_in (c.in_ok-put_len.ensures i) (take (long i) text))
-        ∙ pair_settled t.lens.items text t.start t.key_len value_len c.self.invariant value_is
-        ∙ ap (λ (is_pair : Bool). pairs_in t.lens.items (take t.start text) ++ pairs_of_last (last_in t.is_key is_pair t.start t.key_len text)) (sym c.if-not-self.false) in
+    (λ i. pairs_in (c.in_ok-put_len.ensures i) (take (long i) text))
+    ∙ pair_settled t.lens.items text t.start t.key_len value_len c.self.invariant value_is
+    ∙ ap (λ (is_pair : Bool). pairs_in t.lens.items (take t.start text) ++ pairs_of_last (last_in t.is_key is_pair t.start t.key_len text)) (sym c.if-not-self.false) in
     ap no_last pairs ∙ ap settled c.self.view_is
