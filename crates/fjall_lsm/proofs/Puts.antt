@@ -1,75 +1,34 @@
 -- Versions and clears that are made once.
-use Rattle.std.proofs.Common.{◌≡◌, ◌≢◌, ℕ, zero, suc, ◌+◌, ◌-◌, ◌<◌, ◌≤◌, ◌==◌, Bool, true, false, ◌||◌, ltb, leb, List, [], ◌∷◌, length, slice_get, Some, None, refl, sym, ap, ◌∙◌, inl, inr, arith}
+use Rattle.std.proofs.Common.{◌≡◌, ℕ, zero, suc, ◌+◌, ◌-◌, ◌<◌, Bool, true, false, not, ◌||◌, leb, List, [], ◌∷◌, length, slice_get, Some, None, refl, sym, ap, ◌∙◌, inl, inr, arith}
 use Rattle.std.specs.List.{All, list_any}
-use Rattle.std.proofs.lemmas.Bool.{and_from, and_parts, cases_Bool, cond-false, cond-true, eq-eqb, eqb-true, false_from_ne_true, le-leb, leb-false, leb-true, lt-ltb, ltb-true, true≢false}
-use Rattle.std.proofs.lemmas.List.Elements.{All-cons, All-nil, All-weaker}
-use Rattle.std.proofs.lemmas.List.Folds.{list_any_none}
+use Rattle.std.proofs.lemmas.Bool.{cases_Bool, cond-false, cond-true, le-leb, leb-false, leb-true}
+use Rattle.std.proofs.lemmas.List.Elements.{All-cons, All-nil}
 use Rattle.std.proofs.lemmas.Option.{get_or_from_slice_get, slice_get-get_or}
-use Rattle.std.specs.Str.{bytes_eq}
-use Rattle.fjall_base.specs.Pairs.{Bytes}
 use Rattle.fjall_table.specs.Blocks.{Entry}
-use Rattle.fjall_memtable.specs.Entries.{IsAbsent, stamp_of, version}
-use Rattle.fjall_views.specs.Jobs.{is_at}
-use Rattle.fjall_views.specs.Views.{is_seen, newest}
-use Rattle.fjall_views.proofs.Newest.{newest_among, newest_passes, reaches, top}
-use Rattle.fjall_views.proofs.Sameness.{at-from, at-true, keys_tie, same_key}
 use Rattle.fjall_views.proofs.Tests.{any_first}
-use Rattle.fjall_parts.specs.Parts.{Ascends, Held, IsHeld}
+use Rattle.fjall_parts.specs.Parts.{Ascends, Memory, with_active, with_version}
 use Rattle.fjall_lsm.specs.Puts.{emptied_once, has_stamp, put}
-use Rattle.fjall_lsm.specs.Trees.{Shape, emptied, written}
+use Rattle.fjall_lsm.specs.Trees.{Shape, emptied, with_memory, written}
 use Rattle.fjall_lsm.proofs.Changes.{or_none}
-
--- ---- whether a version is there
-
--- where it is, the newest is not below it
-at_reaches : (key : Bytes) (number : ℕ) (versions : List Entry) → list_any (is_at (version key number None)) versions ≡ true → number < top (newest key (number + 1) versions)
-at_reaches key number versions =
-    reaches (is_seen key (number + 1)) (is_at (version key number None)) number versions
-    (λ u at. let p = at-true (version key number None) u at in (and_from (bytes_eq u.key key) (ltb u.number (number + 1)) (keys_tie u.key key p.0) (lt-ltb u.number (number + 1) (omega (arith, p.1))), omega (arith, p.1)))
-
--- the newest one tells
-pub there : (key : Bytes) (number : ℕ) (versions : List Entry) (v : Entry) → Some v ≡ newest key (number + 1) versions → (v.number == number) ≡ list_any (is_at (version key number None)) versions
-there key number versions v found =
-    let seen = and_parts (bytes_eq v.key key) (ltb v.number (number + 1)) (newest_passes (is_seen key (number + 1)) versions v (sym found)) in
-    elim (cases_Bool (v.number == number)) [
-      | inl e ↦ e ∙ sym (newest_among (is_seen key (number + 1)) (is_at (version key number None)) versions v (sym found) (at-from (version key number None) v (same_key v.key key seen.0) (eqb-true v.number number e)))
-      | inr e ↦ e ∙ sym (false_from_ne_true (list_any (is_at (version key number None)) versions) (λ at. (
-          let high = at_reaches key number versions at in
-          let is = ap top found in
-          let low = ltb-true v.number (number + 1) seen.1 in
-          true≢false (sym (eq-eqb v.number number (omega (arith, high, is, low))) ∙ e))))
-    ]
-
-pub not_there : (key : Bytes) (number : ℕ) (versions : List Entry) → None ≡ newest key (number + 1) versions → false ≡ list_any (is_at (version key number None)) versions
-not_there key number versions found =
-    sym (false_from_ne_true (list_any (is_at (version key number None)) versions) (λ at. (
-    let high = at_reaches key number versions at in
-    let is = ap top found in
-    omega (arith, high, is))))
-
--- none is where all are below
-pub none_so_high : (key : Bytes) (number : ℕ) (h : Held) → IsHeld h → h.until ≤ number → false ≡ list_any (is_at (version key number None)) h.versions
-none_so_high key number h held below =
-    sym (list_any_none (is_at (version key number None)) h.versions
-    (All-weaker (λ (v : Entry). v.number < h.until) (λ (v : Entry). is_at (version key number None) v ≡ false)
-    (λ v lt. false_from_ne_true (is_at (version key number None) v) (λ at. let p = at-true (version key number None) v at in omega (arith, lt, p.1, below))) h.versions held.high))
 
 -- ---- a version that is put
 
-pub absent_from : (v : Entry) (xs : List Entry) → list_any (is_at v) xs ≡ false → IsAbsent v.key v.number xs
-absent_from v [] none = All-nil (λ (e : Entry). stamp_of e ≢ record { key = v.key; number = v.number })
-absent_from v (x ∷ xs) none =
-    let p = or_none (is_at v x) (list_any (is_at v) xs) none in
-    All-cons (λ (e : Entry). stamp_of e ≢ record { key = v.key; number = v.number }) x xs
-    (λ same. true≢false (sym (at-from v x (ap (λ s. s.key) same) (ap (λ s. s.number) same)) ∙ p.0)) (absent_from v xs p.1)
-
-pub put_there : (v : Entry) (shape : Shape) → has_stamp v shape ≡ true → shape ≡ put v shape
+put_there : (v : Entry) (shape : Shape) → has_stamp v shape ≡ true → shape ≡ put v shape
 unfolding put
 put_there v shape e = sym (cond-true (has_stamp v shape) shape (written v shape) e)
 
-pub put_new : (v : Entry) (shape : Shape) → has_stamp v shape ≡ false → written v shape ≡ put v shape
+put_new : (v : Entry) (shape : Shape) → has_stamp v shape ≡ false → written v shape ≡ put v shape
 unfolding put
 put_new v shape e = sym (cond-false (has_stamp v shape) shape (written v shape) e)
+
+-- by whether the active part had none of its key and number
+pub put_once : (v : Entry) (shape : Shape) (memory : Memory) (is_new : Bool) → is_new ≡ not (has_stamp v shape)
+    → (is_new ≡ true → memory ≡ with_active (with_version v shape.memory.active) shape.memory) → (is_new ≡ false → memory ≡ shape.memory)
+    → with_memory memory shape ≡ put v shape
+put_once v shape memory is_new told new there = elim (cases_Bool (has_stamp v shape)) [
+  | inl t ↦ ap (λ (m : Memory). with_memory m shape) (there (told ∙ ap not t)) ∙ put_there v shape t
+  | inr f ↦ ap (λ (m : Memory). with_memory m shape) (new (told ∙ ap not f)) ∙ put_new v shape f
+]
 
 -- ---- a clear that is made
 

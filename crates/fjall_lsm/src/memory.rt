@@ -1,14 +1,12 @@
 //! Writes to memory that are made once, and views of what is in memory alone.
 
-ghost use Rattle.std.specs.Prelude.{◌≡◌, ◌<◌, ◌≤◌, ◌^◌, [], None, length, nat_le, IfOk, IsOkUnless, OnOk, OnErr};
+ghost use Rattle.std.specs.Prelude.{◌≡◌, ◌<◌, ◌≤◌, ◌^◌, [], length, nat_le, IfOk, IsOkUnless, OnOk, OnErr};
 ghost use Rattle.std.specs.List.{list_any};
 ghost use Rattle.std.specs.Option.{option_map};
 ghost use Rattle.fjall_base.specs.Pairs.{Pairs, key_range, page, pairs_between};
 ghost use Rattle.fjall_table.specs.Blocks.{value_bytes};
 ghost use Rattle.fjall_memtable.specs.Entries.{version};
-ghost use Rattle.fjall_views.specs.Jobs.{is_at};
 ghost use Rattle.fjall_views.specs.Views.{IsView, value_at};
-ghost use Rattle.fjall_parts.specs.Held.{held_of};
 ghost use Rattle.fjall_parts.specs.Parts.{Ascends};
 ghost use Rattle.fjall_lsm.specs.Puts.{emptied_once, put};
 ghost use Rattle.fjall_lsm.specs.Trees.{clears_of, versions_of};
@@ -17,23 +15,8 @@ use crate::pages::memory_runs;
 use crate::search::value_of;
 use crate::tree::Tree;
 use fjall_base::{Error, KeyBounds, KvPair, UserValue};
-use fjall_parts::Part;
 use fjall_runs::page;
 use std::alloc::AllocError;
-
-// Whether a part has a version of this key and number. It is not looked for where all its numbers are below.
-fn has_version(part: &Part, key: &[u8], number: u64) -> Result<bool, AllocError>
-    requires { number < 2 ^ 63 }
-    ensures { IfOk result (λ has. has ≡ list_any (is_at (version key.now number None)) (held_of part.now).versions) }
-{
-    if part.until() <= number {
-        return Ok(false);
-    }
-    match part.newest(key, number + 1)? {
-        Some(found) => Ok(found.number == number),
-        None => Ok(false),
-    }
-}
 
 // Whether one of ascending numbers is this one or above it.
 fn is_reached(numbers: &[u64], number: u64) -> bool
@@ -63,10 +46,8 @@ impl Tree {
         ensures err { OnErr result (shape_of self.new ≡ shape_of self.old) }
         ensures marks { KeepsMarks self.old self.new }
     {
-        if has_version(self.parts.active(), key, number)? {
-            return Ok(());
-        }
-        self.parts.insert(key, number, value)
+        self.parts.insert_once(key, number, value)?;
+        Ok(())
     }
 
     /// Empties the keyspace by the change of that number; where the active part has a clear of that number or above

@@ -1,5 +1,6 @@
 pub mod Fronts
 pub mod Orders
+pub mod Absents
 pub mod Texts
 pub mod Puts
 pub mod Finds

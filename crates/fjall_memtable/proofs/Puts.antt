@@ -1,23 +1,16 @@
 -- What an insertion leaves.
-use Rattle.std.proofs.Common.{◌≡◌, ◌≢◌, ℕ, List, ◌++◌, map, Some, None, if◌then◌else◌, Result, Ok, Err, is_ok, IsOk, sym, subst, ◌∙◌, refl}
-use Rattle.std.specs.List.{All}
+use Rattle.std.proofs.Common.{◌≡◌, ℕ, List, ◌++◌, map, Some, None, if◌then◌else◌, Result, Ok, Err, is_ok, IsOk, sym, subst, ◌∙◌, refl}
 use Rattle.std.specs.BTreeMap.{insert_entry}
-use Rattle.std.proofs.lemmas.List.Elements.{recursion_from_All}
 use Rattle.fjall_memtable.specs.declared.place.Place.{Place}
 use Rattle.fjall_memtable.specs.Stamps.{Stamp, stamp_cmp}
 use Rattle.fjall_memtable.specs.Places.{entry_of, AreAll}
-use Rattle.fjall_memtable.specs.Entries.{stamp_of, inserted}
-use Rattle.fjall_memtable.proofs.Orders.{Apart, apart_from}
+use Rattle.fjall_memtable.specs.Entries.{inserted}
+use Rattle.fjall_memtable.proofs.Orders.{Apart}
 use Rattle.fjall_memtable.proofs.Texts.{IsNext, next_all, next_entries, next_marks, KeepsMarksOf}
 
 pub when_ok : {X E : Type 0} (r : Result X E) (a b : List ℕ) → IsOk r → (if is_ok r then a else b) ≡ a
 when_ok (Ok x) a b h = refl
 when_ok (Err e) a b h = absurd cc
-
-pub apart_when : (t : List ℕ) (s : Stamp) (key : List ℕ) (number : ℕ) (es : List (Stamp × Place)) → s.key ≡ key → s.number ≡ number → All (λ e. stamp_of e ≢ record { key = key; number = number }) (map (entry_of t) es) → Apart s es
-apart_when t s key number es k n h =
-    let is : record { key = key; number = number } ≡ s = λ i. record { key = sym k i; number = sym n i } in
-    subst (λ (s : Stamp). Apart s es) is (apart_from t (record { key = key; number = number }) es (recursion_from_All (λ e. stamp_of e ≢ record { key = key; number = number }) (map (entry_of t) es) h))
 
 -- The text and the entries are those of one more.
 pub record IsPut (t k v : List ℕ) (s : Stamp) (p : Place) (es : List (Stamp × Place)) (u : List ℕ) (fs : List (Stamp × Place)) : Type 0 where

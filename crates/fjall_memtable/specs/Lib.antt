@@ -3,3 +3,4 @@ pub mod Places
 pub mod Ranges
 pub mod Entries
 pub mod Pages
+pub mod Presence

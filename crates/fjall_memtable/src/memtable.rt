@@ -1,6 +1,6 @@
 //! Versions of keys in memory.
 
-ghost use Rattle.std.specs.Prelude.{◌≡◌, ◌↔◌, ◌+◌, ◌-◌, ◌<◌, ◌^◌, [], length, slice_get, filter, min, IsTrue, IfOk, OnOk, OnErr};
+ghost use Rattle.std.specs.Prelude.{◌≡◌, ◌↔◌, ◌+◌, ◌-◌, ◌<◌, ◌^◌, [], length, slice_get, filter, min, not, IsTrue, IfOk, OnOk, OnErr, Ok, true, false};
 ghost use Rattle.std.specs.Prelude.{Some, None, if◌then◌else◌};
 ghost use Rattle.std.specs.List.{sum_by};
 ghost use Rattle.std.specs.Option.{option_map};
@@ -10,6 +10,7 @@ ghost use Rattle.fjall_base.specs.Pairs.{key_range};
 ghost use Rattle.fjall_table.specs.Tables.{entries_within, versions_at};
 ghost use Rattle.std.proofs.Props.{props};
 ghost use Rattle.fjall_memtable.specs.Places.{AreAll};
+ghost use Rattle.fjall_memtable.specs.Presence.{has_entry};
 ghost use Rattle.fjall_memtable.specs.Ranges.{IsForwardBy};
 ghost use Rattle.fjall_memtable.specs.Stamps.{stamp_cmp};
 
@@ -22,6 +23,7 @@ use fjall_table::TableEntry;
 use std::alloc::{AllocError, Global};
 use std::cmp::Ordering;
 use std::collections::BTreeMap;
+use std::collections::btree_map::Entry;
 use std::ops::Bound;
 
 /// Versions of keys in memory, in the order of a table's entries: by key ascending, byte by byte, then by number
@@ -91,6 +93,27 @@ impl Memtable {
         ensures err { OnErr result (entries_of self.new ≡ entries_of self.old) }
         ensures marks { KeepsMarks self.old self.new }
     {
+        self.insert_once(key, number, value)?;
+        Ok(())
+    }
+
+    /// Adds the same where no entry has that key and number yet, by one look-up, and says so; where one has them nothing
+    /// changes, and it answers false. It is refused for want of memory alone, and an `Err` leaves all as it was.
+    pub fn insert_once(
+        &mut self,
+        key: &[u8],
+        number: u64,
+        value: Option<&[u8]>,
+    ) -> Result<bool, AllocError>
+        requires some { 0 < length key.now }
+        requires key { length key.now < 2 ^ 16 }
+        requires value { length (value_bytes (option_map (λ v. v.now) value)) < 2 ^ 32 }
+        ensures told { IfOk result (λ is_new. is_new ≡ not (has_entry key.now number (entries_of self.old))) }
+        ensures new { result ≡ Ok true → entries_of self.new ≡ inserted (version key.now number (option_map (λ v. v.now) value.entry)) (entries_of self.old) }
+        ensures there { result ≡ Ok false → entries_of self.new ≡ entries_of self.old }
+        ensures err { OnErr result (entries_of self.new ≡ entries_of self.old) }
+        ensures marks { KeepsMarks self.old self.new }
+    {
         match value {
             Some(bytes) => self.put(key, number, true, bytes),
             None => self.put(key, number, false, &[]),
@@ -103,13 +126,14 @@ impl Memtable {
         number: u64,
         is_value: bool,
         bytes: &[u8],
-    ) -> Result<(), AllocError>
+    ) -> Result<bool, AllocError>
         requires some { 0 < length key.now }
         requires key { length key.now < 2 ^ 16 }
         requires value { length bytes.now < 2 ^ 32 }
         requires tombstone { (if is_value then 0 else length bytes.now) ≡ 0 }
-        requires absent { IsAbsent key.now number (entries_of self.old) }
-        ensures ok { OnOk result (entries_of self.new ≡ inserted (version key.now number (if is_value then Some bytes.now else None)) (entries_of self.old)) }
+        ensures told { IfOk result (λ is_new. is_new ≡ not (has_entry key.now number (entries_of self.old))) }
+        ensures new { result ≡ Ok true → entries_of self.new ≡ inserted (version key.now number (if is_value then Some bytes.now else None)) (entries_of self.old) }
+        ensures there { result ≡ Ok false → entries_of self.new ≡ entries_of self.old }
         ensures err { OnErr result (entries_of self.new ≡ entries_of self.old) }
         ensures marks { KeepsMarks self.old self.new }
     {
@@ -121,13 +145,15 @@ impl Memtable {
             key_len: key.len() as u16,
             is_value,
         };
-        match self.map.insert(version_key, place) {
-            Ok(_) => {}
-            Err(_) => return Err(AllocError),
+        match self.map.entry(version_key)? {
+            Entry::Vacant(vacant) => {
+                vacant.insert(place);
+            }
+            Entry::Occupied(_) => return Ok(false),
         }
         self.text.extend_from_slice(key)?;
         self.text.extend_from_slice(bytes)?;
-        Ok(())
+        Ok(true)
     }
 
     /// The newest version of a key that is numbered below an instant, by one look-up; None where no version is. It is

@@ -1,10 +1,11 @@
 //! A memtable with the clears that came while it was written.
 
-ghost use Rattle.std.specs.Prelude.{◌≡◌, ◌-◌, ◌<◌, ◌≤◌, ◌^◌, length, min, IfOk, OnOk, OnErr};
+ghost use Rattle.std.specs.Prelude.{◌≡◌, ◌-◌, ◌<◌, ◌≤◌, ◌^◌, length, min, not, IfOk, OnOk, OnErr, Ok, true, false};
 ghost use Rattle.std.specs.List.{All, sum_by};
 ghost use Rattle.std.specs.Option.{option_map};
 ghost use Rattle.fjall_table.specs.Blocks.{seen, value_bytes};
 ghost use Rattle.fjall_memtable.specs.Entries.{entries_of, size_of, version, IsAbsent};
+ghost use Rattle.fjall_memtable.specs.Presence.{has_entry};
 ghost use Rattle.fjall_views.specs.Views.{newest};
 ghost use Rattle.fjall_sorted.specs.Pages.{barrier};
 ghost use Rattle.fjall_parts.specs.Parts.{Ascends, IsHeld, empty_from, held_prop, holds_nothing, with_clear, with_version};
@@ -136,6 +137,32 @@ impl Part {
         self.versions.insert(key, number, value)?;
         self.until = self.until.max(number + 1);
         Ok(())
+    }
+
+    // The same where it has no version of that key and number, and true; else nothing changes, and it answers false.
+    pub(crate) fn insert_once(
+        &mut self,
+        key: &[u8],
+        number: u64,
+        value: Option<&[u8]>,
+    ) -> Result<bool, AllocError>
+        requires some { 0 < length key.now }
+        requires key { length key.now < 2 ^ 16 }
+        requires value { length (value_bytes (option_map (λ v. v.now) value)) < 2 ^ 32 }
+        requires from { (held_of self.old).from ≤ number }
+        requires small { number < 2 ^ 63 }
+        ensures told { IfOk result (λ is_new. is_new ≡ not (has_entry key.now number (held_of self.old).versions)) }
+        ensures new { result ≡ Ok true → held_of self.new ≡ with_version (version key.now number (option_map (λ v. v.now) value.entry)) (held_of self.old) }
+        ensures there { result ≡ Ok false → held_of self.new ≡ held_of self.old }
+        ensures err { OnErr result (held_of self.new ≡ held_of self.old) }
+        ensures from { (held_of self.new).from ≡ (held_of self.old).from }
+        ensures marks { KeepsMarksOf self.old self.new }
+    {
+        let is_new = self.versions.insert_once(key, number, value)?;
+        if is_new {
+            self.until = self.until.max(number + 1);
+        }
+        Ok(is_new)
     }
 
     pub(crate) fn clear(&mut self, number: u64) -> Result<(), AllocError>

@@ -5,6 +5,7 @@ ghost use Rattle.std.specs.List.{All, sum_by};
 ghost use Rattle.std.specs.Option.{option_map};
 ghost use Rattle.fjall_table.specs.Blocks.{seen, value_bytes};
 ghost use Rattle.fjall_memtable.specs.Entries.{size_of, version, IsAbsent};
+ghost use Rattle.fjall_memtable.specs.Presence.{has_entry};
 ghost use Rattle.fjall_views.specs.Views.{newest};
 ghost use Rattle.fjall_sorted.specs.Pages.{barrier};
 ghost use Rattle.fjall_parts.specs.Parts.{AreApart, IsHeld, apart_prop, clears_in, empty_from, holds_nothing, parts_of, rotated, versions_in, with_active, with_clear, with_version};
@@ -64,6 +65,29 @@ impl Parts {
         ensures marks { KeepsMarks self.old self.new }
     {
         self.active.insert(key, number, value)
+    }
+
+    /// Adds the same where the active part has no version of that key and number yet, by one look-up, and says so; where it
+    /// has one nothing changes, and it answers false. It is refused for want of memory alone, and an `Err` leaves all as it
+    /// was.
+    pub fn insert_once(
+        &mut self,
+        key: &[u8],
+        number: u64,
+        value: Option<&[u8]>,
+    ) -> Result<bool, AllocError>
+        requires some { 0 < length key.now }
+        requires key { length key.now < 2 ^ 16 }
+        requires value { length (value_bytes (option_map (λ v. v.now) value)) < 2 ^ 32 }
+        requires from { (memory_of self.old).active.from ≤ number }
+        requires small { number < 2 ^ 63 }
+        ensures told { IfOk result (λ is_new. is_new ≡ not (has_entry key.now number (memory_of self.old).active.versions)) }
+        ensures new { result ≡ Ok true → memory_of self.new ≡ with_active (with_version (version key.now number (option_map (λ v. v.now) value.entry)) (memory_of self.old).active) (memory_of self.old) }
+        ensures there { result ≡ Ok false → memory_of self.new ≡ memory_of self.old }
+        ensures err { OnErr result (memory_of self.new ≡ memory_of self.old) }
+        ensures marks { KeepsMarks self.old self.new }
+    {
+        self.active.insert_once(key, number, value)
     }
 
     /// Adds a clear to the active part, which begins at its number or before, and whose clears are all below it. It is

@@ -1,4 +1,4 @@
-use Rattle.std.proofs.Common.{◌≡◌, ◌++◌, [], ◌∷◌, List, subst, sym}
+use Rattle.std.proofs.Common.{◌++◌, [], ◌∷◌, List, subst, sym}
 use Rattle.std.specs.Result.{IfOk}
 use Rattle.std.proofs.lemmas.Result.{IfOk-weaker}
 use Rattle.fjall_jobs.specs.Tasks.{IsFlushed}

@@ -1,4 +1,4 @@
-use Rattle.std.proofs.Common.{◌≡◌, ℕ, ◌+◌, ◌≤◌, ◌^◌, List, arith, subst, sym}
+use Rattle.std.proofs.Common.{ℕ, ◌+◌, ◌≤◌, ◌^◌, List, arith, subst, sym}
 use Rattle.std.proofs.Math.Logic.{∥∥₁_map}
 use Rattle.std.proofs.lemmas.List.Elements.{All-push}
 use Rattle.fjall_parts.specs.Held.{held_of}
@@ -6,7 +6,6 @@ use Rattle.fjall_parts.specs.Memories.{memory_of}
 use Rattle.fjall_parts.specs.Parts.{IsHeld, Memory, clears_in, parts_of}
 use Rattle.fjall_parts.specs.Shares.{shared}
 use Rattle.fjall_parts.proofs.Apart.{all_held}
-use Rattle.fjall_lsm.specs.Shapes.{shape_of}
 use Rattle.fjall_lsm.specs.Trees.{IsShape}
 use Rattle.fjall_lsm.proofs.Ingested.{ingested_shape}
 use Rattle.fjall_lsm.proofs.Outstanding.{merge_stays, more_than}
