@@ -96,16 +96,18 @@ impl Trees {
         Ok(Marks { from: 0, marks })
     }
 
-    // Puts each item, the last one first; where one is refused, those behind it are made.
+    // Puts each item, the last one first; where one is refused, those behind it are made. Items that follow one another
+    // mostly are of one keyspace, so that each is looked for where the last one was.
     fn push_all(&mut self, items: &[BatchItem], number: u64) -> Result<(), AllocError>
         requires { MayPush number items.now (forest_of self.old) }
         ensures ok { OnOk result (forest_of self.new ≡ pushed number items.now (forest_of self.old)) }
         ensures marks { KeepAllMarks self.old self.new }
     {
         let mut rest = items;
+        let mut place = 0;
         while let Some((item, before)) = rest.split_last() {
             let (id, key, op) = item;
-            self.put(*id, key.as_slice(), number, value_of(op))?;
+            place = self.put_near(place, *id, key.as_slice(), number, value_of(op))?;
             rest = before;
         }
         Ok(())

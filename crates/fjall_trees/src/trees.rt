@@ -37,6 +37,17 @@ pub(crate) fn place_of(trees: &[KeyspaceTree], id: u64) -> Option<usize>
     }
 }
 
+// The same, where the tree of the keyspace may stand at this place, which is looked at first.
+pub(crate) fn place_near(trees: &[KeyspaceTree], id: u64, guess: usize) -> Option<usize>
+    requires { IsForest (forest_in trees.now) }
+    ensures { MatchOption result (tree_at id (forest_in trees.now) ≡ None) (λ place. IsSomeAnd (slice_get trees.now place) (λ k. k.id ≡ id)) }
+{
+    match trees.get(guess) {
+        Some(tree) if tree.id == id => Some(guess),
+        _ => place_of(trees, id),
+    }
+}
+
 impl Trees {
     ghost use Rattle.fjall_trees.specs.Views.{forest_of};
 

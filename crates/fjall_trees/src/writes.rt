@@ -11,7 +11,7 @@ ghost use Rattle.fjall_trees.specs.Forests.{altered_at, tree_at};
 ghost use Rattle.fjall_trees.specs.Writes.{with_tree};
 
 use crate::marks::Marks;
-use crate::trees::{Trees, place_of};
+use crate::trees::{Trees, place_near, place_of};
 use fjall_lsm::Tree;
 use std::alloc::AllocError;
 
@@ -50,10 +50,34 @@ impl Trees {
         ensures err { OnErr result (forest_of self.new ≡ forest_of self.old) }
         ensures marks { KeepAllMarks self.old self.new }
     {
-        match place_of(self.trees.as_slice(), id) {
-            Some(place) => self.trees[place].tree.put(key, number, value),
-            None => Ok(()),
-        }
+        self.put_near(0, id, key, number, value)?;
+        Ok(())
+    }
+
+    /// The same, where the keyspace's tree may stand at this place, which is looked at first. It answers where the tree
+    /// stands, or the same place where the keyspace has none.
+    pub(crate) fn put_near(
+        &mut self,
+        guess: usize,
+        id: u64,
+        key: &[u8],
+        number: u64,
+        value: Option<&[u8]>,
+    ) -> Result<usize, AllocError>
+        requires some { 0 < length key.now }
+        requires key { length key.now < 2 ^ 16 }
+        requires value { length (value_bytes (option_map (λ v. v.now) value)) < 2 ^ 32 }
+        requires from { (shape : Shape) → tree_at id (forest_of self.old) ≡ Some shape → shape.memory.active.from ≤ number }
+        requires small { number < 2 ^ 63 }
+        ensures ok { OnOk result (forest_of self.new ≡ altered_at id (put (version key.now number (option_map (λ v. v.now) value.entry))) (forest_of self.old)) }
+        ensures err { OnErr result (forest_of self.new ≡ forest_of self.old) }
+        ensures marks { KeepAllMarks self.old self.new }
+    {
+        let Some(place) = place_near(self.trees.as_slice(), id, guess) else {
+            return Ok(guess);
+        };
+        self.trees[place].tree.put(key, number, value)?;
+        Ok(place)
     }
 
     /// Empties a keyspace by the change of that number; where its tree's active part has a clear of that number or above

@@ -13,29 +13,29 @@ use Rattle.fjall_trees.proofs.trees.Trees.push_all.Goals as goal
 pub loop-item-init : goal.loop-item-init
 loop-item-init c = record { pushing = pushing_none c.args.number c.args.items.now (forest_of c.args.self.now); kept = λ marks are. (are, refl) }
 
-pub put-requires-clause-some : goal.put-requires-clause-some
-put-requires-clause-some c =
+pub put_near-requires-clause-some : goal.put_near-requires-clause-some
+put_near-requires-clause-some c =
     let items = c.args.items.now in
     let p = pushing_item c.args.number items c.loop-item.rest.now c.in-Some.before.now c.in-Some.item.now (forest_of c.args.self.now) (forest_of c.loop-item.self) c.loop-item.invariant.pushing c.in-Some.ensures.cases.0 in
     let fits = fits_among c.in-Some.before.now c.in-Some.item.now p.0 (subst (All Fits) p.1 (each_fits items c.requires.fits)) in
     subst (λ (key : Bytes). 0 < length key) (sym c.as_slice.ensures) fits.some
 
-pub put-requires-clause-key : goal.put-requires-clause-key
-put-requires-clause-key c =
+pub put_near-requires-clause-key : goal.put_near-requires-clause-key
+put_near-requires-clause-key c =
     let items = c.args.items.now in
     let p = pushing_item c.args.number items c.loop-item.rest.now c.in-Some.before.now c.in-Some.item.now (forest_of c.args.self.now) (forest_of c.loop-item.self) c.loop-item.invariant.pushing c.in-Some.ensures.cases.0 in
     let fits = fits_among c.in-Some.before.now c.in-Some.item.now p.0 (subst (All Fits) p.1 (each_fits items c.requires.fits)) in
     subst (λ (key : Bytes). length key < 2 ^ 16) (sym c.as_slice.ensures) fits.key
 
-pub put-requires-clause-value : goal.put-requires-clause-value
-put-requires-clause-value c =
+pub put_near-requires-clause-value : goal.put_near-requires-clause-value
+put_near-requires-clause-value c =
     let items = c.args.items.now in
     let p = pushing_item c.args.number items c.loop-item.rest.now c.in-Some.before.now c.in-Some.item.now (forest_of c.args.self.now) (forest_of c.loop-item.self) c.loop-item.invariant.pushing c.in-Some.ensures.cases.0 in
     let fits = fits_among c.in-Some.before.now c.in-Some.item.now p.0 (subst (All Fits) p.1 (each_fits items c.requires.fits)) in
     subst (λ (value : Option Bytes). length (value_bytes value) < 2 ^ 32) (sym c.value_of.ensures) fits.value
 
-pub put-requires-clause-from : goal.put-requires-clause-from
-put-requires-clause-from c = λ shape is.
+pub put_near-requires-clause-from : goal.put_near-requires-clause-from
+put_near-requires-clause-from c = λ shape is.
     let begun = pushing_begun c.args.number c.args.items.now c.loop-item.rest.now (forest_of c.args.self.now) (forest_of c.loop-item.self) c.loop-item.invariant.pushing c.requires.forest c.requires.before in
     tree_has (λ (s : Shape). s.memory.active.from ≤ c.args.number) (forest_of c.loop-item.self) c.in-Some.item.now.0 shape begun is
 
@@ -43,12 +43,12 @@ pub loop-item-preserved : goal.loop-item-preserved
 loop-item-preserved c =
     let item = c.in-Some.item.now in
     let old = forest_of c.loop-item.self in
-    let made = c.in_ok-put.ensures.ok ∙ ap (λ (v : Entry). altered_at item.0 (put v) old) (λ i. version (c.as_slice.ensures i) c.args.number (c.value_of.ensures i)) in
+    let made = c.in_ok-place.ensures.ok ∙ ap (λ (v : Entry). altered_at item.0 (put v) old) (λ i. version (c.as_slice.ensures i) c.args.number (c.value_of.ensures i)) in
     record {
-      pushing = pushing_more c.args.number c.args.items.now c.loop-item.rest.now c.in-Some.before.now item (forest_of c.args.self.now) old (forest_of c.put.new.self) c.loop-item.invariant.pushing c.in-Some.ensures.cases.0 made;
+      pushing = pushing_more c.args.number c.args.items.now c.loop-item.rest.now c.in-Some.before.now item (forest_of c.args.self.now) old (forest_of c.put_near.new.self) c.loop-item.invariant.pushing c.in-Some.ensures.cases.0 made;
       kept = λ marks are. (
           let here = c.loop-item.invariant.kept marks are in
-          let more = c.in_ok-put.ensures.marks marks here.0 in
+          let more = c.in_ok-place.ensures.marks marks here.0 in
           (more.0, more.1 ∙ here.1)
           );
     }

@@ -7,8 +7,8 @@ use Rattle.fjall_trees.specs.declared.trees.KeyspaceTree.{KeyspaceTree}
 use Rattle.fjall_trees.specs.Forests.{tree_at}
 use Rattle.fjall_trees.specs.Lists.{forest_in}
 use Rattle.fjall_trees.proofs.Marking.{set_all}
-use Rattle.fjall_trees.proofs.Places.{altered_none, err_so, found_tree, ok_so, set_altered, set_forest, set_same, tree_here}
-use Rattle.fjall_trees.proofs.trees.Trees.put.Goals as goal
+use Rattle.fjall_trees.proofs.Places.{altered_none, err_given, found_tree, set_altered, set_forest, set_same, tree_here}
+use Rattle.fjall_trees.proofs.trees.Trees.put_near.Goals as goal
 
 pub put-requires-clause-from : goal.put-requires-clause-from
 put-requires-clause-from c =
@@ -26,29 +26,36 @@ invariant_of-self c =
     let here = found_tree ks c.as_slice.result.now c.in-Some.place c.args.id k c.as_slice.ensures.value c.in-Some.ensures c.index_mut.ensures.value in
     record { lawful = set_forest ks c.in-Some.place k c.put.new.self t.lawful here.0 }
 
-pub returns-in-Some-clause-ok : goal.returns-in-Some-clause-ok
-returns-in-Some-clause-ok c =
+pub returns-clause-ok : goal.returns-clause-ok
+returns-clause-ok c =
     let t = c.args.self.now in
     let ks = t.trees.items in
     let k = c.index_mut.result.now in
     let here = found_tree ks c.as_slice.result.now c.in-Some.place c.args.id k c.as_slice.ensures.value c.in-Some.ensures c.index_mut.ensures.value in
-    ok_so c.put.result _ _ (λ made. set_altered ks c.in-Some.place c.args.id k c.put.new.self (put (version c.args.key.now c.args.number (option_map (λ v. v.now) c.args.value))) t.lawful here.0 here.1 made) c.put.ensures.ok
+    set_altered ks c.in-Some.place c.args.id k c.put.new.self (put (version c.args.key.now c.args.number (option_map (λ v. v.now) c.args.value))) t.lawful here.0 here.1 c.in_ok-put.ensures.ok
 
-pub returns-in-Some-clause-err : goal.returns-in-Some-clause-err
-returns-in-Some-clause-err c =
+pub returns-in_err-put-clause-err : goal.returns-in_err-put-clause-err
+returns-in_err-put-clause-err c =
     let ks = c.args.self.now.trees.items in
     let k = c.index_mut.result.now in
     let here = found_tree ks c.as_slice.result.now c.in-Some.place c.args.id k c.as_slice.ensures.value c.in-Some.ensures c.index_mut.ensures.value in
-    err_so c.put.result _ _ (λ made. set_same ks c.in-Some.place k c.put.new.self here.0 made) c.put.ensures.err
+    err_given c.from_residual.result _ (set_same ks c.in-Some.place k c.put.new.self here.0 c.in_err-put.ensures.err)
 
-pub returns-in-Some-clause-marks : goal.returns-in-Some-clause-marks
-returns-in-Some-clause-marks c = λ marks are.
+pub returns-clause-marks : goal.returns-clause-marks
+returns-clause-marks c = λ marks are.
     let ks = c.args.self.now.trees.items in
     let k = c.index_mut.result.now in
     let here = found_tree ks c.as_slice.result.now c.in-Some.place c.args.id k c.as_slice.ensures.value c.in-Some.ensures c.index_mut.ensures.value in
     set_all ks c.in-Some.place k c.put.new.self here.0 c.put.ensures.marks marks.from marks.marks.items are
 
-pub returns-in-None-clause-ok : goal.returns-in-None-clause-ok
-returns-in-None-clause-ok c =
-    let none = subst (λ (xs : List KeyspaceTree). tree_at c.args.id (forest_in xs) ≡ None) c.as_slice.ensures.value c.in-None.ensures in
+pub returns-in_default-clause-ok : goal.returns-in_default-clause-ok
+returns-in_default-clause-ok c =
+    let none = subst (λ (xs : List KeyspaceTree). tree_at c.args.id (forest_in xs) ≡ None) c.as_slice.ensures.value c.in_default.ensures in
     sym (altered_none c.args.id (put (version c.args.key.now c.args.number (option_map (λ v. v.now) c.args.value))) (forest_in c.args.self.now.trees.items) none)
+
+pub returns-in_err-put-clause-marks : goal.returns-in_err-put-clause-marks
+returns-in_err-put-clause-marks c = λ marks are.
+    let ks = c.args.self.now.trees.items in
+    let k = c.index_mut.result.now in
+    let here = found_tree ks c.as_slice.result.now c.in-Some.place c.args.id k c.as_slice.ensures.value c.in-Some.ensures c.index_mut.ensures.value in
+    set_all ks c.in-Some.place k c.put.new.self here.0 c.put.ensures.marks marks.from marks.marks.items are
