@@ -1,8 +1,10 @@
 -- The raising of watermarks, one after another, as relations of look-ups.
-use Rattle.std.proofs.Common.{◌≡◌, ◌≢◌, ℕ, arith, cond, max, List, [], ◌∷◌, ◌++◌, map, nat_eq, unwrap_or, refl, sym, ap, ◌∙◌, subst}
+use Rattle.std.proofs.Common.{◌≡◌, ◌≢◌, ℕ, ◌+◌, ◌<◌, arith, cond, max, get_or, length, take, List, [], ◌∷◌, ◌++◌, map, nat_eq, unwrap_or, refl, sym, ap, ◌∙◌, subst}
 use Rattle.std.proofs.lemmas.List.{append-nil, append_assoc, map-append}
-use Rattle.std.specs.Prelude.{Some, None}
+use Rattle.std.proofs.lemmas.List.Sums.{fold_more}
+use Rattle.std.specs.Prelude.{Option, Some, None}
 use Rattle.std.specs.declared.cmp.Ordering.{Ordering}
+use Rattle.std.specs.declared.cmp.Ordering.TheVariants.{Equal, Greater}
 use Rattle.std.specs.BTreeMap.{insert_entry}
 use Rattle.fjall_journal.specs.Batches.{Shown, Written, clears_of, items_of, shown}
 use Rattle.fjall_journal.specs.Changes.{Change, Emptied, Items, of_change}
@@ -42,6 +44,42 @@ raising_raises lsn id marks =
       here = put_here id v marks ∙ raised_is (lsn_of marks id) lsn;
       others = λ q other. put_elsewhere id v marks q other;
     }
+
+-- ---- once more
+
+same_order : (x y : ℕ) → x ≡ y → nat_cmp x y ≡ Equal
+same_order x y e = by_order x y (λ r. r ≡ Equal) (λ l. absurd (omega (arith, l, e))) (λ _. refl) (λ g. absurd (omega (arith, g, e)))
+
+behind : (x y : ℕ) → y < x → nat_cmp x y ≡ Greater
+behind x y g = by_order x y (λ r. r ≡ Greater) (λ l. absurd (omega (arith, l, g))) (λ e. absurd (omega (arith, e, g))) (λ _. refl)
+
+-- an entry that stands there already changes nothing
+put_twice : (id v : ℕ) (marks : Marks) → insert_entry nat_cmp (insert_entry nat_cmp marks id v) id v ≡ insert_entry nat_cmp marks id v
+put_twice id v [] = ap (put id v (id, v) []) (same_order id id refl)
+put_twice id v (mark ∷ marks) =
+    by_order id mark.0 (λ r. insert_entry nat_cmp (put id v mark marks r) id v ≡ put id v mark marks r)
+    (λ l. ap (put id v (id, v) (mark ∷ marks)) (same_order id id refl))
+    (λ e. ap (put id v (mark.0, v) marks) (same_order id mark.0 e))
+    (λ g. ap (put id v mark (insert_entry nat_cmp marks id v)) (behind id mark.0 g) ∙ ap (λ (ms : Marks). mark ∷ ms) (put_twice id v marks))
+
+-- to raise a watermark again by the same number changes nothing
+raising_twice : (lsn id : ℕ) (marks : Marks) → raising lsn id (raising lsn id marks) ≡ raising lsn id marks
+raising_twice lsn id marks =
+    let v = max (unwrap_or (lsn_of marks id) 0) lsn in
+    let new = insert_entry nat_cmp marks id v in
+    ap (λ (o : Option ℕ). insert_entry nat_cmp new id (max (unwrap_or o 0) lsn)) (put_here id v marks)
+    ∙ ap (insert_entry nat_cmp new id) (omega arith)
+    ∙ put_twice id v marks
+
+-- one item more, whose watermark is raised
+pub raised_next : (lsn : ℕ) (items : List BatchItem) (i : ℕ) (item : BatchItem) (old mid new : Marks) → i < length items → item ≡ get_or items i item
+    → mid ≡ raising_all lsn (take i items) old → new ≡ raising lsn item.0 mid → new ≡ raising_all lsn (take (i + 1) items) old
+raised_next lsn items i item old mid new lt is so_far made =
+    made ∙ ap (raising lsn item.0) so_far ∙ ap (λ (x : BatchItem). raising lsn x.0 (raising_all lsn (take i items) old)) is
+    ∙ sym (fold_more (λ (m : Marks) (x : BatchItem). raising lsn x.0 m) old items i item lt)
+
+pub stays_raised : (lsn id : ℕ) (mid new : Marks) → new ≡ raising lsn id mid → raising lsn id new ≡ new
+stays_raised lsn id mid new made = ap (raising lsn id) made ∙ raising_twice lsn id mid ∙ sym made
 
 abbrev ids_of : List BatchItem → List ℕ
 ids_of items = map (λ item. item.0) items

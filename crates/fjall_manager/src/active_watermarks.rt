@@ -104,14 +104,19 @@ impl ActiveWatermarks {
         Ok(())
     }
 
-    /// Makes a place for the watermark of each keyspace that one of these items is of. No watermark changes.
+    /// Makes a place for the watermark of each keyspace that one of these items is of, by one look-up for items of one
+    /// keyspace that follow one another. No watermark changes.
     pub fn make_places(&mut self, items: &[BatchItem]) -> Result<()>
         ensures places { OnOk result (All (λ item. HasPlace self.new item.0) items.now) }
         ensures told { told self.new ≡ told self.old }
         ensures only { IsOkUnless result Error.OutOfMemory }
     {
+        let mut made = None;
         for item in items {
-            self.make_place(item.0)?;
+            if made != Some(item.0) {
+                self.make_place(item.0)?;
+                made = Some(item.0);
+            }
         }
         Ok(())
     }
@@ -128,14 +133,18 @@ impl ActiveWatermarks {
         }
     }
 
-    /// Raises the watermark of the keyspace of each of these items, which have places, to at least the number of their batch.
-    /// It takes no memory.
+    /// Raises the watermark of the keyspace of each of these items, which have places, to at least the number of their batch,
+    /// by one look-up for items of one keyspace that follow one another. It takes no memory.
     pub fn raise_all(&mut self, items: &[BatchItem], lsn: u64)
         requires places { All (λ item. HasPlace self.old item.0) items.now }
         ensures raised { told self.new ≡ raising_all lsn items.now (told self.old) }
     {
+        let mut raised = None;
         for item in items {
-            self.raise(item.0, lsn);
+            if raised != Some(item.0) {
+                self.raise(item.0, lsn);
+                raised = Some(item.0);
+            }
         }
     }
 }
