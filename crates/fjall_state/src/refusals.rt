@@ -25,10 +25,21 @@ impl EngineState {
         items.iter().any(|item| self.is_unknown(item.0))
     }
 
+    // By one look-up for items of one keyspace that follow one another.
     fn has_deleted(&self, items: &[BatchItem]) -> bool
         ensures { result ≡ some_deleted (facts_of self.now 0).store items.now }
     {
-        items.iter().any(|item| !self.is_living(item.0))
+        let mut living = None;
+        for item in items {
+            if living == Some(item.0) {
+                continue;
+            }
+            if !self.is_living(item.0) {
+                return true;
+            }
+            living = Some(item.0);
+        }
+        false
     }
 
     /// What refuses a change of these items, cause by cause over all of them.
