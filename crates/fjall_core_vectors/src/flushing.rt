@@ -220,9 +220,9 @@ fn openings_up_to_the_first_eviction_are_crashed_three_times(rt: HostRuntime) ->
 }
 
 #[test]
-fn the_script_makes_15_commands_by_222_calls(rt: HostRuntime) -> Result<(), Fail> {
+fn the_script_makes_15_commands_by_225_calls(rt: HostRuntime) -> Result<(), Fail> {
     let (tried, log) = recorded(rt.alloc(), SCRIPT)?;
     let counts = (tried.commands.len(), log.steps.len());
-    assert_eq!(rt; counts, (15, 222));
+    assert_eq!(rt; counts, (15, 225));
     Ok(())
 }

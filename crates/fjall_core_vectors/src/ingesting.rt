@@ -287,10 +287,10 @@ fn openings_behind_a_clear_are_crashed_three_times(rt: HostRuntime) -> Result<()
 }
 
 #[test]
-fn the_script_makes_27_commands_by_391_calls(rt: HostRuntime) -> Result<(), Fail> {
+fn the_script_makes_27_commands_by_393_calls(rt: HostRuntime) -> Result<(), Fail> {
     let (tried, log) = recorded(rt.alloc(), SCRIPT)?;
     let counts = (tried.commands.len(), log.steps.len());
-    assert_eq!(rt; counts, (27, 391));
+    assert_eq!(rt; counts, (27, 393));
     Ok(())
 }
 

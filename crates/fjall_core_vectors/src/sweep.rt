@@ -329,10 +329,10 @@ fn each_call_up_to_the_last_fails(rt: HostRuntime) -> Result<(), Fail> {
 }
 
 #[test]
-fn the_script_makes_28_commands_by_236_calls(rt: HostRuntime) -> Result<(), Fail> {
+fn the_script_makes_28_commands_by_244_calls(rt: HostRuntime) -> Result<(), Fail> {
     let (tried, log) = recorded(rt.alloc(), script())?;
     let counts = (tried.commands.len(), log.steps.len());
-    assert_eq!(rt; counts, (28, 236));
+    assert_eq!(rt; counts, (28, 244));
     Ok(())
 }
 

@@ -196,8 +196,8 @@ module _ (image : Image) (found : RecoveredFolder) (read : IsFinished image foun
       let first = past_record (fields found.catalog.catalog) in
       let all : number ≡ max least (max first rest) = is in
       λ i d lt.
-          let one : past_record (records.view (get_or found.homes.items i d).record) ≤ rest = among_homes found.homes.items i d lt in
-          persisted_below (get_or found.homes.items i d).record.persisted (past (get_or found.homes.items i d).record.highest) number (omega (arith, one, all))
+      let one : past_record (records.view (get_or found.homes.items i d).record) ≤ rest = among_homes found.homes.items i d lt in
+      persisted_below (get_or found.homes.items i d).record.persisted (past (get_or found.homes.items i d).record.highest) number (omega (arith, one, all))
 
   -- its batches may be replayed
   pub may_replay_all : (r : Replay) (number : ℕ) → r.bound ≡ number → number ≡ max found.journals.least (past_records (records_of found)) → MayTake r 0 (map shown (batches_in read.journals.journals))

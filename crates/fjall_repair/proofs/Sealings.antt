@@ -67,9 +67,10 @@ reached_here number j b left ends = by (reaches j.watermarks number) refl
 passes_more : (test other : ℕ → Bool) (trees : Forest) → ((n : ℕ) → test n ≡ true → other n ≡ true) → ActivesPass test trees → ActivesPass other trees
 passes_more test other trees more all i d lt =
     let h : Held = (get_or trees i d).shape.memory.active in
-    let here = all i d lt in
-    (All-weaker (λ (v : Entry). test v.number ≡ true) (λ (v : Entry). other v.number ≡ true) (λ v. more v.number) h.versions here.0,
-    All-weaker (λ n. test n ≡ true) (λ n. other n ≡ true) more h.clears here.1)
+    let here = all i d lt in (
+      All-weaker (λ (v : Entry). test v.number ≡ true) (λ (v : Entry). other v.number ≡ true) (λ v. more v.number) h.versions here.0,
+      All-weaker (λ n. test n ≡ true) (λ n. other n ≡ true) more h.clears here.1,
+    )
 
 -- ---- replayed batches
 

@@ -53,21 +53,21 @@ returns-clause-ok g c honest journals torn held =
     let start : Progress = record { trees = c.args.loaded; place = 0; least = 0 } in
     let begun : IsUnderway r loaded [] start = nothing_taken r loaded start c.requires.unwritten refl refl refl in
     let way : IsUnderway r loaded (map shown (batches_in journals)) c.if-ids-lt1.progress =
-        elim c.if-ids-lt1.branch [
-          in_default w ↦
-              subst (λ (l : List Shown). IsUnderway r loaded l c.if-ids-lt1.progress) (sym (none_held image c.args.ids.now c.args.end torn journals w.in_default.len_below held))
-              (subst (IsUnderway r loaded []) (sym w.progress-is) begun) |
-          in-len1-up+in_ok-replay_sealed+in_ok-replay_file w ↦
-              let split = split_of image c.args.ids.now c.args.end torn journals w.in-len1-up.len_at_least held in
-              let same = ap standing (w.in_ok-replay_sealed.ensures.same honest).state in
-              let text = ap (λ id. take c.args.end (journal_text image id)) (sym split.last) ∙ split.text in
-              let first = w.in_ok-replay_sealed.ensures.ok honest split.sealed loaded [] split.named split.whole begun in
-              let second =
-              w.in_ok-replay_file.ensures.ok honest split.active.batches loaded (map shown (batches_in split.sealed)) split.each
-              (subst (λ (i : Image). take c.args.end (journal_text i (get_or c.args.ids.now (length c.args.ids.now - 1) 0)) ≡ flat_map batch_text split.active.batches) (sym same) text) first in
-              subst (λ (l : List Shown). IsUnderway r loaded l c.if-ids-lt1.progress) (sym split.batches)
-              (subst (IsUnderway r loaded (map shown (batches_in split.sealed) ++ map shown split.active.batches)) (sym w.progress-is) second)
-        ] in
+    elim c.if-ids-lt1.branch [
+      | in_default w ↦
+          subst (λ (l : List Shown). IsUnderway r loaded l c.if-ids-lt1.progress) (sym (none_held image c.args.ids.now c.args.end torn journals w.in_default.len_below held))
+          (subst (IsUnderway r loaded []) (sym w.progress-is) begun)
+      | in-len1-up+in_ok-replay_sealed+in_ok-replay_file w ↦
+          let split = split_of image c.args.ids.now c.args.end torn journals w.in-len1-up.len_at_least held in
+          let same = ap standing (w.in_ok-replay_sealed.ensures.same honest).state in
+          let text = ap (λ id. take c.args.end (journal_text image id)) (sym split.last) ∙ split.text in
+          let first = w.in_ok-replay_sealed.ensures.ok honest split.sealed loaded [] split.named split.whole begun in
+          let second =
+          w.in_ok-replay_file.ensures.ok honest split.active.batches loaded (map shown (batches_in split.sealed)) split.each
+          (subst (λ (i : Image). take c.args.end (journal_text i (get_or c.args.ids.now (length c.args.ids.now - 1) 0)) ≡ flat_map batch_text split.active.batches) (sym same) text) first in
+          subst (λ (l : List Shown). IsUnderway r loaded l c.if-ids-lt1.progress) (sym split.batches)
+          (subst (IsUnderway r loaded (map shown (batches_in split.sealed) ++ map shown split.active.batches)) (sym w.progress-is) second)
+    ] in
     c.finish.ensures.ok loaded (map shown (batches_in journals)) way.trees
 
 pub returns-clause-some : goal.returns-clause-some
@@ -77,13 +77,13 @@ returns-clause-some g c =
     let start : Progress = record { trees = c.args.loaded; place = 0; least = 0 } in
     let begun : IsUnderway r loaded [] start = nothing_taken r loaded start c.requires.unwritten refl refl refl in
     let way : (front : List Shown) × IsUnderway r loaded front c.if-ids-lt1.progress =
-        elim c.if-ids-lt1.branch [
-          in_default w ↦ ([], subst (IsUnderway r loaded []) (sym w.progress-is) begun) |
-          in-len1-up+in_ok-replay_sealed+in_ok-replay_file w ↦
-              let first = w.in_ok-replay_sealed.ensures.some loaded [] begun in
-              let second = w.in_ok-replay_file.ensures.some loaded ([] ++ first.0) first.1 in
-              (([] ++ first.0) ++ second.0, subst (IsUnderway r loaded (([] ++ first.0) ++ second.0)) (sym w.progress-is) second.1)
-        ] in
+    elim c.if-ids-lt1.branch [
+      | in_default w ↦ ([], subst (IsUnderway r loaded []) (sym w.progress-is) begun)
+      | in-len1-up+in_ok-replay_sealed+in_ok-replay_file w ↦
+          let first = w.in_ok-replay_sealed.ensures.some loaded [] begun in
+          let second = w.in_ok-replay_file.ensures.some loaded ([] ++ first.0) first.1 in
+          (([] ++ first.0) ++ second.0, subst (IsUnderway r loaded (([] ++ first.0) ++ second.0)) (sym w.progress-is) second.1)
+    ] in
     some_front c.finish.result r.keyspaces.now r.persisted.now loaded way.0 (c.finish.ensures.ok loaded way.0 way.1.trees)
 
 pub returns-clause-parted : goal.returns-clause-parted
@@ -93,13 +93,13 @@ returns-clause-parted g c =
     let start : Progress = record { trees = c.args.loaded; place = 0; least = 0 } in
     let begun : IsUnderway r loaded [] start = nothing_taken r loaded start c.requires.unwritten refl refl refl in
     let way : (front : List Shown) × IsUnderway r loaded front c.if-ids-lt1.progress =
-        elim c.if-ids-lt1.branch [
-          in_default w ↦ ([], subst (IsUnderway r loaded []) (sym w.progress-is) begun) |
-          in-len1-up+in_ok-replay_sealed+in_ok-replay_file w ↦
-              let first = w.in_ok-replay_sealed.ensures.some loaded [] begun in
-              let second = w.in_ok-replay_file.ensures.some loaded ([] ++ first.0) first.1 in
-              (([] ++ first.0) ++ second.0, subst (IsUnderway r loaded (([] ++ first.0) ++ second.0)) (sym w.progress-is) second.1)
-        ] in
+    elim c.if-ids-lt1.branch [
+      | in_default w ↦ ([], subst (IsUnderway r loaded []) (sym w.progress-is) begun)
+      | in-len1-up+in_ok-replay_sealed+in_ok-replay_file w ↦
+          let first = w.in_ok-replay_sealed.ensures.some loaded [] begun in
+          let second = w.in_ok-replay_file.ensures.some loaded ([] ++ first.0) first.1 in
+          (([] ++ first.0) ++ second.0, subst (IsUnderway r loaded (([] ++ first.0) ++ second.0)) (sym w.progress-is) second.1)
+    ] in
     c.finish.ensures.parted loaded way.0 way.1.trees
 
 pub returns-clause-below : goal.returns-clause-below
@@ -109,11 +109,11 @@ returns-clause-below g c low =
     let start : Progress = record { trees = c.args.loaded; place = 0; least = 0 } in
     let begun : IsUnderway r loaded [] start = nothing_taken r loaded start c.requires.unwritten refl refl refl in
     let way : (front : List Shown) × IsUnderway r loaded front c.if-ids-lt1.progress =
-        elim c.if-ids-lt1.branch [
-          in_default w ↦ ([], subst (IsUnderway r loaded []) (sym w.progress-is) begun) |
-          in-len1-up+in_ok-replay_sealed+in_ok-replay_file w ↦
-              let first = w.in_ok-replay_sealed.ensures.some loaded [] begun in
-              let second = w.in_ok-replay_file.ensures.some loaded ([] ++ first.0) first.1 in
-              (([] ++ first.0) ++ second.0, subst (IsUnderway r loaded (([] ++ first.0) ++ second.0)) (sym w.progress-is) second.1)
-        ] in
+    elim c.if-ids-lt1.branch [
+      | in_default w ↦ ([], subst (IsUnderway r loaded []) (sym w.progress-is) begun)
+      | in-len1-up+in_ok-replay_sealed+in_ok-replay_file w ↦
+          let first = w.in_ok-replay_sealed.ensures.some loaded [] begun in
+          let second = w.in_ok-replay_file.ensures.some loaded ([] ++ first.0) first.1 in
+          (([] ++ first.0) ++ second.0, subst (IsUnderway r loaded (([] ++ first.0) ++ second.0)) (sym w.progress-is) second.1)
+    ] in
     now_before c.finish.result r.bound loaded (c.finish.ensures.before loaded way.0 way.1.trees) low

@@ -14,8 +14,8 @@ pub returns-then-batch-self-clause-only : goal.returns-then-batch-self-clause-on
 returns-then-batch-self-clause-only c may =
     let b : Shown = view c.args.batch.now in
     elim c.then-batch-self.branch [
-      then-batch-self-via-then-batch-self w ↦ absurd (too_high c.args.self.now c.args.progress.now.least b may w.if-batch-self.true) |
-      then-batch-self-via-else-batch-self+then-not-is_fit w ↦ absurd (unfit c.args.self.now c.args.progress.now.least b w.is_fit.result may w.is_fit.ensures w.if-not-is_fit.true)
+      | then-batch-self-via-then-batch-self w ↦ absurd (too_high c.args.self.now c.args.progress.now.least b may w.if-batch-self.true)
+      | then-batch-self-via-else-batch-self+then-not-is_fit w ↦ absurd (unfit c.args.self.now c.args.progress.now.least b w.is_fit.result may w.is_fit.ensures w.if-not-is_fit.true)
     ]
 
 pub returns-clause-ok : goal.returns-clause-ok
