@@ -317,7 +317,7 @@ fn each_call_up_to_the_148th_fails(rt: HostRuntime) -> Result<(), Fail> {
 #[test]
 fn each_call_up_to_the_185th_fails(rt: HostRuntime) -> Result<(), Fail> {
     let count = check_faults(rt.alloc(), script(), 148, 185)?;
-    assert!(rt; count > 400, "{count} crashes");
+    assert!(rt; count > 300, "{count} crashes");
     Ok(())
 }
 
