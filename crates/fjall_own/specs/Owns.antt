@@ -40,14 +40,17 @@ op_parts (Put value) = (Some value, false)
 op_parts Remove = (None, false)
 op_parts RemoveWeak = (None, true)
 
+-- the removal, a weak one or the other
 abbrev pub removal : Bool → Op
 removal true = RemoveWeak
 removal false = Remove
 
+-- the write that has these parts
 abbrev pub op_from : Option Bytes × Bool → Op
 op_from (Some value, weak) = Put value
 op_from (None, weak) = removal weak
 
+-- the parts of a write give it back
 pub op_back : (op : Op) → op_from (op_parts op) ≡ op
 op_back (Put value) = refl
 op_back Remove = refl
