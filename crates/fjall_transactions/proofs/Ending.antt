@@ -1,0 +1,247 @@
+-- What a commit makes of a state.
+use Rattle.std.proofs.Common.{◌≡◌, ◌+◌, ◌≤◌, ◌<◌, inl, inr, ℕ, Bool, true, false, List, [], ◌∷◌, ◌++◌, All, Option, None, Some, cond, map, length, drop, refl, sym, ap, subst, ◌∙◌, arith, nat_le}
+use Rattle.std.specs.FinMap.{empty, get}
+use Rattle.std.proofs.Math.Seq.{drop-append_seam, drop-length}
+use Rattle.std.proofs.lemmas.Bool.{true≢false}
+use Rattle.std.proofs.lemmas.Bool.Decides.{nat_tests}
+use Rattle.std.proofs.lemmas.List.{append-nil}
+use Rattle.std.proofs.lemmas.List.Elements.{All-weaker}
+use Rattle.fjall_base.specs.Store.{Command}
+use Rattle.fjall_base.specs.declared.error.Error.{Error}
+use Rattle.fjall_base.specs.declared.error.Error.TheVariants.{Io, NumbersUsedUp, OutOfMemory, Poisoned, SnapshotClosed, Storage, TooManyItems, ValueTooLong}
+use Rattle.fjall_journal.specs.Changes.{Change, Items}
+use Rattle.fjall_journal.specs.Ops.{BatchItem, write_of}
+use Rattle.fjall_tx.specs.Marks.{Mark, Marks}
+use Rattle.fjall_tx.specs.declared.oracle.Committed.{Committed}
+use Rattle.fjall_tx.specs.declared.outcome.CommitOutcome.{CommitOutcome}
+use Rattle.fjall_tx.specs.declared.outcome.CommitOutcome.TheVariants as outcomes
+use Rattle.fjall_tx.specs.Oracles.{Conflicts, commit_of, pruned, with_commit}
+use Rattle.fjall_tx.proofs.Commits.{with_last_commit}
+use Rattle.fjall_own.specs.Owns.{items_of}
+use Rattle.fjall_history.specs.declared.reply.Reply.{Reply}
+use Rattle.fjall_history.specs.declared.reply.Reply.TheVariants.{Done, Refused}
+use Rattle.fjall_history.specs.Histories.{Accepted, Commit, History, commands_of, commits, grown, number, plain}
+use Rattle.fjall_history.specs.Moves.{Times}
+use Rattle.fjall_history.specs.Tickets.{Tickets}
+use Rattle.fjall_history.proofs.Moving.{never_lower, sound_move}
+use Rattle.fjall_history.proofs.Views.{commands_append}
+use Rattle.fjall_serial.specs.Checked.{IsChecked, MayCommit}
+use Rattle.fjall_serial.proofs.Growing.{checked_commit, commits_commit, still_pruned}
+use Rattle.fjall_state.specs.Shapes.{ByMode, Close, OfChange, OfTickets, Persistence}
+use Rattle.fjall_state.specs.Machine.{MayFail, Refuses, State, StepOf, TakesMemory, accepted, due, times}
+use Rattle.fjall_state.proofs.Moving.{shape_moves}
+use Rattle.fjall_state.proofs.Refusing.{memory_steps}
+use Rattle.fjall_core.specs.Holding.{Held}
+use Rattle.fjall_core.specs.Standing.{ReadsOn, Serves, StandsFor}
+use Rattle.fjall_transactions.specs.Commits.{Comes, Commits, Ends, Fails, Gone, Idle, Lets, Meets, change_of}
+use Rattle.fjall_transactions.specs.Standing.{CommitStep, IsCommitted, IsGone, IsIdle, IsMet, IsRefused, StandFor, Told, accepted_of, gone_on, history_of}
+use Rattle.fjall_transactions.specs.Transactions.{Kept, MeetsSome, Tx, committed, with_items}
+use Rattle.fjall_transactions.proofs.Items.{items_within, same_reads, some_items}
+use Rattle.fjall_transactions.proofs.Standing.{exact, kept_of_core, same_number, shape_stands, upto_within}
+
+-- ---- what steps make of the history
+
+-- a call that accepts nothing leaves what is told
+same_told : (t : Told) (s : State) → s.history ≡ t.state.history → gone_on t s ≡ record { state = s; accepted = t.accepted }
+same_told t s e =
+    let none : drop (length t.state.history.accepted) s.history.accepted ≡ [] = ap (λ (h : History). drop (length t.state.history.accepted) h.accepted) e ∙ drop-length t.state.history.accepted in
+    let first : gone_on t s ≡ record { state = s; accepted = t.accepted ++ [] } = ap (λ (l : List Accepted). record { state = s; accepted = t.accepted ++ map plain (commands_of l) }) none in
+    first ∙ ap (λ (l : List Accepted). record { state = s; accepted = l }) (append-nil t.accepted)
+
+-- one that accepts a command adds it
+grown_told : (t : Told) (s : State) (command : Command) → s.history ≡ grown t.state.history (plain command) → gone_on t s ≡ record { state = s; accepted = t.accepted ++ plain command ∷ [] }
+grown_told t s command e =
+    let more : drop (length t.state.history.accepted) s.history.accepted ≡ plain command ∷ [] =
+    ap (λ (h : History). drop (length t.state.history.accepted) h.accepted) e ∙ drop-append_seam t.state.history.accepted (plain command ∷ []) in
+    ap (λ (l : List Accepted). record { state = s; accepted = t.accepted ++ map plain (commands_of l) }) more
+
+failed_history : (s t : State) (change : Change) (how : Persistence) (error : Error) → MayFail (OfChange change how) error s t → t.history ≡ s.history
+failed_history s t change how (Io kind) (inl (changes, fault)) = ap (λ (k : State). k.history) fault.is
+failed_history s t change how (Io kind) (inr (inl (reads, same))) = ap (λ (k : State). k.history) same
+failed_history s t change how (Io kind) (inr (inr fails)) = absurd fails
+failed_history s t change how OutOfMemory (takes, same) = ap (λ (k : State). k.history) same
+failed_history s t change how (Storage told) (is, damaged, same) = ap (λ (k : State). k.history) same
+failed_history s t change how ValueTooLong (long, same) = ap (λ (k : State). k.history) same
+failed_history s t change how Poisoned (late, same) = ap (λ (k : State). k.history) same
+failed_history s t change how NumbersUsedUp (used_up, same) = ap (λ (k : State). k.history) same
+failed_history s t change how TooManyItems (none_left, same) = ap (λ (k : State). k.history) same
+failed_history s t change how error none = absurd none
+
+-- a change that is refused accepts nothing
+refused_history : (s t : State) (change : Change) (how : Persistence) (error : Error) (first : Option Error) → Refuses first (OfChange change how) error s t → t.history ≡ s.history
+refused_history s t change how error (Some f) (is, same) = ap (λ (k : State). k.history) same
+refused_history s t change how error None fails = failed_history s t change how error fails
+
+-- a change of some items takes memory
+takes_memory : (items : List BatchItem) (how : Persistence) → (items ≡ [] → ⊥) → TakesMemory (OfChange (Items items) how)
+takes_memory [] how some = absurd (some refl)
+takes_memory (item ∷ items) how some = tt
+
+-- one that is made accepts its command
+made_history : (s t : State) (items : List BatchItem) (how : Persistence) → (items ≡ [] → ⊥) → t ≡ accepted s (Items items) how → t.history ≡ grown s.history (plain (write_of items))
+made_history s t [] how some is = absurd (some refl)
+made_history s t (item ∷ items) how some is = ap (λ (k : State). k.history) is
+
+-- ---- a transaction that commits
+
+-- what no open one can meet may be forgotten twice
+either : (c : Committed) (rest : List Committed) (a b : ℕ) (x y : Bool) → a ≤ b → nat_le a c.number ≡ x → nat_le b c.number ≡ y → pruned (pruned rest a) b ≡ pruned rest b
+    → pruned (cond x (c ∷ pruned rest a) (pruned rest a)) b ≡ cond y (c ∷ pruned rest b) (pruned rest b)
+either c rest a b true y le e f h = ap (λ z. cond z (c ∷ pruned (pruned rest a) b) (pruned (pruned rest a) b)) f ∙ ap (λ l. cond y (c ∷ l) l) h
+either c rest a b false true le e f h = absurd (true≢false (sym (let yes : nat_le a c.number ≡ true = grind (arith, nat_tests) in yes) ∙ e))
+either c rest a b false false le e f h = h
+
+twice : (all : List Committed) (a b : ℕ) → a ≤ b → pruned (pruned all a) b ≡ pruned all b
+twice [] a b le = refl
+twice (c ∷ rest) a b le = either c rest a b (nat_le a c.number) (nat_le b c.number) le refl refl (twice rest a b le)
+
+-- up to which commits were forgotten is not above the next number
+upto_number : (core : Held) (kept : Kept) (t : Told) (stands : StandFor core kept t) → stands.upto ≤ number (history_of t)
+upto_number core kept t stands =
+    subst (λ n. stands.upto ≤ n) (sym (same_number core kept t stands))
+    (upto_within stands.upto core.memory.tickets.watermark core.memory.next (subst (λ (k : Tickets). stands.upto ≤ k.watermark) stands.machine.remembered.tickets stands.passed) stands.machine.remembered.lawful.spared)
+
+marked_stands : (core new : Held) (kept : Kept) (t : Told) (s : State) (id instant : ℕ) (marks : Marks) (items : List BatchItem) (how : Persistence) → StandFor core kept t
+    → get t.state.tickets.instants id ≡ Some instant → (Conflicts instant marks.reads (commits (history_of t)) → ⊥) → s.history ≡ grown t.state.history (plain (write_of items))
+    → StepOf t.state (OfChange (Items items) how) Done s → StandsFor new s
+    → StandFor new (record kept { commits = committed core.memory.next (Some marks) items kept.commits }) (record { state = s; accepted = t.accepted ++ accepted_of instant (Some marks) items ∷ [] })
+marked_stands core new kept t s id instant marks items how stands there apart e step is =
+    let one = accepted_of instant (Some marks) items in
+    let c : Commit = record { instant = instant; marks = with_items marks items } in
+    let moves = shape_moves t.state s (OfChange (Items items) how) Done step in
+    let told : record s.history { accepted = t.accepted ++ one ∷ [] } ≡ grown (history_of t) one = ap (λ (h : History). record h { accepted = t.accepted ++ one ∷ [] }) e in
+    let next = same_number core kept t stands in
+    let number_is : number (history_of t) ≡ number t.state.history = next ∙ sym stands.machine.remembered.number in
+    let within = stands.sound id instant there in
+    let may : MayCommit (history_of t) (write_of items) c = record {
+      since = within.1;
+      until = subst (λ n. instant ≤ n) (sym number_is) within.2;
+      within = items_within items marks;
+      apart = λ met. apart (subst (λ r. Conflicts instant r (commits (history_of t))) (same_reads items marks) met);
+    } in
+    let below : All (λ (d : Committed). d.number ≤ number (history_of t)) kept.commits =
+    All-weaker (λ (d : Committed). d.number < core.memory.next) (λ (d : Committed). d.number ≤ number (history_of t)) (λ d lt. subst (λ n. d.number ≤ n) (sym next) (omega (arith, lt))) kept.commits (kept_of_core core kept t stands) in
+    record {
+      machine = is;
+      same = commands_append t.accepted (one ∷ []) ∙ ap (λ l. l ++ write_of items ∷ []) stands.same ∙ sym (commands_append t.state.history.accepted (plain (write_of items) ∷ [])) ∙ sym (ap (λ (h : History). commands_of h.accepted) e);
+      sound = sound_move (times t.state) (times s) stands.sound moves;
+      checked = subst IsChecked (sym told) (checked_commit (history_of t) (write_of items) c stands.checked may);
+      upto = stands.upto;
+      passed = let before = stands.passed in let later = never_lower (times t.state) (times s) moves in omega (arith, before, later);
+      keeps =
+        ap (λ n. kept.commits ++ commit_of n (with_items marks items).writes ∷ []) (sym next)
+        ∙ sym (with_last_commit kept.commits (commit_of (number (history_of t)) (with_items marks items).writes) below)
+        ∙ ap (λ l. with_commit l (commit_of (number (history_of t)) (with_items marks items).writes)) stands.keeps
+        ∙ still_pruned (history_of t) (write_of items) c stands.upto (upto_number core kept t stands)
+        ∙ ap (λ h. pruned (commits h) stands.upto) (sym told);
+    }
+
+-- the single writer's commits as any command
+single_stands : (core new : Held) (kept : Kept) (t : Told) (s : State) (items : List BatchItem) (how : Persistence) → StandFor core kept t
+    → s.history ≡ grown t.state.history (plain (write_of items)) → StepOf t.state (OfChange (Items items) how) Done s → StandsFor new s
+    → StandFor new kept (record { state = s; accepted = t.accepted ++ plain (write_of items) ∷ [] })
+single_stands core new kept t s items how stands e step is =
+    subst (λ u. StandFor new kept u) (grown_told t s (write_of items) e) (shape_stands core new kept t s (OfChange (Items items) how) Done stands step is)
+
+committed_stands : (core new : Held) (kept : Kept) (t : Told) (s : State) (id instant : ℕ) (marks : Option Marks) (items : List BatchItem) (how : Persistence) → StandFor core kept t
+    → get t.state.tickets.instants id ≡ Some instant → (MeetsSome instant marks (commits (history_of t)) → ⊥) → s.history ≡ grown t.state.history (plain (write_of items))
+    → StepOf t.state (OfChange (Items items) how) Done s → StandsFor new s
+    → StandFor new (record kept { commits = committed core.memory.next marks items kept.commits }) (record { state = s; accepted = t.accepted ++ accepted_of instant marks items ∷ [] })
+committed_stands core new kept t s id instant None items how stands there apart e step is = single_stands core new kept t s items how stands e step is
+committed_stands core new kept t s id instant (Some marks) items how stands there apart e step is = marked_stands core new kept t s id instant marks items how stands there apart e step is
+
+-- one that is refused leaves what is told
+refused_stands : (core new : Held) (kept : Kept) (t : Told) (s : State) (change : Change) (how : Persistence) (error : Error) → StandFor core kept t
+    → StepOf t.state (OfChange change how) (Refused error) s → StandsFor new s → StandFor new kept (record { state = s; accepted = t.accepted })
+refused_stands core new kept t s change how error stands step is =
+    subst (λ u. StandFor new kept u) (same_told t s (refused_history t.state s change how error (due t.state (OfChange change how)) step))
+    (shape_stands core new kept t s (OfChange change how) (Refused error) stands step is)
+
+-- ---- its ticket is closed
+
+closed_stands : (core new : Held) (kept : Kept) (t : Told) (s : State) (id : ℕ) → StandFor core kept t → StepOf t.state (OfTickets (Close id)) Done s → StandsFor new s
+    → StandFor new kept (record { state = s; accepted = t.accepted })
+closed_stands core new kept t s id stands step is =
+    subst (λ u. StandFor new kept u) (same_told t s (ap (λ (k : State). k.history) step.1.1)) (shape_stands core new kept t s (OfTickets (Close id)) Done stands step is)
+
+pruned_stands : (core : Held) (kept : Kept) (t : Told) → StandFor core kept t → StandFor core (record kept { commits = pruned kept.commits core.memory.tickets.watermark }) t
+pruned_stands core kept t stands =
+    let same = stands.machine.remembered.tickets in
+    let le : stands.upto ≤ core.memory.tickets.watermark = subst (λ (k : Tickets). stands.upto ≤ k.watermark) same stands.passed in
+    record {
+      machine = stands.machine;
+      same = stands.same;
+      sound = stands.sound;
+      checked = stands.checked;
+      upto = core.memory.tickets.watermark;
+      passed = subst (λ (k : Tickets). k.watermark ≤ t.state.tickets.watermark) same (omega arith);
+      keeps = ap (λ l. pruned l core.memory.tickets.watermark) stands.keeps ∙ twice (commits (history_of t)) stands.upto core.memory.tickets.watermark le;
+    }
+
+-- what the core does as the ticket is closed
+finished : (core left : Held) (kept : Kept) (t : Told) (id : ℕ) → StandFor core kept t → ReadsOn core t.state → Serves core (OfTickets (Close id)) Done left
+    → (s : State) × StandFor left (record kept { commits = pruned kept.commits left.memory.tickets.watermark }) (record { state = s; accepted = t.accepted }) × ReadsOn left s × StepOf t.state (OfTickets (Close id)) Done s
+finished core left kept t id stands reads closes =
+    let (s, is, on, step, led) = closes.goes_on t.state stands.machine reads in
+    let stay : StandFor left kept (record { state = s; accepted = t.accepted }) = closed_stands core left kept t s id stands step is in
+    (s, pruned_stands left kept (record { state = s; accepted = t.accepted }) stay, on, step)
+
+-- ---- all together
+
+-- a conflict with those that are kept is one with all
+met_all : (core : Held) (kept : Kept) (t : Told) (stands : StandFor core kept t) (id instant : ℕ) (marks : Option Marks) → get t.state.tickets.instants id ≡ Some instant
+    → MeetsSome instant marks kept.commits → MeetsSome instant marks (commits (history_of t))
+met_all core kept t stands id instant None there met = absurd met
+met_all core kept t stands id instant (Some marks) there met = (exact core kept t stands id instant there marks.reads).0 met
+
+met_kept : (core : Held) (kept : Kept) (t : Told) (stands : StandFor core kept t) (id instant : ℕ) (marks : Option Marks) → get t.state.tickets.instants id ≡ Some instant
+    → MeetsSome instant marks (commits (history_of t)) → MeetsSome instant marks kept.commits
+met_kept core kept t stands id instant None there met = absurd met
+met_kept core kept t stands id instant (Some marks) there met = (exact core kept t stands id instant there marks.reads).1 met
+
+-- what a commit comes to, behind which its ticket is closed
+abbrev Ended : (left : Held) (new : Kept) (t : Told) (tx : Tx) (outcome : CommitOutcome Error) → Type 0
+Ended left new t tx outcome = (after : Told) × StandFor left new after × ReadsOn left after.state × CommitStep t tx outcome after
+
+comes_stands : (core mid left : Held) (kept : Kept) (t : Told) (tx : Tx) (outcome : CommitOutcome Error) (instant : ℕ) (all : List Committed) → StandFor core kept t → ReadsOn core t.state
+    → get t.state.tickets.instants tx.ticket.id ≡ Some instant → Comes Serves kept.commits core instant tx outcome all mid → Serves mid (OfTickets (Close tx.ticket.id)) Done left
+    → Ended left (record kept { commits = pruned all left.memory.tickets.watermark }) t tx outcome
+comes_stands core mid left kept t tx outcome instant all stands reads there (Idle none told same_commits same) closes =
+    let (s, stay, on, step) = finished core left kept t tx.ticket.id stands reads (subst (λ m. Serves m (OfTickets (Close tx.ticket.id)) Done left) same closes) in
+    (record { state = s; accepted = t.accepted }, subst (λ l. StandFor left (record kept { commits = pruned l left.memory.tickets.watermark }) (record { state = s; accepted = t.accepted })) (sym same_commits) stay, on, IsIdle instant there none told step refl)
+comes_stands core mid left kept t tx outcome instant all stands reads there (Meets some met told same_commits same) closes =
+    let (s, stay, on, step) = finished core left kept t tx.ticket.id stands reads (subst (λ m. Serves m (OfTickets (Close tx.ticket.id)) Done left) same closes) in
+    (record { state = s; accepted = t.accepted }, subst (λ l. StandFor left (record kept { commits = pruned l left.memory.tickets.watermark }) (record { state = s; accepted = t.accepted })) (sym same_commits) stay, on, IsMet instant there some (met_all core kept t stands tx.ticket.id instant tx.marks there met) told step refl)
+comes_stands core mid left kept t tx outcome instant all stands reads there (Fails some apart error told same_commits (inl refused)) closes =
+    let (m, is, amid, step, led) = refused.goes_on t.state stands.machine reads in
+    let here : StandFor mid kept (record { state = m; accepted = t.accepted }) = refused_stands core mid kept t m (Items (items_of tx.own)) (ByMode tx.mode) error stands step is in
+    let (s, stay, on, close) = finished mid left kept (record { state = m; accepted = t.accepted }) tx.ticket.id here amid closes in
+    (record { state = s; accepted = t.accepted }, subst (λ l. StandFor left (record kept { commits = pruned l left.memory.tickets.watermark }) (record { state = s; accepted = t.accepted })) (sym same_commits) stay, on,
+    IsRefused instant there some (λ met. apart (met_kept core kept t stands tx.ticket.id instant tx.marks there met)) error told m step close refl)
+comes_stands core mid left kept t tx outcome instant all stands reads there (Fails some apart error told same_commits (inr (is, same))) closes =
+    let step = memory_steps core.memory core.catalog.next_table_id t.state stands.machine.remembered (change_of tx) error (takes_memory (items_of tx.own) (ByMode tx.mode) (some_items tx.own some)) is in
+    let (s, stay, on, close) = finished core left kept t tx.ticket.id stands reads (subst (λ m. Serves m (OfTickets (Close tx.ticket.id)) Done left) same closes) in
+    (record { state = s; accepted = t.accepted }, subst (λ l. StandFor left (record kept { commits = pruned l left.memory.tickets.watermark }) (record { state = s; accepted = t.accepted })) (sym same_commits) stay, on,
+    IsRefused instant there some (λ met. apart (met_kept core kept t stands tx.ticket.id instant tx.marks there met)) error told t.state step close refl)
+comes_stands core mid left kept t tx outcome instant all stands reads there (Commits some apart told grown_commits made) closes =
+    let (m, is, amid, step, led) = made.goes_on t.state stands.machine reads in
+    let e = made_history t.state m (items_of tx.own) (ByMode tx.mode) (some_items tx.own some) step.1.1 in
+    let free = λ (met : MeetsSome instant tx.marks (commits (history_of t))). apart (met_kept core kept t stands tx.ticket.id instant tx.marks there met) in
+    let u : Told = record { state = m; accepted = t.accepted ++ accepted_of instant tx.marks (items_of tx.own) ∷ [] } in
+    let here : StandFor mid (record kept { commits = committed core.memory.next tx.marks (items_of tx.own) kept.commits }) u =
+    committed_stands core mid kept t m tx.ticket.id instant tx.marks (items_of tx.own) (ByMode tx.mode) stands there free e step is in
+    let (s, stay, on, close) = finished mid left (record kept { commits = committed core.memory.next tx.marks (items_of tx.own) kept.commits }) u tx.ticket.id here amid closes in
+    (record { state = s; accepted = u.accepted }, subst (λ l. StandFor left (record kept { commits = pruned l left.memory.tickets.watermark }) (record { state = s; accepted = u.accepted })) (sym grown_commits) stay, on,
+    IsCommitted instant there some free told m step close refl)
+
+pub commit_stands : (core left : Held) (kept new : Kept) (t : Told) (tx : Tx) (outcome : CommitOutcome Error) → StandFor core kept t → ReadsOn core t.state
+    → Ends Serves kept core tx outcome new left → (after : Told) × StandFor left new after × ReadsOn left after.state × CommitStep t tx outcome after
+commit_stands core left kept new t tx outcome stands reads (Gone none told same_kept same) =
+    let tickets = stands.machine.remembered.tickets in
+    (t, subst (λ k. StandFor left k t) (sym same_kept) (subst (λ c. StandFor c kept t) (sym same) stands), subst (λ c. ReadsOn c t.state) (sym same) reads,
+    IsGone (subst (λ (k : Tickets). get k.instants tx.ticket.id ≡ None) (sym tickets) none) told refl)
+commit_stands core left kept new t tx outcome stands reads (Lets instant opened all mid comes closes kept_is) =
+    let tickets = stands.machine.remembered.tickets in
+    let there : get t.state.tickets.instants tx.ticket.id ≡ Some instant = subst (λ (k : Tickets). get k.instants tx.ticket.id ≡ Some instant) (sym tickets) opened in
+    let (after, stay, on, step) = comes_stands core mid left kept t tx outcome instant all stands reads there comes closes in
+    (after, subst (λ k. StandFor left k after) (sym kept_is) stay, on, step)

@@ -1,0 +1,4 @@
+pub mod Items
+pub mod Standing
+pub mod Ending
+pub mod Asking

@@ -1,0 +1,3 @@
+pub mod Transactions
+pub mod Commits
+pub mod Standing

@@ -1,0 +1,69 @@
+-- A transaction that is open, and what is kept of those that committed.
+use Rattle.std.specs.Prelude.{ℕ, List, [], ◌∷◌, ◌++◌, All, ◌<◌, Option, None, Some}
+use Rattle.std.specs.Option.{option_map}
+use Rattle.std.specs.FinMap.{empty, insert}
+use Rattle.std.specs.FinSet as set
+use Rattle.fjall_base.specs.Pairs.{Bytes}
+use Rattle.fjall_journal.specs.Ops.{BatchItem}
+use Rattle.fjall_journal.specs.declared.op.Op.{Op}
+use Rattle.fjall_journal.specs.declared.persist_mode.PersistMode.{PersistMode}
+use Rattle.fjall_journal.specs.declared.persist_mode.PersistMode.TheVariants.{Buffer}
+use Rattle.fjall_tx.specs.Marks.{Mark, Marks, with_read, with_write}
+use Rattle.fjall_tx.specs.declared.oracle.Committed.{Committed}
+use Rattle.fjall_tx.specs.Oracles.{Conflicts, commit_of}
+use Rattle.fjall_own.specs.Owns.{Own, key_of}
+use Rattle.fjall_history.specs.declared.ticket.Ticket.{Ticket}
+use Rattle.fjall_core.specs.Holding.{Held}
+
+-- The ticket at whose instant it reads, its own writes, what an optimistic one marked, and how its commit is persisted. The
+-- single writer's marks nothing, since none commits beside it.
+pub record Tx : Type 0 where
+  pub ticket : Ticket
+  pub own : Own
+  pub marks : Option Marks
+  pub mode : Option PersistMode
+
+-- nothing is marked yet
+abbrev pub no_marks : Marks
+no_marks = record { reads = []; writes = set.empty }
+
+-- one that was just begun, optimistic where it marks
+abbrev pub begun : Option Marks → Ticket → Tx
+begun marks ticket = record { ticket = ticket; own = empty; marks = marks; mode = Some Buffer }
+
+-- with one more own write
+abbrev pub with_own : Tx → ℕ → Bytes → Op → Tx
+with_own tx id key op = record tx { own = insert tx.own (key_of id key) op }
+
+-- with one more read mark, where it marks
+abbrev pub having_read : Tx → Mark → Tx
+having_read tx mark = record tx { marks = option_map (λ marks. with_read marks mark) tx.marks }
+
+-- with one more key marked as written, where it marks
+abbrev pub having_touched : Tx → ℕ → Bytes → Tx
+having_touched tx id key = record tx { marks = option_map (λ marks. with_write marks id key) tx.marks }
+
+-- with each key of these items marked as written
+abbrev pub with_items : Marks → List BatchItem → Marks
+with_items marks [] = marks
+with_items marks (item ∷ items) = with_items (with_write marks item.0 item.1) items
+
+-- What is kept beside a core: the optimistic transactions that committed, but for those that none that is open can meet, and
+-- the ticket of the single writer's transaction that was begun last.
+pub record Kept : Type 0 where
+  pub commits : List Committed
+  pub writer : Option Ticket
+
+-- These transactions committed in this core: under numbers below its next one.
+abbrev pub AreOf : Held → List Committed → Type 0
+AreOf core commits = All (λ c. c.number < core.memory.next) commits
+
+-- the reads of a transaction that began at this instant meet one that committed since; the single writer's meet none
+abbrev pub MeetsSome : ℕ → Option Marks → List Committed → Type 0
+MeetsSome instant None commits = ⊥
+MeetsSome instant (Some marks) commits = Conflicts instant marks.reads commits
+
+-- with one more that committed under this number these items, where it marks
+abbrev pub committed : ℕ → Option Marks → List BatchItem → List Committed → List Committed
+committed number None items commits = commits
+committed number (Some marks) items commits = commits ++ commit_of number (with_items marks items).writes ∷ []

@@ -1,0 +1,153 @@
+//! A transaction that is open.
+
+ghost use Rattle.std.specs.Prelude.{◌≡◌, Err, MatchOption, IsOkUnless, OnErr, OnOk, is_none};
+ghost use Rattle.fjall_base.specs.Limits.{item_refusal};
+ghost use Rattle.fjall_base.specs.declared.error.Error.TheVariants.{OutOfMemory};
+ghost use Rattle.fjall_journal.specs.Ops.{bytes_in};
+ghost use Rattle.fjall_journal.specs.declared.op.Op.TheVariants.{Put, Remove, RemoveWeak};
+ghost use Rattle.fjall_tx.specs.Marks.{Mark, OfKey, OfRange, key_bound};
+ghost use Rattle.fjall_transactions.specs.Transactions.{Tx, having_read, having_touched, with_own};
+
+use fjall_base::{KeyBounds, Result, UserKey, UserValue};
+use fjall_core::{Op, PersistMode, Ticket};
+use fjall_own::OwnWrites;
+use fjall_tx::ConflictManager;
+use std::marker::Model;
+
+/// A transaction that is open: it reads at the instant at which it began, with its own writes, which nobody else sees until it
+/// commits. It is open as long as its ticket is.
+#[derive(Drop)]
+pub struct Transaction {
+    pub(crate) ticket: Ticket,
+    pub(crate) own: OwnWrites,
+    pub(crate) marks: Option<ConflictManager>,
+    pub(crate) mode: Option<PersistMode>,
+}
+
+impl Model for Transaction {
+    ghost use Rattle.std.specs.Coded.{codes};
+    ghost use Rattle.fjall_tx.specs.Places.{places_code};
+    ghost use Rattle.fjall_own.specs.Owns.{own_code};
+    ghost use Rattle.fjall_transactions.specs.Transactions.{Tx};
+
+    ghost Value = { Tx };
+
+    ghost coded = { Prim.hlevel (codes, places_code, own_code) };
+
+    ghost view = { λ tx. record { ticket = tx.ticket; own = tx.own; marks = tx.marks; mode = tx.mode } };
+}
+
+impl Transaction {
+    /// The ticket at whose instant it reads.
+    pub fn ticket(&self) -> Ticket
+        ensures { result ≡ self.now.ticket }
+    {
+        self.ticket
+    }
+
+    /// Whether it is the single writer's, which marks nothing.
+    pub fn is_single(&self) -> bool
+        ensures { result ≡ is_none self.now.marks }
+    {
+        self.marks.is_none()
+    }
+
+    /// The transaction, persisted by this mode or none when it commits.
+    pub fn durability(self, mode: Option<PersistMode>) -> Transaction
+        ensures { result ≡ record self { mode = mode } }
+    {
+        Transaction { mode, ..self }
+    }
+
+    // Writes a key of a keyspace.
+    fn write(&mut self, id: u64, key: UserKey, op: Op) -> Result<()>
+        ensures ok { OnOk result (self.new ≡ with_own self.old id key op) }
+        ensures unchanged { OnErr result (self.new ≡ self.old) }
+        ensures refused { MatchOption (item_refusal key (bytes_in op)) (IsOkUnless result OutOfMemory) (λ e. result ≡ Err e) }
+    {
+        self.own.write(id, key, op)
+    }
+
+    /// Gives a key of a keyspace a value. That there is such a keyspace is looked at by the commit.
+    ///
+    /// Refusals, after which all is as before: `KeyEmpty`, `KeyTooLong` above 65,535 bytes, `ValueTooLong` above
+    /// 4,294,967,295, `OutOfMemory`.
+    pub fn insert(&mut self, id: u64, key: UserKey, value: UserValue) -> Result<()>
+        ensures ok { OnOk result (self.new ≡ with_own self.old id key (Put value)) }
+        ensures unchanged { OnErr result (self.new ≡ self.old) }
+        ensures refused { MatchOption (item_refusal key (bytes_in (Put value))) (IsOkUnless result OutOfMemory) (λ e. result ≡ Err e) }
+    {
+        self.write(id, key, Op::Put(value))
+    }
+
+    /// Takes a key of a keyspace and its value away. It is refused as [`insert`](Transaction::insert) is.
+    pub fn remove(&mut self, id: u64, key: UserKey) -> Result<()>
+        ensures ok { OnOk result (self.new ≡ with_own self.old id key Remove) }
+        ensures unchanged { OnErr result (self.new ≡ self.old) }
+        ensures refused { MatchOption (item_refusal key (bytes_in Remove)) (IsOkUnless result OutOfMemory) (λ e. result ≡ Err e) }
+    {
+        self.write(id, key, Op::Remove)
+    }
+
+    /// Acts as [`remove`](Transaction::remove); the journal alone tells the two apart.
+    pub fn remove_weak(&mut self, id: u64, key: UserKey) -> Result<()>
+        ensures ok { OnOk result (self.new ≡ with_own self.old id key RemoveWeak) }
+        ensures unchanged { OnErr result (self.new ≡ self.old) }
+        ensures refused { MatchOption (item_refusal key (bytes_in RemoveWeak)) (IsOkUnless result OutOfMemory) (λ e. result ≡ Err e) }
+    {
+        self.write(id, key, Op::RemoveWeak)
+    }
+
+    /// Its own writes.
+    pub fn own(&self) -> &OwnWrites
+        ensures { result.now ≡ self.now.own }
+    {
+        &self.own
+    }
+
+    /// Marks a key of a keyspace as read, where it is optimistic. It fails where memory is used up.
+    pub fn mark_read(&mut self, id: u64, key: &[u8]) -> Result<()>
+        ensures ok { OnOk result (self.new ≡ having_read self.old (OfKey id key.now)) }
+        ensures unchanged { OnErr result (self.new ≡ self.old) }
+        ensures only { IsOkUnless result OutOfMemory }
+    {
+        match &mut self.marks {
+            Some(marks) => marks.mark_read(id, key),
+            None => Ok(()),
+        }
+    }
+
+    /// Marks the keys of a keyspace between two bounds as read, where it is optimistic. It fails where memory is used up.
+    pub fn mark_range(&mut self, id: u64, range: KeyBounds<'_>) -> Result<()>
+        ensures ok { OnOk result (self.new ≡ having_read self.old (OfRange id (key_bound range.entry.0) (key_bound range.entry.1))) }
+        ensures unchanged { OnErr result (self.new ≡ self.old) }
+        ensures only { IsOkUnless result OutOfMemory }
+    {
+        match &mut self.marks {
+            Some(marks) => marks.mark_range(id, range),
+            None => Ok(()),
+        }
+    }
+
+    /// Marks a key of a keyspace as written, where it is optimistic, though nothing is written there. It fails where memory is used
+    /// up.
+    pub fn mark_written(&mut self, id: u64, key: &[u8]) -> Result<()>
+        ensures ok { OnOk result (self.new ≡ having_touched self.old id key.now) }
+        ensures unchanged { OnErr result (self.new ≡ self.old) }
+        ensures only { IsOkUnless result OutOfMemory }
+    {
+        match &mut self.marks {
+            Some(marks) => marks.mark_conflict(id, key),
+            None => Ok(()),
+        }
+    }
+
+    /// Takes back the read mark that was made last.
+    pub fn take_back_read(&mut self)
+        ensures { (tx : Tx) (mark : Mark) → self.old ≡ having_read tx mark → self.new ≡ tx }
+    {
+        if let Some(marks) = &mut self.marks {
+            marks.take_back_read();
+        }
+    }
+}
