@@ -149,6 +149,11 @@ pub no_items_owe : (core : Held) (items : List BatchItem) (how : Persistence) �
 no_items_owe core [] how is = (refl, (refl, refl))
 no_items_owe core (item ∷ items) how is = let none = eqb-true (length (item ∷ items)) 0 is in let bad : ⊥ = omega (arith, none) in absurd bad
 
+-- of no items nothing is due
+pub none_due : (core : Held) (items : List BatchItem) (how : Persistence) → (length items == 0) ≡ true → held_due core (OfChange (Items items) how) ≡ None
+none_due core [] how is = refl
+none_due core (item ∷ items) how is = let none = eqb-true (length (item ∷ items)) 0 is in let bad : ⊥ = omega (arith, none) in absurd bad
+
 -- what is due, as it was looked for in a core's memory
 pub found_due : (view core : Held) (items : List BatchItem) (how : Persistence) → view ≡ core → (length items == 0) ≡ false → (first : Option Error) → first ≡ first_due (items_refusals (facts_of view.memory 0) items)
     → held_due core (OfChange (Items items) how) ≡ first

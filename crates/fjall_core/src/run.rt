@@ -118,8 +118,9 @@ impl<D: Disk> Core<D> {
         reply
     }
 
-    // Serves one call of a list, where the calls before it got these replies; jobs that are out are kept.
-    fn serve(&mut self, call: Call, replies: &[Reply], jobs: &mut Vec<FlushJob>) -> Reply
+    /// Serves one call of a list, where the calls before it got these replies: it names a ticket and a job by the place of the
+    /// call that opened or began it. The jobs that are out are kept in a list, which has room for one more.
+    pub fn serve(&mut self, call: Call, replies: &[Reply], jobs: &mut Vec<FlushJob>) -> Reply
         requires room { vec_len jobs.old < vec_capacity jobs.old }
         requires keeps { KeepsJobs self.old.memory jobs.old.items replies.now }
         ensures serves { IsTrue D.honest → Serves self.old (shape_of (resolved replies.now call)) result self.new }

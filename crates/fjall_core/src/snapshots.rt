@@ -1,7 +1,7 @@
 //! Snapshots: tickets that keep a view as it is.
 
 ghost use Rattle.std.specs.Prelude.{◌≡◌, IsTrue};
-ghost use Rattle.std.specs.FinMap.{len};
+ghost use Rattle.std.specs.FinMap.{get, len};
 ghost use Rattle.fjall_history.specs.declared.reply.Reply.TheVariants.{Number};
 ghost use Rattle.fjall_state.specs.Machine.{State};
 ghost use Rattle.fjall_state.specs.Shapes.{Clone, Close, Collect, OfTickets, Open};
@@ -50,6 +50,22 @@ impl<D: Disk> Core<D> {
         ensures owes { Owes self.old (OfTickets Collect) (Number result) self.new }
     {
         self.memory.gc()
+    }
+
+    /// The instant at which a snapshot reads, where it is open.
+    pub fn instant_of(&self, ticket: Ticket) -> Option<u64>
+        ensures held { result ≡ get self.now.memory.tickets.instants ticket.id }
+        ensures instant { (s : State) → StandsFor self.now s → result ≡ get s.tickets.instants ticket.id }
+    {
+        self.memory.ticket_instant(ticket.id)
+    }
+
+    /// The watermark, as the last [`gc`](Core::gc) left it: 0, or a number below each instant at which something reads.
+    pub fn watermark(&self) -> u64
+        ensures held { result ≡ self.now.memory.tickets.watermark }
+        ensures watermark { (s : State) → StandsFor self.now s → result ≡ s.tickets.watermark }
+    {
+        self.memory.watermark()
     }
 
     /// How many snapshots are open.

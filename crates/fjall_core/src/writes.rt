@@ -9,7 +9,7 @@ ghost use Rattle.fjall_state.specs.Shapes.{AsKeyspace, ByMode, OfChange, OfPersi
 ghost use Rattle.fjall_core.specs.Crashes.{BlamesDevice};
 ghost use Rattle.fjall_core.specs.Durables.{Durable};
 ghost use Rattle.fjall_core.specs.CallParts.{Writes};
-ghost use Rattle.fjall_core.specs.Standing.{StandsFor, StandsOn, Owes, Serves, mode_of, reply_of, store_in};
+ghost use Rattle.fjall_core.specs.Standing.{StandsFor, StandsOn, Owes, Serves, held_due, mode_of, reply_of, store_in};
 
 use crate::engine::Core;
 use fjall_base::{Disk, Error, Result, UserKey, UserValue};
@@ -120,6 +120,17 @@ impl<D: Disk> Core<D> {
         ensures owes { Owes self.old (OfChange (Items items.items) (ByMode mode)) (reply_of result) self.new }
     {
         self.change(&items, mode)
+    }
+
+    /// Why [`commit_batch`](Core::commit_batch) refuses these items before memory or the disk is asked for anything; none where
+    /// nothing does, as where there are no items.
+    pub fn batch_refusal(&self, items: &[BatchItem]) -> Option<Error>
+        ensures due { (how : Persistence) → result ≡ held_due self.now (OfChange (Items items.now) how) }
+    {
+        if items.is_empty() {
+            return None;
+        }
+        self.memory.change_refusal(items)
     }
 
     /// Writes the journal's buffer out, in which commands wait of keyspaces that persist by hand, and in the two sync

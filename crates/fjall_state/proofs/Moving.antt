@@ -156,7 +156,7 @@ answer_moves s t (OfTickets call) reply none (turns, same) = tickets_move s t ca
 answer_moves s t (OfPersist mode) reply none (told, is) = still s t (ap times is)
 answer_moves s t (OfCount count) reply none (told, same) = as_it_was s t same
 
-shape_moves : (s t : State) (shape : Shape) (reply : Reply) → StepOf s shape reply t → Moves (times s) (times t)
+pub shape_moves : (s t : State) (shape : Shape) (reply : Reply) → StepOf s shape reply t → Moves (times s) (times t)
 shape_moves s t shape (Refused error) refuses = refusal_moves s t shape error (due s shape) refuses
 shape_moves s t shape reply (none, answers) = answer_moves s t shape reply none answers
 

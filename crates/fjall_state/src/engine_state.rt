@@ -375,6 +375,20 @@ impl EngineState {
         self.tickets.gc()
     }
 
+    /// The instant at which the ticket of this id reads, where it is open.
+    pub fn ticket_instant(&self, id: u64) -> Option<u64>
+        ensures { result ≡ get self.now.tickets.instants id }
+    {
+        self.tickets.instant_of(id)
+    }
+
+    /// The watermark, as the last collection left it.
+    pub fn watermark(&self) -> u64
+        ensures { result ≡ self.now.tickets.watermark }
+    {
+        self.tickets.watermark()
+    }
+
     /// How many tickets are open.
     pub fn open_snapshots(&self) -> u64
         ensures { result ≡ len self.now.tickets.instants }

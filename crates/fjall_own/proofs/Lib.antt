@@ -1,0 +1,6 @@
+pub mod Fronts
+pub mod Items
+pub mod Keys
+pub mod Layers
+pub mod Merges
+pub mod Writable

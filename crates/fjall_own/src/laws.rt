@@ -1,0 +1,25 @@
+//! What a transaction sees, and what its writes become: laws, each the contract of a function that does nothing.
+
+ghost use Rattle.std.specs.Prelude.{◌≡◌, ◌↔◌, ℕ, Some, None, AllPairs, Contains};
+ghost use Rattle.std.specs.FinMap.{FinMap, get};
+ghost use Rattle.std.specs.Ordering.{nat_cmp};
+ghost use Rattle.std.specs.declared.cmp.Ordering.TheVariants.{Less};
+ghost use Rattle.fjall_base.specs.Pairs.{Bytes, Pairs, lookup};
+ghost use Rattle.fjall_base.specs.Store.{map_at};
+ghost use Rattle.fjall_journal.specs.Ops.{value_in};
+ghost use Rattle.fjall_journal.specs.declared.op.Op.{Op};
+ghost use Rattle.fjall_own.specs.Owns.{Own, items_of, key_of, key_order, own_written};
+
+/// A key has what the transaction wrote there, where it wrote there, and else what it has in the view.
+pub fn own_writes_are_seen()
+    ensures written { (own : Own) (maps : FinMap nat_cmp Pairs) (id : ℕ) (key : Bytes) (op : Op) → get own (key_of id key) ≡ Some op
+        → lookup (map_at (own_written maps own) id) key ≡ value_in op }
+    ensures others { (own : Own) (maps : FinMap nat_cmp Pairs) (id : ℕ) (key : Bytes) → get own (key_of id key) ≡ None
+        → lookup (map_at (own_written maps own) id) key ≡ lookup (map_at maps id) key }
+{}
+
+/// The items of a batch are the own writes, and no others; each key comes once, by keyspace and by key.
+pub fn items_are_the_own_writes()
+    ensures items { (own : Own) (id : ℕ) (key : Bytes) (op : Op) → Contains (items_of own) (id, key, op) ↔ (get own (key_of id key) ≡ Some op) }
+    ensures once { (own : Own) → AllPairs (λ a b. key_order (key_of a.0 a.1) (key_of b.0 b.1) ≡ Less) (items_of own) }
+{}

@@ -1,0 +1,4 @@
+pub mod Items
+pub mod Serials
+pub mod Growing
+pub mod Resting
