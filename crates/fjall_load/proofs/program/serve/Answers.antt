@@ -1,0 +1,11 @@
+use Rattle.std.proofs.Common.{rules}
+use Rattle.fjall_writes.specs.Ingestions.{IsIngestible}
+use Rattle.fjall_load.specs.Pairs.{SpellItems}
+use Rattle.fjall_load.proofs.Cuts.{printed}
+use Rattle.fjall_load.proofs.program.serve.Goals as goal
+
+pub returns-clause-loaded : goal.returns-clause-loaded
+returns-clause-loaded g c done =
+    let spelled : SpellItems (g.R.Read.remaining c.args.input.now) c.in-Some.ingestion.items = search rules in
+    let sound : IsIngestible c.in-Some.ingestion.items = search rules in
+    printed _ _ _ _ _ spelled sound c.len-count.ensures c.in_ok-print_count.ensures
