@@ -1,15 +1,13 @@
 -- What the core is asked as a transaction ends.
-use Rattle.std.proofs.Common.{◌≡◌, ◌≤◌, ◌<◌, ◌==◌, inl, inr, ℕ, Bool, true, false, IsTrue, List, [], ◌∷◌, ◌++◌, All, Option, None, Some, Result, Ok, Err, OnOk, OnErr, length, is_some, cond, refl, sym, ap, subst, ◌∙◌, arith}
+use Rattle.std.proofs.Common.{◌≡◌, ◌≤◌, ◌<◌, inl, inr, ℕ, Bool, false, IsTrue, List, [], ◌∷◌, ◌++◌, All, Option, None, Some, Result, Ok, Err, OnOk, OnErr, refl, sym, ap, subst, ◌∙◌, arith}
 use Rattle.std.specs.FinMap.{empty, get}
 use Rattle.std.proofs.lemmas.Bool.{true≢false}
-use Rattle.std.proofs.lemmas.Option.{none-some}
 use Rattle.std.proofs.lemmas.List.Elements.{All-weaker}
 use Rattle.fjall_base.specs.declared.error.Error.{Error}
-use Rattle.fjall_base.specs.declared.error.Error.TheVariants.{Io, NumbersUsedUp, OutOfMemory, Poisoned, SnapshotClosed, Storage, TooManyItems, ValueTooLong}
+use Rattle.fjall_base.specs.declared.error.Error.TheVariants.{Io, NumbersUsedUp, OutOfMemory, Poisoned, Storage, TooManyItems, ValueTooLong}
 use Rattle.fjall_journal.specs.Changes.{Items}
 use Rattle.fjall_journal.specs.Ops.{BatchItem}
 use Rattle.fjall_journal.specs.declared.persist_mode.PersistMode.{PersistMode}
-use Rattle.fjall_tx.specs.Marks.{Marks}
 use Rattle.fjall_tx.specs.Places.{Places}
 use Rattle.fjall_tx.specs.declared.oracle.Committed.{Committed}
 use Rattle.fjall_tx.specs.declared.outcome.CommitOutcome.{CommitOutcome}
@@ -18,14 +16,14 @@ use Rattle.fjall_tx.specs.Oracles.{commit_of, pruned}
 use Rattle.fjall_own.specs.Owns.{items_of}
 use Rattle.fjall_history.specs.declared.reply.Reply.{Reply}
 use Rattle.fjall_history.specs.declared.reply.Reply.TheVariants.{Done, Refused}
-use Rattle.fjall_history.specs.Tickets.{IsDueOrMemory, Tickets, closing_refusal}
+use Rattle.fjall_history.specs.Tickets.{IsDueOrMemory}
 use Rattle.fjall_history.proofs.Tracking.{closing_due}
 use Rattle.fjall_state.specs.Shapes.{ByMode, Close, OfChange, OfTickets, Persistence, Shape}
 use Rattle.fjall_state.specs.Remembered.{Remembered}
 use Rattle.fjall_core.specs.Holding.{Held}
-use Rattle.fjall_core.specs.Standing.{Owes, OwesFailure, OwesRefusal, Serves, held_due, reply_of}
+use Rattle.fjall_core.specs.Standing.{Owes, OwesFailure, OwesRefusal, held_due, reply_of}
 use Rattle.fjall_transactions.specs.Commits.{AsksFor, Comes, Commits, Ends, Fails, Lets}
-use Rattle.fjall_transactions.specs.Transactions.{AreOf, Kept, MeetsSome, Tx, committed}
+use Rattle.fjall_transactions.specs.Transactions.{Kept, MeetsSome, Tx, committed}
 
 -- what a look at the items found is what is due
 pub look_found : (core : Held) (items seen : List BatchItem) (mode : Option PersistMode) (found first : Option Error) → seen ≡ items → ((how : Persistence) → found ≡ held_due core (OfChange (Items seen) how))

@@ -1,6 +1,6 @@
 -- What a commit makes of a state.
-use Rattle.std.proofs.Common.{◌≡◌, ◌+◌, ◌≤◌, ◌<◌, inl, inr, ℕ, Bool, true, false, List, [], ◌∷◌, ◌++◌, All, Option, None, Some, cond, map, length, drop, refl, sym, ap, subst, ◌∙◌, arith, nat_le}
-use Rattle.std.specs.FinMap.{empty, get}
+use Rattle.std.proofs.Common.{◌≡◌, ◌≤◌, ◌<◌, inl, inr, ℕ, Bool, true, false, List, [], ◌∷◌, ◌++◌, All, Option, None, Some, cond, map, length, drop, refl, sym, ap, subst, ◌∙◌, arith, nat_le}
+use Rattle.std.specs.FinMap.{get}
 use Rattle.std.proofs.Math.Seq.{drop-append_seam, drop-length}
 use Rattle.std.proofs.lemmas.Bool.{true≢false}
 use Rattle.std.proofs.lemmas.Bool.Decides.{nat_tests}
@@ -8,25 +8,22 @@ use Rattle.std.proofs.lemmas.List.{append-nil}
 use Rattle.std.proofs.lemmas.List.Elements.{All-weaker}
 use Rattle.fjall_base.specs.Store.{Command}
 use Rattle.fjall_base.specs.declared.error.Error.{Error}
-use Rattle.fjall_base.specs.declared.error.Error.TheVariants.{Io, NumbersUsedUp, OutOfMemory, Poisoned, SnapshotClosed, Storage, TooManyItems, ValueTooLong}
+use Rattle.fjall_base.specs.declared.error.Error.TheVariants.{Io, NumbersUsedUp, OutOfMemory, Poisoned, Storage, TooManyItems, ValueTooLong}
 use Rattle.fjall_journal.specs.Changes.{Change, Items}
 use Rattle.fjall_journal.specs.Ops.{BatchItem, write_of}
-use Rattle.fjall_tx.specs.Marks.{Mark, Marks}
+use Rattle.fjall_tx.specs.Marks.{Marks}
 use Rattle.fjall_tx.specs.declared.oracle.Committed.{Committed}
 use Rattle.fjall_tx.specs.declared.outcome.CommitOutcome.{CommitOutcome}
-use Rattle.fjall_tx.specs.declared.outcome.CommitOutcome.TheVariants as outcomes
 use Rattle.fjall_tx.specs.Oracles.{Conflicts, commit_of, pruned, with_commit}
 use Rattle.fjall_tx.proofs.Commits.{with_last_commit}
 use Rattle.fjall_own.specs.Owns.{items_of}
-use Rattle.fjall_history.specs.declared.reply.Reply.{Reply}
 use Rattle.fjall_history.specs.declared.reply.Reply.TheVariants.{Done, Refused}
 use Rattle.fjall_history.specs.Histories.{Accepted, Commit, History, commands_of, commits, grown, number, plain}
-use Rattle.fjall_history.specs.Moves.{Times}
 use Rattle.fjall_history.specs.Tickets.{Tickets}
 use Rattle.fjall_history.proofs.Moving.{never_lower, sound_move}
 use Rattle.fjall_history.proofs.Views.{commands_append}
 use Rattle.fjall_serial.specs.Checked.{IsChecked, MayCommit}
-use Rattle.fjall_serial.proofs.Growing.{checked_commit, commits_commit, still_pruned}
+use Rattle.fjall_serial.proofs.Growing.{checked_commit, still_pruned}
 use Rattle.fjall_state.specs.Shapes.{ByMode, Close, OfChange, OfTickets, Persistence}
 use Rattle.fjall_state.specs.Machine.{MayFail, Refuses, State, StepOf, TakesMemory, accepted, due, times}
 use Rattle.fjall_state.proofs.Moving.{shape_moves}
@@ -129,11 +126,11 @@ marked_stands core new kept t s id instant marks items how stands there apart e 
       upto = stands.upto;
       passed = let before = stands.passed in let later = never_lower (times t.state) (times s) moves in omega (arith, before, later);
       keeps =
-        ap (λ n. kept.commits ++ commit_of n (with_items marks items).writes ∷ []) (sym next)
-        ∙ sym (with_last_commit kept.commits (commit_of (number (history_of t)) (with_items marks items).writes) below)
-        ∙ ap (λ l. with_commit l (commit_of (number (history_of t)) (with_items marks items).writes)) stands.keeps
-        ∙ still_pruned (history_of t) (write_of items) c stands.upto (upto_number core kept t stands)
-        ∙ ap (λ h. pruned (commits h) stands.upto) (sym told);
+          ap (λ n. kept.commits ++ commit_of n (with_items marks items).writes ∷ []) (sym next)
+          ∙ sym (with_last_commit kept.commits (commit_of (number (history_of t)) (with_items marks items).writes) below)
+          ∙ ap (λ l. with_commit l (commit_of (number (history_of t)) (with_items marks items).writes)) stands.keeps
+          ∙ still_pruned (history_of t) (write_of items) c stands.upto (upto_number core kept t stands)
+          ∙ ap (λ h. pruned (commits h) stands.upto) (sym told);
     }
 
 -- the single writer's commits as any command
@@ -215,14 +212,20 @@ comes_stands core mid left kept t tx outcome instant all stands reads there (Mee
 comes_stands core mid left kept t tx outcome instant all stands reads there (Fails some apart error told same_commits (inl refused)) closes =
     let (m, is, amid, step, led) = refused.goes_on t.state stands.machine reads in
     let here : StandFor mid kept (record { state = m; accepted = t.accepted }) = refused_stands core mid kept t m (Items (items_of tx.own)) (ByMode tx.mode) error stands step is in
-    let (s, stay, on, close) = finished mid left kept (record { state = m; accepted = t.accepted }) tx.ticket.id here amid closes in
-    (record { state = s; accepted = t.accepted }, subst (λ l. StandFor left (record kept { commits = pruned l left.memory.tickets.watermark }) (record { state = s; accepted = t.accepted })) (sym same_commits) stay, on,
-    IsRefused instant there some (λ met. apart (met_kept core kept t stands tx.ticket.id instant tx.marks there met)) error told m step close refl)
+    let (s, stay, on, close) = finished mid left kept (record { state = m; accepted = t.accepted }) tx.ticket.id here amid closes in (
+      record { state = s; accepted = t.accepted },
+      subst (λ l. StandFor left (record kept { commits = pruned l left.memory.tickets.watermark }) (record { state = s; accepted = t.accepted })) (sym same_commits) stay,
+      on,
+      IsRefused instant there some (λ met. apart (met_kept core kept t stands tx.ticket.id instant tx.marks there met)) error told m step close refl,
+    )
 comes_stands core mid left kept t tx outcome instant all stands reads there (Fails some apart error told same_commits (inr (is, same))) closes =
     let step = memory_steps core.memory core.catalog.next_table_id t.state stands.machine.remembered (change_of tx) error (takes_memory (items_of tx.own) (ByMode tx.mode) (some_items tx.own some)) is in
-    let (s, stay, on, close) = finished core left kept t tx.ticket.id stands reads (subst (λ m. Serves m (OfTickets (Close tx.ticket.id)) Done left) same closes) in
-    (record { state = s; accepted = t.accepted }, subst (λ l. StandFor left (record kept { commits = pruned l left.memory.tickets.watermark }) (record { state = s; accepted = t.accepted })) (sym same_commits) stay, on,
-    IsRefused instant there some (λ met. apart (met_kept core kept t stands tx.ticket.id instant tx.marks there met)) error told t.state step close refl)
+    let (s, stay, on, close) = finished core left kept t tx.ticket.id stands reads (subst (λ m. Serves m (OfTickets (Close tx.ticket.id)) Done left) same closes) in (
+      record { state = s; accepted = t.accepted },
+      subst (λ l. StandFor left (record kept { commits = pruned l left.memory.tickets.watermark }) (record { state = s; accepted = t.accepted })) (sym same_commits) stay,
+      on,
+      IsRefused instant there some (λ met. apart (met_kept core kept t stands tx.ticket.id instant tx.marks there met)) error told t.state step close refl,
+    )
 comes_stands core mid left kept t tx outcome instant all stands reads there (Commits some apart told grown_commits made) closes =
     let (m, is, amid, step, led) = made.goes_on t.state stands.machine reads in
     let e = made_history t.state m (items_of tx.own) (ByMode tx.mode) (some_items tx.own some) step.1.1 in
@@ -230,16 +233,22 @@ comes_stands core mid left kept t tx outcome instant all stands reads there (Com
     let u : Told = record { state = m; accepted = t.accepted ++ accepted_of instant tx.marks (items_of tx.own) ∷ [] } in
     let here : StandFor mid (record kept { commits = committed core.memory.next tx.marks (items_of tx.own) kept.commits }) u =
     committed_stands core mid kept t m tx.ticket.id instant tx.marks (items_of tx.own) (ByMode tx.mode) stands there free e step is in
-    let (s, stay, on, close) = finished mid left (record kept { commits = committed core.memory.next tx.marks (items_of tx.own) kept.commits }) u tx.ticket.id here amid closes in
-    (record { state = s; accepted = u.accepted }, subst (λ l. StandFor left (record kept { commits = pruned l left.memory.tickets.watermark }) (record { state = s; accepted = u.accepted })) (sym grown_commits) stay, on,
-    IsCommitted instant there some free told m step close refl)
+    let (s, stay, on, close) = finished mid left (record kept { commits = committed core.memory.next tx.marks (items_of tx.own) kept.commits }) u tx.ticket.id here amid closes in (
+      record { state = s; accepted = u.accepted },
+      subst (λ l. StandFor left (record kept { commits = pruned l left.memory.tickets.watermark }) (record { state = s; accepted = u.accepted })) (sym grown_commits) stay,
+      on,
+      IsCommitted instant there some free told m step close refl,
+    )
 
 pub commit_stands : (core left : Held) (kept new : Kept) (t : Told) (tx : Tx) (outcome : CommitOutcome Error) → StandFor core kept t → ReadsOn core t.state
     → Ends Serves kept core tx outcome new left → (after : Told) × StandFor left new after × ReadsOn left after.state × CommitStep t tx outcome after
 commit_stands core left kept new t tx outcome stands reads (Gone none told same_kept same) =
-    let tickets = stands.machine.remembered.tickets in
-    (t, subst (λ k. StandFor left k t) (sym same_kept) (subst (λ c. StandFor c kept t) (sym same) stands), subst (λ c. ReadsOn c t.state) (sym same) reads,
-    IsGone (subst (λ (k : Tickets). get k.instants tx.ticket.id ≡ None) (sym tickets) none) told refl)
+    let tickets = stands.machine.remembered.tickets in (
+      t,
+      subst (λ k. StandFor left k t) (sym same_kept) (subst (λ c. StandFor c kept t) (sym same) stands),
+      subst (λ c. ReadsOn c t.state) (sym same) reads,
+      IsGone (subst (λ (k : Tickets). get k.instants tx.ticket.id ≡ None) (sym tickets) none) told refl,
+    )
 commit_stands core left kept new t tx outcome stands reads (Lets instant opened all mid comes closes kept_is) =
     let tickets = stands.machine.remembered.tickets in
     let there : get t.state.tickets.instants tx.ticket.id ≡ Some instant = subst (λ (k : Tickets). get k.instants tx.ticket.id ≡ Some instant) (sym tickets) opened in

@@ -1,6 +1,6 @@
 -- What a core stands for with its transactions, along its calls.
-use Rattle.std.proofs.Common.{◌≡◌, ◌+◌, ◌≤◌, ◌<◌, ◌↔◌, inl, inr, ℕ, Bool, true, false, List, [], ◌∷◌, ◌++◌, All, Option, None, Some, map, length, drop, zero, suc, refl, sym, ap, subst, ◌∙◌, arith, nat_le}
-use Rattle.std.specs.FinMap.{get, values}
+use Rattle.std.proofs.Common.{◌≡◌, ◌+◌, ◌≤◌, ◌<◌, ◌↔◌, ℕ, List, [], ◌∷◌, ◌++◌, All, None, Some, map, length, drop, zero, suc, refl, sym, ap, subst, ◌∙◌, arith, nat_le}
+use Rattle.std.specs.FinMap.{get}
 use Rattle.std.proofs.Math.Seq.{drop-append_seam}
 use Rattle.std.proofs.lemmas.List.{length-map}
 use Rattle.std.proofs.lemmas.List.Elements.{All-filter, All-weaker}
@@ -12,15 +12,14 @@ use Rattle.fjall_tx.proofs.Commits.{pruned_answers}
 use Rattle.fjall_history.specs.declared.reply.Reply.{Reply}
 use Rattle.fjall_history.specs.Histories.{Accepted, History, command_of, commands_of, commits, extended, number, plain}
 use Rattle.fjall_history.specs.Tickets.{Tickets}
-use Rattle.fjall_history.specs.Moves.{AreSound, HasGrown, Moves, MovesOn, NoMove, OneMove, Times}
+use Rattle.fjall_history.specs.Moves.{AreSound, HasGrown, Moves, NoMove, OneMove}
 use Rattle.fjall_history.proofs.Moving.{history_grows, never_lower, sound_move}
 use Rattle.fjall_history.proofs.Values.{of_value}
 use Rattle.fjall_history.proofs.Views.{commands_append}
 use Rattle.fjall_serial.specs.Checked.{IsChecked}
 use Rattle.fjall_serial.proofs.Growing.{checked_many, checked_opening, commits_many, numbered}
-use Rattle.fjall_state.specs.Shapes.{Shape, shape_of}
-use Rattle.fjall_state.specs.declared.call.Call.{Call}
-use Rattle.fjall_state.specs.Machine.{State, Step, StepOf, times}
+use Rattle.fjall_state.specs.Shapes.{Shape}
+use Rattle.fjall_state.specs.Machine.{State, StepOf, times}
 use Rattle.fjall_state.proofs.Moving.{shape_moves}
 use Rattle.fjall_core.specs.Holding.{Held}
 use Rattle.fjall_core.specs.Standing.{ReadsOn, Serves, StandsFor}

@@ -44,17 +44,17 @@ AsksFor Does core change (Err error) left = Does core change (Refused error) lef
 pub data Comes (Does : Held → Shape → Reply → Held → Type 0) (old : List Committed) (core : Held) (instant : ℕ) (tx : Tx) (outcome : CommitOutcome Error) (new : List Committed) (left : Held) : Type 0 where
   Idle : (none : tx.own ≡ empty) (told : outcome ≡ outcomes.Ok) (kept : new ≡ old) (same : left ≡ core) → Comes Does old core instant tx outcome new left
   Meets : (some : tx.own ≢ empty) (meets : MeetsSome instant tx.marks old) (told : outcome ≡ outcomes.Conflicted) (kept : new ≡ old) (same : left ≡ core)
-    → Comes Does old core instant tx outcome new left
+      → Comes Does old core instant tx outcome new left
   Fails : (some : tx.own ≢ empty) (apart : MeetsSome instant tx.marks old → ⊥) (error : Error) (told : outcome ≡ outcomes.Aborted error) (kept : new ≡ old)
-    (refused : AsksFor Does core (change_of tx) (Err error) left) → Comes Does old core instant tx outcome new left
+      (refused : AsksFor Does core (change_of tx) (Err error) left) → Comes Does old core instant tx outcome new left
   Commits : (some : tx.own ≢ empty) (apart : MeetsSome instant tx.marks old → ⊥) (told : outcome ≡ outcomes.Ok)
-    (kept : new ≡ committed core.memory.next tx.marks (items_of tx.own) old) (made : Does core (change_of tx) Done left) → Comes Does old core instant tx outcome new left
+      (kept : new ≡ committed core.memory.next tx.marks (items_of tx.own) old) (made : Does core (change_of tx) Done left) → Comes Does old core instant tx outcome new left
 
 -- How a commit ends. Where its ticket isn't open nothing happens. Else the ticket is closed, whatever came of it, and commits are
 -- kept that are numbered at or above the watermark then.
 pub data Ends (Does : Held → Shape → Reply → Held → Type 0) (old : Kept) (core : Held) (tx : Tx) (outcome : CommitOutcome Error) (new : Kept) (left : Held) : Type 0 where
   Gone : (none : get core.memory.tickets.instants tx.ticket.id ≡ None) (told : outcome ≡ outcomes.Aborted SnapshotClosed) (kept : new ≡ old) (same : left ≡ core)
-    → Ends Does old core tx outcome new left
+      → Ends Does old core tx outcome new left
   Lets : (instant : ℕ) (opened : get core.memory.tickets.instants tx.ticket.id ≡ Some instant) (commits : List Committed) (mid : Held)
-    (comes : Comes Does old.commits core instant tx outcome commits mid) (closes : Does mid (OfTickets (Close tx.ticket.id)) Done left)
-    (kept : new ≡ record old { commits = pruned commits left.memory.tickets.watermark }) → Ends Does old core tx outcome new left
+      (comes : Comes Does old.commits core instant tx outcome commits mid) (closes : Does mid (OfTickets (Close tx.ticket.id)) Done left)
+      (kept : new ≡ record old { commits = pruned commits left.memory.tickets.watermark }) → Ends Does old core tx outcome new left

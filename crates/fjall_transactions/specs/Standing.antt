@@ -11,7 +11,7 @@ use Rattle.fjall_tx.specs.declared.outcome.CommitOutcome.{CommitOutcome}
 use Rattle.fjall_tx.specs.declared.outcome.CommitOutcome.TheVariants as outcomes
 use Rattle.fjall_own.specs.Owns.{items_of}
 use Rattle.fjall_history.specs.declared.reply.Reply.TheVariants.{Done, Refused}
-use Rattle.fjall_history.specs.Histories.{Accepted, Commit, History, commands_of, commits, plain}
+use Rattle.fjall_history.specs.Histories.{Accepted, History, commands_of, commits, plain}
 use Rattle.fjall_history.specs.Moves.{AreSound}
 use Rattle.fjall_serial.specs.Checked.{IsChecked}
 use Rattle.fjall_state.specs.Shapes.{Close, OfTickets}
@@ -58,15 +58,15 @@ accepted_of instant marks items = record {
 pub data CommitStep (old : Told) (tx : Tx) (outcome : CommitOutcome Error) (new : Told) : Type 0 where
   IsGone : (none : get old.state.tickets.instants tx.ticket.id ≡ None) (told : outcome ≡ outcomes.Aborted SnapshotClosed) (same : new ≡ old) → CommitStep old tx outcome new
   IsIdle : (instant : ℕ) (opened : get old.state.tickets.instants tx.ticket.id ≡ Some instant) (none : tx.own ≡ empty) (told : outcome ≡ outcomes.Ok)
-    (closes : StepOf old.state (OfTickets (Close tx.ticket.id)) Done new.state) (same : new.accepted ≡ old.accepted) → CommitStep old tx outcome new
+      (closes : StepOf old.state (OfTickets (Close tx.ticket.id)) Done new.state) (same : new.accepted ≡ old.accepted) → CommitStep old tx outcome new
   IsMet : (instant : ℕ) (opened : get old.state.tickets.instants tx.ticket.id ≡ Some instant) (some : tx.own ≢ empty)
-    (meets : MeetsSome instant tx.marks (commits (history_of old))) (told : outcome ≡ outcomes.Conflicted)
-    (closes : StepOf old.state (OfTickets (Close tx.ticket.id)) Done new.state) (same : new.accepted ≡ old.accepted) → CommitStep old tx outcome new
+      (meets : MeetsSome instant tx.marks (commits (history_of old))) (told : outcome ≡ outcomes.Conflicted)
+      (closes : StepOf old.state (OfTickets (Close tx.ticket.id)) Done new.state) (same : new.accepted ≡ old.accepted) → CommitStep old tx outcome new
   IsRefused : (instant : ℕ) (opened : get old.state.tickets.instants tx.ticket.id ≡ Some instant) (some : tx.own ≢ empty)
-    (apart : MeetsSome instant tx.marks (commits (history_of old)) → ⊥) (error : Error) (told : outcome ≡ outcomes.Aborted error)
-    (mid : State) (refused : StepOf old.state (change_of tx) (Refused error) mid)
-    (closes : StepOf mid (OfTickets (Close tx.ticket.id)) Done new.state) (same : new.accepted ≡ old.accepted) → CommitStep old tx outcome new
+      (apart : MeetsSome instant tx.marks (commits (history_of old)) → ⊥) (error : Error) (told : outcome ≡ outcomes.Aborted error)
+      (mid : State) (refused : StepOf old.state (change_of tx) (Refused error) mid)
+      (closes : StepOf mid (OfTickets (Close tx.ticket.id)) Done new.state) (same : new.accepted ≡ old.accepted) → CommitStep old tx outcome new
   IsCommitted : (instant : ℕ) (opened : get old.state.tickets.instants tx.ticket.id ≡ Some instant) (some : tx.own ≢ empty)
-    (apart : MeetsSome instant tx.marks (commits (history_of old)) → ⊥) (told : outcome ≡ outcomes.Ok)
-    (mid : State) (made : StepOf old.state (change_of tx) Done mid) (closes : StepOf mid (OfTickets (Close tx.ticket.id)) Done new.state)
-    (grown : new.accepted ≡ old.accepted ++ accepted_of instant tx.marks (items_of tx.own) ∷ []) → CommitStep old tx outcome new
+      (apart : MeetsSome instant tx.marks (commits (history_of old)) → ⊥) (told : outcome ≡ outcomes.Ok)
+      (mid : State) (made : StepOf old.state (change_of tx) Done mid) (closes : StepOf mid (OfTickets (Close tx.ticket.id)) Done new.state)
+      (grown : new.accepted ≡ old.accepted ++ accepted_of instant tx.marks (items_of tx.own) ∷ []) → CommitStep old tx outcome new

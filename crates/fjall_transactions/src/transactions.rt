@@ -72,7 +72,11 @@ impl Transactions {
     }
 
     // Begins a transaction, at the visible number.
-    fn begin<D: Disk>(&self, core: &mut Core<D>, marks: Option<ConflictManager>) -> Result<Transaction>
+    fn begin<D: Disk>(
+        &self,
+        core: &mut Core<D>,
+        marks: Option<ConflictManager>,
+    ) -> Result<Transaction>
         ensures serves { IsTrue D.honest → Serves core.old (OfTickets Open) (begun_reply result) core.new }
         ensures owes { Owes core.old (OfTickets Open) (begun_reply result) core.new }
         ensures begun { IfOk result (λ tx. tx ≡ begun marks tx.ticket) }
@@ -238,7 +242,11 @@ impl Transactions {
     /// changed; `Ok` without own writes, unchecked, also in a poisoned core; `Conflicted` exactly where an optimistic
     /// transaction that committed at or above its instant wrote a key that its reads cover; and else as
     /// [`commit_batch`](Core::commit_batch) answers. A single writer's meets none.
-    pub fn commit<D: Disk>(&mut self, core: &mut Core<D>, transaction: Transaction) -> CommitOutcome<Error>
+    pub fn commit<D: Disk>(
+        &mut self,
+        core: &mut Core<D>,
+        transaction: Transaction,
+    ) -> CommitOutcome<Error>
         ensures serves { IsTrue D.honest → AreOf core.old self.old.commits → Ends Serves self.old core.old transaction result self.new core.new }
         ensures owes { AreOf core.old self.old.commits → Ends Owes self.old core.old transaction result self.new core.new }
         // So it is a step from whichever state the core stood for, in which it conflicts exactly where it meets one of all that ever

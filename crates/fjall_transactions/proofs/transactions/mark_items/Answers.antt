@@ -1,9 +1,5 @@
-use Rattle.std.proofs.Common.{◌≡◌, ◌<◌, ◌+◌, ◌++◌, rules, suc, length, List, [], ◌∷◌, take, sym, ap, ◌∙◌, arith}
-use Rattle.std.proofs.Math.ListN.{get_or}
-use Rattle.std.proofs.Math.Seq.{take-suc}
-use Rattle.fjall_journal.specs.Ops.{BatchItem}
+use Rattle.std.proofs.Common.{◌<◌, rules, length, sym, ap, ◌∙◌}
 use Rattle.fjall_tx.specs.Marks.{Marks, with_write}
-use Rattle.fjall_transactions.specs.Transactions.{with_items}
 use Rattle.fjall_transactions.proofs.Items.{mark_next}
 use Rattle.fjall_transactions.proofs.transactions.mark_items.Goals as goal
 

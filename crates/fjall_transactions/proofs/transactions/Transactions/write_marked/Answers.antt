@@ -1,4 +1,4 @@
-use Rattle.std.proofs.Common.{rules, ◌≡◌, List, sym, ap, subst, ◌∙◌}
+use Rattle.std.proofs.Common.{rules, sym, ap, subst}
 use Rattle.fjall_transactions.specs.Transactions.{AreOf, Kept}
 use Rattle.fjall_transactions.proofs.Asking.{taken_back}
 use Rattle.fjall_transactions.proofs.transactions.Transactions.write_marked.Goals as goal
