@@ -1,0 +1,3 @@
+pub mod Laid
+pub mod Seeing
+pub mod Going
