@@ -1,0 +1,35 @@
+-- What a transaction sees of a core, and what its reads leave.
+use Rattle.std.specs.Prelude.{Bool, true, ◌≡◌, ◌⊎◌, ℕ, Option}
+use Rattle.std.specs.declared.ops.Bound.TheVariants.{Unbounded}
+use Rattle.std.specs.Borrow.{MutBor}
+use Rattle.fjall_base.specs.Pairs.{Pairs}
+use Rattle.fjall_base.specs.declared.error.Error.{Error}
+use Rattle.fjall_own.specs.Owns.{Own}
+use Rattle.fjall_history.specs.declared.ticket.View.{View}
+use Rattle.fjall_core.specs.Holding.{Held}
+use Rattle.fjall_reader.specs.Shown.{Reads, Shows}
+use Rattle.fjall_tx.specs.Marks.{Mark, OfRange}
+use Rattle.fjall_transactions.specs.Transactions.{Tx, having_read}
+use Rattle.fjall_tx_reader.specs.Laid.{laid}
+
+-- A transaction with these own writes sees this map of a keyspace: one that the core shows in the view, with its own writes applied.
+abbrev pub Sees : Bool → Held → View → Own → ℕ → Pairs → Type 0
+Sees honest core view own id map = (below : Pairs) × Shows honest core view id below × (map ≡ laid own id below)
+
+-- the same transaction, but for what it marked
+abbrev pub IsSameButMarks : Tx → Tx → Type 0
+IsSameButMarks old new = new ≡ record old { marks = new.marks }
+
+-- Reads within a transaction leave the core as a reader's reads do, and the transaction, which stays lent, as it was but for its marks.
+pub record ReadsWithin (core : MutBor Held) (from : View) (tx : MutBor Tx) (error : Option Error) (left : MutBor Held) (to : View) (after : MutBor Tx) : Type 0 where
+  pub reads : Reads core from error left to
+  pub marks : IsSameButMarks tx.now after.now
+  pub lent : after.ghost_name ≡ tx.ghost_name
+
+-- the mark of a whole keyspace
+abbrev pub whole_of : ℕ → Mark
+whole_of id = OfRange id Unbounded Unbounded
+
+-- A transaction is marked so; or it is as it was, and it is noted that memory was used up.
+abbrev pub IsMarkedOrShort : Tx → Mark → Tx → Bool → Type 0
+IsMarkedOrShort old mark new short = (new ≡ having_read old mark) ⊎ ((new ≡ old) × (short ≡ true))
