@@ -1,5 +1,5 @@
 -- Own writes over the map of one keyspace.
-use Rattle.std.proofs.Common.{◌≡◌, ℕ, Bool, List, Option, Some, None, [], ◌∷◌, cond, refl, inl, inr, is_none, ap, sym, ◌∙◌, IfOk, Result, Ok, Err}
+use Rattle.std.proofs.Common.{◌≡◌, ℕ, Bool, List, Option, Some, None, [], ◌∷◌, cond, refl, inl, inr, is_none, ap, sym, ◌∙◌}
 use Rattle.std.specs.FinMap.{FinMap, empty, get, get-insert, insert}
 use Rattle.std.specs.Cmp.{nat_cmp_total}
 use Rattle.std.specs.Option.{unwrap_or}

@@ -1,5 +1,5 @@
 -- Reads within a transaction one after another: what each leaves, the next goes on from.
-use Rattle.std.proofs.Common.{◌≡◌, Option, None, Some, refl, ◌∙◌, ap}
+use Rattle.std.proofs.Common.{Option, None, Some, refl, ◌∙◌, ap}
 use Rattle.std.specs.Borrow.{MutBor}
 use Rattle.fjall_base.specs.declared.error.Error.{Error}
 use Rattle.fjall_base.specs.declared.error.Error.TheVariants.{OutOfMemory}

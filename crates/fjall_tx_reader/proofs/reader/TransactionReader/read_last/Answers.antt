@@ -1,5 +1,5 @@
-use Rattle.std.proofs.Common.{◌≡◌, ◌∙◌, Option, ap, refl, subst, sym, IfOk}
-use Rattle.fjall_base.specs.Pairs.{Bytes, Pairs}
+use Rattle.std.proofs.Common.{◌≡◌, ◌∙◌, ap, refl, sym}
+use Rattle.fjall_base.specs.Pairs.{Pairs}
 use Rattle.fjall_own.specs.Owns.{Own}
 use Rattle.fjall_reading.specs.Readers.{all_of, last_of}
 use Rattle.fjall_transactions.specs.Transactions.{Tx}
