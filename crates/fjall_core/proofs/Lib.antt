@@ -21,9 +21,9 @@ mod CatalogOnDisk
 mod KeyspaceCalls
 mod OwedStates
 mod OwedWork
-mod OwedSteps
+pub mod OwedSteps
 mod GoneFlushes
-mod KeptJobs
+pub mod KeptJobs
 mod DeviceFaults
 mod ServedCalls
 mod TicketCalls

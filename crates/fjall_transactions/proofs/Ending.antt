@@ -1,9 +1,7 @@
 -- What a commit makes of a state.
-use Rattle.std.proofs.Common.{◌≡◌, ◌≤◌, ◌<◌, inl, inr, ℕ, Bool, true, false, List, [], ◌∷◌, ◌++◌, All, Option, None, Some, cond, map, length, drop, refl, sym, ap, subst, ◌∙◌, arith, nat_le}
+use Rattle.std.proofs.Common.{◌≡◌, ◌≤◌, ◌<◌, inl, inr, ℕ, List, [], ◌∷◌, ◌++◌, All, Option, None, Some, map, length, drop, refl, sym, ap, subst, ◌∙◌, arith}
 use Rattle.std.specs.FinMap.{get}
 use Rattle.std.proofs.Math.Seq.{drop-append_seam, drop-length}
-use Rattle.std.proofs.lemmas.Bool.{true≢false}
-use Rattle.std.proofs.lemmas.Bool.Decides.{nat_tests}
 use Rattle.std.proofs.lemmas.List.{append-nil}
 use Rattle.std.proofs.lemmas.List.Elements.{All-weaker}
 use Rattle.fjall_base.specs.Store.{Command}
@@ -15,7 +13,7 @@ use Rattle.fjall_tx.specs.Marks.{Marks}
 use Rattle.fjall_tx.specs.declared.oracle.Committed.{Committed}
 use Rattle.fjall_tx.specs.declared.outcome.CommitOutcome.{CommitOutcome}
 use Rattle.fjall_tx.specs.Oracles.{Conflicts, commit_of, pruned, with_commit}
-use Rattle.fjall_tx.proofs.Commits.{with_last_commit}
+use Rattle.fjall_tx.proofs.Commits.{pruned_twice, with_last_commit}
 use Rattle.fjall_own.specs.Owns.{items_of}
 use Rattle.fjall_history.specs.declared.reply.Reply.TheVariants.{Done, Refused}
 use Rattle.fjall_history.specs.Histories.{Accepted, Commit, History, commands_of, commits, grown, number, plain}
@@ -80,17 +78,6 @@ made_history s t [] how some is = absurd (some refl)
 made_history s t (item ∷ items) how some is = ap (λ (k : State). k.history) is
 
 -- ---- a transaction that commits
-
--- what no open one can meet may be forgotten twice
-either : (c : Committed) (rest : List Committed) (a b : ℕ) (x y : Bool) → a ≤ b → nat_le a c.number ≡ x → nat_le b c.number ≡ y → pruned (pruned rest a) b ≡ pruned rest b
-    → pruned (cond x (c ∷ pruned rest a) (pruned rest a)) b ≡ cond y (c ∷ pruned rest b) (pruned rest b)
-either c rest a b true y le e f h = ap (λ z. cond z (c ∷ pruned (pruned rest a) b) (pruned (pruned rest a) b)) f ∙ ap (λ l. cond y (c ∷ l) l) h
-either c rest a b false true le e f h = absurd (true≢false (sym (let yes : nat_le a c.number ≡ true = grind (arith, nat_tests) in yes) ∙ e))
-either c rest a b false false le e f h = h
-
-twice : (all : List Committed) (a b : ℕ) → a ≤ b → pruned (pruned all a) b ≡ pruned all b
-twice [] a b le = refl
-twice (c ∷ rest) a b le = either c rest a b (nat_le a c.number) (nat_le b c.number) le refl refl (twice rest a b le)
 
 -- up to which commits were forgotten is not above the next number
 upto_number : (core : Held) (kept : Kept) (t : Told) (stands : StandFor core kept t) → stands.upto ≤ number (history_of t)
@@ -172,7 +159,7 @@ pruned_stands core kept t stands =
       checked = stands.checked;
       upto = core.memory.tickets.watermark;
       passed = subst (λ (k : Tickets). k.watermark ≤ t.state.tickets.watermark) same (omega arith);
-      keeps = ap (λ l. pruned l core.memory.tickets.watermark) stands.keeps ∙ twice (commits (history_of t)) stands.upto core.memory.tickets.watermark le;
+      keeps = ap (λ l. pruned l core.memory.tickets.watermark) stands.keeps ∙ pruned_twice (commits (history_of t)) stands.upto core.memory.tickets.watermark le;
     }
 
 -- what the core does as the ticket is closed
