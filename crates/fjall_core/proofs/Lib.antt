@@ -25,7 +25,7 @@ pub mod OwedSteps
 mod GoneFlushes
 pub mod KeptJobs
 mod DeviceFaults
-mod ServedCalls
+pub mod ServedCalls
 mod TicketCalls
 mod RotationCalls
 mod PartOutcomes
