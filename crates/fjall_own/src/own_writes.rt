@@ -104,9 +104,10 @@ impl OwnWrites {
         Ok(())
     }
 
-    /// How many keys were written.
+    /// How many keys were written. They fit into one list.
     pub fn len(&self) -> usize
-        ensures { result ≡ fin.len self.now }
+        ensures len { result ≡ fin.len self.now }
+        ensures few { length (items_of self.now) < 2 ^ 63 }
     {
         self.writes.len()
     }
