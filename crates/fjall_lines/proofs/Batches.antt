@@ -12,7 +12,7 @@ use Rattle.fjall_base.specs.Pairs.{Bytes}
 use Rattle.fjall_lines.proofs.Bytes.{words_are}
 use Rattle.fjall_lines.specs.declared.command.Command.{Command}
 use Rattle.fjall_lines.specs.declared.command.Command.TheVariants.{Ask}
-use Rattle.fjall_lines.specs.declared.command.Request.TheVariants.{Batch}
+use Rattle.fjall_lines.specs.declared.command.Request.TheVariants.{Batch, Begin}
 use Rattle.fjall_lines.specs.Lines.{value_word, words_of, IsCommand, IsWrite, Spells, SpellsWrite, SpellsWrites, Write, write_words, writes_words}
 
 -- Of these words a beginning spells some writes, and this is left; whatever writes they spell begin with those.
@@ -125,6 +125,8 @@ none_spelled words none = record { spelled = tt; some = tt; all_found = none_fou
     none_found : (command : Command) → IsCommand command → codes "batch" ∷ words ≡ words_of command → None ≡ Some command
     none_found (Ask (Batch [])) h e = absurd (h.0 refl)
     none_found (Ask (Batch (write ∷ writes))) h e = absurd (let n = ap length e in let m = ap length none in omega (arith, n, m))
+    -- as long as `batch`, and with the same first letter: the second tells them apart
+    none_found (Ask Begin) h e = absurd (let second = ap (λ (l : List (List ℕ)). get_or (get_or l 0 []) 1 0) e in omega arith)
     none_found command h e = cc
 
 pub no_batch : {X : Type 0} (f : X → List ℕ) (xs : List X) (empty : Bool) → empty ≡ (length xs == 0) → empty ≡ true → Spells (codes "batch" ∷ map f xs) None

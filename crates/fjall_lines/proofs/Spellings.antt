@@ -14,7 +14,7 @@ use Rattle.hex.specs.Hex.{IsBytes, encode_lower, encode_with, lower_digits}
 use Rattle.fjall_lines.specs.declared.command.Command.{Command}
 use Rattle.fjall_lines.specs.declared.command.Command.TheVariants.{Ask, Crash, Reopen}
 use Rattle.fjall_lines.specs.declared.command.Request.{Request}
-use Rattle.fjall_lines.specs.declared.command.Request.TheVariants.{Keyspace, Delete, Insert, Remove, RemoveWeak, Clear, Batch, Get, Len, Scan, Snapshot, GetAt, CloseSnapshot, Gc, Rotate, Flush, Persist}
+use Rattle.fjall_lines.specs.declared.command.Request.TheVariants.{Keyspace, Delete, Insert, Remove, RemoveWeak, Clear, Batch, Get, Len, Scan, Snapshot, GetAt, CloseSnapshot, Begin, TxGet, TxInsert, Commit, Gc, Rotate, Flush, Persist}
 use Rattle.fjall_lines.specs.Lines.{hex_word, request_words, value_word, writes_words, words_of, spelling, IsCommand, IsRequest, IsWrite, Write, Spells, Reads}
 use Rattle.fjall_lines.proofs.Bytes.{or_false, digit, lower_digit}
 
@@ -133,6 +133,13 @@ with_key word id key h both =
     more word (decimal id) (hex_word key ∷ []) (plain word h)
     (more (decimal id) (hex_word key) [] (number_word id both.0) (one (hex_word key) (bytes_word key both.1)))
 
+-- a word, two numbers and a key
+with_numbers_and_key : (word : List ℕ) (number id : ℕ) (key : List ℕ) → IsPlain word → (number < 2 ^ 64) × (id < 2 ^ 64) × IsBytes key → AreWords (word ∷ decimal number ∷ decimal id ∷ hex_word key ∷ [])
+with_numbers_and_key word number id key h all =
+    more word (decimal number) (decimal id ∷ hex_word key ∷ []) (plain word h)
+    (more (decimal number) (decimal id) (hex_word key ∷ []) (number_word number all.0)
+    (more (decimal id) (hex_word key) [] (number_word id all.1) (one (hex_word key) (bytes_word key all.2))))
+
 value_is_word : (value : Option (List ℕ)) → IfSome value IsBytes → IsWord (value_word value)
 value_is_word (Some value) h = bytes_word value h
 value_is_word None h = plain (codes "~") refl
@@ -162,11 +169,16 @@ request_are_words (Get id key) h = with_key (codes "get") id key refl h
 request_are_words (Len id) h = with_number (codes "len") id refl h
 request_are_words (Scan id) h = with_number (codes "scan") id refl h
 request_are_words Snapshot h = one (codes "snapshot") (plain (codes "snapshot") refl)
-request_are_words (GetAt number id key) h =
-    more (codes "get_at") (decimal number) (decimal id ∷ hex_word key ∷ []) (plain (codes "get_at") refl)
-    (more (decimal number) (decimal id) (hex_word key ∷ []) (number_word number h.0)
-    (more (decimal id) (hex_word key) [] (number_word id h.1) (one (hex_word key) (bytes_word key h.2))))
+request_are_words (GetAt number id key) h = with_numbers_and_key (codes "get_at") number id key refl h
 request_are_words (CloseSnapshot number) h = with_number (codes "close_snapshot") number refl h
+request_are_words Begin h = one (codes "begin") (plain (codes "begin") refl)
+request_are_words (TxGet number id key) h = with_numbers_and_key (codes "tx_get") number id key refl h
+request_are_words (TxInsert number id key value) h =
+    more (codes "tx_insert") (decimal number) (decimal id ∷ hex_word key ∷ hex_word value ∷ []) (plain (codes "tx_insert") refl)
+    (more (decimal number) (decimal id) (hex_word key ∷ hex_word value ∷ []) (number_word number h.0)
+    (more (decimal id) (hex_word key) (hex_word value ∷ []) (number_word id h.1)
+    (more (hex_word key) (hex_word value) [] (bytes_word key h.2) (one (hex_word value) (bytes_word value h.3)))))
+request_are_words (Commit number) h = with_number (codes "commit") number refl h
 request_are_words Gc h = one (codes "gc") (plain (codes "gc") refl)
 request_are_words (Rotate id) h = with_number (codes "rotate") id refl h
 request_are_words (Flush id) h = with_number (codes "flush") id refl h

@@ -7,7 +7,7 @@ use Rattle.fjall_base.specs.Pairs.{Bytes}
 use Rattle.fjall_lines.specs.declared.command.Command.{Command}
 use Rattle.fjall_lines.specs.declared.command.Command.TheVariants.{Ask, Crash, Reopen}
 use Rattle.fjall_lines.specs.declared.command.Request.{Request}
-use Rattle.fjall_lines.specs.declared.command.Request.TheVariants.{Keyspace, Delete, Insert, Remove, RemoveWeak, Clear, Batch, Get, Len, Scan, Snapshot, GetAt, CloseSnapshot, Gc, Rotate, Flush, Persist}
+use Rattle.fjall_lines.specs.declared.command.Request.TheVariants.{Keyspace, Delete, Insert, Remove, RemoveWeak, Clear, Batch, Get, Len, Scan, Snapshot, GetAt, CloseSnapshot, Begin, TxGet, TxInsert, Commit, Gc, Rotate, Flush, Persist}
 
 -- a line feed ends a line, and so does the end of the text
 abbrev pub lines_of : List ℕ → List (List ℕ)
@@ -51,6 +51,10 @@ request_words (Scan id) = codes "scan" ∷ decimal id ∷ []
 request_words Snapshot = codes "snapshot" ∷ []
 request_words (GetAt number id key) = codes "get_at" ∷ decimal number ∷ decimal id ∷ hex_word key ∷ []
 request_words (CloseSnapshot number) = codes "close_snapshot" ∷ decimal number ∷ []
+request_words Begin = codes "begin" ∷ []
+request_words (TxGet number id key) = codes "tx_get" ∷ decimal number ∷ decimal id ∷ hex_word key ∷ []
+request_words (TxInsert number id key value) = codes "tx_insert" ∷ decimal number ∷ decimal id ∷ hex_word key ∷ hex_word value ∷ []
+request_words (Commit number) = codes "commit" ∷ decimal number ∷ []
 request_words Gc = codes "gc" ∷ []
 request_words (Rotate id) = codes "rotate" ∷ decimal id ∷ []
 request_words (Flush id) = codes "flush" ∷ decimal id ∷ []
@@ -85,6 +89,10 @@ IsRequest (Scan id) = id < 2 ^ 64
 IsRequest Snapshot = Unit {0}
 IsRequest (GetAt number id key) = (number < 2 ^ 64) × (id < 2 ^ 64) × IsBytes key
 IsRequest (CloseSnapshot number) = number < 2 ^ 64
+IsRequest Begin = Unit {0}
+IsRequest (TxGet number id key) = (number < 2 ^ 64) × (id < 2 ^ 64) × IsBytes key
+IsRequest (TxInsert number id key value) = (number < 2 ^ 64) × (id < 2 ^ 64) × IsBytes key × IsBytes value
+IsRequest (Commit number) = number < 2 ^ 64
 IsRequest Gc = Unit {0}
 IsRequest (Rotate id) = id < 2 ^ 64
 IsRequest (Flush id) = id < 2 ^ 64

@@ -64,13 +64,22 @@ pub enum Request {
     Len(u64),
     /// `scan ID`: all pairs of a keyspace.
     Scan(u64),
-    /// `snapshot`: opens a snapshot of all that was written. Its number is that of the line among all lines that open one,
-    /// counted from 1 over the whole input.
+    /// `snapshot`: opens a snapshot of all that was written. Its number is that of the line among all lines that open a
+    /// snapshot or begin a transaction, counted from 1 over the whole input.
     Snapshot,
     /// `get_at T ID K`: the value of a key in the snapshot of this number.
     GetAt(u64, u64, UserKey),
     /// `close_snapshot T`: closes the snapshot of this number.
     CloseSnapshot(u64),
+    /// `begin`: begins an optimistic transaction. Its number is that of the line among all lines that open a snapshot or
+    /// begin a transaction, counted from 1 over the whole input.
+    Begin,
+    /// `tx_get T ID K`: the value of a key as the transaction of this number sees it.
+    TxGet(u64, u64, UserKey),
+    /// `tx_insert T ID K V`: gives a key a value in the transaction of this number.
+    TxInsert(u64, u64, UserKey, UserValue),
+    /// `commit T`: commits the transaction of this number.
+    Commit(u64),
     /// `gc`: raises the number below which no open snapshot reads, and tells it.
     Gc,
     /// `rotate ID`: seals the active memtable of a keyspace.

@@ -77,6 +77,39 @@ fn get_at(alloc: Global, number: &str, id: &str, key: &str) -> Result<Option<Com
     Ok(Some(Command::Ask(Request::GetAt(number, id, key))))
 }
 
+fn tx_get(alloc: Global, number: &str, id: &str, key: &str) -> Result<Option<Command>, AllocError>
+    ensures { IfOk result (λ found. Spells (codes "tx_get" ∷ number.now ∷ id.now ∷ key.now ∷ []) found) }
+{
+    let Some(number) = parse_number(number) else {
+        return Ok(None);
+    };
+    let Some((id, key)) = id_and_key(alloc, id, key)? else {
+        return Ok(None);
+    };
+    Ok(Some(Command::Ask(Request::TxGet(number, id, key))))
+}
+
+fn tx_insert(
+    alloc: Global,
+    number: &str,
+    id: &str,
+    key: &str,
+    value: &str,
+) -> Result<Option<Command>, AllocError>
+    ensures { IfOk result (λ found. Spells (codes "tx_insert" ∷ number.now ∷ id.now ∷ key.now ∷ value.now ∷ []) found) }
+{
+    let Some(number) = parse_number(number) else {
+        return Ok(None);
+    };
+    let Some((id, key)) = id_and_key(alloc, id, key)? else {
+        return Ok(None);
+    };
+    let Some(value) = bytes(alloc, value)? else {
+        return Ok(None);
+    };
+    Ok(Some(Command::Ask(Request::TxInsert(number, id, key, value))))
+}
+
 // The new value that a word spells: a tilde takes the key away.
 fn new_value(alloc: Global, word: &str) -> Result<Option<Option<UserValue>>, AllocError>
     ensures spelled { IfOk result (λ found. IfSome found (λ value. word.now ≡ value_word value)) }
@@ -143,6 +176,7 @@ fn bare(word: &str) -> Option<Command>
 {
     match word {
         "snapshot" => Some(Command::Ask(Request::Snapshot)),
+        "begin" => Some(Command::Ask(Request::Begin)),
         "gc" => Some(Command::Ask(Request::Gc)),
         "persist" => Some(Command::Ask(Request::Persist)),
         "reopen" => Some(Command::Reopen),
@@ -170,6 +204,7 @@ fn with_one(alloc: Global, word: &str, other: &str) -> Result<Option<Command>, A
         "len" => Some(Command::Ask(Request::Len(number))),
         "scan" => Some(Command::Ask(Request::Scan(number))),
         "close_snapshot" => Some(Command::Ask(Request::CloseSnapshot(number))),
+        "commit" => Some(Command::Ask(Request::Commit(number))),
         "crash" => Some(Command::Crash(number)),
         _ => None,
     })
@@ -205,6 +240,25 @@ fn with_three(
     match word {
         "insert" => insert(alloc, first, second, third),
         "get_at" => get_at(alloc, first, second, third),
+        "tx_get" => tx_get(alloc, first, second, third),
+        _ => Ok(None),
+    }
+}
+
+// The command of a word and four more.
+fn with_four(
+    alloc: Global,
+    word: &str,
+    first: &str,
+    second: &str,
+    third: &str,
+    fourth: &str,
+) -> Result<Option<Command>, AllocError>
+    requires { word.now ≢ codes "batch" }
+    ensures { IfOk result (λ found. Spells (word.now ∷ first.now ∷ second.now ∷ third.now ∷ fourth.now ∷ []) found) }
+{
+    match word {
+        "tx_insert" => tx_insert(alloc, first, second, third, fourth),
         _ => Ok(None),
     }
 }
@@ -224,6 +278,7 @@ fn command(alloc: Global, words: &[&str]) -> Result<Option<Command>, AllocError>
         [other] => with_one(alloc, word, other),
         [id, key] => with_key(alloc, word, id, key),
         [first, second, third] => with_three(alloc, word, first, second, third),
+        [first, second, third, fourth] => with_four(alloc, word, first, second, third, fourth),
         _ => Ok(None),
     }
 }
