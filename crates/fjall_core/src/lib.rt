@@ -31,3 +31,4 @@ pub use laws::{
     holds_through_crash, lives_blame_the_device, lives_hold, lives_open, lives_stay_tidy,
     new_disk_holds, new_disk_tidy, no_calls_run, runs_go_on,
 };
+pub use replies::{pairs_reply, reply_of, value_reply};

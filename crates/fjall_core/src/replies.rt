@@ -7,7 +7,7 @@ use fjall_base::{KvPair, Result, Slice, UserValue};
 use fjall_state::{Reply, Ticket};
 
 /// The reply to a change or to a sync.
-pub(crate) fn reply_of(done: Result<()>) -> Reply
+pub fn reply_of(done: Result<()>) -> Reply
     ensures { result ≡ reply_of done }
 {
     match done {
@@ -17,7 +17,7 @@ pub(crate) fn reply_of(done: Result<()>) -> Reply
 }
 
 /// The reply to a read.
-pub(crate) fn value_reply(found: Result<Option<UserValue>>) -> Reply
+pub fn value_reply(found: Result<Option<UserValue>>) -> Reply
     ensures { result ≡ value_reply found }
 {
     match found {
@@ -27,7 +27,7 @@ pub(crate) fn value_reply(found: Result<Option<UserValue>>) -> Reply
 }
 
 /// The reply to a read of pairs.
-pub(crate) fn pairs_reply(found: Result<Vec<KvPair>>) -> Reply
+pub fn pairs_reply(found: Result<Vec<KvPair>>) -> Reply
     ensures { result ≡ pairs_reply found }
 {
     match found {
