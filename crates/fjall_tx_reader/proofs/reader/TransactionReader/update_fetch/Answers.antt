@@ -26,5 +26,6 @@ returns-clause-updated g c =
     let makes = Makes g.F.FnOnce a.f in
     let read = read_as g.D.Disk.honest old.reader.core.now mid.reader.core.now old.reader.view mid.reader.view old.transaction.now mid.transaction.now a.id c.as_slice.result.now a.key found c.as_slice.ensures
     (record { due = here.due; shown = here.shown; is = here.ok; marked = here.marked }) in
+    let made = subst (λ r. IfOk r (λ new. HasMade makes mid.transaction.now a.id a.key found new c.make_copied-done.new.transaction)) (sym c.settled.ensures.same) c.make_copied-done.ensures.ok in
     is_updated_so makes g.D.Disk.honest old.reader.core.now mid.reader.core.now old.reader.view mid.reader.view old.transaction.now mid.transaction.now c.make_copied-done.new.transaction c.settled.new.transaction
-    a.id a.key found c.settled.result read c.settled.ensures.ok (subst (λ r. IfOk r (λ new. HasMade makes mid.transaction.now a.id a.key found new c.make_copied-done.new.transaction)) (sym c.settled.ensures.same) c.make_copied-done.ensures.ok)
+    a.id a.key found c.settled.result read c.settled.ensures.ok made
