@@ -3,7 +3,6 @@
 use crate::answers::Answer::{Began, Done, Flag, Number, Opened, Pairs, Value};
 use crate::answers::Row;
 use crate::steps::Act::{FetchUpdate, Get, Page, Put, Sync, Take, UpdateFetch};
-use crate::steps::Step;
 use crate::steps::Step::{
     Begin, BeginFlush, CloseSnapshot, Commit, Create, FinishFlush, GetAt, In, Insert, Persist,
     Remove, Rollback, Rotate, Snapshot,
@@ -59,5 +58,4 @@ pub const SCRIPT: &[Row] = &[
     (Persist(PersistMode::SyncAll), Done),
     (Commit(Single, 30), Flag(true)),
     (Remove(1, "a"), Done),
-    (Step::Get(1, "e"), Value(Some("7"))),
 ];
