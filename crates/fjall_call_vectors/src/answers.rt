@@ -9,7 +9,7 @@ use fjall_transactions::Transactions;
 use std::alloc::Global;
 
 /// What a step is answered.
-#[derive(Clone, Copy, Debug)]
+#[derive(Clone, Copy)]
 pub enum Answer {
     Done,
     Value(Option<&'static str>),

@@ -7,7 +7,7 @@ use fjall_core::{Core, Reply, View};
 use std::alloc::Global;
 
 /// What becomes of a key.
-#[derive(Clone, Copy, Debug, PartialEq, Eq)]
+#[derive(Clone, Copy, PartialEq)]
 pub enum Change {
     Keep,
     Put(u8),

@@ -12,7 +12,6 @@ use fjall_base::{Error, Result};
 use fjall_calls::Kind::{Optimistic, Single};
 use fjall_core::{Core, Reply};
 use fjall_memory::MemoryDisk;
-use fjall_options::KeyspaceCreateOptions;
 use std::alloc::Global;
 use std::ops::Bound::{Excluded, Included};
 use std::test::Fail;
@@ -255,13 +254,8 @@ const SCENARIOS: &[Scenario] = &[
     ("refusals", REFUSALS),
 ];
 
-// The core of a new database.
-fn new_core(alloc: Global) -> Result<Core<MemoryDisk>> {
-    match core_on(alloc, MemoryDisk::new(alloc)) {
-        Ok(core) => Ok(core),
-        Err(refused) => Err(refused.error),
-    }
-}
+// The keyspace that each list finds.
+const ITEMS: &[Row] = &[(Create("items"), Number(1))];
 
 // The place of the first of these replies that isn't what its row wants, or none.
 fn first_wrong(rows: &[Row], replies: &[Reply]) -> Option<usize> {
@@ -270,12 +264,19 @@ fn first_wrong(rows: &[Row], replies: &[Reply]) -> Option<usize> {
         .position(|(row, reply)| !is_told(reply, &row.1))
 }
 
-// The place of the first step of these rows that isn't answered as it must be, or none.
-fn wrong_in(alloc: Global, rows: &[Row]) -> Result<Option<usize>> {
-    let mut core = new_core(alloc)?;
-    core.keyspace(b"items", KeyspaceCreateOptions::default(alloc)?)?;
-    let replies = served(alloc, &mut core, rows)?;
+// The place of the first of these steps that a new core doesn't answer as it must, or none.
+fn wrong_on(alloc: Global, core: &mut Core<MemoryDisk>, rows: &[Row]) -> Result<Option<usize>> {
+    served(alloc, core, ITEMS)?;
+    let replies = served(alloc, core, rows)?;
     Ok(first_wrong(rows, &replies))
+}
+
+// The same on a new database.
+fn wrong_in(alloc: Global, rows: &[Row]) -> Result<Option<usize>> {
+    match core_on(alloc, MemoryDisk::new(alloc)) {
+        Ok(mut core) => wrong_on(alloc, &mut core, rows),
+        Err(refused) => Err(refused.error),
+    }
 }
 
 #[test]

@@ -8,7 +8,7 @@ use std::alloc::Global;
 use std::ops::Bound;
 
 /// A step within a transaction that is open. The first number is a keyspace's id.
-#[derive(Clone, Copy, Debug)]
+#[derive(Clone, Copy)]
 pub enum Act {
     Get(u64, &'static str),
     /// From this key on, up to this bound, and so many pairs at most.
@@ -23,7 +23,7 @@ pub enum Act {
 }
 
 /// One step of a list. A ticket, a job and a transaction are named by the places of the steps that opened or began them.
-#[derive(Clone, Copy, Debug)]
+#[derive(Clone, Copy)]
 pub enum Step {
     Create(&'static str),
     Delete(u64),
