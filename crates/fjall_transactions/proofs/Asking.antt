@@ -23,7 +23,7 @@ use Rattle.fjall_state.specs.Remembered.{Remembered}
 use Rattle.fjall_core.specs.Holding.{Held}
 use Rattle.fjall_core.specs.Standing.{Owes, OwesFailure, OwesRefusal, held_due, reply_of}
 use Rattle.fjall_transactions.specs.Commits.{AsksFor, Comes, Commits, Ends, Fails, Lets}
-use Rattle.fjall_transactions.specs.Transactions.{Kept, MeetsSome, Tx, committed}
+use Rattle.fjall_transactions.specs.Transactions.{AreOf, Kept, MeetsSome, Tx, committed}
 
 -- what a look at the items found is what is due
 pub look_found : (core : Held) (items seen : List BatchItem) (mode : Option PersistMode) (found first : Option Error) → seen ≡ items → ((how : Persistence) → found ≡ held_due core (OfChange (Items seen) how))
@@ -54,11 +54,11 @@ outcome_of (Err error) = outcomes.Aborted error
 
 pub comes_of : (Does : Held → Shape → Reply → Held → Type 0) (old new : Kept) (core left : Held) (instant : ℕ) (tx : Tx) (items : List BatchItem) (result : Result Unit Error) (outcome : CommitOutcome Error)
     → items ≡ items_of tx.own → (tx.own ≡ empty → ⊥) → (MeetsSome instant tx.marks old.commits → ⊥) → outcome ≡ outcome_of result → AsksFor Does core (OfChange (Items items) (ByMode tx.mode)) result left
-    → OnOk result (new ≡ record old { commits = committed core.memory.next tx.marks items old.commits }) → OnErr result (new ≡ old) → Comes Does old.commits core instant tx outcome new.commits left
+    → (AreOf core old.commits → OnOk result (new ≡ record old { commits = committed core.memory.next tx.marks items old.commits })) → (AreOf core old.commits → OnErr result (new ≡ old)) → Comes Does old.commits core instant tx outcome new.commits left
 comes_of Does old new core left instant tx items (Ok u) outcome is some apart told does ok err =
-    Commits some apart told (ap (λ (k : Kept). k.commits) ok ∙ ap (λ l. committed core.memory.next tx.marks l old.commits) is) (subst (λ l. Does core (OfChange (Items l) (ByMode tx.mode)) Done left) is does)
+    Commits some apart told (λ are. ap (λ (k : Kept). k.commits) (ok are) ∙ ap (λ l. committed core.memory.next tx.marks l old.commits) is) (subst (λ l. Does core (OfChange (Items l) (ByMode tx.mode)) Done left) is does)
 comes_of Does old new core left instant tx items (Err error) outcome is some apart told does ok err =
-    Fails some apart error told (ap (λ (k : Kept). k.commits) err) (subst (λ l. AsksFor Does core (OfChange (Items l) (ByMode tx.mode)) (Err error) left) is does)
+    Fails some apart error told (λ are. ap (λ (k : Kept). k.commits) (err are)) (subst (λ l. AsksFor Does core (OfChange (Items l) (ByMode tx.mode)) (Err error) left) is does)
 
 -- ---- tickets
 

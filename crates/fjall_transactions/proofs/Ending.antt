@@ -148,7 +148,7 @@ closed_stands : (core new : Held) (kept : Kept) (t : Told) (s : State) (id : ℕ
 closed_stands core new kept t s id stands step is =
     subst (λ u. StandFor new kept u) (same_told t s (ap (λ (k : State). k.history) step.1.1)) (shape_stands core new kept t s (OfTickets (Close id)) Done stands step is)
 
-pruned_stands : (core : Held) (kept : Kept) (t : Told) → StandFor core kept t → StandFor core (record kept { commits = pruned kept.commits core.memory.tickets.watermark }) t
+pub pruned_stands : (core : Held) (kept : Kept) (t : Told) → StandFor core kept t → StandFor core (record kept { commits = pruned kept.commits core.memory.tickets.watermark }) t
 pruned_stands core kept t stands =
     let same = stands.machine.remembered.tickets in
     let le : stands.upto ≤ core.memory.tickets.watermark = subst (λ (k : Tickets). stands.upto ≤ k.watermark) same stands.passed in
@@ -201,7 +201,7 @@ comes_stands core mid left kept t tx outcome instant all stands reads there (Fai
     let here : StandFor mid kept (record { state = m; accepted = t.accepted }) = refused_stands core mid kept t m (Items (items_of tx.own)) (ByMode tx.mode) error stands step is in
     let (s, stay, on, close) = finished mid left kept (record { state = m; accepted = t.accepted }) tx.ticket.id here amid closes in (
       record { state = s; accepted = t.accepted },
-      subst (λ l. StandFor left (record kept { commits = pruned l left.memory.tickets.watermark }) (record { state = s; accepted = t.accepted })) (sym same_commits) stay,
+      subst (λ l. StandFor left (record kept { commits = pruned l left.memory.tickets.watermark }) (record { state = s; accepted = t.accepted })) (sym (same_commits (kept_of_core core kept t stands))) stay,
       on,
       IsRefused instant there some (λ met. apart (met_kept core kept t stands tx.ticket.id instant tx.marks there met)) error told m step close refl,
     )
@@ -209,7 +209,7 @@ comes_stands core mid left kept t tx outcome instant all stands reads there (Fai
     let step = memory_steps core.memory core.catalog.next_table_id t.state stands.machine.remembered (change_of tx) error (takes_memory (items_of tx.own) (ByMode tx.mode) (some_items tx.own some)) is in
     let (s, stay, on, close) = finished core left kept t tx.ticket.id stands reads (subst (λ m. Serves m (OfTickets (Close tx.ticket.id)) Done left) same closes) in (
       record { state = s; accepted = t.accepted },
-      subst (λ l. StandFor left (record kept { commits = pruned l left.memory.tickets.watermark }) (record { state = s; accepted = t.accepted })) (sym same_commits) stay,
+      subst (λ l. StandFor left (record kept { commits = pruned l left.memory.tickets.watermark }) (record { state = s; accepted = t.accepted })) (sym (same_commits (kept_of_core core kept t stands))) stay,
       on,
       IsRefused instant there some (λ met. apart (met_kept core kept t stands tx.ticket.id instant tx.marks there met)) error told t.state step close refl,
     )
@@ -222,7 +222,7 @@ comes_stands core mid left kept t tx outcome instant all stands reads there (Com
     committed_stands core mid kept t m tx.ticket.id instant tx.marks (items_of tx.own) (ByMode tx.mode) stands there free e step is in
     let (s, stay, on, close) = finished mid left (record kept { commits = committed core.memory.next tx.marks (items_of tx.own) kept.commits }) u tx.ticket.id here amid closes in (
       record { state = s; accepted = u.accepted },
-      subst (λ l. StandFor left (record kept { commits = pruned l left.memory.tickets.watermark }) (record { state = s; accepted = u.accepted })) (sym grown_commits) stay,
+      subst (λ l. StandFor left (record kept { commits = pruned l left.memory.tickets.watermark }) (record { state = s; accepted = u.accepted })) (sym (grown_commits (kept_of_core core kept t stands))) stay,
       on,
       IsCommitted instant there some free told m step close refl,
     )

@@ -16,7 +16,7 @@ use Rattle.fjall_history.specs.Tickets.{IsDueOrMemory, is_open}
 use Rattle.fjall_state.specs.Shapes.{ByMode, Close, OfChange, OfTickets, Shape}
 use Rattle.fjall_core.specs.Holding.{Held}
 use Rattle.fjall_core.specs.Standing.{held_due}
-use Rattle.fjall_transactions.specs.Transactions.{Kept, MeetsSome, Tx, committed}
+use Rattle.fjall_transactions.specs.Transactions.{AreOf, Kept, MeetsSome, Tx, committed}
 
 -- the reply of the core to the opening of a transaction's ticket
 abbrev pub begun_reply : Result Tx Error → Reply
@@ -38,17 +38,18 @@ abbrev pub AsksFor : (Held → Shape → Reply → Held → Type 0) → Held →
 AsksFor Does core change (Ok _) left = Does core change Done left
 AsksFor Does core change (Err error) left = Does core change (Refused error) left ⊎ (IsDueOrMemory (held_due core change) error × (left ≡ core))
 
--- What comes of a transaction that reads at this instant, before its ticket is closed, and which commits are kept then. Without own
+-- What comes of a transaction that reads at this instant, before its ticket is closed, and which commits are kept then, where those of
+-- before are the core's. Without own
 -- writes it is done, unchecked; one that meets a transaction that committed at or above its instant conflicts; and else its own
 -- writes are one change that the core is asked for.
 pub data Comes (Does : Held → Shape → Reply → Held → Type 0) (old : List Committed) (core : Held) (instant : ℕ) (tx : Tx) (outcome : CommitOutcome Error) (new : List Committed) (left : Held) : Type 0 where
   Idle : (none : tx.own ≡ empty) (told : outcome ≡ outcomes.Ok) (kept : new ≡ old) (same : left ≡ core) → Comes Does old core instant tx outcome new left
   Meets : (some : tx.own ≢ empty) (meets : MeetsSome instant tx.marks old) (told : outcome ≡ outcomes.Conflicted) (kept : new ≡ old) (same : left ≡ core)
       → Comes Does old core instant tx outcome new left
-  Fails : (some : tx.own ≢ empty) (apart : MeetsSome instant tx.marks old → ⊥) (error : Error) (told : outcome ≡ outcomes.Aborted error) (kept : new ≡ old)
+  Fails : (some : tx.own ≢ empty) (apart : MeetsSome instant tx.marks old → ⊥) (error : Error) (told : outcome ≡ outcomes.Aborted error) (kept : AreOf core old → new ≡ old)
       (refused : AsksFor Does core (change_of tx) (Err error) left) → Comes Does old core instant tx outcome new left
   Commits : (some : tx.own ≢ empty) (apart : MeetsSome instant tx.marks old → ⊥) (told : outcome ≡ outcomes.Ok)
-      (kept : new ≡ committed core.memory.next tx.marks (items_of tx.own) old) (made : Does core (change_of tx) Done left) → Comes Does old core instant tx outcome new left
+      (kept : AreOf core old → new ≡ committed core.memory.next tx.marks (items_of tx.own) old) (made : Does core (change_of tx) Done left) → Comes Does old core instant tx outcome new left
 
 -- How a commit ends. Where its ticket isn't open nothing happens. Else the ticket is closed, whatever came of it, and commits are
 -- kept that are numbered at or above the watermark then.

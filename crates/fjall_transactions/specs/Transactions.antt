@@ -1,11 +1,15 @@
 -- A transaction that is open, and what is kept of those that committed.
-use Rattle.std.specs.Prelude.{ℕ, List, [], ◌∷◌, ◌++◌, All, ◌<◌, Option, None, Some}
-use Rattle.std.specs.Option.{option_map}
+use Rattle.std.specs.Prelude.{ℕ, Bool, List, [], ◌∷◌, ◌++◌, All, ◌<◌, Option, None, Some, if◌then◌else◌}
+use Rattle.std.specs.Option.{option_eq, option_map}
+use Rattle.std.specs.Str.{bytes_eq}
 use Rattle.std.specs.FinMap.{empty, insert}
 use Rattle.std.specs.FinSet as set
+use Rattle.fjall_base.specs.Limits.{item_refusal}
 use Rattle.fjall_base.specs.Pairs.{Bytes}
-use Rattle.fjall_journal.specs.Ops.{BatchItem}
+use Rattle.fjall_base.specs.declared.error.Error.{Error}
+use Rattle.fjall_journal.specs.Ops.{BatchItem, bytes_in}
 use Rattle.fjall_journal.specs.declared.op.Op.{Op}
+use Rattle.fjall_journal.specs.declared.op.Op.TheVariants.{Put, Remove}
 use Rattle.fjall_journal.specs.declared.persist_mode.PersistMode.{PersistMode}
 use Rattle.fjall_journal.specs.declared.persist_mode.PersistMode.TheVariants.{Buffer}
 use Rattle.fjall_tx.specs.Marks.{Mark, Marks, with_read, with_write}
@@ -42,6 +46,24 @@ having_read tx mark = record tx { marks = option_map (λ marks. with_read marks 
 -- with one more key marked as written, where it marks
 abbrev pub having_touched : Tx → ℕ → Bytes → Tx
 having_touched tx id key = record tx { marks = option_map (λ marks. with_write marks id key) tx.marks }
+
+-- whether a key that has the one value, or none, has the other too
+abbrev pub is_same_value : Option Bytes → Option Bytes → Bool
+is_same_value = option_eq bytes_eq
+
+-- the write that gives a key this value, or none
+abbrev pub op_of : Option Bytes → Op
+op_of (Some value) = Put value
+op_of None = Remove
+
+-- With what a key becomes, a value or none, where it has had this one: with one more own write where the two differ, and else
+-- with the key marked as written.
+abbrev pub replacing : Tx → ℕ → Bytes → Option Bytes → Option Bytes → Tx
+replacing tx id key old new = if is_same_value old new then having_touched tx id key else with_own tx id key (op_of new)
+
+-- why what a key becomes can't be written, where it is written
+abbrev pub replace_refusal : Bytes → Option Bytes → Option Bytes → Option Error
+replace_refusal key old new = if is_same_value old new then None else item_refusal key (bytes_in (op_of new))
 
 -- with each key of these items marked as written
 abbrev pub with_items : Marks → List BatchItem → Marks

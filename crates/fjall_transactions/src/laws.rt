@@ -1,13 +1,16 @@
 //! What holds of a core with its transactions.
 
-ghost use Rattle.std.specs.Prelude.{◌≡◌, ◌↔◌, [], List, None, Some, ℕ};
+ghost use Rattle.std.specs.Prelude.{◌≡◌, ◌≢◌, ◌↔◌, [], List, None, Option, Some, ℕ};
 ghost use Rattle.std.specs.FinMap.{get};
+ghost use Rattle.fjall_base.specs.Limits.{item_refusal};
+ghost use Rattle.fjall_base.specs.Pairs.{Bytes};
 ghost use Rattle.fjall_base.specs.declared.error.Error.{Error};
 ghost use Rattle.fjall_core.specs.Holding.{Held};
 ghost use Rattle.fjall_core.specs.Standing.{ReadsOn, Serves, StandsFor};
 ghost use Rattle.fjall_history.specs.Histories.{commits};
 ghost use Rattle.fjall_history.specs.Moves.{AreSound};
 ghost use Rattle.fjall_history.specs.declared.reply.Reply.{Reply};
+ghost use Rattle.fjall_journal.specs.Ops.{bytes_in};
 ghost use Rattle.fjall_serial.specs.Serial.{IsSerial, ReadsChangeByTransactions};
 ghost use Rattle.fjall_state.specs.Machine.{State, Step, StepOf, times};
 ghost use Rattle.fjall_state.specs.Shapes.{Shape, shape_of};
@@ -17,7 +20,15 @@ ghost use Rattle.fjall_tx.specs.Oracles.{Conflicts};
 ghost use Rattle.fjall_tx.specs.declared.outcome.CommitOutcome.{CommitOutcome as Outcome};
 ghost use Rattle.fjall_transactions.specs.Commits.{Ends};
 ghost use Rattle.fjall_transactions.specs.Standing.{CommitStep, StandFor, Told, gone_on, history_of};
-ghost use Rattle.fjall_transactions.specs.Transactions.{AreOf, Kept, Tx};
+ghost use Rattle.fjall_transactions.specs.Transactions.{AreOf, Kept, Tx, having_touched, op_of, replace_refusal, replacing, with_own};
+
+/// What a key becomes is written exactly where it differs from what the key has had, and is refused there alone.
+pub fn what_stays_is_not_written()
+    ensures same { (tx : Tx) (id : ℕ) (key : Bytes) (value : Option Bytes) → replacing tx id key value value ≡ having_touched tx id key }
+    ensures other { (tx : Tx) (id : ℕ) (key : Bytes) (old new : Option Bytes) → old ≢ new → replacing tx id key old new ≡ with_own tx id key (op_of new) }
+    ensures same_refusal { (key : Bytes) (value : Option Bytes) → replace_refusal key value value ≡ None }
+    ensures other_refusal { (key : Bytes) (old new : Option Bytes) → old ≢ new → replace_refusal key old new ≡ item_refusal key (bytes_in (op_of new)) }
+{}
 
 /// A core that was just opened, of whose history nothing was accepted, stands with no transactions.
 pub fn an_opening_stands()

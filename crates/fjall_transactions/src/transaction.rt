@@ -6,7 +6,7 @@ ghost use Rattle.fjall_base.specs.declared.error.Error.TheVariants.{OutOfMemory}
 ghost use Rattle.fjall_journal.specs.Ops.{bytes_in};
 ghost use Rattle.fjall_journal.specs.declared.op.Op.TheVariants.{Put, Remove, RemoveWeak};
 ghost use Rattle.fjall_tx.specs.Marks.{Mark, OfKey, OfRange, key_bound};
-ghost use Rattle.fjall_transactions.specs.Transactions.{Tx, having_read, having_touched, with_own};
+ghost use Rattle.fjall_transactions.specs.Transactions.{Tx, having_read, having_touched, op_of, replace_refusal, replacing, with_own};
 
 use fjall_base::{KeyBounds, Result, UserKey, UserValue};
 use fjall_core::{Op, PersistMode, Ticket};
@@ -35,6 +35,16 @@ impl Model for Transaction {
     ghost coded = { Prim.hlevel (codes, places_code, own_code) };
 
     ghost view = { λ tx. record { ticket = tx.ticket; own = tx.own; marks = tx.marks; mode = tx.mode } };
+}
+
+// The write that gives a key this value, or none.
+fn op_for(value: Option<UserValue>) -> Op
+    ensures { result ≡ op_of value }
+{
+    match value {
+        Some(value) => Op::Put(value),
+        None => Op::Remove,
+    }
 }
 
 impl Transaction {
@@ -96,6 +106,27 @@ impl Transaction {
         ensures refused { MatchOption (item_refusal key (bytes_in RemoveWeak)) (IsOkUnless result OutOfMemory) (λ e. result ≡ Err e) }
     {
         self.write(id, key, Op::RemoveWeak)
+    }
+
+    /// Writes what a key of a keyspace becomes, a value or none, where it has had this one, as the transaction saw it. Where the
+    /// two are the same nothing is written, and the key is marked as written all the same.
+    ///
+    /// Refusals, after which all is as before: where it writes those of [`insert`](Transaction::insert), and else `OutOfMemory`.
+    pub fn replace(
+        &mut self,
+        id: u64,
+        key: UserKey,
+        old: &Option<UserValue>,
+        new: Option<UserValue>,
+    ) -> Result<()>
+        ensures ok { OnOk result (self.new ≡ replacing self.old id key old.now new) }
+        ensures unchanged { OnErr result (self.new ≡ self.old) }
+        ensures refused { MatchOption (replace_refusal key old.now new) (IsOkUnless result OutOfMemory) (λ e. result ≡ Err e) }
+    {
+        if *old == new {
+            return self.mark_written(id, key.as_slice());
+        }
+        self.write(id, key, op_for(new))
     }
 
     /// Its own writes.

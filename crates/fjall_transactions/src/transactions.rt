@@ -212,8 +212,8 @@ impl Transactions {
         instant: u64,
         transaction: Transaction,
     ) -> CommitOutcome<Error>
-        ensures serves { IsTrue D.honest → AreOf core.old self.old.commits → Comes Serves self.old.commits core.old instant transaction result self.new.commits core.new }
-        ensures owes { AreOf core.old self.old.commits → Comes Owes self.old.commits core.old instant transaction result self.new.commits core.new }
+        ensures serves { IsTrue D.honest → Comes Serves self.old.commits core.old instant transaction result self.new.commits core.new }
+        ensures owes { Comes Owes self.old.commits core.old instant transaction result self.new.commits core.new }
         ensures writer { self.new ≡ record self.old { commits = self.new.commits } }
         ensures tickets { core.new.memory.tickets ≡ core.old.memory.tickets }
     {
@@ -247,8 +247,8 @@ impl Transactions {
         core: &mut Core<D>,
         transaction: Transaction,
     ) -> CommitOutcome<Error>
-        ensures serves { IsTrue D.honest → AreOf core.old self.old.commits → Ends Serves self.old core.old transaction result self.new core.new }
-        ensures owes { AreOf core.old self.old.commits → Ends Owes self.old core.old transaction result self.new core.new }
+        ensures serves { IsTrue D.honest → Ends Serves self.old core.old transaction result self.new core.new }
+        ensures owes { Ends Owes self.old core.old transaction result self.new core.new }
         // So it is a step from whichever state the core stood for, in which it conflicts exactly where it meets one of all that ever
         // committed.
         ensures steps { IsTrue D.honest → (t : Told) → StandFor core.old self.old t → ReadsOn core.old t.state

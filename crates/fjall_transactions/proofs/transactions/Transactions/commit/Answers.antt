@@ -8,29 +8,28 @@ use Rattle.fjall_tx.specs.declared.outcome.CommitOutcome.TheVariants as outcomes
 use Rattle.fjall_transactions.specs.Commits.{Gone}
 use Rattle.fjall_transactions.proofs.Asking.{ends_of}
 use Rattle.fjall_transactions.proofs.Ending.{commit_stands}
-use Rattle.fjall_transactions.proofs.Standing.{kept_of_core}
 use Rattle.fjall_transactions.proofs.transactions.Transactions.commit.Goals as goal
 
 pub returns-clause-serves : goal.returns-clause-serves
-returns-clause-serves g c = λ h are.
+returns-clause-serves g c = λ h.
     ends_of Serves c.args.self.now c.end-outcome.new.self c.close.new.self c.args.core.now c.end-outcome.new.core c.close.new.core c.args.transaction c.in-Some.instant c.end-outcome.result c.close.result c.in-Ok.field-0
     (subst (λ (x : Tx). get c.args.core.now.memory.tickets.instants x.ticket.id ≡ Some c.in-Some.instant) c.transaction.view_is (sym c.instant_of.ensures.held ∙ c.in-Some.is))
-    (c.end-outcome.ensures.serves h are) c.end-outcome.ensures.writer c.in-Ok.is
+    (c.end-outcome.ensures.serves h) c.end-outcome.ensures.writer c.in-Ok.is
     (subst (λ (x : Tx). Serves c.end-outcome.new.core (OfTickets (Close x.ticket.id)) (reply_of c.close.result) c.close.new.core) c.transaction.view_is (c.close.ensures.serves h))
     c.close.ensures.ok
 
 pub returns-clause-owes : goal.returns-clause-owes
-returns-clause-owes g c = λ are.
+returns-clause-owes g c =
     ends_of Owes c.args.self.now c.end-outcome.new.self c.close.new.self c.args.core.now c.end-outcome.new.core c.close.new.core c.args.transaction c.in-Some.instant c.end-outcome.result c.close.result c.in-Ok.field-0
     (subst (λ (x : Tx). get c.args.core.now.memory.tickets.instants x.ticket.id ≡ Some c.in-Some.instant) c.transaction.view_is (sym c.instant_of.ensures.held ∙ c.in-Some.is))
-    (c.end-outcome.ensures.owes are) c.end-outcome.ensures.writer c.in-Ok.is
+    c.end-outcome.ensures.owes c.end-outcome.ensures.writer c.in-Ok.is
     (subst (λ (x : Tx). Owes c.end-outcome.new.core (OfTickets (Close x.ticket.id)) (reply_of c.close.result) c.close.new.core) c.transaction.view_is c.close.ensures.owes)
     c.close.ensures.ok
 
 pub returns-clause-steps : goal.returns-clause-steps
 returns-clause-steps g c = λ h t stands reads.
     commit_stands c.args.core.now c.close.new.core c.args.self.now c.close.new.self t c.args.transaction c.end-outcome.result stands reads
-    (returns-clause-serves g c h (kept_of_core c.args.core.now c.args.self.now t stands))
+    (returns-clause-serves g c h)
 
 pub returns-in_default-clause-steps : goal.returns-in_default-clause-steps
 returns-in_default-clause-steps g c = λ h t stands reads.

@@ -1,0 +1,4 @@
+pub mod Names
+pub mod Worlds
+pub mod Acting
+pub mod Steps
