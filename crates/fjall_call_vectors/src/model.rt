@@ -226,7 +226,10 @@ impl Tried {
 
     /// Takes what steps were answered. Answers the place of the first that isn't answered as it must be, or none.
     pub fn hear_all(&mut self, rows: &[Row], replies: &[Reply]) -> Result<Option<usize>> {
-        for (place, (row, reply)) in rows.iter().zip(replies).enumerate() {
+        for (place, row) in rows.iter().enumerate() {
+            let Some(reply) = replies.get(place) else {
+                return Ok(Some(place));
+            };
             let before = rows.get(..place).unwrap_or(&[]);
             if !self.hear(row, reply, before, replies)? {
                 return Ok(Some(place));
@@ -248,9 +251,10 @@ impl Tried {
         Ok(core.visible_seqno() == self.accepted as u64 && self.is_fold(core, self.accepted)?)
     }
 
-    /// Whether a core shows what a beginning of the commands makes, with all that are safe.
-    pub fn is_left<D: Disk>(&self, core: &mut Core<D>) -> Result<bool> {
+    /// Whether a core shows what a beginning of the commands makes, with all that are safe, or with all that were accepted.
+    pub fn is_left<D: Disk>(&self, core: &mut Core<D>, has_all: bool) -> Result<bool> {
         let count = core.visible_seqno() as usize;
-        Ok(self.safe <= count && self.is_fold(core, count)?)
+        let least = if has_all { self.accepted } else { self.safe };
+        Ok(least <= count && self.is_fold(core, count)?)
     }
 }

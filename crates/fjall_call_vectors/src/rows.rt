@@ -257,11 +257,15 @@ const SCENARIOS: &[Scenario] = &[
 // The keyspace that each list finds.
 const ITEMS: &[Row] = &[(Create("items"), Number(1))];
 
-// The place of the first of these replies that isn't what its row wants, or none.
+// The place of the first of these rows that isn't answered as it wants, or none.
 fn first_wrong(rows: &[Row], replies: &[Reply]) -> Option<usize> {
-    rows.iter()
-        .zip(replies)
-        .position(|(row, reply)| !is_told(reply, &row.1))
+    for (place, row) in rows.iter().enumerate() {
+        match replies.get(place) {
+            Some(reply) if is_told(reply, &row.1) => {}
+            _ => return Some(place),
+        }
+    }
+    None
 }
 
 // The place of the first of these steps that a new core doesn't answer as it must, or none.

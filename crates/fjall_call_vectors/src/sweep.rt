@@ -54,24 +54,29 @@ fn unopened(alloc: Global, refused: Refused<MemoryDisk>) -> Checked<Played> {
 }
 
 // Serves these steps, and sees that they are answered rightly and that the core shows what they make.
+fn hear(alloc: Global, core: &mut Core<MemoryDisk>, rows: &[Row], fault: Fault) -> Checked<Tried> {
+    let mut tried = Tried::new(alloc);
+    let replies = served(alloc, core, rows)?;
+    if let Some(place) = tried.hear_all(rows, &replies)? {
+        return Err(Wrong::Reply(fault, place));
+    }
+    if !tried.is_there(core)? {
+        return Err(Wrong::Shown(fault));
+    }
+    Ok(tried)
+}
+
+// The same, and then the core lets its disk go.
 fn play_on(
     alloc: Global,
     mut core: Core<MemoryDisk>,
     rows: &[Row],
     fault: Fault,
 ) -> Checked<Played> {
-    let mut tried = Tried::new(alloc);
-    let replies = served(alloc, &mut core, rows)?;
-    if let Some(place) = tried.hear_all(rows, &replies)? {
-        return Err(Wrong::Reply(fault, place));
-    }
-    if !tried.is_there(&mut core)? {
-        return Err(Wrong::Shown(fault));
-    }
-    Ok(Played {
-        disk: core.into_disk(),
-        tried,
-    })
+    let heard = hear(alloc, &mut core, rows, fault);
+    let disk = core.into_disk();
+    let tried = heard?;
+    Ok(Played { disk, tried })
 }
 
 // Opens an empty disk with this fault, and serves these steps.
@@ -84,10 +89,11 @@ fn play(alloc: Global, rows: &[Row], fault: Fault) -> Checked<Played> {
     }
 }
 
-// Whether the core on what a crash left shows a beginning of the commands, with all that are safe.
-fn is_left(alloc: Global, disk: MemoryDisk, tried: &Tried) -> Checked<bool> {
+// Whether the core on what a crash left shows a beginning of the commands, with all that are safe, or with all that were
+// accepted where all bytes are left.
+fn is_left(alloc: Global, disk: MemoryDisk, tried: &Tried, has_all: bool) -> Checked<bool> {
     match core_on(alloc, disk) {
-        Ok(mut core) => Ok(tried.is_left(&mut core)?),
+        Ok(mut core) => tried.is_left(&mut core, has_all).map_err(Wrong::Error),
         Err(refused) => Err(Wrong::Error(refused.error)),
     }
 }
@@ -106,7 +112,7 @@ fn check_crash(alloc: Global, rows: &[Row], fault: Fault, keep: usize) -> Checke
     let Played { disk, tried } = play(alloc, rows, fault)?;
     let mut disk = disk.crash(keep)?;
     let len = journal_len(alloc, &mut disk)?;
-    if is_left(alloc, disk, &tried)? {
+    if is_left(alloc, disk, &tried, keep == usize::MAX)? {
         Ok(len)
     } else {
         Err(Wrong::Left(fault, keep))
