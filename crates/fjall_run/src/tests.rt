@@ -126,9 +126,16 @@ fn with_room(alloc: Global, room: usize) -> Narrow {
     Narrow { taken, room }
 }
 
-// How a run ends whose disk fails at that call, and whose output and errors take so many bytes; and what stands in them then.
-fn ran(alloc: Global, call: u64, room: usize, hearing: usize) -> (Status, Vec<u8>, Vec<u8>) {
-    let mut input = b"keyspace items\ninsert 1 61 62\ncrash 99\nget 1 61\n".as_slice();
+// How a run of a script ends whose disk fails at that call, and whose output and errors take so many bytes; and what stands in
+// them then.
+fn ran(
+    alloc: Global,
+    script: &str,
+    call: u64,
+    room: usize,
+    hearing: usize,
+) -> (Status, Vec<u8>, Vec<u8>) {
+    let mut input = script.as_bytes();
     let mut output = with_room(alloc, room);
     let mut errors = with_room(alloc, hearing);
     let place = Flawed { alloc, call };
@@ -144,6 +151,7 @@ fn is_so(seen: &(Status, Vec<u8>, Vec<u8>), want: Status, printed: &str, told: &
 
 #[test]
 fn a_failure_is_told_after_the_answers(rt: HostRuntime) {
+    let script = "keyspace items\ninsert 1 61 62\ncrash 99\nget 1 61\n";
     let all = "keyspace 1\nok\nok\nvalue 62\n";
     let rows = [
         (0, 99, 99, Status::Success, all, ""),
@@ -162,10 +170,21 @@ fn a_failure_is_told_after_the_answers(rt: HostRuntime) {
     ];
     let alloc = rt.alloc();
     for (call, room, hearing, want, printed, told) in rows {
-        let seen = ran(alloc, call, room, hearing);
+        let seen = ran(alloc, script, call, room, hearing);
         assert!(rt;
             is_so(&seen, want, printed, told),
             "disk {call}, output {room}, errors {hearing}"
         );
     }
+}
+
+#[test]
+fn a_commit_that_fails_is_told_and_ends(rt: HostRuntime) {
+    let script =
+        "keyspace items\nbegin\nbegin\ntx_insert 1 1 61 62\ntx_get 2 1 61\ntx_insert 2 1 62 63\n\
+                  commit 1\ncommit 1\ncommit 2\nbegin\n";
+    let printed = "keyspace 1\ntx 1\ntx 2\nok\nnone\nok\n\
+                   error 1 Io\nerror 20 SnapshotClosed\nerror 8 Poisoned\ntx 3\n";
+    let seen = ran(rt.alloc(), script, 38, 999, 99);
+    assert!(rt; is_so(&seen, Status::Failure, printed, "error 8 Poisoned\n"));
 }

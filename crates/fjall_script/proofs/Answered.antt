@@ -11,6 +11,8 @@ use Rattle.fjall_base.specs.declared.error.Error.{Error}
 use Rattle.fjall_base.specs.declared.error.Error.TheVariants.{Io}
 use Rattle.fjall_base.specs.Errors.{number_of, name_of}
 use Rattle.fjall_blocks.specs.Readers.{Reader}
+use Rattle.fjall_journal.specs.declared.op.Op.{Op}
+use Rattle.fjall_journal.specs.declared.op.Op.TheVariants.{Put}
 use Rattle.fjall_history.specs.declared.job.JobId.{JobId}
 use Rattle.fjall_history.specs.declared.ticket.View.{View}
 use Rattle.fjall_history.specs.declared.ticket.View.TheVariants.{Present, At}
@@ -20,16 +22,23 @@ use Rattle.fjall_history.specs.declared.reply.Reply.{Reply}
 use Rattle.fjall_history.specs.declared.reply.Reply.TheVariants.{Began, Done, Ids, Value, Pairs, Number, Names, Flag, Opened, Refused}
 use Rattle.fjall_state.specs.declared.call.Call.{Call}
 use Rattle.fjall_state.specs.declared.call.Call.TheVariants.{FlushBegin, FlushFinish}
-use Rattle.fjall_state.specs.Places.{resolved, resolved_behind, view_at}
+use Rattle.fjall_state.specs.Places.{resolved, view_at}
 use Rattle.fjall_state.specs.Shapes.{OfFlushBegin, OfFlushFinish, Shape, shape_of}
 use Rattle.fjall_lines.specs.declared.command.Command.{Command}
 use Rattle.fjall_lines.specs.declared.command.Command.TheVariants.{Ask, Crash, Reopen}
 use Rattle.fjall_lines.specs.declared.command.Request.{Request}
-use Rattle.fjall_lines.specs.declared.command.Request.TheVariants.{Keyspace, Delete, Insert, Remove, RemoveWeak, Clear, Batch, Get, Len, Scan, Snapshot, GetAt, CloseSnapshot, Gc, Rotate, Flush, Persist}
-use Rattle.fjall_script.specs.Answers.{bad_line, flushed, ok_line, reply_text, reply_to}
+use Rattle.fjall_lines.specs.declared.command.Request.TheVariants.{Keyspace, Delete, Insert, Remove, RemoveWeak, Clear, Batch, Get, Len, Scan, Snapshot, GetAt, CloseSnapshot, Begin, TxGet, TxInsert, Commit, Gc, Rotate, Flush, Persist}
+use Rattle.fjall_script.specs.Answers.{bad_line, done_text, flag_text, flushed, number_text, ok_line, reply_text, reply_to}
 use Rattle.fjall_core.specs.Holding.{Held}
+use Rattle.fjall_transactions.specs.Transactions.{Kept}
+use Rattle.fjall_lists.specs.declared.call.Kind.TheVariants.{Optimistic}
+use Rattle.fjall_lists.specs.declared.call.TxCall.{TxCall}
+use Rattle.fjall_lists.specs.declared.call.TxCall.TheVariants as tx
+use Rattle.fjall_lists.specs.declared.call.Within.TheVariants as within
+use Rattle.fjall_calls.specs.Serving as served
+use Rattle.fjall_calls.specs.Serving.{AllCome, ComesTo, Itself, OneComes, Others}
 use Rattle.fjall_core.specs.Standing.{Gives, GivesRead, IsOfKind, Owes, OwesAll, OwesBegin, OwesFinish, tables_of}
-use Rattle.fjall_script.specs.Requests.{AreCallsFrom, IsCallOf, asked_with, begun_at, calls_in, finish_of, flushes, is_stop, named, place_of, requests_of, snapshots_before}
+use Rattle.fjall_script.specs.Requests.{AreCallsFrom, IsCallOf, asked_with, begun_at, calls_in, finish_of, flushes, is_stop, named, place_of, numbers_before, requests_of}
 use Rattle.fjall_script.specs.Sessions.{answers_to, IsAnswer, IsReplyTo, Session, begun, run, restarted, Restarts}
 
 -- no refusal has the number 0
@@ -54,54 +63,34 @@ refusal_is_named n request error h =
     let front = get_or-front (decimal (number_of error)) (codes " " ++ name_of error) some in
     omega (arith, at, front, high)
 
+done_is_named : (number : ℕ) (request : Request) → first_of (done_text number request) ≡ 101 → ⊥
+done_is_named n Begin first = omega arith
+done_is_named n request first = omega arith
+
+flags_are_named : (request : Request) (flag : Bool) → first_of (flag_text request flag) ≡ 101 → ⊥
+flags_are_named (Commit number) true first = omega arith
+flags_are_named (Commit number) false first = omega arith
+flags_are_named request true first = omega arith
+flags_are_named request false first = omega arith
+
 pairs_are_named : (number : ℕ) (request : Request) (pairs : Vec (List ℕ × List ℕ) Global) → first_of (reply_text number request (Pairs pairs)) ≡ 101 → ⊥
 pairs_are_named n (Len id) pairs first = omega arith
-pairs_are_named n (Keyspace name) pairs first = omega arith
-pairs_are_named n (Delete id) pairs first = omega arith
-pairs_are_named n (Insert id key value) pairs first = omega arith
-pairs_are_named n (Remove id key) pairs first = omega arith
-pairs_are_named n (RemoveWeak id key) pairs first = omega arith
-pairs_are_named n (Clear id) pairs first = omega arith
-pairs_are_named n (Batch writes) pairs first = omega arith
-pairs_are_named n (Get id key) pairs first = omega arith
-pairs_are_named n (Scan id) pairs first = omega arith
-pairs_are_named n Snapshot pairs first = omega arith
-pairs_are_named n (GetAt number id key) pairs first = omega arith
-pairs_are_named n (CloseSnapshot number) pairs first = omega arith
-pairs_are_named n Gc pairs first = omega arith
-pairs_are_named n (Rotate id) pairs first = omega arith
-pairs_are_named n (Flush id) pairs first = omega arith
-pairs_are_named n Persist pairs first = omega arith
+pairs_are_named n request pairs first = omega arith
 
-numbers_are_named : (number : ℕ) (request : Request) (count : ℕ) → first_of (reply_text number request (Number count)) ≡ 101 → ⊥
-numbers_are_named n (Keyspace name) count first = omega arith
-numbers_are_named n (Delete id) count first = omega arith
-numbers_are_named n (Insert id key value) count first = omega arith
-numbers_are_named n (Remove id key) count first = omega arith
-numbers_are_named n (RemoveWeak id key) count first = omega arith
-numbers_are_named n (Clear id) count first = omega arith
-numbers_are_named n (Batch writes) count first = omega arith
-numbers_are_named n (Get id key) count first = omega arith
-numbers_are_named n (Len id) count first = omega arith
-numbers_are_named n (Scan id) count first = omega arith
-numbers_are_named n Snapshot count first = omega arith
-numbers_are_named n (GetAt number id key) count first = omega arith
-numbers_are_named n (CloseSnapshot number) count first = omega arith
-numbers_are_named n Gc count first = omega arith
-numbers_are_named n (Rotate id) count first = omega arith
-numbers_are_named n (Flush id) count first = omega arith
-numbers_are_named n Persist count first = omega arith
+numbers_are_named : (request : Request) (count : ℕ) → first_of (number_text request count) ≡ 101 → ⊥
+numbers_are_named (Keyspace name) count first = omega arith
+numbers_are_named Gc count first = omega arith
+numbers_are_named request count first = omega arith
 
 -- no answer to a call is the one for bad lines
 not_bad : (number : ℕ) (request : Request) (reply : Reply) → reply_text number request reply ≡ bad_line → ⊥
-not_bad n request Done h = let first = ap first_of h in omega arith
+not_bad n request Done h = done_is_named n request (ap first_of h)
 not_bad n request (Value None) h = let first = ap first_of h in omega arith
 not_bad n request (Value (Some value)) h = let first = ap first_of h in omega arith
 not_bad n request (Pairs pairs) h = pairs_are_named n request pairs (ap first_of h)
-not_bad n request (Number count) h = numbers_are_named n request count (ap first_of h)
+not_bad n request (Number count) h = numbers_are_named request count (ap first_of h)
 not_bad n request (Names names) h = let first = ap first_of h in omega arith
-not_bad n request (Flag true) h = let first = ap first_of h in omega arith
-not_bad n request (Flag false) h = let first = ap first_of h in omega arith
+not_bad n request (Flag flag) h = flags_are_named request flag (ap first_of h)
 not_bad n request (Opened ticket) h = let first = ap first_of h in omega arith
 not_bad n request (Began (Some job)) h = let first = ap first_of h in omega arith
 not_bad n request (Began None) h = let first = ap first_of h in omega arith
@@ -130,46 +119,91 @@ read_fits [] view id (queries.Get key) reply old gives = (_, gives)
 read_fits [] view id (queries.Page range back max) reply old gives = (gives.0, gives.1)
 read_fits (t ∷ tables) view id query reply old gives = gives
 
--- what the call of a request gives, behind others that got these replies
-abbrev Given : List Reply → Reply → Held → Held → Call → Type 0
-Given before reply old new call = Gives old (shape_of (resolved before call)) reply new
+-- what a call of the core gives, behind others that got these replies
+abbrev Given : List Reply → Reply → Held → Call → Held → Type 0
+Given before reply old call new = Gives old (shape_of (resolved before call)) reply new
 
 -- the query for all pairs
 abbrev all : Query
 all = queries.Page (Unbounded, Unbounded) false (2 ^ 64 - 1)
 
--- it is a reply to the request, where that makes one call
-fits : (request : Request) (place : ℕ → ℕ) (before : List Reply) (call : Call) (reply : Reply) (old new : Held) → flushes request ≡ false → IsCallOf place request call → Given before reply old new call → IsReplyTo request reply
-fits (Keyspace name) place before call reply old new one is gives = subst (IsReplyTo (Keyspace name)) (sym (subst (Given before reply old new) is gives).1) tt
-fits (Delete id) place before call reply old new one is gives = subst (IsReplyTo (Delete id)) (sym (subst (Given before reply old new) is gives).0) tt
-fits (Insert id key value) place before call reply old new one is gives = subst (IsReplyTo (Insert id key value)) (sym (subst (Given before reply old new) is gives).0) tt
-fits (Remove id key) place before call reply old new one is gives = subst (IsReplyTo (Remove id key)) (sym (subst (Given before reply old new) is gives).0) tt
-fits (RemoveWeak id key) place before call reply old new one is gives = subst (IsReplyTo (RemoveWeak id key)) (sym (subst (Given before reply old new) is gives).0) tt
-fits (Clear id) place before call reply old new one is gives = subst (IsReplyTo (Clear id)) (sym (subst (Given before reply old new) is gives).0) tt
-fits (Batch writes) place before call reply old new one is gives = subst (IsReplyTo (Batch writes)) (sym (subst (Given before reply old new) is.is gives).0) tt
-fits (Get id key) place before call reply old new one is gives = subst (IsReplyTo (Get id key)) (sym (read_fits (tables_of old id) Present id (queries.Get key) reply old (subst (Given before reply old new) is gives).0).1) tt
-fits (Len id) place before call reply old new one is gives = subst (IsReplyTo (Len id)) (sym (read_fits (tables_of old id) Present id all reply old (subst (Given before reply old new) is gives).0).1) tt
-fits (Scan id) place before call reply old new one is gives = subst (IsReplyTo (Scan id)) (sym (read_fits (tables_of old id) Present id all reply old (subst (Given before reply old new) is gives).0).1) tt
-fits Snapshot place before call reply old new one is gives = subst (IsReplyTo Snapshot) (sym (subst (Given before reply old new) is gives).0.0) tt
-fits (GetAt number id key) place before call reply old new one is gives =
-    let gives = (subst (Given before reply old new) is gives).0 in
-    subst (IsReplyTo (GetAt number id key)) (sym (read_fits (tables_of old id) (view_at before (At (named (place number)))) id (queries.Get key) reply old gives).1) tt
-fits (CloseSnapshot number) place before call reply old new one is gives = subst (IsReplyTo (CloseSnapshot number)) (sym (subst (Given before reply old new) is gives).0.0) tt
-fits Gc place before call reply old new one is gives = subst (IsReplyTo Gc) (sym (subst (Given before reply old new) is gives).0.0) tt
-fits (Rotate id) place before call reply old new one is gives = subst (IsReplyTo (Rotate id)) (sym (subst (Given before reply old new) is gives).0) tt
-fits (Flush id) place before call reply old new one is gives = absurd (true≢false one)
-fits Persist place before call reply old new one is gives = subst (IsReplyTo Persist) (sym (subst (Given before reply old new) is gives).0) tt
-
 refusal_fits : (request : Request) (error : Error) → IsReplyTo request (Refused error)
 refusal_fits request error = tt
 
-replies_so : (request : Request) (place : ℕ → ℕ) (before : List Reply) (call : Call) (reply : Reply) (old new : Held) → flushes request ≡ false → IsCallOf place request call → Owes old (shape_of (resolved before call)) reply new
-    → IsReplyTo request reply
-replies_so request place before call reply old new one is owes =
-    elim (owed (shape_of (resolved before call)) reply old new owes) [
-      | inl refused ↦ subst (IsReplyTo request) (sym refused.1) (refusal_fits request refused.0)
-      | inr gives ↦ fits request place before call reply old new one is gives
-    ]
+-- a call of the core comes to itself, for which its reply is owed
+owed_itself : (before : List Reply) (call : Call) (reply : Reply) (made : List Call) (told : List Reply) (old new : Held) → ComesTo before (tx.Core call) reply made told → OwesAll old made told new
+    → (mid : Held) × Owes old (shape_of (resolved before call)) reply mid
+owed_itself before call reply _ _ old new (Itself _ _) owes = (owes.0, owes.1)
+owed_itself before call reply _ _ old new (Others _ _ fit _ _ each) owes = absurd fit
+
+abbrev is_core : TxCall → Bool
+is_core (tx.Core call) = true
+is_core call = false
+
+-- each other call has a reply of its kind
+told_other : (before : List Reply) (call : TxCall) (reply : Reply) (made : List Call) (told : List Reply) → ComesTo before call reply made told → is_core call ≡ false → served.IsReplyTo call reply
+told_other before _ _ _ _ (Itself call reply) other = absurd (true≢false other)
+told_other before _ _ _ _ (Others call reply fit made told each) other = fit
+
+begin_told : (reply : Reply) → served.IsReplyTo (tx.Begin Optimistic) reply → IsReplyTo Begin reply
+begin_told Done fit = tt
+begin_told (Refused error) fit = tt
+begin_told reply fit = absurd fit
+
+get_told : (name number id : ℕ) (key : List ℕ) (reply : Reply) → served.IsReplyTo (tx.Within name (within.Get id key)) reply → IsReplyTo (TxGet number id key) reply
+get_told name number id key (Value found) fit = tt
+get_told name number id key (Refused error) fit = tt
+get_told name number id key reply fit = absurd fit
+
+insert_told : (name number id : ℕ) (key value : List ℕ) (op : Op) (reply : Reply) → served.IsReplyTo (tx.Within name (within.Write id key op)) reply → IsReplyTo (TxInsert number id key value) reply
+insert_told name number id key value op Done fit = tt
+insert_told name number id key value op (Refused error) fit = tt
+insert_told name number id key value op reply fit = absurd fit
+
+commit_told : (name number : ℕ) (reply : Reply) → served.IsReplyTo (tx.Commit Optimistic name) reply → IsReplyTo (Commit number) reply
+commit_told name number (Flag committed) fit = tt
+commit_told name number (Refused error) fit = tt
+commit_told name number reply fit = absurd fit
+
+module _ (before : List Reply) (call : TxCall) (reply : Reply) (made : List Call) (told : List Reply) (old new : Held) (comes : ComesTo before call reply made told) (owes : OwesAll old made told new) where
+  -- a call of the core is refused, or gives what it is asked for
+  by_core : (request : Request) (c : Call) → call ≡ tx.Core c → ((mid : Held) → Given before reply old c mid → IsReplyTo request reply) → IsReplyTo request reply
+  by_core request c is gives =
+      let one = owed_itself before c reply made told old new (subst (λ (t : TxCall). ComesTo before t reply made told) is comes) owes in
+      elim (owed (shape_of (resolved before c)) reply old one.0 one.1) [
+        | inl refused ↦ subst (IsReplyTo request) (sym refused.1) (refusal_fits request refused.0)
+        | inr given ↦ gives one.0 given
+      ]
+
+  by_other : (c : TxCall) → call ≡ c → is_core c ≡ false → served.IsReplyTo c reply
+  by_other c is other = told_other before c reply made told (subst (λ (t : TxCall). ComesTo before t reply made told) is comes) other
+
+  -- it is a reply to the request, where that makes one call
+  fits : (request : Request) (place : ℕ → ℕ) → flushes request ≡ false → IsCallOf place request call → IsReplyTo request reply
+  fits (Keyspace name) place one is = by_core (Keyspace name) _ is (λ mid given. subst (IsReplyTo (Keyspace name)) (sym given.1) tt)
+  fits (Delete id) place one is = by_core (Delete id) _ is (λ mid given. subst (IsReplyTo (Delete id)) (sym given.0) tt)
+  fits (Insert id key value) place one is = by_core (Insert id key value) _ is (λ mid given. subst (IsReplyTo (Insert id key value)) (sym given.0) tt)
+  fits (Remove id key) place one is = by_core (Remove id key) _ is (λ mid given. subst (IsReplyTo (Remove id key)) (sym given.0) tt)
+  fits (RemoveWeak id key) place one is = by_core (RemoveWeak id key) _ is (λ mid given. subst (IsReplyTo (RemoveWeak id key)) (sym given.0) tt)
+  fits (Clear id) place one is = by_core (Clear id) _ is (λ mid given. subst (IsReplyTo (Clear id)) (sym given.0) tt)
+  fits (Batch writes) place one is = by_core (Batch writes) _ is.is (λ mid given. subst (IsReplyTo (Batch writes)) (sym given.0) tt)
+  fits (Get id key) place one is =
+      by_core (Get id key) _ is (λ mid given. subst (IsReplyTo (Get id key)) (sym (read_fits (tables_of old id) Present id (queries.Get key) reply old given.0).1) tt)
+  fits (Len id) place one is = by_core (Len id) _ is (λ mid given. subst (IsReplyTo (Len id)) (sym (read_fits (tables_of old id) Present id all reply old given.0).1) tt)
+  fits (Scan id) place one is = by_core (Scan id) _ is (λ mid given. subst (IsReplyTo (Scan id)) (sym (read_fits (tables_of old id) Present id all reply old given.0).1) tt)
+  fits Snapshot place one is = by_core Snapshot _ is (λ mid given. subst (IsReplyTo Snapshot) (sym given.0.0) tt)
+  fits (GetAt number id key) place one is =
+      by_core (GetAt number id key) _ is
+      (λ mid given. subst (IsReplyTo (GetAt number id key)) (sym (read_fits (tables_of old id) (view_at before (At (named (place number)))) id (queries.Get key) reply old given.0).1) tt)
+  fits (CloseSnapshot number) place one is = by_core (CloseSnapshot number) _ is (λ mid given. subst (IsReplyTo (CloseSnapshot number)) (sym given.0.0) tt)
+  fits Begin place one is = begin_told reply (by_other _ is refl)
+  fits (TxGet number id key) place one is = get_told (place number) number id key reply (by_other _ is refl)
+  fits (TxInsert number id key value) place one is = insert_told (place number) number id key value (Put value) reply (by_other _ is refl)
+  fits (Commit number) place one is = commit_told (place number) number reply (by_other _ is refl)
+  fits Gc place one is = by_core Gc _ is (λ mid given. subst (IsReplyTo Gc) (sym given.0.0) tt)
+  fits (Rotate id) place one is = by_core (Rotate id) _ is (λ mid given. subst (IsReplyTo (Rotate id)) (sym given.0) tt)
+  fits (Flush id) place one is = absurd (true≢false one)
+  fits Persist place one is = by_core Persist _ is (λ mid given. subst (IsReplyTo Persist) (sym given.0) tt)
 
 -- ---- the two calls of a flush
 
@@ -200,65 +234,125 @@ begin_fits id first finished old new owes fit =
 
 -- ---- the calls of a list
 
+-- a call of a list comes to as many calls of the core as replies
+as_many : (before : List Reply) (call : TxCall) (reply : Reply) (made : List Call) (told : List Reply) → ComesTo before call reply made told → length made ≡ length told
+as_many before _ _ _ _ (Itself call reply) = refl
+as_many before _ _ _ _ (Others call reply fit made told each) = each
+
+-- what is owed for two parts is owed for each
+owes_split : (made later : List Call) (told heard : List Reply) (old new : Held) → length made ≡ length told → OwesAll old (made ++ later) (told ++ heard) new → (mid : Held) × OwesAll old made told mid × OwesAll mid later heard new
+owes_split [] later [] heard old new same owes = (old, refl, owes)
+owes_split [] later (reply ∷ told) heard old new same owes = absurd (omega (arith, same))
+owes_split (call ∷ made) later [] heard old new same owes = absurd (omega (arith, same))
+owes_split (call ∷ made) later (reply ∷ told) heard old new same owes =
+    let behind = owes_split made later told heard owes.0 new (omega (arith, same)) owes.2 in (behind.0, (owes.0, owes.1, behind.1), behind.2)
+
+-- The first of the calls, and those behind it.
+record Next (before : List Reply) (call : TxCall) (reply : Reply) (calls : List TxCall) (replies : List Reply) (old new : Held) : Type 0 where
+  made : List Call
+  told : List Reply
+  mid : Held
+  comes : ComesTo before call reply made told
+  owes : OwesAll old made told mid
+  later : List Call
+  heard : List Reply
+  others_come : AllCome (before ++ reply ∷ []) calls replies later heard
+  others : OwesAll mid later heard new
+
+next : (before : List Reply) (call : TxCall) (reply : Reply) (calls : List TxCall) (replies : List Reply) (made : List Call) (told : List Reply) (old new : Held) → AllCome before (call ∷ calls) (reply ∷ replies) made told → OwesAll old made told new
+    → Next before call reply calls replies old new
+next before call reply calls replies _ _ old new (OneComes _ _ _ made told _ _ later heard first rest) owes =
+    let parts = owes_split made later told heard old new (as_many before call reply made told first) owes in
+    record {
+      made = made;
+      told = told;
+      mid = parts.0;
+      comes = first;
+      owes = parts.1;
+      later = later;
+      heard = heard;
+      others_come = rest;
+      others = parts.2;
+    }
+
+-- each call has a reply
+none_left : (before : List Reply) (call : TxCall) (calls : List TxCall) (made : List Call) (told : List Reply) → AllCome before (call ∷ calls) [] made told → ⊥
+none_left before call calls made told h = elim h [ ]
+
 -- A request was replied to by its calls, and these are the calls behind them: what is left of the replies is owed to those.
-record IsRepliedBy (request : Request) (told : Reply × List Reply) (later : List Call) (new : Held) : Type 0 where
+record IsRepliedBy (request : Request) (told : Reply × List Reply) (later : List TxCall) (new : Held) : Type 0 where
   fit : IsReplyTo request told.0
   mid : Held
   before : List Reply
-  owes : OwesAll mid (resolved_behind before later told.1) told.1 new
+  made : List Call
+  heard : List Reply
+  comes : AllCome before later told.1 made heard
+  owes : OwesAll mid made heard new
 
-by_one : (request : Request) (place : ℕ → ℕ) (at : ℕ) (before : List Reply) (call : Call) (calls later : List Call) (reply : Reply) (replies : List Reply) (old new : Held) → flushes request ≡ false
-    → IsCallOf place request call → calls ≡ finish_of at request ++ later
-    → OwesAll old (resolved_behind before (call ∷ calls) (reply ∷ replies)) (reply ∷ replies) new → IsRepliedBy request (reply_to request reply replies) later new
-by_one request place at before call calls later reply replies old new one is split owes =
-    let told : reply_to request reply replies ≡ (reply, replies) = rw one refl in
+by_one : (request : Request) (place : ℕ → ℕ) (at : ℕ) (before : List Reply) (call : TxCall) (calls later : List TxCall) (reply : Reply) (replies : List Reply) (made : List Call) (told : List Reply) (old new : Held) → flushes request ≡ false
+    → IsCallOf place request call → calls ≡ finish_of at request ++ later → AllCome before (call ∷ calls) (reply ∷ replies) made told → OwesAll old made told new
+    → IsRepliedBy request (reply_to request reply replies) later new
+by_one request place at before call calls later reply replies made told old new one is split come owes =
+    let same : reply_to request reply replies ≡ (reply, replies) = rw one refl in
     let behind : calls ≡ later = rw one at split in
-    subst (λ (t : Reply × List Reply). IsRepliedBy request t later new) (sym told)
+    let first = next before call reply calls replies made told old new come owes in
+    subst (λ (t : Reply × List Reply). IsRepliedBy request t later new) (sym same)
     (record {
-      fit = replies_so request place before call reply old owes.0 one is owes.1;
-      mid = owes.0;
+      fit = fits before call reply first.made first.told old first.mid first.comes first.owes request place one is;
+      mid = first.mid;
       before = before ++ reply ∷ [];
-      owes = subst (λ (l : List Call). OwesAll owes.0 (resolved_behind (before ++ reply ∷ []) l replies) replies new) behind owes.2;
+      made = first.later;
+      heard = first.heard;
+      comes = subst (λ (l : List TxCall). AllCome (before ++ reply ∷ []) l replies first.later first.heard) behind first.others_come;
+      owes = first.others;
     })
 
-by_two : (id : ℕ) (place : ℕ → ℕ) (at : ℕ) (before : List Reply) (later : List Call) (first : Reply) (replies : List Reply) (old new : Held)
-    → OwesAll old (resolved_behind before (FlushBegin id ∷ FlushFinish (begun_at at) ∷ later) (first ∷ replies)) (first ∷ replies) new → IsRepliedBy (Flush id) (reply_to (Flush id) first replies) later new
-by_two id place at before later first [] old new owes = absurd owes.2
-by_two id place at before later first (finished ∷ replies) old new owes =
-    let behind = owes.2 in
+by_two : (id at : ℕ) (before : List Reply) (later : List TxCall) (started : Reply) (replies : List Reply) (made : List Call) (told : List Reply) (old new : Held)
+    → AllCome before (tx.Core (FlushBegin id) ∷ tx.Core (FlushFinish (begun_at at)) ∷ later) (started ∷ replies) made told → OwesAll old made told new → IsRepliedBy (Flush id) (reply_to (Flush id) started replies) later new
+by_two id at before later started [] made told old new come owes =
+    let first = next before (tx.Core (FlushBegin id)) started (tx.Core (FlushFinish (begun_at at)) ∷ later) [] made told old new come owes in
+    absurd (none_left (before ++ started ∷ []) (tx.Core (FlushFinish (begun_at at))) later first.later first.heard first.others_come)
+by_two id at before later started (finished ∷ replies) made told old new come owes =
+    let first = next before (tx.Core (FlushBegin id)) started (tx.Core (FlushFinish (begun_at at)) ∷ later) (finished ∷ replies) made told old new come owes in
+    let second = next (before ++ started ∷ []) (tx.Core (FlushFinish (begun_at at))) finished later replies first.later first.heard first.mid new first.others_come first.others in
+    let begins = owed_itself before (FlushBegin id) started first.made first.told old first.mid first.comes first.owes in
+    let ends = owed_itself (before ++ started ∷ []) (FlushFinish (begun_at at)) finished second.made second.told first.mid second.mid second.comes second.owes in
     record {
-      fit = begin_fits id first finished old owes.0 owes.1 (finish_fits id _ finished owes.0 behind.0 behind.1);
-      mid = behind.0;
-      before = (before ++ first ∷ []) ++ finished ∷ [];
-      owes = behind.2;
+      fit = begin_fits id started finished old begins.0 begins.1 (finish_fits id _ finished first.mid ends.0 ends.1);
+      mid = second.mid;
+      before = (before ++ started ∷ []) ++ finished ∷ [];
+      made = second.later;
+      heard = second.heard;
+      comes = second.others_come;
+      owes = second.others;
     }
 
-replied : (request : Request) (place : ℕ → ℕ) (at : ℕ) (before : List Reply) (call : Call) (calls later : List Call) (reply : Reply) (replies : List Reply) (old new : Held)
-    → IsCallOf place request call → calls ≡ finish_of at request ++ later
-    → OwesAll old (resolved_behind before (call ∷ calls) (reply ∷ replies)) (reply ∷ replies) new → IsRepliedBy request (reply_to request reply replies) later new
-replied (Flush id) place at before call calls later reply replies old new is split owes =
-    let both : call ∷ calls ≡ FlushBegin id ∷ FlushFinish (begun_at at) ∷ later = cc (is, split) in
-    by_two id place at before later reply replies old new (subst (λ (l : List Call). OwesAll old (resolved_behind before l (reply ∷ replies)) (reply ∷ replies) new) both owes)
-replied request place at before call calls later reply replies old new is split owes = by_one request place at before call calls later reply replies old new refl is split owes
+replied : (request : Request) (place : ℕ → ℕ) (at : ℕ) (before : List Reply) (call : TxCall) (calls later : List TxCall) (reply : Reply) (replies : List Reply) (made : List Call) (told : List Reply) (old new : Held)
+    → IsCallOf place request call → calls ≡ finish_of at request ++ later → AllCome before (call ∷ calls) (reply ∷ replies) made told → OwesAll old made told new
+    → IsRepliedBy request (reply_to request reply replies) later new
+replied (Flush id) place at before call calls later reply replies made told old new is split come owes =
+    let both : call ∷ calls ≡ tx.Core (FlushBegin id) ∷ tx.Core (FlushFinish (begun_at at)) ∷ later = cc (is, split) in
+    by_two id at before later reply replies made told old new (subst (λ (l : List TxCall). AllCome before l (reply ∷ replies) made told) both come) owes
+replied request place at before call calls later reply replies made told old new is split come owes = by_one request place at before call calls later reply replies made told old new refl is split come owes
 
 abbrev IsCall : Option Command → Type 0
 IsCall found = is_stop found ≡ false
 
 -- the calls of a run
-front_answers : (lines : List (Option Command)) (place : ℕ → ℕ) (at : ℕ) (before : List Reply) (earlier : ℕ) (calls : List Call) (replies : List Reply) (old new : Held) → All IsCall lines → AreCallsFrom at place (requests_of lines) calls
-    → OwesAll old (resolved_behind before calls replies) replies new → AllZip IsAnswer lines (answers_to earlier lines replies)
-front_answers [] place at before earlier calls replies old new alone are owes = tt
-front_answers (None ∷ rest) place at before earlier calls replies old new alone are owes =
-    (record { said = refl; bad = λ h. refl }, front_answers rest place at before earlier calls replies old new (All-tail IsCall None rest alone) are owes)
-front_answers (Some (Crash keep) ∷ rest) place at before earlier calls replies old new alone are owes = absurd (true≢false (All-head IsCall (Some (Crash keep)) rest alone))
-front_answers (Some Reopen ∷ rest) place at before earlier calls replies old new alone are owes = absurd (true≢false (All-head IsCall (Some Reopen) rest alone))
-front_answers (Some (Ask request) ∷ rest) place at before earlier [] replies old new alone are owes = absurd are
-front_answers (Some (Ask request) ∷ rest) place at before earlier (call ∷ calls) [] old new alone are owes = absurd owes
-front_answers (Some (Ask request) ∷ rest) place at before earlier (call ∷ calls) (reply ∷ replies) old new alone are owes =
-    let told = reply_to request reply replies in
-    let r = replied request place at before call calls are.1 reply replies old new are.0 are.2 owes in (
-      record { said = record { number = earlier + 1; reply = told.0; fits = r.fit; is = refl }; bad = λ h. absurd (not_bad (earlier + 1) request told.0 h) },
-      front_answers rest place (at + calls_in request) r.before (asked_with earlier request) are.1 told.1 r.mid new (All-tail IsCall (Some (Ask request)) rest alone) are.3 r.owes,
+front_answers : (lines : List (Option Command)) (place : ℕ → ℕ) (at : ℕ) (before : List Reply) (earlier : ℕ) (calls : List TxCall) (replies : List Reply) (made : List Call) (told : List Reply) (old new : Held) → All IsCall lines
+    → AreCallsFrom at place (requests_of lines) calls → AllCome before calls replies made told → OwesAll old made told new → AllZip IsAnswer lines (answers_to earlier lines replies)
+front_answers [] place at before earlier calls replies made told old new alone are come owes = tt
+front_answers (None ∷ rest) place at before earlier calls replies made told old new alone are come owes =
+    (record { said = refl; bad = λ h. refl }, front_answers rest place at before earlier calls replies made told old new (All-tail IsCall None rest alone) are come owes)
+front_answers (Some (Crash keep) ∷ rest) place at before earlier calls replies made told old new alone are come owes = absurd (true≢false (All-head IsCall (Some (Crash keep)) rest alone))
+front_answers (Some Reopen ∷ rest) place at before earlier calls replies made told old new alone are come owes = absurd (true≢false (All-head IsCall (Some Reopen) rest alone))
+front_answers (Some (Ask request) ∷ rest) place at before earlier [] replies made told old new alone are come owes = absurd are
+front_answers (Some (Ask request) ∷ rest) place at before earlier (call ∷ calls) [] made told old new alone are come owes = absurd (none_left before call calls made told come)
+front_answers (Some (Ask request) ∷ rest) place at before earlier (call ∷ calls) (reply ∷ replies) made told old new alone are come owes =
+    let answer = reply_to request reply replies in
+    let r = replied request place at before call calls are.1 reply replies made told old new are.0 are.2 come owes in (
+      record { said = record { number = earlier + 1; reply = answer.0; fits = r.fit; is = refl }; bad = λ h. absurd (not_bad (earlier + 1) request answer.0 h) },
+      front_answers rest place (at + calls_in request) r.before (asked_with earlier request) are.1 answer.1 r.made r.heard r.mid new (All-tail IsCall (Some (Ask request)) rest alone) are.3 r.comes r.owes,
     )
 
 AllZip-append : (a b : List (Option Command)) (x y : List (List ℕ)) → AllZip IsAnswer a x → AllZip IsAnswer b y → AllZip IsAnswer (a ++ b) (x ++ y)
@@ -275,20 +369,20 @@ ok_answer honest (Some (Ask request)) old new h = absurd h
 ok_answer honest None old new h = absurd h
 
 -- the commands that a session has gone through have an answer each
-pub answered : (honest : Bool) (commands rest : List (Option Command)) (ran : Bool) (core : Held) (printed : List (List ℕ)) → Session honest commands ran core printed rest
+pub answered : (honest : Bool) (commands rest : List (Option Command)) (ran : Bool) (core : Held) (kept : Kept) (printed : List (List ℕ)) → Session honest commands ran core kept printed rest
     → (front : List (Option Command)) × (commands ≡ front ++ rest) × AllZip IsAnswer front printed
-answered honest commands _ _ _ _ (begun core h) = ([], refl, tt)
-answered honest commands _ _ _ _ (run old new printed lines rest calls replies s alone stop are runs) =
-    let so_far = answered honest commands (lines ++ rest) false old printed s in
-    let earlier = snapshots_before commands (lines ++ rest) in
-    let here = front_answers lines (place_of earlier (requests_of lines)) 0 [] earlier calls replies old new alone are runs.owes in
+answered honest commands _ _ _ _ _ (begun core h) = ([], refl, tt)
+answered honest commands _ _ _ _ _ (run old new before after printed lines rest calls replies s alone stop are runs) =
+    let so_far = answered honest commands (lines ++ rest) false old before printed s in
+    let earlier = numbers_before commands (lines ++ rest) in
+    let here = front_answers lines (place_of earlier (requests_of lines)) 0 [] earlier calls replies runs.made runs.told old new alone are runs.comes runs.owes in
     (so_far.0 ++ lines, so_far.1 ∙ sym (append_assoc so_far.0 lines rest), AllZip-append so_far.0 lines printed (answers_to earlier lines replies) so_far.2 here)
-answered honest commands _ _ _ _ (restarted old new printed stop rest s r) =
-    let so_far = answered honest commands (stop ∷ rest) true old printed s in
+answered honest commands _ _ _ _ _ (restarted old new before printed stop rest s r) =
+    let so_far = answered honest commands (stop ∷ rest) true old before printed s in
     (so_far.0 ++ stop ∷ [], so_far.1 ∙ sym (append_assoc so_far.0 (stop ∷ []) rest), AllZip-append so_far.0 (stop ∷ []) printed (ok_line ∷ []) so_far.2 (ok_answer honest stop old new r, tt))
 
-pub all_answered : (honest : Bool) (commands : List (Option Command)) (ran : Bool) (core : Held) (printed : List (List ℕ)) → Session honest commands ran core printed [] → AllZip IsAnswer commands printed
-all_answered honest commands ran core printed s =
-    let h = answered honest commands [] ran core printed s in
+pub all_answered : (honest : Bool) (commands : List (Option Command)) (ran : Bool) (core : Held) (kept : Kept) (printed : List (List ℕ)) → Session honest commands ran core kept printed [] → AllZip IsAnswer commands printed
+all_answered honest commands ran core kept printed s =
+    let h = answered honest commands [] ran core kept printed s in
     let same : commands ≡ h.0 = h.1 ∙ append-nil h.0 in
     rw same h.2

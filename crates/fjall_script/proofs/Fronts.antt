@@ -6,13 +6,13 @@ use Rattle.std.proofs.lemmas.Bool.{cases_lt}
 use Rattle.std.proofs.lemmas.List.{take-append-drop}
 use Rattle.std.proofs.lemmas.List.Elements.{All-nil, All-cons}
 use Rattle.fjall_history.specs.declared.reply.Reply.{Reply}
-use Rattle.fjall_state.specs.declared.call.Call.{Call}
-use Rattle.fjall_state.specs.Places.{resolved_all}
 use Rattle.fjall_lines.specs.declared.command.Command.{Command}
 use Rattle.fjall_script.specs.Answers.{text_of}
 use Rattle.fjall_core.specs.Holding.{Held}
-use Rattle.fjall_script.specs.Machine.{RunsCalls}
-use Rattle.fjall_script.specs.Requests.{AreCalls, is_stop, snapshots_in}
+use Rattle.fjall_transactions.specs.Transactions.{Kept}
+use Rattle.fjall_lists.specs.declared.call.TxCall.{TxCall}
+use Rattle.fjall_calls.specs.Serving.{RunsTx}
+use Rattle.fjall_script.specs.Requests.{AreCalls, is_stop, numbers_in}
 use Rattle.fjall_script.specs.Sessions.{AnsweredFront, answers_to, IsAtStop}
 use Rattle.fjall_script.proofs.Counts.{counted}
 
@@ -60,15 +60,16 @@ end_is commands stop h =
       | inr past ↦ let last : length commands ≡ position_or_len is_stop commands = omega arith in grind (arith, h, last)
     ]
 
-pub answered_front : (honest : Bool) (earlier : ℕ) (commands front rest : List (Option Command)) (stop : Option ℕ) (end : ℕ) (core after : Held) (calls : List Call) (replies shown : List Reply) (text : List ℕ) (asked : ℕ)
+pub answered_front : (honest : Bool) (earlier : ℕ) (commands front rest : List (Option Command)) (stop : Option ℕ) (end : ℕ) (core : Held) (kept : Kept) (after : Held) (left : Kept)
+    (calls : List TxCall) (replies shown : List Reply) (text : List ℕ) (asked : ℕ)
     → stop ≡ position is_stop commands → end ≡ unwrap_or stop (length commands) → front ≡ take end commands → rest ≡ drop end commands
-    → AreCalls earlier front calls → RunsCalls honest core (resolved_all calls replies) replies after → shown ≡ replies → text ≡ text_of (answers_to earlier front shown) → asked ≡ earlier + snapshots_in front
-    → AnsweredFront honest earlier commands rest core after text asked
-answered_front honest earlier commands front rest stop end core after calls replies shown text asked found at before behind are runs same said count =
+    → AreCalls earlier front calls → RunsTx honest core kept calls replies after left → shown ≡ replies → text ≡ text_of (answers_to earlier front shown) → asked ≡ earlier + numbers_in front
+    → AnsweredFront honest earlier commands rest core kept after left text asked
+answered_front honest earlier commands front rest stop end core kept after left calls replies shown text asked found at before behind are runs same said count =
     let end' = at ∙ end_is commands stop found in
     let parts = front_at commands end end' in
     let split : commands ≡ front ++ rest = rw (before, behind) (sym (take-append-drop end commands)) in
-    let all : snapshots_in commands ≡ snapshots_in front + snapshots_in rest = ap snapshots_in split ∙ counted front rest in
+    let all : numbers_in commands ≡ numbers_in front + numbers_in rest = ap numbers_in split ∙ counted front rest in
     record {
       printed = answers_to earlier front replies;
       ran = record {

@@ -6,7 +6,7 @@ use Rattle.std.proofs.lemmas.List.Elements.{All-nil, filter_map-append}
 use Rattle.std.proofs.lemmas.List.Splits.{slice_split_at, slice_split_none}
 use Rattle.std.proofs.lemmas.List.Sums.{sum_by-append, sum_by-cons}
 use Rattle.std.proofs.lemmas.Grind.{flat_map-append}
-use Rattle.std.specs.List.{flat_map, slice_split, sum_by}
+use Rattle.std.specs.List.{slice_split, sum_by}
 use Rattle.std.specs.Prelude.{All}
 use Rattle.fjall_base.specs.Store.{Store, fold, kept}
 use Rattle.fjall_base.specs.Store as store
@@ -19,23 +19,29 @@ use Rattle.fjall_recovery.specs.Amid.{HoldsAmid}
 use Rattle.fjall_history.specs.declared.reply.Reply.{Reply}
 use Rattle.fjall_state.specs.declared.call.Call.{Call}
 use Rattle.fjall_state.specs.Machine.{present}
-use Rattle.fjall_state.specs.Places.{resolved_all, resolved_behind}
+use Rattle.fjall_history.proofs.Moving.{sound_opening}
 use Rattle.fjall_core.specs.Holding.{Held}
 use Rattle.fjall_core.specs.Lives.{Closed, CutBehind, Ended, Life, Lives, NoLife, OneMore, Opened, Served, Unclosed, begun, start_of}
-use Rattle.fjall_core.specs.Openings.{OpensAmid}
-use Rattle.fjall_core.specs.Standing.{OwesAll}
+use Rattle.fjall_core.specs.Openings.{OpensAmid, OpensAs}
 use Rattle.fjall_core.proofs.LastSyncs.{a_last_sync}
 use Rattle.fjall_core.proofs.CrashedDisks.{new_disk_tidy}
 use Rattle.fjall_core.proofs.Lives.{lives_blame, lives_hold, lives_open}
 use Rattle.fjall_core.proofs.Reopening.{holds_store_amid}
-use Rattle.fjall_core.proofs.RunsOverCrashes.{no_run, runs_behind}
+use Rattle.fjall_core.proofs.RunsOverCrashes.{no_run}
+use Rattle.fjall_transactions.specs.Standing.{StandFor}
+use Rattle.fjall_transactions.specs.Transactions.{Kept}
+use Rattle.fjall_transactions.proofs.Standing.{opening_stands}
+use Rattle.fjall_lists.specs.declared.call.TxCall.{TxCall}
+use Rattle.fjall_lists.specs.Steps.{NoCall}
+use Rattle.fjall_lists.specs.Worlds.{begins}
+use Rattle.fjall_calls.specs.Serving.{AllCome, NoneComes, OneComes, RunsTx}
 use Rattle.fjall_lines.specs.declared.command.Command.{Command}
 use Rattle.fjall_lines.specs.declared.command.Command.TheVariants.{Ask, Crash, Reopen}
 use Rattle.fjall_lines.specs.declared.command.Request.{Request}
 use Rattle.fjall_script.specs.Answers.{bad_line, flushed_by, ok_line, reply_text, reply_to}
-use Rattle.fjall_script.specs.Lived.{AreServed, HasLived, IsServed, served_in}
-use Rattle.fjall_script.specs.Machine.{Begins, Closes, Crashes, OpenedOn, RunsCalls, new_disk}
-use Rattle.fjall_script.specs.Requests.{AreCalls, AreCallsFrom, asked_with, asks_snapshot, calls_in, finish_of, flushes, is_stop, request_of, requests_of, snapshots_before, snapshots_in}
+use Rattle.fjall_script.specs.Lived.{AreServed, Asked, GoesThrough, HasLived, IsServed, replies_of, served_in, told_as, unasked}
+use Rattle.fjall_script.specs.Machine.{Begins, Closes, Crashes, OpenedOn, new_disk, none_kept}
+use Rattle.fjall_script.specs.Requests.{AreCalls, AreCallsFrom, asked_with, asks_number, calls_in, finish_of, flushes, is_stop, request_of, requests_of, numbers_before, numbers_in}
 use Rattle.fjall_script.specs.Sessions as sessions
 use Rattle.fjall_script.specs.Sessions.{Restarts, Session, answers_to}
 use Rattle.fjall_script.proofs.Calling.{finish_is}
@@ -75,7 +81,7 @@ told_left true first (finished ∷ later) enough = omega arith
 told_left false first behind enough = omega arith
 
 through-append : (earlier : ℕ) (front more : List (Option Command)) (replies others : List Reply) → made_by (requests_of front) ≡ length replies
-    → answers_to earlier (front ++ more) (replies ++ others) ≡ answers_to earlier front replies ++ answers_to (earlier + snapshots_in front) more others
+    → answers_to earlier (front ++ more) (replies ++ others) ≡ answers_to earlier front replies ++ answers_to (earlier + numbers_in front) more others
 through-append k [] more [] others all = ap (λ (n : ℕ). answers_to n more others) (omega arith)
 through-append k [] more (reply ∷ replies) others all = absurd (omega (arith, all))
 through-append k (None ∷ front) more replies others all =
@@ -99,14 +105,12 @@ through-append k (Some (Ask request) ∷ front) more (reply ∷ replies) others 
     ∙ ap (λ (n : ℕ). answers_to (asked_with k request) front told.1 ++ answers_to n more others) (one_asked k request front))
 
 -- each call has a reply
-replied : (before : List Reply) (old new : Held) (calls : List Call) (replies : List Reply) → OwesAll old (resolved_behind before calls replies) replies new → length calls ≡ length replies
-replied before old new [] [] owes = refl
-replied before old new [] (reply ∷ replies) owes = absurd owes
-replied before old new (call ∷ calls) [] owes = absurd owes
-replied before old new (call ∷ calls) (reply ∷ replies) owes = ap suc (replied (before ++ reply ∷ []) owes.0 new calls replies owes.2)
+replied : (before : List Reply) (calls : List TxCall) (replies : List Reply) (made : List Call) (told : List Reply) → AllCome before calls replies made told → length calls ≡ length replies
+replied before _ _ _ _ (NoneComes _) = refl
+replied before _ _ _ _ (OneComes _ call reply made told calls replies later heard first rest) = ap suc (replied (before ++ reply ∷ []) calls replies later heard rest)
 
 -- and each request its calls
-as_many : (at : ℕ) (place : ℕ → ℕ) (requests : List Request) (calls : List Call) → AreCallsFrom at place requests calls → made_by requests ≡ length calls
+as_many : (at : ℕ) (place : ℕ → ℕ) (requests : List Request) (calls : List TxCall) → AreCallsFrom at place requests calls → made_by requests ≡ length calls
 as_many at place [] [] are = refl
 as_many at place [] (call ∷ calls) are = absurd are
 as_many at place (request ∷ rest) [] are = absurd are
@@ -117,46 +121,88 @@ as_many at place (request ∷ rest) (call ∷ calls) are =
     let all = ap length are.2 ∙ length-append (finish_of at request) are.1 in
     omega (arith, count, mine, others, all)
 
+-- ---- an opening
+
+-- the core stands for what it opened as, without transactions
+stands_as : (core : Held) (store : Store) (opens : OpensAs core store) → StandFor core none_kept (told_as core store opens)
+stands_as core store opens = let state = start_of core store opens in opening_stands core state opens.state (sound_opening state.history) refl
+
+-- no call was made
+goes_nowhere : (core : Held) (store : Store) (opens : OpensAs core store) → GoesThrough core store opens unasked [] [] core none_kept
+goes_nowhere core store opens = record {
+  world = begins (told_as core store opens) None;
+  steps = NoCall (begins (told_as core store opens) None) [];
+  stands = stands_as core store opens;
+  reads = opens.reads;
+}
+
+-- the calls of a list
+goes_on : (core : Held) (store : Store) (opens : OpensAs core store) (new : Held) (beside : Kept) (asked : Asked) (run : RunsTx true core none_kept asked.calls asked.replies new beside)
+    → GoesThrough core store opens asked run.made run.told new beside
+goes_on core store opens new beside asked run =
+    let there = run.runs refl (told_as core store opens) (stands_as core store opens) opens.reads in
+    record {
+      world = there.0;
+      steps = there.3;
+      stands = there.1;
+      reads = there.2;
+    }
+
 -- ---- lives so far
 
--- how many snapshots lists of lines ask for
+-- how many numbers lists of lines ask for
 abbrev total : List (List (Option Command)) → ℕ
 total [] = 0
-total (lines ∷ lists) = snapshots_in lines + total lists
+total (lines ∷ lists) = numbers_in lines + total lists
 
 total-append : (a b : List (List (Option Command))) → total (a ++ b) ≡ total a + total b
 total-append [] b = omega arith
 total-append (lines ∷ a) b = let more = total-append a b in omega (arith, more)
 
-served-append : (earlier : ℕ) (a b : List (List (Option Command))) (x y : List (List Call × List Reply)) → AreServed earlier a x → AreServed (earlier + total a) b y → AreServed earlier (a ++ b) (x ++ y)
-served-append k [] b [] y h g = let same : k + 0 ≡ k = omega arith in subst (λ (n : ℕ). AreServed n b y) same g
-served-append k [] b (life ∷ x) y h g = absurd h
-served-append k (lines ∷ a) b [] y h g = absurd h
-served-append k (lines ∷ a) b (life ∷ x) y h g =
-    let same : k + (snapshots_in lines + total a) ≡ (k + snapshots_in lines) + total a = omega arith in
-    (h.0, served-append (k + snapshots_in lines) a b x y h.1 (subst (λ (n : ℕ). AreServed n b y) same g))
+served-append : (earlier : ℕ) (a b : List (List (Option Command))) (p q : List Asked) (x y : List (List Call × List Reply)) → AreServed earlier a p x → AreServed (earlier + total a) b q y → AreServed earlier (a ++ b) (p ++ q) (x ++ y)
+served-append k [] b [] q [] y h g = let same : k + 0 ≡ k = omega arith in subst (λ (n : ℕ). AreServed n b q y) same g
+served-append k [] b [] q (life ∷ x) y h g = absurd h
+served-append k [] b (asked ∷ p) q x y h g = absurd h
+served-append k (lines ∷ a) b [] q x y h g = absurd h
+served-append k (lines ∷ a) b (asked ∷ p) q [] y h g = absurd h
+served-append k (lines ∷ a) b (asked ∷ p) q (life ∷ x) y h g =
+    let same : k + (numbers_in lines + total a) ≡ (k + numbers_in lines) + total a = omega arith in
+    (h.0, served-append (k + numbers_in lines) a b p q x y h.1 (subst (λ (n : ℕ). AreServed n b q y) same g))
 
 -- The lines up to here: those that each life ended behind, and those behind the last crash or reopening. However the lines go
 -- on, a crash or reopening ends the running part.
-record Parts (front : List (Option Command)) (lives : List Life) (calls : List Call) (replies : List Reply) : Type 0 where
+record Parts (front : List (Option Command)) (lists : List Asked) (lives : List Life) (last : Asked) (calls : List Call) (replies : List Reply) : Type 0 where
   pub ended : List (List (Option Command))
   pub running : List (Option Command)
   pub alone : All IsCall running
   pub split : (more : List (Option Command)) → slice_split is_stop (front ++ more) ≡ ended ++ slice_split is_stop (running ++ more)
-  pub counted : snapshots_in front ≡ total ended + snapshots_in running
-  pub ended_are : AreServed 0 ended (map served_in lives)
-  pub running_are : IsServed (total ended) running calls replies
+  pub counted : numbers_in front ≡ total ended + numbers_in running
+  pub ended_are : AreServed 0 ended lists (map served_in lives)
+  pub running_are : IsServed (total ended) running last calls replies
 
--- no call was served
-none_served : (earlier : ℕ) → IsServed earlier [] [] []
-none_served earlier = record { made = []; are = tt; is = refl }
+-- a core that just opened has served no call
+no_calls : (core : Held) (store : Store) (opens : OpensAs core store) → Served core store opens [] [] core
+no_calls core store opens = no_run core (start_of core store opens) (begun core store) opens.state opens.reads opens.base
+
+none_served : (earlier : ℕ) (core : Held) (store : Store) (opens : OpensAs core store) → IsServed earlier [] unasked [] []
+none_served earlier core store opens = record {
+  are = tt;
+  come = NoneComes [];
+  core = core;
+  store = store;
+  opens = opens;
+  new = core;
+  served = no_calls core store opens;
+  beside = none_kept;
+  through = goes_nowhere core store opens;
+}
 
 -- parts of which the running one has no line
-abbrev FreshParts : List (Option Command) → List Life → Type 0
-FreshParts front lives = (p : Parts front lives [] []) × (p.running ≡ [])
+abbrev FreshParts : List (Option Command) → List Asked → List Life → Type 0
+FreshParts front lists lives = (p : Parts front lists lives unasked [] []) × (p.running ≡ [])
 
-no_parts : FreshParts [] []
-no_parts = (
+no_parts : (core : Held) (store : Store) (opens : OpensAs core store) → FreshParts [] [] []
+no_parts core store opens = (
   record {
     ended = [];
     running = [];
@@ -164,38 +210,38 @@ no_parts = (
     split = λ more. refl;
     counted = refl;
     ended_are = tt;
-    running_are = none_served 0;
+    running_are = none_served 0 core store opens;
   },
   refl,
 )
 
 -- the running part behind those that ended
-with_running : (lists : List (List (Option Command))) (lines : List (Option Command)) (lives : List Life) (calls : List Call) (replies : List Reply) → AreServed 0 lists (map served_in lives) → IsServed (total lists) lines calls replies
-    → AreServed 0 (lists ++ lines ∷ []) (map served_in lives ++ (calls, replies) ∷ [])
-with_running lists lines lives calls replies ended running =
-    let same : total lists ≡ 0 + total lists = omega arith in
-    served-append 0 lists (lines ∷ []) (map served_in lives) ((calls, replies) ∷ []) ended (subst (λ (n : ℕ). IsServed n lines calls replies) same running, tt)
+with_running : (ended : List (List (Option Command))) (lines : List (Option Command)) (lists : List Asked) (lives : List Life) (last : Asked) (calls : List Call) (replies : List Reply) → AreServed 0 ended lists (map served_in lives)
+    → IsServed (total ended) lines last calls replies → AreServed 0 (ended ++ lines ∷ []) (lists ++ last ∷ []) (map served_in lives ++ (calls, replies) ∷ [])
+with_running ended lines lists lives last calls replies before running =
+    let same : total ended ≡ 0 + total ended = omega arith in
+    served-append 0 ended (lines ∷ []) lists (last ∷ []) (map served_in lives) ((calls, replies) ∷ []) before (subst (λ (n : ℕ). IsServed n lines last calls replies) same running, tt)
 
 -- the calls of the running part
-parts_run : (front lines : List (Option Command)) (lives : List Life) (old_calls : List Call) (old_replies : List Reply) (made : List Call) (replies : List Reply) (p : Parts front lives old_calls old_replies) → p.running ≡ [] → All IsCall lines
-    → AreCalls (snapshots_in front) lines made → Parts (front ++ lines) lives (resolved_all made replies) replies
-parts_run front lines lives old_calls old_replies made replies p fresh alone are =
-    let so_far : snapshots_in front ≡ total p.ended = p.counted ∙ ap (λ (l : List (Option Command)). total p.ended + snapshots_in l) fresh ∙ omega arith in
+parts_run : (front lines : List (Option Command)) (lists : List Asked) (lives : List Life) (old_last : Asked) (old_calls : List Call) (old_replies : List Reply) (last : Asked) (calls : List Call) (replies : List Reply)
+    (p : Parts front lists lives old_last old_calls old_replies) → p.running ≡ [] → All IsCall lines → IsServed (numbers_in front) lines last calls replies → Parts (front ++ lines) lists lives last calls replies
+parts_run front lines lists lives old_last old_calls old_replies last calls replies p fresh alone is =
+    let so_far : numbers_in front ≡ total p.ended = p.counted ∙ ap (λ (l : List (Option Command)). total p.ended + numbers_in l) fresh ∙ omega arith in
     record {
       ended = p.ended;
       running = lines;
       alone = alone;
       split = λ more. ap (slice_split is_stop) (append_assoc front lines more) ∙ p.split (lines ++ more)
           ∙ ap (λ (l : List (Option Command)). p.ended ++ slice_split is_stop (l ++ (lines ++ more))) fresh;
-      counted = counted front lines ∙ ap (λ n. n + snapshots_in lines) so_far;
+      counted = counted front lines ∙ ap (λ n. n + numbers_in lines) so_far;
       ended_are = p.ended_are;
-      running_are = record { made = made; are = subst (λ (n : ℕ). AreCalls n lines made) so_far are; is = refl };
+      running_are = subst (λ (n : ℕ). IsServed n lines last calls replies) so_far is;
     }
 
--- a crash or a reopening ends it
-parts_stop : (front : List (Option Command)) (stop : Option Command) (lives : List Life) (life : Life) → Parts front lives life.calls life.replies → is_stop stop ≡ true → asks_snapshot stop ≡ false
-    → FreshParts (front ++ stop ∷ []) (lives ++ life ∷ [])
-parts_stop front stop lives life p stops asks = (
+-- a crash or a reopening ends it, and an engine opens again
+parts_stop : (front : List (Option Command)) (stop : Option Command) (lists : List Asked) (lives : List Life) (last : Asked) (life : Life) (core : Held) (store : Store) → OpensAs core store → Parts front lists lives last life.calls life.replies
+    → is_stop stop ≡ true → asks_number stop ≡ false → FreshParts (front ++ stop ∷ []) (lists ++ last ∷ []) (lives ++ life ∷ [])
+parts_stop front stop lists lives last life core store opens p stops asks = (
   record {
     ended = p.ended ++ p.running ∷ [];
     running = [];
@@ -209,29 +255,33 @@ parts_stop front stop lives life p stops asks = (
         let so_far = p.counted in
         let parts = total-append p.ended (p.running ∷ []) in
         omega (arith, all, none, so_far, parts);
-    ended_are = subst (AreServed 0 (p.ended ++ p.running ∷ [])) (sym (map-append served_in lives (life ∷ [])))
-        (with_running p.ended p.running lives life.calls life.replies p.ended_are p.running_are);
-    running_are = none_served (total (p.ended ++ p.running ∷ []));
+    ended_are = subst (AreServed 0 (p.ended ++ p.running ∷ []) (lists ++ last ∷ [])) (sym (map-append served_in lives (life ∷ [])))
+        (with_running p.ended p.running lists lives last life.calls life.replies p.ended_are p.running_are);
+    running_are = none_served (total (p.ended ++ p.running ∷ [])) core store opens;
   },
   refl,
 )
 
 -- each part has the calls of a life
-parts_are : (front : List (Option Command)) (lives : List Life) (calls : List Call) (replies : List Reply) → Parts front lives calls replies → AreServed 0 (slice_split is_stop front) (map served_in lives ++ (calls, replies) ∷ [])
-parts_are front lives calls replies p =
+parts_are : (front : List (Option Command)) (lists : List Asked) (lives : List Life) (last : Asked) (calls : List Call) (replies : List Reply) → Parts front lists lives last calls replies
+    → AreServed 0 (slice_split is_stop front) (lists ++ last ∷ []) (map served_in lives ++ (calls, replies) ∷ [])
+parts_are front lists lives last calls replies p =
     let whole : slice_split is_stop front ≡ p.ended ++ p.running ∷ [] = ap (slice_split is_stop) (sym (append-nil front)) ∙ p.split []
     ∙ ap (λ (l : List (Option Command)). p.ended ++ slice_split is_stop l) (append-nil p.running)
     ∙ ap (λ (l : List (List (Option Command))). p.ended ++ l) (slice_split_none is_stop p.running p.alone) in
-    subst (λ (l : List (List (Option Command))). AreServed 0 l (map served_in lives ++ (calls, replies) ∷ [])) (sym whole)
-    (with_running p.ended p.running lives calls replies p.ended_are p.running_are)
+    subst (λ (l : List (List (Option Command))). AreServed 0 l (lists ++ last ∷ []) (map served_in lives ++ (calls, replies) ∷ [])) (sym whole)
+    (with_running p.ended p.running lists lives last calls replies p.ended_are p.running_are)
 
--- no line was run since the last crash or reopening
-record IsFresh (running : List (Option Command)) (calls : List Call) (replies : List Reply) : Type 0 where
+-- No line was run since the last crash or reopening: the core is as it opened.
+record IsFresh (running : List (Option Command)) (calls : List Call) (replies : List Reply) (last : Asked) (first core : Held) (beside : Kept) : Type 0 where
   pub no_lines : running ≡ []
   pub no_calls : calls ≡ []
   pub no_replies : replies ≡ []
+  pub not_asked : last ≡ unasked
+  pub same_core : core ≡ first
+  pub none_beside : beside ≡ none_kept
 
-record LivedSo (commands rest : List (Option Command)) (ran : Bool) (printed : List (List ℕ)) (core : Held) : Type 0 where
+record LivedSo (commands rest : List (Option Command)) (ran : Bool) (printed : List (List ℕ)) (core : Held) (beside : Kept) : Type 0 where
   pub front : List (Option Command)
   pub split : commands ≡ front ++ rest
   pub lives : List Life
@@ -244,24 +294,23 @@ record LivedSo (commands rest : List (Option Command)) (ran : Bool) (printed : L
   pub calls : List Call
   pub replies : List Reply
   pub run : Served first (kept (fold base opened.front)) opened.opens calls replies core
-  pub parts : Parts front lives calls replies
-  pub fresh : ran ≡ false → IsFresh parts.running calls replies
-  pub printed_are : printed ≡ answers_to 0 front (flat_map (λ life. life.replies) lives ++ replies)
-  pub all : made_by (requests_of front) ≡ length (flat_map (λ life. life.replies) lives ++ replies)
+  pub lists : List Asked
+  pub last : Asked
+  pub through : GoesThrough first (kept (fold base opened.front)) opened.opens last calls replies core beside
+  pub parts : Parts front lists lives last calls replies
+  pub fresh : ran ≡ false → IsFresh parts.running calls replies last first core beside
+  pub printed_are : printed ≡ answers_to 0 front (replies_of lists ++ last.replies)
+  pub all : made_by (requests_of front) ≡ length (replies_of lists ++ last.replies)
 
 start_holds : HoldsAmid (state_in new_disk) (bare no_keyspaces) []
 start_holds = holds_store_amid (state_in new_disk) (bare no_keyspaces) bare_holds
 
--- a core that just opened has served no call
-just_opened : (disk : Meaning) (core : Held) (base : Store) (pending : List store.Command) (opened : OpensAmid disk core base pending) → Served core (kept (fold base opened.front)) opened.opens [] [] core
-just_opened disk core base pending opened =
-    let store = kept (fold base opened.front) in
-    no_run core (start_of core store opened.opens) (begun core store) opened.opens.state opened.opens.reads opened.opens.base
-
-begins : (commands : List (Option Command)) (core : Held) → Begins true core → LivedSo commands commands false [] core
-begins commands core h =
+begins_so : (commands : List (Option Command)) (core : Held) → Begins true core → LivedSo commands commands false [] core none_kept
+begins_so commands core h =
     let same = h.fresh refl in
     let opened = h.opened.amid refl (bare no_keyspaces) [] (subst (λ (m : Meaning). HoldsAmid (state_in m) (bare no_keyspaces) []) (sym same) start_holds) in
+    let store = kept (fold (bare no_keyspaces) opened.front) in
+    let parts = no_parts core store opened.opens in
     record {
       front = [];
       split = refl;
@@ -274,28 +323,33 @@ begins commands core h =
       opened = opened;
       calls = [];
       replies = [];
-      run = just_opened h.disk core (bare no_keyspaces) [] opened;
-      parts = no_parts.0;
-      fresh = λ h. record { no_lines = no_parts.1; no_calls = refl; no_replies = refl };
+      run = no_calls core store opened.opens;
+      lists = [];
+      last = unasked;
+      through = goes_nowhere core store opened.opens;
+      parts = parts.0;
+      fresh = λ h. record { no_lines = parts.1; no_calls = refl; no_replies = refl; not_asked = refl; same_core = refl; none_beside = refl };
       printed_are = refl;
       all = refl;
     }
 
 -- the calls up to the next crash or reopening
-runs : (commands lines rest : List (Option Command)) (old new : Held) (printed : List (List ℕ)) (made : List Call) (replies : List Reply) → LivedSo commands (lines ++ rest) false printed old → All IsCall lines
-    → AreCalls (snapshots_before commands (lines ++ rest)) lines made → RunsCalls true old (resolved_all made replies) replies new
-    → LivedSo commands rest true (printed ++ answers_to (snapshots_before commands (lines ++ rest)) lines replies) new
-runs commands lines rest old new printed made replies s alone are run =
+runs : (commands lines rest : List (Option Command)) (old new : Held) (before beside : Kept) (printed : List (List ℕ)) (calls : List TxCall) (replies : List Reply) → LivedSo commands (lines ++ rest) false printed old before → All IsCall lines
+    → AreCalls (numbers_before commands (lines ++ rest)) lines calls → RunsTx true old before calls replies new beside
+    → LivedSo commands rest true (printed ++ answers_to (numbers_before commands (lines ++ rest)) lines replies) new beside
+runs commands lines rest old new before beside printed calls replies s alone are ran =
     let store = kept (fold s.base s.opened.front) in
     let opens = s.opened.opens in
-    let calls = resolved_all made replies in
     let fresh = s.fresh refl in
-    let lived = flat_map (λ (life : Life). life.replies) s.lives in
-    let so_far : lived ++ s.replies ≡ lived = ap (λ (l : List Reply). lived ++ l) fresh.no_replies ∙ append-nil lived in
+    let asked : Asked = record { calls = calls; replies = replies } in
+    let here : RunsTx true s.first none_kept calls replies new beside =
+    subst (λ (h : Held). RunsTx true h none_kept calls replies new beside) fresh.same_core (subst (λ (k : Kept). RunsTx true old k calls replies new beside) fresh.none_beside ran) in
+    let served : Served s.first store opens here.made here.told new = here.safe refl (start_of s.first store opens) (begun s.first store) opens.state opens.reads opens.base in
+    let through = goes_on s.first store opens new beside asked here in
+    let lived = replies_of s.lists in
+    let so_far : lived ++ s.last.replies ≡ lived = ap (λ (a : Asked). lived ++ a.replies) fresh.not_asked ∙ append-nil lived in
     let earlier = asked_before commands s.front (lines ++ rest) s.split in
-    let whole = runs_behind s.first old new (start_of s.first store opens) (begun s.first store) s.calls calls s.replies replies opens.base s.run (run.safe refl) in
-    let behind = subst (λ (r : List Reply). Served s.first store opens (s.calls ++ calls) (r ++ replies) new) fresh.no_replies whole in
-    let each : made_by (requests_of lines) ≡ length replies = as_many 0 _ (requests_of lines) made are ∙ replied [] old new made replies run.owes in
+    let each : made_by (requests_of lines) ≡ length replies = as_many 0 _ (requests_of lines) calls are ∙ replied [] calls replies here.made here.told here.comes in
     let all : made_by (requests_of s.front) ≡ length lived = s.all ∙ ap length so_far in
     record {
       front = s.front ++ lines;
@@ -307,12 +361,26 @@ runs commands lines rest old new printed made replies s alone are run =
       before = s.before;
       first = s.first;
       opened = s.opened;
-      calls = calls;
-      replies = replies;
-      run = subst (λ (c : List Call). Served s.first store opens (c ++ calls) replies new) fresh.no_calls behind;
-      parts = parts_run s.front lines s.lives s.calls s.replies made replies s.parts fresh.no_lines alone (subst (λ (n : ℕ). AreCalls n lines made) earlier are);
+      calls = here.made;
+      replies = here.told;
+      run = served;
+      lists = s.lists;
+      last = asked;
+      through = through;
+      parts = parts_run s.front lines s.lists s.lives s.last s.calls s.replies asked here.made here.told s.parts fresh.no_lines alone
+          (record {
+            are = subst (λ (n : ℕ). AreCalls n lines calls) earlier are;
+            come = here.comes;
+            core = s.first;
+            store = store;
+            opens = opens;
+            new = new;
+            served = served;
+            beside = beside;
+            through = through;
+          });
       fresh = λ h. absurd (true≢false h);
-      printed_are = ap (λ (l : List (List ℕ)). l ++ answers_to (snapshots_before commands (lines ++ rest)) lines replies) (s.printed_are ∙ ap (answers_to 0 s.front) so_far)
+      printed_are = ap (λ (l : List (List ℕ)). l ++ answers_to (numbers_before commands (lines ++ rest)) lines replies) (s.printed_are ∙ ap (answers_to 0 s.front) so_far)
           ∙ ap (λ (n : ℕ). answers_to 0 s.front lived ++ answers_to n lines replies) (earlier ∙ omega arith)
           ∙ sym (through-append 0 s.front lines lived replies all);
       all = ap made_by (filter_map-append request_of s.front lines) ∙ sum_by-append calls_in (requests_of s.front) (requests_of lines)
@@ -320,23 +388,24 @@ runs commands lines rest old new printed made replies s alone are run =
     }
 
 -- the life that ended with the old core's
-abbrev life_of : (commands rest : List (Option Command)) (printed : List (List ℕ)) (old : Held) → LivedSo commands rest true printed old → List store.Command → Life
-life_of commands rest printed old s synced = record { calls = s.calls; replies = s.replies; tried = s.run.tried; synced = synced }
+abbrev life_of : (commands rest : List (Option Command)) (printed : List (List ℕ)) (old : Held) (beside : Kept) → LivedSo commands rest true printed old beside → List store.Command → Life
+life_of commands rest printed old beside s synced = record { calls = s.calls; replies = s.replies; tried = s.run.tried; synced = synced }
 
 -- one life more, of a core that ended so, and another opened on what it left
-again : (commands : List (Option Command)) (stop : Option Command) (rest : List (Option Command)) (printed : List (List ℕ)) (old new : Held) (s : LivedSo commands (stop ∷ rest) true printed old) → is_stop stop ≡ true
+again : (commands : List (Option Command)) (stop : Option Command) (rest : List (Option Command)) (printed : List (List ℕ)) (old new : Held) (beside : Kept) (s : LivedSo commands (stop ∷ rest) true printed old beside) → is_stop stop ≡ true
     → (synced : List store.Command) (end : State) (next : Store) (waits : List store.Command) → Ended s.first old (kept (fold s.base s.opened.front)) s.calls s.replies s.opened.opens s.run synced end next waits
-    → (disk : Meaning) → state_in disk ≡ end → OpenedOn true disk new → LivedSo commands rest false (printed ++ ok_line ∷ []) new
-again commands stop rest printed old new s stops synced end next waits ended disk same o =
-    let life = life_of commands (stop ∷ rest) printed old s synced in
+    → (disk : Meaning) → state_in disk ≡ end → OpenedOn true disk new → LivedSo commands rest false (printed ++ ok_line ∷ []) new none_kept
+again commands stop rest printed old new beside s stops synced end next waits ended disk same o =
+    let life = life_of commands (stop ∷ rest) printed old beside s synced in
     let lives = s.lives ++ life ∷ [] in
-    let parts : FreshParts (s.front ++ stop ∷ []) lives = parts_stop s.front stop s.lives life s.parts stops (stops_ask_none stop stops) in
     let one = OneMore s.lives life s.disk s.base s.pending end next waits s.before (Opened s.first old s.calls s.replies synced end next waits s.opened s.run ended) in
     let before : Lives (state_in new_disk) (bare no_keyspaces) lives (state_in disk) next waits = subst (λ (st : State). Lives (state_in new_disk) (bare no_keyspaces) lives st next waits) (sym same) one in
     let opened = o.amid refl next waits (lives_hold (state_in new_disk) (bare no_keyspaces) lives (state_in disk) next waits start_holds before).amid in
-    let lived = flat_map (λ (l : Life). l.replies) s.lives in
-    let replies : lived ++ s.replies ≡ flat_map (λ (l : Life). l.replies) lives ++ [] =
-    ap (λ (l : List Reply). lived ++ l) (sym (append-nil s.replies)) ∙ sym (flat_map-append (λ (l : Life). l.replies) s.lives (life ∷ [])) ∙ sym (append-nil (flat_map (λ (l : Life). l.replies) lives)) in
+    let store = kept (fold next opened.front) in
+    let parts : FreshParts (s.front ++ stop ∷ []) (s.lists ++ s.last ∷ []) lives = parts_stop s.front stop s.lists s.lives s.last life new store opened.opens s.parts stops (stops_ask_none stop stops) in
+    let lived = replies_of s.lists in
+    let replies : lived ++ s.last.replies ≡ replies_of (s.lists ++ s.last ∷ []) ++ [] =
+    ap (λ (l : List Reply). lived ++ l) (sym (append-nil s.last.replies)) ∙ sym (flat_map-append (λ (a : Asked). a.replies) s.lists (s.last ∷ [])) ∙ sym (append-nil (replies_of (s.lists ++ s.last ∷ []))) in
     let none : requests_of (s.front ++ stop ∷ []) ≡ requests_of s.front = filter_map-append request_of s.front (stop ∷ []) ∙ ap (λ (l : List Request). requests_of s.front ++ l) (no_call stop stops) ∙ append-nil (requests_of s.front) in
     record {
       front = s.front ++ stop ∷ [];
@@ -350,13 +419,16 @@ again commands stop rest printed old new s stops synced end next waits ended dis
       opened = opened;
       calls = [];
       replies = [];
-      run = just_opened disk new next waits opened;
+      run = no_calls new store opened.opens;
+      lists = s.lists ++ s.last ∷ [];
+      last = unasked;
+      through = goes_nowhere new store opened.opens;
       parts = parts.0;
-      fresh = λ h. record { no_lines = parts.1; no_calls = refl; no_replies = refl };
+      fresh = λ h. record { no_lines = parts.1; no_calls = refl; no_replies = refl; not_asked = refl; same_core = refl; none_beside = refl };
       printed_are = ap (λ (l : List (List ℕ)). l ++ ok_line ∷ []) s.printed_are
-          ∙ ap (λ (l : List (List ℕ)). answers_to 0 s.front (lived ++ s.replies) ++ l) (sym (ok_said (0 + snapshots_in s.front) stop stops))
-          ∙ sym (through-append 0 s.front (stop ∷ []) (lived ++ s.replies) [] s.all)
-          ∙ ap (answers_to 0 (s.front ++ stop ∷ [])) (append-nil (lived ++ s.replies) ∙ replies);
+          ∙ ap (λ (l : List (List ℕ)). answers_to 0 s.front (lived ++ s.last.replies) ++ l) (sym (ok_said (0 + numbers_in s.front) stop stops))
+          ∙ sym (through-append 0 s.front (stop ∷ []) (lived ++ s.last.replies) [] s.all)
+          ∙ ap (answers_to 0 (s.front ++ stop ∷ [])) (append-nil (lived ++ s.last.replies) ∙ replies);
       all = ap made_by none ∙ s.all ∙ ap length replies;
     }
   where
@@ -373,44 +445,44 @@ again commands stop rest printed old new s stops synced end next waits ended dis
     ok_said earlier (Some (Ask request)) is = absurd (true≢false (sym is))
 
 -- a reopening, whether the closing was refused or not
-reopened : (commands rest : List (Option Command)) (printed : List (List ℕ)) (old new : Held) (s : LivedSo commands (Some Reopen ∷ rest) true printed old) (closing : Result Unit Error) (closed : Meaning) → Closes true old closing closed → (disk : Meaning) → disk ≡ closed
-    → OpenedOn true disk new → LivedSo commands rest false (printed ++ ok_line ∷ []) new
-reopened commands rest printed old new s (Ok _) closed closes disk same o =
-    again commands (Some Reopen) rest printed old new s refl s.run.tried (state_in closed) (kept (present s.run.state)) [] (Closed closed closes.owes (closes.safe refl)) disk (ap state_in same) o
-reopened commands rest printed old new s (Err error) closed closes disk same o =
+reopened : (commands rest : List (Option Command)) (printed : List (List ℕ)) (old new : Held) (beside : Kept) (s : LivedSo commands (Some Reopen ∷ rest) true printed old beside) (closing : Result Unit Error) (closed : Meaning) → Closes true old closing closed → (disk : Meaning) → disk ≡ closed
+    → OpenedOn true disk new → LivedSo commands rest false (printed ++ ok_line ∷ []) new none_kept
+reopened commands rest printed old new beside s (Ok _) closed closes disk same o =
+    again commands (Some Reopen) rest printed old new beside s refl s.run.tried (state_in closed) (kept (present s.run.state)) [] (Closed closed closes.owes (closes.safe refl)) disk (ap state_in same) o
+reopened commands rest printed old new beside s (Err error) closed closes disk same o =
     let last = a_last_sync s.first old (kept (fold s.base s.opened.front)) s.calls s.replies s.opened.opens s.run in
     let safely = closes.safe refl in
     let after = (safely s.run.state s.run.durable s.run.stands s.run.reads s.run.on).after in
-    again commands (Some Reopen) rest printed old new s refl last.0 (state_in closed) after.base after.pending (Unclosed last.0 error closed last.1 safely) disk (ap state_in same) o
+    again commands (Some Reopen) rest printed old new beside s refl last.0 (state_in closed) after.base after.pending (Unclosed last.0 error closed last.1 safely) disk (ap state_in same) o
 
 -- what a crash leaves
-crashes : (commands rest : List (Option Command)) (printed : List (List ℕ)) (old new : Held) (keep : ℕ) (s : LivedSo commands (Some (Crash keep) ∷ rest) true printed old) → Crashes true keep old new → LivedSo commands rest false (printed ++ ok_line ∷ []) new
-crashes commands rest printed old new keep s h =
+crashes : (commands rest : List (Option Command)) (printed : List (List ℕ)) (old new : Held) (beside : Kept) (keep : ℕ) (s : LivedSo commands (Some (Crash keep) ∷ rest) true printed old beside) → Crashes true keep old new → LivedSo commands rest false (printed ++ ok_line ∷ []) new none_kept
+crashes commands rest printed old new beside keep s h =
     let d = s.run.durable in
     let image = crashed keep (state_in old.disk) in
     let is = h.image refl in
     let last = a_last_sync s.first old (kept (fold s.base s.opened.front)) s.calls s.replies s.opened.opens s.run in
     let amid = s.run.on.rests image (subst (λ (m : Meaning). IsImage (state_in m) image) (sym s.run.on.same) is) in
     let left = kept (fold d.base amid.front) in
-    again commands (Some (Crash keep)) rest printed old new s refl last.0 (disk_of image) left [] (CutBehind last.0 image left last.1 is amid.stands) h.disk (h.left refl) h.opened
+    again commands (Some (Crash keep)) rest printed old new beside s refl last.0 (disk_of image) left [] (CutBehind last.0 image left last.1 is amid.stands) h.disk (h.left refl) h.opened
 
-restarts : (stop : Option Command) (commands rest : List (Option Command)) (printed : List (List ℕ)) (old new : Held) → LivedSo commands (stop ∷ rest) true printed old → Restarts true stop old new → LivedSo commands rest false (printed ++ ok_line ∷ []) new
-restarts (Some (Crash keep)) commands rest printed old new s h = crashes commands rest printed old new keep s h
-restarts (Some Reopen) commands rest printed old new s h = reopened commands rest printed old new s h.closing h.closed h.closes h.disk (h.same refl) h.opened
-restarts None commands rest printed old new s h = absurd h
-restarts (Some (Ask request)) commands rest printed old new s h = absurd h
+restarts : (stop : Option Command) (commands rest : List (Option Command)) (printed : List (List ℕ)) (old new : Held) (beside : Kept) → LivedSo commands (stop ∷ rest) true printed old beside → Restarts true stop old new → LivedSo commands rest false (printed ++ ok_line ∷ []) new none_kept
+restarts (Some (Crash keep)) commands rest printed old new beside s h = crashes commands rest printed old new beside keep s h
+restarts (Some Reopen) commands rest printed old new beside s h = reopened commands rest printed old new beside s h.closing h.closed h.closes h.disk (h.same refl) h.opened
+restarts None commands rest printed old new beside s h = absurd h
+restarts (Some (Ask request)) commands rest printed old new beside s h = absurd h
 
 -- ---- a session
 
-lived_so : (commands rest : List (Option Command)) (ran : Bool) (core : Held) (printed : List (List ℕ)) → Session true commands ran core printed rest → LivedSo commands rest ran printed core
-lived_so commands _ _ _ _ (sessions.begun core h) = begins commands core h
-lived_so commands _ _ _ _ (sessions.run old new printed lines rest made replies s alone stop are calls) =
-    runs commands lines rest old new printed made replies (lived_so commands (lines ++ rest) false old printed s) alone are calls
-lived_so commands _ _ _ _ (sessions.restarted old new printed stop rest s h) = restarts stop commands rest printed old new (lived_so commands (stop ∷ rest) true old printed s) h
+lived_so : (commands rest : List (Option Command)) (ran : Bool) (core : Held) (beside : Kept) (printed : List (List ℕ)) → Session true commands ran core beside printed rest → LivedSo commands rest ran printed core beside
+lived_so commands _ _ _ _ _ (sessions.begun core h) = begins_so commands core h
+lived_so commands _ _ _ _ _ (sessions.run old new before after printed lines rest calls replies s alone stop are ran) =
+    runs commands lines rest old new before after printed calls replies (lived_so commands (lines ++ rest) false old before printed s) alone are ran
+lived_so commands _ _ _ _ _ (sessions.restarted old new before printed stop rest s h) = restarts stop commands rest printed old new before (lived_so commands (stop ∷ rest) true old before printed s) h
 
-has_lived : (commands rest : List (Option Command)) (ran : Bool) (core : Held) (printed : List (List ℕ)) → Session true commands ran core printed rest → HasLived commands rest printed core
-has_lived commands rest ran core printed session =
-    let s = lived_so commands rest ran core printed session in
+has_lived : (commands rest : List (Option Command)) (ran : Bool) (core : Held) (beside : Kept) (printed : List (List ℕ)) → Session true commands ran core beside printed rest → HasLived commands rest printed core beside
+has_lived commands rest ran core beside printed session =
+    let s = lived_so commands rest ran core beside printed session in
     let behind = lives_open (state_in new_disk) (bare no_keyspaces) s.lives s.disk s.base s.pending s.first start_holds s.before s.opened in
     record {
       front = s.front;
@@ -426,7 +498,10 @@ has_lived commands rest ran core printed session =
       replies = s.replies;
       run = s.run;
       device = lives_blame (state_in new_disk) (bare no_keyspaces) s.lives s.disk s.base s.pending s.first core s.calls s.replies (new_disk_tidy (state_in new_disk) (λ name. refl)) s.before s.opened s.run;
-      calls_are = parts_are s.front s.lives s.calls s.replies s.parts;
+      lists = s.lists;
+      last = s.last;
+      through = s.through;
+      calls_are = parts_are s.front s.lists s.lives s.last s.calls s.replies s.parts;
       printed_are = s.printed_are;
       fronts = behind.0;
       left = behind.1;
@@ -434,6 +509,7 @@ has_lived commands rest ran core printed session =
     }
 
 -- over a disk that returns what it holds
-pub session_lived : (honest : Bool) (commands rest : List (Option Command)) (ran : Bool) (core : Held) (printed : List (List ℕ)) → Session honest commands ran core printed rest → IsTrue honest → HasLived commands rest printed core
-session_lived true commands rest ran core printed s h = has_lived commands rest ran core printed s
-session_lived false commands rest ran core printed s h = absurd (true≢false (sym h))
+pub session_lived : (honest : Bool) (commands rest : List (Option Command)) (ran : Bool) (core : Held) (beside : Kept) (printed : List (List ℕ)) → Session honest commands ran core beside printed rest → IsTrue honest
+    → HasLived commands rest printed core beside
+session_lived true commands rest ran core beside printed s h = has_lived commands rest ran core beside printed s
+session_lived false commands rest ran core beside printed s h = absurd (true≢false (sym h))

@@ -26,12 +26,13 @@ input_answered : (honest : Bool) (text : List ℕ) (commands : List (Option Comm
 input_answered honest text commands old new reads all = record {
   commands = commands;
   core = all.core;
+  kept = all.kept;
   printed = all.printed;
   reads = reads;
   session = all.session;
   closed = all.closed;
-  lived = session_lived honest commands [] true all.core all.printed all.session;
-  answers = all_answered honest commands true all.core all.printed all.session;
+  lived = session_lived honest commands [] true all.core all.kept all.printed all.session;
+  answers = all_answered honest commands true all.core all.kept all.printed all.session;
   appends = all.appends;
 }
 
@@ -39,7 +40,7 @@ input_answered honest text commands old new reads all = record {
 input_failed : (honest : Bool) (text : List ℕ) (commands : List (Option Command)) (error : Error) (old new : Option (List ℕ)) → AllZip (Hears honest) (lines_of text) commands → PrintsUntil honest commands error old new
     → FailsInput honest text old new error
 input_failed honest text commands error old new reads until =
-    let parts = answered honest commands until.rest until.ran until.core until.printed until.session in
+    let parts = answered honest commands until.rest until.ran until.core until.kept until.printed until.session in
     refused error
     (record {
       commands = commands;
@@ -47,12 +48,13 @@ input_failed honest text commands error old new reads until =
       rest = until.rest;
       ran = until.ran;
       core = until.core;
+      kept = until.kept;
       printed = until.printed;
       reads = reads;
       split = parts.1;
       session = until.session;
       answers = parts.2;
-      lived = session_lived honest commands until.rest until.ran until.core until.printed until.session;
+      lived = session_lived honest commands until.rest until.ran until.core until.kept until.printed until.session;
     })
     until.ends
 

@@ -1,5 +1,5 @@
 -- What is printed.
-use Rattle.std.specs.Prelude.{ℕ, List, [], ◌∷◌, ◌++◌, if◌then◌else◌, length, codes, decimal, Some, None, true, false}
+use Rattle.std.specs.Prelude.{ℕ, Bool, List, [], ◌∷◌, ◌++◌, if◌then◌else◌, length, codes, decimal, Some, None, true, false}
 use Rattle.std.specs.List.{flat_map}
 use Rattle.fjall_base.specs.declared.error.Error.{Error}
 use Rattle.fjall_base.specs.Errors.{number_of, name_of}
@@ -7,7 +7,7 @@ use Rattle.fjall_base.specs.Pairs.{Bytes}
 use Rattle.fjall_history.specs.declared.reply.Reply.{Reply}
 use Rattle.fjall_history.specs.declared.reply.Reply.TheVariants.{Began, Done, Ids, Value, Pairs, Number, Names, Flag, Opened, Refused}
 use Rattle.fjall_lines.specs.declared.command.Request.{Request}
-use Rattle.fjall_lines.specs.declared.command.Request.TheVariants.{Gc, Keyspace, Len}
+use Rattle.fjall_lines.specs.declared.command.Request.TheVariants.{Begin, Commit, Gc, Keyspace, Len}
 use Rattle.fjall_lines.specs.Lines.{hex_word}
 use Rattle.fjall_script.specs.Requests.{flushes}
 
@@ -44,20 +44,35 @@ flushed_by begun (finished ∷ later) = (flushed begun finished, later)
 abbrev pub reply_to : Request → Reply → List Reply → Reply × List Reply
 reply_to request first behind = if flushes request then flushed_by first behind else (first, behind)
 
--- the answer to a request, by its reply, where a snapshot that it opens gets this number: `keyspace` tells an id,
--- `len` how many pairs there are, `scan` the pairs, `gc` the watermark, and `flush` whether one was begun and finished
+-- the answer to a request that is done: a transaction that begins is told by its number
+abbrev pub done_text : ℕ → Request → List ℕ
+done_text number Begin = codes "tx " ++ decimal number
+done_text number request = codes "ok"
+
+-- the answer to a request by a flag: to a commit whether it took place, or conflicts
+abbrev pub flag_text : Request → Bool → List ℕ
+flag_text (Commit number) true = codes "ok"
+flag_text (Commit number) false = codes "conflict"
+flag_text request true = codes "true"
+flag_text request false = codes "false"
+
+-- the answer to a request by a number: `keyspace` tells an id, and `gc` the watermark
+abbrev pub number_text : Request → ℕ → List ℕ
+number_text (Keyspace name) id = codes "keyspace " ++ decimal id
+number_text Gc watermark = codes "watermark " ++ decimal watermark
+number_text request count = count_text count
+
+-- the answer to a request, by its reply, where a snapshot that it opens, or a transaction that it begins, gets this number: `len` tells
+-- how many pairs there are, `scan` the pairs, and `flush` whether one was begun and finished
 abbrev pub reply_text : ℕ → Request → Reply → List ℕ
-reply_text number request Done = codes "ok"
+reply_text number request Done = done_text number request
 reply_text number request (Value None) = codes "none"
 reply_text number request (Value (Some value)) = codes "value " ++ hex_word value
 reply_text number (Len id) (Pairs pairs) = count_text (length pairs.items)
 reply_text number request (Pairs pairs) = pairs_text pairs.items
-reply_text number (Keyspace name) (Number id) = codes "keyspace " ++ decimal id
-reply_text number Gc (Number watermark) = codes "watermark " ++ decimal watermark
-reply_text number request (Number count) = count_text count
+reply_text number request (Number count) = number_text request count
 reply_text number request (Names names) = count_text (length names.items)
-reply_text number request (Flag true) = codes "true"
-reply_text number request (Flag false) = codes "false"
+reply_text number request (Flag flag) = flag_text request flag
 reply_text number request (Opened ticket) = codes "snapshot " ++ decimal number
 reply_text number request (Began (Some job)) = codes "true"
 reply_text number request (Began None) = codes "false"

@@ -1,5 +1,5 @@
 -- What a session over a disk that returns what it holds comes to: engines one after another on one disk, which was new.
-use Rattle.std.specs.Prelude.{◌≡◌, ℕ, ◌+◌, List, [], ◌∷◌, ◌++◌, Option, map}
+use Rattle.std.specs.Prelude.{◌≡◌, ℕ, ◌+◌, List, [], ◌∷◌, ◌++◌, None, Option, map}
 use Rattle.std.specs.List.{flat_map, slice_split}
 use Rattle.fjall_base.specs.Store.{Store, fold, kept}
 use Rattle.fjall_base.specs.Store as store
@@ -8,37 +8,74 @@ use Rattle.fjall_meta.specs.Keyspaces.{no_keyspaces}
 use Rattle.fjall_versions.specs.Replays.{bare}
 use Rattle.fjall_history.specs.declared.reply.Reply.{Reply}
 use Rattle.fjall_state.specs.declared.call.Call.{Call}
-use Rattle.fjall_state.specs.Places.{resolved_all}
 use Rattle.fjall_core.specs.Holding.{Held}
 use Rattle.fjall_core.specs.Crashes.{BlamesEach}
 use Rattle.fjall_core.specs.Lives.{AreLeftOf, Life, Lives, Served, all_left, begun, start_of}
 use Rattle.fjall_core.specs.Openings.{OpensAmid, OpensAs}
+use Rattle.fjall_core.specs.Standing.{ReadsOn}
+use Rattle.fjall_transactions.specs.Standing.{StandFor, Told}
+use Rattle.fjall_transactions.specs.Transactions.{Kept}
+use Rattle.fjall_lists.specs.declared.call.TxCall.{TxCall}
+use Rattle.fjall_lists.specs.Steps.{TxRun}
+use Rattle.fjall_lists.specs.Worlds.{World, begins}
+use Rattle.fjall_calls.specs.Serving.{AllCome}
 use Rattle.fjall_lines.specs.declared.command.Command.{Command}
 use Rattle.fjall_script.specs.Machine.{new_disk}
-use Rattle.fjall_script.specs.Requests.{AreCalls, is_stop, snapshots_in}
+use Rattle.fjall_script.specs.Requests.{AreCalls, is_stop, numbers_in}
 use Rattle.fjall_script.specs.Sessions.{answers_to}
 
--- A list of lines was served by these calls, which got these replies, where so many snapshots were asked for before: they are
--- the calls that the lines make, with ids for the tickets that these name.
-pub record IsServed (earlier : ℕ) (lines : List (Option Command)) (calls : List Call) (replies : List Reply) : Type 0 where
-  pub made : List Call
-  pub are : AreCalls earlier lines made
-  pub is : calls ≡ resolved_all made replies
+-- The calls of a list, and what they were replied.
+pub record Asked : Type 0 where
+  pub calls : List TxCall
+  pub replies : List Reply
 
--- lists of lines, one after another, each by the calls of a life with their replies
-abbrev pub AreServed : ℕ → List (List (Option Command)) → List (List Call × List Reply) → Type 0
-AreServed earlier [] [] = Unit {0}
-AreServed earlier (lines ∷ lists) (life ∷ lives) = IsServed earlier lines life.0 life.1 × AreServed (earlier + snapshots_in lines) lists lives
-AreServed earlier lists lives = ⊥
+-- none was made yet
+abbrev pub unasked : Asked
+unasked = record { calls = []; replies = [] }
+
+-- the state of the machine that a core opened as, of which nothing is accepted since
+abbrev pub told_as : (core : Held) (store : Store) → OpensAs core store → Told
+told_as core store opens = record { state = start_of core store opens; accepted = [] }
+
+-- A core that opened as this store, without transactions, went through the calls of a list by steps, which came to these calls of the
+-- core; and now it may stand for the world that they lead to, with what is kept beside it.
+pub record GoesThrough (core : Held) (store : Store) (opens : OpensAs core store) (asked : Asked) (made : List Call) (told : List Reply) (new : Held) (beside : Kept) : Type 0 where
+  pub world : World
+  pub steps : TxRun (begins (told_as core store opens) None) [] asked.calls asked.replies made told world
+  pub stands : StandFor new beside world.told
+  pub reads : ReadsOn new world.told.state
+
+-- A list of lines was served, where so many numbers were asked for before, by the calls that they make, which got their replies and came
+-- to the calls of the core of one life, of an engine that opened so.
+pub record IsServed (earlier : ℕ) (lines : List (Option Command)) (asked : Asked) (made : List Call) (told : List Reply) : Type 0 where
+  pub are : AreCalls earlier lines asked.calls
+  pub come : AllCome [] asked.calls asked.replies made told
+  pub core : Held
+  pub store : Store
+  pub opens : OpensAs core store
+  pub new : Held
+  pub served : Served core store opens made told new
+  pub beside : Kept
+  pub through : GoesThrough core store opens asked made told new beside
+
+-- lists of lines, one after another, each by the calls of a list, which came to those of a life with their replies
+abbrev pub AreServed : ℕ → List (List (Option Command)) → List Asked → List (List Call × List Reply) → Type 0
+AreServed earlier [] [] [] = Unit {0}
+AreServed earlier (lines ∷ lists) (asked ∷ others) (life ∷ lives) = IsServed earlier lines asked life.0 life.1 × AreServed (earlier + numbers_in lines) lists others lives
+AreServed earlier lists others lives = ⊥
 
 abbrev pub served_in : Life → List Call × List Reply
 served_in life = (life.calls, life.replies)
 
+-- all replies of these lists, in order
+abbrev pub replies_of : List Asked → List Reply
+replies_of others = flat_map (λ asked. asked.replies) others
+
 -- A session has come as far as this rest. Each crash and each reopening ended the life of an engine, and the core as it stands
--- is of one more: the calls of each are those of the lines between one crash or reopening and the next. What was printed are
+-- is of one more: the calls of the lines between one crash or reopening and the next came to the calls of each. What was printed are
 -- the answers by their replies. The last of them opened as the fold of what is left of the lives before it, in order: of each a beginning of what it tried, with all
 -- that a sync followed that succeeded. Each `Io` of its calls was told where the device failed.
-pub record HasLived (commands rest : List (Option Command)) (printed : List (List ℕ)) (core : Held) : Type 0 where
+pub record HasLived (commands rest : List (Option Command)) (printed : List (List ℕ)) (core : Held) (beside : Kept) : Type 0 where
   pub front : List (Option Command)
   pub split : commands ≡ front ++ rest
   pub lives : List Life
@@ -52,8 +89,11 @@ pub record HasLived (commands rest : List (Option Command)) (printed : List (Lis
   pub replies : List Reply
   pub run : Served first (kept (fold base opened.front)) opened.opens calls replies core
   pub device : BlamesEach (start_of first (kept (fold base opened.front)) opened.opens) (begun first (kept (fold base opened.front))) calls replies run.tried run.state run.durable run.run
-  pub calls_are : AreServed 0 (slice_split is_stop front) (map served_in lives ++ (calls, replies) ∷ [])
-  pub printed_are : printed ≡ answers_to 0 front (flat_map (λ life. life.replies) lives ++ replies)
+  pub lists : List Asked
+  pub last : Asked
+  pub through : GoesThrough first (kept (fold base opened.front)) opened.opens last calls replies core beside
+  pub calls_are : AreServed 0 (slice_split is_stop front) (lists ++ last ∷ []) (map served_in lives ++ (calls, replies) ∷ [])
+  pub printed_are : printed ≡ answers_to 0 front (replies_of lists ++ last.replies)
   pub fronts : List (List store.Command)
   pub left : AreLeftOf lives fronts
   pub stands : OpensAs first (kept (fold (bare no_keyspaces) (all_left fronts)))

@@ -1,6 +1,6 @@
 -- The core, as a session drives it: what it holds, before and after. Over a disk that returns what it holds, as the one
 -- in memory does, all is said that the core promises; over another one, as a folder, what needs no such premise.
-use Rattle.std.specs.Prelude.{◌≡◌, ℕ, Bool, false, IsTrue, [], List, Result, Ok, ◌⊎◌}
+use Rattle.std.specs.Prelude.{◌≡◌, ℕ, Bool, false, IsTrue, [], List, None, Result, Ok, ◌⊎◌}
 use Rattle.fjall_base.specs.Crash.{crashed}
 use Rattle.fjall_base.specs.Disk.{Meaning, IsImage, disk_of, state_in}
 use Rattle.fjall_base.specs.Store.{Command, Store}
@@ -11,20 +11,15 @@ use Rattle.fjall_table.specs.Blocks.{Entry}
 use Rattle.fjall_versions.specs.Replays.{bare}
 use Rattle.fjall_recovery.specs.Refusals.{HasRisen}
 use Rattle.fjall_recovery.specs.Amid.{HoldsAmid}
-use Rattle.fjall_state.specs.declared.call.Call.{Call}
 use Rattle.fjall_state.specs.Remembered.{AreBeside}
-use Rattle.fjall_history.specs.declared.reply.Reply.{Reply}
 use Rattle.fjall_core.specs.Holding.{Held}
 use Rattle.fjall_core.specs.Openings.{IsDueTo, KeepsStore, Opens, OpensAmid, OpensAs, OpensOn}
-use Rattle.fjall_core.specs.Standing.{ClosesDisk, ClosesSafely, HoldsStore, OwesAll, OwesClosing, Runs, RunsSafely, store_with_tables}
+use Rattle.fjall_core.specs.Standing.{ClosesDisk, ClosesSafely, HoldsStore, OwesClosing, store_with_tables}
+use Rattle.fjall_transactions.specs.Transactions.{Kept}
 
--- The replies are those of a run of the engine, whichever state the core stood for whose tables its disk had; a crash at each
--- moment leaves a beginning of the commands, with all that a sync made safe before. Whatever the disk does, each reply is owed by
--- what the core held.
-pub record RunsCalls (honest : Bool) (old : Held) (calls : List Call) (replies : List Reply) (new : Held) : Type 0 where
-  pub runs : IsTrue honest → Runs old calls replies new
-  pub safe : IsTrue honest → RunsSafely old calls replies new
-  pub owes : OwesAll old calls replies new
+-- what is kept beside a core that just opened: no transaction
+abbrev pub none_kept : Kept
+none_kept = record { commits = []; writer = None }
 
 -- A core that was opened on this disk: it stands for what stands there. Where the disk held a store, whatever a crash
 -- leaves of it, the core opened as that store, and a crash at each moment of the opening leaves it; where a crash of the

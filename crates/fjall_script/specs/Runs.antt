@@ -13,6 +13,7 @@ use Rattle.fjall_script.specs.Statuses.{status_code}
 use Rattle.fjall_script.specs.Answers.{refusal_line, text_of}
 use Rattle.fjall_script.specs.Outputs.{IsIoOrMemory}
 use Rattle.fjall_core.specs.Holding.{Held}
+use Rattle.fjall_transactions.specs.Transactions.{Kept}
 use Rattle.fjall_script.specs.Lived.{HasLived}
 use Rattle.fjall_script.specs.Machine.{IsClosed, NotBegun}
 use Rattle.fjall_script.specs.Sessions.{EndsBy, IsAnswer, Session}
@@ -23,11 +24,12 @@ use Rattle.fjall_script.specs.Sessions.{EndsBy, IsAnswer, Session}
 pub record AnswersInput (honest : Bool) (text : List ℕ) (old new : Option (List ℕ)) : Type 0 where
   pub commands : List (Option Command)
   pub core : Held
+  pub kept : Kept
   pub printed : List (List ℕ)
   pub reads : AllZip (Hears honest) (lines_of text) commands
-  pub session : Session honest commands true core printed []
+  pub session : Session honest commands true core kept printed []
   pub closed : IsClosed honest core
-  pub lived : IsTrue honest → HasLived commands [] printed core
+  pub lived : IsTrue honest → HasLived commands [] printed core kept
   pub answers : AllZip IsAnswer commands printed
   pub appends : Appends old new (text_of printed)
 
@@ -40,12 +42,13 @@ pub record RunsInput (honest : Bool) (text : List ℕ) : Type 0 where
   pub rest : List (Option Command)
   pub ran : Bool
   pub core : Held
+  pub kept : Kept
   pub printed : List (List ℕ)
   pub reads : AllZip (Hears honest) (lines_of text) commands
   pub split : commands ≡ front ++ rest
-  pub session : Session honest commands ran core printed rest
+  pub session : Session honest commands ran core kept printed rest
   pub answers : AllZip IsAnswer front printed
-  pub lived : IsTrue honest → HasLived commands rest printed core
+  pub lived : IsTrue honest → HasLived commands rest printed core kept
 
 -- What is printed for an input that fails with this refusal. Where no core could be opened, or the input could not be read,
 -- nothing; where the session was refused, all that it answered before; where the output failed, a beginning of that.

@@ -6,20 +6,21 @@ use Rattle.fjall_base.specs.Disk.{Meaning, IsImage, disk_of, state_in}
 use Rattle.fjall_base.specs.declared.error.Error.{Error}
 use Rattle.fjall_base.specs.declared.error.Error.TheVariants.{OutOfMemory}
 use Rattle.fjall_core.specs.Holding.{Held}
-use Rattle.fjall_state.specs.declared.call.Call.{Call}
-use Rattle.fjall_state.specs.Places.{resolved_all}
+use Rattle.fjall_transactions.specs.Transactions.{Kept}
+use Rattle.fjall_lists.specs.declared.call.TxCall.{TxCall}
+use Rattle.fjall_calls.specs.Serving.{RunsTx}
 use Rattle.fjall_history.specs.declared.reply.Reply.{Reply}
 use Rattle.fjall_history.specs.declared.reply.Reply.TheVariants.{Began, Done, Flag, Value, Pairs, Number, Opened, Refused}
 use Rattle.fjall_lines.specs.declared.command.Command.{Command}
 use Rattle.fjall_lines.specs.declared.command.Command.TheVariants.{Ask, Crash, Reopen}
 use Rattle.fjall_lines.specs.declared.command.Request.{Request}
-use Rattle.fjall_lines.specs.declared.command.Request.TheVariants.{Keyspace, Delete, Insert, Remove, RemoveWeak, Clear, Batch, Get, Len, Scan, Snapshot, GetAt, CloseSnapshot, Gc, Rotate, Flush, Persist}
+use Rattle.fjall_lines.specs.declared.command.Request.TheVariants.{Keyspace, Delete, Insert, Remove, RemoveWeak, Clear, Batch, Get, Len, Scan, Snapshot, GetAt, CloseSnapshot, Begin, TxGet, TxInsert, Commit, Gc, Rotate, Flush, Persist}
 use Rattle.fjall_script.specs.Answers.{reply_text, reply_to, bad_line, ok_line, text_of}
 use Rattle.fjall_script.specs.Outputs.{AppendsFront, IsIo}
-use Rattle.fjall_script.specs.Requests.{AreCalls, asked_with, is_stop, snapshots_before, snapshots_in}
-use Rattle.fjall_script.specs.Machine.{RunsCalls, Begins, Closes, Crashes, IsNoDisk, RefusedOn, Reopens, IsClosed}
+use Rattle.fjall_script.specs.Requests.{AreCalls, asked_with, is_stop, numbers_before, numbers_in}
+use Rattle.fjall_script.specs.Machine.{Begins, Closes, Crashes, IsNoDisk, RefusedOn, Reopens, IsClosed, none_kept}
 
--- The answers to lines by the replies to their calls, in turn, where so many snapshots were asked for before: ok for a crash
+-- The answers to lines by the replies to their calls, in turn, where so many numbers were asked for before: ok for a crash
 -- and a reopening, and a line that is no command has an answer of its own.
 abbrev pub answers_to : ℕ → List (Option Command) → List Reply → List (List ℕ)
 answers_to earlier [] replies = []
@@ -46,6 +47,10 @@ IsReplyTo (Scan id) (Pairs pairs) = Unit {0}
 IsReplyTo Snapshot (Opened ticket) = Unit {0}
 IsReplyTo (GetAt number id key) (Value found) = Unit {0}
 IsReplyTo (CloseSnapshot number) Done = Unit {0}
+IsReplyTo Begin Done = Unit {0}
+IsReplyTo (TxGet number id key) (Value found) = Unit {0}
+IsReplyTo (TxInsert number id key value) Done = Unit {0}
+IsReplyTo (Commit number) (Flag is_committed) = Unit {0}
 IsReplyTo Gc (Number watermark) = Unit {0}
 IsReplyTo (Rotate id) (Flag is_sealed) = Unit {0}
 IsReplyTo (Flush id) (Flag is_finished) = Unit {0}
@@ -53,7 +58,7 @@ IsReplyTo (Flush id) (Began None) = Unit {0}
 IsReplyTo Persist Done = Unit {0}
 IsReplyTo request reply = ⊥
 
--- the answer by a reply to a request, where a snapshot that it opens gets some number
+-- the answer by a reply to a request, where a snapshot that it opens, or a transaction that it begins, gets some number
 pub record IsReplied (request : Request) (answer : List ℕ) : Type 0 where
   pub number : ℕ
   pub reply : Reply
@@ -99,17 +104,18 @@ OpensAgain honest found old disk = ⊥
 abbrev pub NotRestarted : Bool → Option Command → Held → Error → Type 0
 NotRestarted honest stop old error = IsNoDisk honest error ⊎ ((disk : Meaning) × OpensAgain honest stop old disk × RefusedOn honest disk error)
 
--- A session of these commands: whether the calls up to the next crash or reopening have run, the core as it stands, what was
--- printed so far, and the commands to come. The calls up to a crash, a reopening or the end are one run.
-pub data Session (honest : Bool) (commands : List (Option Command)) : Bool → Held → List (List ℕ) → List (Option Command) → Type 0 where
-  begun : (core : Held) → Begins honest core → Session honest commands false core [] commands
-  run : (old new : Held) (printed : List (List ℕ)) (lines rest : List (Option Command)) (calls : List Call) (replies : List Reply)
-      → Session honest commands false old printed (lines ++ rest) → All (λ found. is_stop found ≡ false) lines → IsAtStop rest
-      → AreCalls (snapshots_before commands (lines ++ rest)) lines calls → RunsCalls honest old (resolved_all calls replies) replies new
-      → Session honest commands true new (printed ++ answers_to (snapshots_before commands (lines ++ rest)) lines replies) rest
-  restarted : (old new : Held) (printed : List (List ℕ)) (stop : Option Command) (rest : List (Option Command))
-      → Session honest commands true old printed (stop ∷ rest) → Restarts honest stop old new
-      → Session honest commands false new (printed ++ ok_line ∷ []) rest
+-- A session of these commands: whether the calls up to the next crash or reopening have run, the core as it stands and what is kept
+-- beside it, what was printed so far, and the commands to come. The calls up to a crash, a reopening or the end are one run. Each core
+-- that opens begins without transactions.
+pub data Session (honest : Bool) (commands : List (Option Command)) : Bool → Held → Kept → List (List ℕ) → List (Option Command) → Type 0 where
+  begun : (core : Held) → Begins honest core → Session honest commands false core none_kept [] commands
+  run : (old new : Held) (before after : Kept) (printed : List (List ℕ)) (lines rest : List (Option Command)) (calls : List TxCall) (replies : List Reply)
+      → Session honest commands false old before printed (lines ++ rest) → All (λ found. is_stop found ≡ false) lines → IsAtStop rest
+      → AreCalls (numbers_before commands (lines ++ rest)) lines calls → RunsTx honest old before calls replies new after
+      → Session honest commands true new after (printed ++ answers_to (numbers_before commands (lines ++ rest)) lines replies) rest
+  restarted : (old new : Held) (before : Kept) (printed : List (List ℕ)) (stop : Option Command) (rest : List (Option Command))
+      → Session honest commands true old before printed (stop ∷ rest) → Restarts honest stop old new
+      → Session honest commands false new none_kept (printed ++ ok_line ∷ []) rest
 
 -- How a session fails, with its core as it stands and these commands to come: memory ran out for a list of calls as a whole or
 -- for an answer, the opening of a crash or a reopening was refused, or the closing at the end.
@@ -122,8 +128,9 @@ pub data Fails (honest : Bool) (core : Held) : Bool → List (Option Command) �
 -- all commands were answered, what was printed was written, and then the core was closed
 pub record PrintsAll (honest : Bool) (commands : List (Option Command)) (old new : Option (List ℕ)) : Type 0 where
   pub core : Held
+  pub kept : Kept
   pub printed : List (List ℕ)
-  pub session : Session honest commands true core printed []
+  pub session : Session honest commands true core kept printed []
   pub closed : IsClosed honest core
   pub appends : Appends old new (text_of printed)
 
@@ -136,39 +143,40 @@ pub data EndsBy (honest : Bool) (core : Held) (ran : Bool) (rest : List (Option 
 pub record PrintsUntil (honest : Bool) (commands : List (Option Command)) (error : Error) (old new : Option (List ℕ)) : Type 0 where
   pub ran : Bool
   pub core : Held
+  pub kept : Kept
   pub printed : List (List ℕ)
   pub rest : List (Option Command)
-  pub session : Session honest commands ran core printed rest
+  pub session : Session honest commands ran core kept printed rest
   pub ends : EndsBy honest core ran rest printed old new error
 
--- The calls before the first crash or reopening were one run, where so many snapshots were asked for before.
-pub record RunsLines (honest : Bool) (earlier : ℕ) (commands rest : List (Option Command)) (core after : Held) (printed : List (List ℕ)) : Type 0 where
+-- The calls before the first crash or reopening were one run, where so many numbers were asked for before.
+pub record RunsLines (honest : Bool) (earlier : ℕ) (commands rest : List (Option Command)) (core : Held) (kept : Kept) (after : Held) (left : Kept) (printed : List (List ℕ)) : Type 0 where
   pub lines : List (Option Command)
-  pub calls : List Call
+  pub calls : List TxCall
   pub replies : List Reply
   pub split : commands ≡ lines ++ rest
   pub calls_alone : All (λ found. is_stop found ≡ false) lines
   pub stop : IsAtStop rest
   pub asked : AreCalls earlier lines calls
-  pub runs : RunsCalls honest core (resolved_all calls replies) replies after
+  pub runs : RunsTx honest core kept calls replies after left
   pub printed_are : printed ≡ answers_to earlier lines replies
 
--- These are their answers, and so many snapshots were asked for by then.
-pub record AnsweredFront (honest : Bool) (earlier : ℕ) (commands rest : List (Option Command)) (core after : Held) (text : List ℕ) (asked : ℕ) : Type 0 where
+-- These are their answers, and so many numbers were asked for by then.
+pub record AnsweredFront (honest : Bool) (earlier : ℕ) (commands rest : List (Option Command)) (core : Held) (kept : Kept) (after : Held) (left : Kept) (text : List ℕ) (asked : ℕ) : Type 0 where
   pub printed : List (List ℕ)
-  pub ran : RunsLines honest earlier commands rest core after printed
+  pub ran : RunsLines honest earlier commands rest core kept after left printed
   pub text_is : text ≡ text_of printed
-  pub asked_is : asked + snapshots_in rest ≡ earlier + snapshots_in commands
+  pub asked_is : asked + numbers_in rest ≡ earlier + numbers_in commands
 
 -- Their answers were written.
-pub record RunsFront (honest : Bool) (earlier : ℕ) (commands rest : List (Option Command)) (core after : Held) (old new : Option (List ℕ)) (asked : ℕ) : Type 0 where
+pub record RunsFront (honest : Bool) (earlier : ℕ) (commands rest : List (Option Command)) (core : Held) (kept : Kept) (after : Held) (left : Kept) (old new : Option (List ℕ)) (asked : ℕ) : Type 0 where
   pub printed : List (List ℕ)
-  pub ran : RunsLines honest earlier commands rest core after printed
+  pub ran : RunsLines honest earlier commands rest core kept after left printed
   pub appends : Appends old new (text_of printed)
-  pub asked_is : asked + snapshots_in rest ≡ earlier + snapshots_in commands
+  pub asked_is : asked + numbers_in rest ≡ earlier + numbers_in commands
 
 -- Memory ran out before one of them was, or a beginning of them was written before the output failed.
-pub data FrontFails (honest : Bool) (earlier : ℕ) (commands : List (Option Command)) (core after : Held) (old new : Option (List ℕ)) : Error → Type 0 where
-  no_room : Keeps old new → FrontFails honest earlier commands core after old new OutOfMemory
-  half_written : (error : Error) (rest : List (Option Command)) (printed : List (List ℕ)) → IsIo error → RunsLines honest earlier commands rest core after printed
-      → AppendsFront old new (text_of printed) → FrontFails honest earlier commands core after old new error
+pub data FrontFails (honest : Bool) (earlier : ℕ) (commands : List (Option Command)) (core : Held) (kept : Kept) (after : Held) (left : Kept) (old new : Option (List ℕ)) : Error → Type 0 where
+  no_room : Keeps old new → FrontFails honest earlier commands core kept after left old new OutOfMemory
+  half_written : (error : Error) (rest : List (Option Command)) (printed : List (List ℕ)) → IsIo error → RunsLines honest earlier commands rest core kept after left printed
+      → AppendsFront old new (text_of printed) → FrontFails honest earlier commands core kept after left old new error

@@ -2,7 +2,7 @@
 
 ghost use Rattle.std.specs.Prelude.{◌≡◌, IfOk, Some, string_bytes};
 ghost use Rattle.fjall_lines.specs.Lines.{hex_word};
-ghost use Rattle.fjall_script.specs.Answers.{flushed, pairs_text, refusal_text, reply_text, reply_to};
+ghost use Rattle.fjall_script.specs.Answers.{done_text, flag_text, flushed, number_text, pairs_text, refusal_text, reply_text, reply_to};
 
 use crate::calls::flushes;
 use fjall_base::{Error, KvPair, Slice};
@@ -77,7 +77,40 @@ pub fn reply_to<'a>(
     }
 }
 
-/// What a request is answered, by its reply, where a snapshot that it opens gets this number.
+// What a request is answered that is done: the number of a transaction that begins, and else `ok`.
+fn done_text(alloc: Global, request: &Request, number: usize) -> Result<String, AllocError>
+    ensures { IfOk result (λ text. string_bytes text ≡ done_text number request.now) }
+{
+    match request {
+        Request::Begin => format!(in alloc; "tx {number}"),
+        _ => String::from_str(alloc, "ok"),
+    }
+}
+
+// What a request is answered that has a flag: of a commit whether it took place or conflicts.
+fn flag_text(alloc: Global, request: &Request, flag: bool) -> Result<String, AllocError>
+    ensures { IfOk result (λ text. string_bytes text ≡ flag_text request.now flag) }
+{
+    match (request, flag) {
+        (Request::Commit(_), true) => String::from_str(alloc, "ok"),
+        (Request::Commit(_), false) => String::from_str(alloc, "conflict"),
+        (_, true) => String::from_str(alloc, "true"),
+        (_, false) => String::from_str(alloc, "false"),
+    }
+}
+
+// What a request is answered that has a number.
+fn number_text(alloc: Global, request: &Request, count: u64) -> Result<String, AllocError>
+    ensures { IfOk result (λ text. string_bytes text ≡ number_text request.now count) }
+{
+    match request {
+        Request::Keyspace(_) => format!(in alloc; "keyspace {count}"),
+        Request::Gc => format!(in alloc; "watermark {count}"),
+        _ => format!(in alloc; "count {count}"),
+    }
+}
+
+/// What a request is answered, by its reply, where a snapshot that it opens, or a transaction that it begins, gets this number.
 pub fn answer(
     alloc: Global,
     request: &Request,
@@ -87,7 +120,7 @@ pub fn answer(
     ensures { IfOk result (λ text. string_bytes text ≡ reply_text number request.now reply.now) }
 {
     match reply {
-        Reply::Done => String::from_str(alloc, "ok"),
+        Reply::Done => done_text(alloc, request, number),
         Reply::Value(None) => String::from_str(alloc, "none"),
         Reply::Value(Some(value)) => {
             let word = hex_word(alloc, value)?;
@@ -100,17 +133,12 @@ pub fn answer(
             }
             _ => pairs_text(alloc, pairs.as_slice()),
         },
-        Reply::Number(count) => match request {
-            Request::Keyspace(_) => format!(in alloc; "keyspace {count}"),
-            Request::Gc => format!(in alloc; "watermark {count}"),
-            _ => format!(in alloc; "count {count}"),
-        },
+        Reply::Number(count) => number_text(alloc, request, *count),
         Reply::Names(names) => {
             let count = names.len();
             format!(in alloc; "count {count}")
         }
-        Reply::Flag(true) => String::from_str(alloc, "true"),
-        Reply::Flag(false) => String::from_str(alloc, "false"),
+        Reply::Flag(flag) => flag_text(alloc, request, *flag),
         Reply::Opened(_) => format!(in alloc; "snapshot {number}"),
         Reply::Began(Some(_)) => String::from_str(alloc, "true"),
         Reply::Began(None) => String::from_str(alloc, "false"),

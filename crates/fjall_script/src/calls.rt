@@ -1,19 +1,24 @@
-//! The calls that lines make, and the snapshots that they name.
+//! The calls that lines make, and the snapshots and transactions that they name.
 
 ghost use Rattle.std.specs.Prelude.{◌≡◌, ◌<◌, ◌+◌, ◌∷◌, ◌^◌, IfOk, IsOkUnless, OnOk, length, map};
-ghost use Rattle.fjall_script.specs.Requests.{AddsCalls, all_pairs, AreCalls, asked_with, calls_in, flushes, IsCallOf, item_of, named, nowhere, op_of, openings_from, opens, place_in, request_of, requests_of, snapshots_in};
+ghost use Rattle.fjall_script.specs.Requests.{AddsCalls, all_pairs, AreCalls, asked_with, calls_in, flushes, IsBatch, IsCallOf, item_of, named, nowhere, numbers_in, op_of, openings_from, opens, place_by, request_of, requests_of};
+ghost use Rattle.fjall_options.specs.Options.{default_options};
+ghost use Rattle.fjall_state.specs.declared.call.Call.TheVariants as calls;
+ghost use Rattle.fjall_lists.specs.declared.call.TxCall.TheVariants as tx;
 
-use fjall_base::{Error, Result, UserValue};
+use fjall_base::{Error, Result, Slice, UserValue};
+use fjall_calls::{Kind, TxCall, Within};
 use fjall_core::{BatchItem, Call, JobId, Op, PersistMode, Ticket, View};
 use fjall_lines::{Command, Request, Write};
 use fjall_options::KeyspaceCreateOptions;
 use std::alloc::{AllocError, Global};
 use std::ops::Bound;
 
+// Whether a request opens a snapshot or begins a transaction, and so gets a number.
 fn opens(request: &Request) -> bool
     ensures { result ≡ opens request.now }
 {
-    matches!(request, Request::Snapshot)
+    matches!(request, Request::Snapshot | Request::Begin)
 }
 
 /// Whether a request makes two calls: a flush is begun, and then finished.
@@ -30,7 +35,7 @@ fn calls_in(request: &Request) -> u64
     if flushes(request) { 2 } else { 1 }
 }
 
-// How many snapshots were asked for, where so many were before this request.
+// How many numbers were asked for, where so many were before this request.
 pub(crate) fn asked_with(earlier: usize, request: &Request) -> usize
     requires { earlier < 2 ^ 63 }
     ensures { result ≡ asked_with earlier request.now }
@@ -38,10 +43,10 @@ pub(crate) fn asked_with(earlier: usize, request: &Request) -> usize
     if opens(request) { earlier + 1 } else { earlier }
 }
 
-// How many snapshots these lines and those before ask for, refused ones too.
+// How many numbers these lines and those before ask for, refused ones too.
 pub(crate) fn asked_in(earlier: usize, commands: &[Option<Command>]) -> usize
     requires { earlier + length commands.now < 2 ^ 63 }
-    ensures { result ≡ earlier + snapshots_in commands.now }
+    ensures { result ≡ earlier + numbers_in commands.now }
 {
     let mut asked = earlier;
     for found in commands {
@@ -52,7 +57,7 @@ pub(crate) fn asked_in(earlier: usize, commands: &[Option<Command>]) -> usize
     asked
 }
 
-// The places of the calls that open a snapshot, behind one that stands nowhere.
+// The places of the calls that open a snapshot or begin a transaction, behind one that stands nowhere.
 fn openings(
     alloc: Global,
     commands: &[Option<Command>],
@@ -73,15 +78,41 @@ fn openings(
     Ok(places)
 }
 
-// The ticket of the snapshot of a number, as a list of calls names it.
-fn ticket_of(places: &[u64], earlier: usize, number: u64) -> Ticket
-    ensures { result ≡ named (place_in places.now earlier number) }
+// What the numbers of snapshots and transactions stand for in one list of calls: the places of the calls that open or begin
+// them, and how many were asked for before the list.
+#[derive(Drop)]
+struct Numbers {
+    places: Vec<u64>,
+    earlier: usize,
+}
+
+impl Numbers {
+    // The place of the call that got a number. One that another list asked for, or none did, stands nowhere.
+    fn place(&self, number: u64) -> u64
+        ensures { result ≡ place_by self.now number }
+    {
+        let behind = number.saturating_sub(self.earlier as u64) as usize;
+        match self.places.get(behind) {
+            Some(place) => *place,
+            None => u64::MAX,
+        }
+    }
+
+    // The ticket of the snapshot of a number, as a list of calls names it.
+    fn ticket(&self, number: u64) -> Ticket
+        ensures { result ≡ named (place_by self.now number) }
+    {
+        Ticket::of_call(self.place(number))
+    }
+}
+
+// The call for a keyspace of this name.
+fn keyspace(alloc: Global, name: &Slice) -> Result<Call>
+    ensures ok { IfOk result (λ call. call ≡ calls.Keyspace name.now default_options) }
+    ensures only { IsOkUnless result Error.OutOfMemory }
 {
-    let place = match places.get(number.saturating_sub(earlier as u64) as usize) {
-        Some(place) => *place,
-        None => u64::MAX,
-    };
-    Ticket::of_call(place)
+    let options = KeyspaceCreateOptions::default(alloc)?;
+    Ok(Call::Keyspace(name.clone()?, options))
 }
 
 // The call for all pairs of a keyspace.
@@ -115,77 +146,90 @@ fn items_of(alloc: Global, writes: &[Write]) -> Result<Vec<BatchItem>>
     Ok(items)
 }
 
-// The call that a request makes, for a flush the first of two, where the snapshots of this list were opened at these places.
-fn call_of(alloc: Global, request: &Request, places: &[u64], earlier: usize) -> Result<Call>
-    ensures ok { IfOk result (λ call. IsCallOf (place_in places.now earlier) request.now call) }
+// The call for a batch of these writes.
+fn batch(alloc: Global, writes: &[Write]) -> Result<Call>
+    ensures ok { IfOk result (λ call. IsBatch writes.now (tx.Core call)) }
     ensures only { IsOkUnless result Error.OutOfMemory }
 {
-    match request {
-        Request::Keyspace(name) => {
-            let options = KeyspaceCreateOptions::default(alloc)?;
-            Ok(Call::Keyspace(name.clone()?, options))
-        }
-        Request::Delete(id) => Ok(Call::DeleteKeyspace(*id)),
-        Request::Insert(id, key, value) => Ok(Call::Insert(*id, key.clone()?, value.clone()?)),
-        Request::Remove(id, key) => Ok(Call::Remove(*id, key.clone()?)),
-        Request::RemoveWeak(id, key) => Ok(Call::RemoveWeak(*id, key.clone()?)),
-        Request::Clear(id) => Ok(Call::Clear(*id)),
-        Request::Batch(writes) => {
-            let items = items_of(alloc, writes.as_slice())?;
-            Ok(Call::CommitBatch(items, Some(PersistMode::Buffer)))
-        }
-        Request::Len(id) | Request::Scan(id) => Ok(all_pairs(*id)),
-        Request::Get(id, key) => Ok(Call::GetAt(View::Present, *id, key.clone()?)),
+    let items = items_of(alloc, writes)?;
+    Ok(Call::CommitBatch(items, Some(PersistMode::Buffer)))
+}
+
+// The call that a request makes, for a flush the first of two, where numbers stand for these places.
+fn call_of(alloc: Global, request: &Request, numbers: &Numbers) -> Result<TxCall>
+    ensures ok { IfOk result (λ call. IsCallOf (place_by numbers.now) request.now call) }
+    ensures only { IsOkUnless result Error.OutOfMemory }
+{
+    let call = match request {
+        Request::Keyspace(name) => keyspace(alloc, name)?,
+        Request::Delete(id) => Call::DeleteKeyspace(*id),
+        Request::Insert(id, key, value) => Call::Insert(*id, key.clone()?, value.clone()?),
+        Request::Remove(id, key) => Call::Remove(*id, key.clone()?),
+        Request::RemoveWeak(id, key) => Call::RemoveWeak(*id, key.clone()?),
+        Request::Clear(id) => Call::Clear(*id),
+        Request::Batch(writes) => batch(alloc, writes.as_slice())?,
+        Request::Len(id) | Request::Scan(id) => all_pairs(*id),
+        Request::Get(id, key) => Call::GetAt(View::Present, *id, key.clone()?),
         Request::GetAt(number, id, key) => {
-            let view = View::At(ticket_of(places, earlier, *number));
-            Ok(Call::GetAt(view, *id, key.clone()?))
+            Call::GetAt(View::At(numbers.ticket(*number)), *id, key.clone()?)
         }
-        Request::Snapshot => Ok(Call::Snapshot),
-        Request::CloseSnapshot(number) => {
-            Ok(Call::CloseSnapshot(ticket_of(places, earlier, *number)))
+        Request::Snapshot => Call::Snapshot,
+        Request::CloseSnapshot(number) => Call::CloseSnapshot(numbers.ticket(*number)),
+        Request::Begin => return Ok(TxCall::Begin(Kind::Optimistic)),
+        Request::TxGet(number, id, key) => {
+            let get = Within::Get(*id, key.clone()?);
+            return Ok(TxCall::Within(numbers.place(*number), get));
         }
-        Request::Gc => Ok(Call::Gc),
-        Request::Rotate(id) => Ok(Call::RotateMemtable(*id)),
-        Request::Flush(id) => Ok(Call::FlushBegin(*id)),
-        Request::Persist => Ok(Call::Persist(PersistMode::SyncAll)),
-    }
+        Request::TxInsert(number, id, key, value) => {
+            let put = Within::Write(*id, key.clone()?, Op::Put(value.clone()?));
+            return Ok(TxCall::Within(numbers.place(*number), put));
+        }
+        Request::Commit(number) => {
+            return Ok(TxCall::Commit(Kind::Optimistic, numbers.place(*number)));
+        }
+        Request::Gc => Call::Gc,
+        Request::Rotate(id) => Call::RotateMemtable(*id),
+        Request::Flush(id) => Call::FlushBegin(*id),
+        Request::Persist => Call::Persist(PersistMode::SyncAll),
+    };
+    Ok(TxCall::Core(call))
 }
 
 // Adds the calls that a line makes to those of the lines before it.
 fn add_calls(
     alloc: Global,
     found: &Option<Command>,
-    places: &[u64],
-    earlier: usize,
-    calls: &mut Vec<Call>,
+    numbers: &Numbers,
+    calls: &mut Vec<TxCall>,
 ) -> Result<()>
-    ensures ok { OnOk result (AddsCalls (place_in places.now earlier) (request_of found.now) calls.old.items calls.new.items) }
+    ensures ok { OnOk result (AddsCalls (place_by numbers.now) (request_of found.now) calls.old.items calls.new.items) }
     ensures only { IsOkUnless result Error.OutOfMemory }
 {
     let Some(Command::Ask(request)) = found else {
         return Ok(());
     };
     let place = calls.len() as u64;
-    calls.push(call_of(alloc, request, places, earlier)?)?;
+    calls.push(call_of(alloc, request, numbers)?)?;
     if flushes(request) {
-        calls.push(Call::FlushFinish(JobId::of_call(place)))?;
+        calls.push(TxCall::Core(Call::FlushFinish(JobId::of_call(place))))?;
     }
     Ok(())
 }
 
-// The calls of one list of lines, where so many snapshots were asked for before it.
+// The calls of one list of lines, where so many numbers were asked for before it.
 pub(crate) fn calls_of(
     alloc: Global,
     commands: &[Option<Command>],
     earlier: usize,
-) -> Result<Vec<Call>>
+) -> Result<Vec<TxCall>>
     ensures ok { IfOk result (λ calls. AreCalls earlier commands.now calls.items) }
     ensures only { IsOkUnless result Error.OutOfMemory }
 {
     let places = openings(alloc, commands)?;
+    let numbers = Numbers { places, earlier };
     let mut calls = Vec::new(alloc);
     for found in commands {
-        add_calls(alloc, found, &places, earlier, &mut calls)?;
+        add_calls(alloc, found, &numbers, &mut calls)?;
     }
     Ok(calls)
 }

@@ -12,8 +12,10 @@ use crate::calls::{asked_in, asked_with, calls_of};
 use crate::output::write_text;
 use crate::place::Place;
 use fjall_base::{Disk, Error, Result};
+use fjall_calls::run;
 use fjall_core::{Config, Core, Reply};
 use fjall_lines::Command;
+use fjall_transactions::Transactions;
 use std::alloc::{AllocError, Global};
 use std::io::Write;
 
@@ -30,7 +32,7 @@ fn first_stop(commands: &[Option<Command>]) -> Option<usize>
     commands.iter().position(|found| is_stop(found))
 }
 
-// The answers to lines, a line for each, where so many snapshots were asked for before.
+// The answers to lines, a line for each, where so many numbers were asked for before.
 fn answers_to(
     alloc: Global,
     commands: &[Option<Command>],
@@ -66,38 +68,42 @@ fn answers_to(
 }
 
 // Runs the calls before the first crash or reopening as one list. It returns the commands from there on, the answers, and
-// how many snapshots were asked for up to there.
+// how many numbers were asked for up to there.
 fn answer_front<'a, D: Disk>(
     alloc: Global,
     core: &mut Core<D>,
+    transactions: &mut Transactions,
     commands: &'a [Option<Command>],
     earlier: usize,
 ) -> Result<(&'a [Option<Command>], String, usize)>
     requires { earlier + length commands.now < 2 ^ 63 }
-    ensures ok { IfOk result (λ front. AnsweredFront D.honest earlier commands.now front.0.now core.old core.new (string_bytes front.1) front.2) }
+    ensures ok { IfOk result (λ front. AnsweredFront D.honest earlier commands.now front.0.now core.old transactions.old core.new transactions.new (string_bytes front.1) front.2) }
     ensures only { IsOkUnless result Error.OutOfMemory }
 {
     let end = first_stop(commands).unwrap_or(commands.len());
     let (front, rest) = commands.split_at(end);
-    let replies = core.run(calls_of(alloc, front, earlier)?)?;
+    let replies = run(alloc, core, transactions, calls_of(alloc, front, earlier)?)?;
     let text = answers_to(alloc, front, replies.as_slice(), earlier)?;
     Ok((rest, text, asked_in(earlier, front)))
 }
 
 // Runs the calls before the first crash or reopening as one list, and prints their answers. It returns the commands from there
-// on, and how many snapshots were asked for up to there.
+// on, and how many numbers were asked for up to there.
 fn run_front<'a, D: Disk, W: Write>(
     alloc: Global,
     core: &mut Core<D>,
+    transactions: &mut Transactions,
     commands: &'a [Option<Command>],
     earlier: usize,
     output: &mut W,
 ) -> Result<(&'a [Option<Command>], usize)>
     requires { earlier + length commands.now < 2 ^ 63 }
-    ensures ok { IfOk result (λ front. RunsFront D.honest earlier commands.now front.0.now core.old core.new (W.contents output.old) (W.contents output.new) front.1) }
-    ensures err { IfErr result (FrontFails D.honest earlier commands.now core.old core.new (W.contents output.old) (W.contents output.new)) }
+    ensures ok { IfOk result (λ front. RunsFront D.honest earlier commands.now front.0.now core.old transactions.old core.new transactions.new
+        (W.contents output.old) (W.contents output.new) front.1) }
+    ensures err { IfErr result (FrontFails D.honest earlier commands.now core.old transactions.old core.new transactions.new
+        (W.contents output.old) (W.contents output.new)) }
 {
-    let (rest, text, asked) = answer_front(alloc, core, commands, earlier)?;
+    let (rest, text, asked) = answer_front(alloc, core, transactions, commands, earlier)?;
     write_text(text.as_bytes(), output)?;
     Ok((rest, asked))
 }
@@ -139,8 +145,9 @@ fn restarted<P: Place>(
 }
 
 /// Runs commands over a core that was opened on the disk of a place, and prints a line for each. The calls up to a crash, a
-/// reopening or the end are one list, whose answers are written as soon as it has run. A list of calls that is refused as a
-/// whole, an opening that is refused, an output that fails and a refused closing at the end end it.
+/// reopening or the end are one list, whose answers are written as soon as it has run. Each core that opens begins without
+/// transactions. A list of calls that is refused as a whole, an opening that is refused, an output that fails and a refused
+/// closing at the end end it.
 pub(crate) fn run_session<P: Place, W: Write>(
     alloc: Global,
     place: &P,
@@ -153,11 +160,20 @@ pub(crate) fn run_session<P: Place, W: Write>(
     ensures err { IfErr result (λ error. PrintsUntil P.Disk.honest commands.now error (W.contents output.old) (W.contents output.new)) }
 {
     let mut core = core;
-    let (mut rest, mut asked) = run_front(alloc, &mut core, commands, 0, output)?;
+    let mut transactions = Transactions::new(alloc);
+    let (mut rest, mut asked) = run_front(
+        alloc,
+        &mut core,
+        &mut transactions,
+        commands,
+        0,
+        output,
+    )?;
     while let Some((stop, after)) = rest.split_first() {
         core = restarted(alloc, place, core, stop)?;
+        transactions = Transactions::new(alloc);
         write_text(b"ok\n", output)?;
-        (rest, asked) = run_front(alloc, &mut core, after, asked, output)?;
+        (rest, asked) = run_front(alloc, &mut core, &mut transactions, after, asked, output)?;
     }
     core.close().1
 }

@@ -7,7 +7,7 @@ use Rattle.std.specs.Ordering.{is_eq, nat_cmp}
 use Rattle.std.specs.declared.cmp.Ordering.{Ordering}
 use Rattle.std.proofs.lemmas.Cmp.{tied_itself}
 use Rattle.std.specs.Borrow.{MutBor}
-use Rattle.fjall_tx.specs.Marks.{Mark, Marks}
+use Rattle.fjall_tx.specs.Marks.{Mark}
 use Rattle.fjall_reading.specs.Readers.{first_of, is_none_of}
 use Rattle.fjall_reader.specs.Going.{reads_none}
 use Rattle.fjall_transactions.specs.Transactions.{Tx, having_read}
@@ -18,7 +18,8 @@ use Rattle.fjall_history.specs.declared.ticket.View.{View}
 use Rattle.fjall_core.specs.Holding.{Held}
 use Rattle.fjall_reader.specs.Shown.{Shows}
 use Rattle.fjall_tx_reader.specs.Laid.{laid}
-use Rattle.fjall_tx_reader.specs.Seeing.{IsMarkedOrShort, IsSameButMarks, ReadsWithin, Sees}
+use Rattle.fjall_tx_reader.specs.Seeing.{HasReadOn, IsMarkedOrShort, ReadsWithin, Sees}
+use Rattle.fjall_tx_reader.specs.Going.{no_more}
 
 -- maps of one keyspace have its map
 pub one_at : (id : ℕ) (pairs : Pairs) → map_at (insert {R = nat_cmp} empty id pairs) id ≡ pairs
@@ -50,23 +51,23 @@ sees_on honest old new from to own after same kept i map (below, shown, is) = (b
 
 -- ---- what marks leave
 
-pub but_marked : (old new : Tx) (mark : Mark) → new ≡ having_read old mark → IsSameButMarks old new
-but_marked old new mark is = is ∙ ap (λ (marks : Option Marks). record old { marks = marks }) (sym (ap (λ (tx : Tx). tx.marks) is))
+pub read_marked : (old new : Tx) (mark : Mark) → new ≡ having_read old mark → HasReadOn old new
+read_marked old new mark is = record { more = mark ∷ []; is = is }
 
-pub but_none : (old new : Tx) → new ≡ old → IsSameButMarks old new
-but_none old new is = is ∙ ap (λ (marks : Option Marks). record old { marks = marks }) (sym (ap (λ (tx : Tx). tx.marks) is))
+pub read_nothing : (old new : Tx) → new ≡ old → HasReadOn old new
+read_nothing old new is = record { more = []; is = is ∙ no_more old }
 
-pub but_either : (old new : Tx) (mark : Mark) (short : Bool) → IsMarkedOrShort old mark new short → IsSameButMarks old new
-but_either old new mark short (inl is) = but_marked old new mark is
-but_either old new mark short (inr (is, told)) = but_none old new is
+pub read_either : (old new : Tx) (mark : Mark) (short : Bool) → IsMarkedOrShort old mark new short → HasReadOn old new
+read_either old new mark short (inl is) = read_marked old new mark is
+read_either old new mark short (inr (is, told)) = read_nothing old new is
 
 -- a mark alone leaves what a reader's reads leave
-pub only_marked : (core : MutBor Held) (view : View) (tx after : MutBor Tx) → IsSameButMarks tx.now after.now → after.ghost_name ≡ tx.ghost_name → ReadsWithin core view tx None core view after
-only_marked core view tx after but lent = record { reads = reads_none core view; marks = but; lent = lent }
+pub only_marked : (core : MutBor Held) (view : View) (tx after : MutBor Tx) → HasReadOn tx.now after.now → after.ghost_name ≡ tx.ghost_name → ReadsWithin core view tx None core view after
+only_marked core view tx after grown lent = record { reads = reads_none core view; grown = grown; lent = lent }
 
 -- and what is seen
-pub still_seen : (honest : Bool) (core : Held) (view : View) (old new : Tx) → IsSameButMarks old new → (i : ℕ) (map : Pairs) → Sees honest core view old.own i map → Sees honest core view new.own i map
-still_seen honest core view old new but = sees_on honest core core view view old.own new.own (λ i map shown. shown) (ap (λ (tx : Tx). tx.own) but)
+pub still_seen : (honest : Bool) (core : Held) (view : View) (old new : Tx) → HasReadOn old new → (i : ℕ) (map : Pairs) → Sees honest core view old.own i map → Sees honest core view new.own i map
+still_seen honest core view old new grown = sees_on honest core core view view old.own new.own (λ i map shown. shown) (ap (λ (tx : Tx). tx.own) grown.is)
 
 pub none_of_first : (pairs : List (Bytes × Bytes)) → is_none (first_of pairs) ≡ is_none_of pairs
 none_of_first [] = refl

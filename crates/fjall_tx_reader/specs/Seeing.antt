@@ -1,5 +1,6 @@
 -- What a transaction sees of a core, and what its reads leave.
-use Rattle.std.specs.Prelude.{Bool, true, ◌≡◌, ◌⊎◌, ℕ, Option}
+use Rattle.std.specs.Prelude.{Bool, true, ◌≡◌, ◌⊎◌, ◌++◌, ℕ, List, Option}
+use Rattle.std.specs.Option.{option_map}
 use Rattle.std.specs.declared.ops.Bound.TheVariants.{Unbounded}
 use Rattle.std.specs.Borrow.{MutBor}
 use Rattle.fjall_base.specs.Pairs.{Pairs}
@@ -8,7 +9,7 @@ use Rattle.fjall_own.specs.Owns.{Own}
 use Rattle.fjall_history.specs.declared.ticket.View.{View}
 use Rattle.fjall_core.specs.Holding.{Held}
 use Rattle.fjall_reader.specs.Shown.{Reads, Shows}
-use Rattle.fjall_tx.specs.Marks.{Mark, OfRange}
+use Rattle.fjall_tx.specs.Marks.{Mark, Marks, OfRange}
 use Rattle.fjall_transactions.specs.Transactions.{Tx, having_read}
 use Rattle.fjall_tx_reader.specs.Laid.{laid}
 
@@ -16,14 +17,20 @@ use Rattle.fjall_tx_reader.specs.Laid.{laid}
 abbrev pub Sees : Bool → Held → View → Own → ℕ → Pairs → Type 0
 Sees honest core view own id map = (below : Pairs) × Shows honest core view id below × (map ≡ laid own id below)
 
--- the same transaction, but for what it marked
-abbrev pub IsSameButMarks : Tx → Tx → Type 0
-IsSameButMarks old new = new ≡ record old { marks = new.marks }
+-- with these read marks more behind those that it has, where it marks
+abbrev pub having_reads : Tx → List Mark → Tx
+having_reads tx more = record tx { marks = option_map (λ (marks : Marks). record marks { reads = marks.reads ++ more }) tx.marks }
 
--- Reads within a transaction leave the core as a reader's reads do, and the transaction, which stays lent, as it was but for its marks.
+-- the same transaction, but for read marks that it made since; what it marked before stays marked
+pub record HasReadOn (old new : Tx) : Type 0 where
+  pub more : List Mark
+  pub is : new ≡ having_reads old more
+
+-- Reads within a transaction leave the core as a reader's reads do, and the transaction, which stays lent, as it was but for more read
+-- marks.
 pub record ReadsWithin (core : MutBor Held) (from : View) (tx : MutBor Tx) (error : Option Error) (left : MutBor Held) (to : View) (after : MutBor Tx) : Type 0 where
   pub reads : Reads core from error left to
-  pub marks : IsSameButMarks tx.now after.now
+  pub grown : HasReadOn tx.now after.now
   pub lent : after.ghost_name ≡ tx.ghost_name
 
 -- the mark of a whole keyspace

@@ -4,5 +4,7 @@
 
 mod laid;
 mod reader;
+mod updates;
 
 pub use reader::TransactionReader;
+pub use updates::Made;

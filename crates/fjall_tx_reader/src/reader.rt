@@ -12,6 +12,8 @@ ghost use Rattle.fjall_reading.specs.Prefixes.{prefix_range};
 ghost use Rattle.fjall_reading.specs.ReadIters.{left_of};
 ghost use Rattle.fjall_reading.specs.Readers.{FindsOf, all_of, count_of, first_of, is_none_of, last_of};
 ghost use Rattle.fjall_reading.specs.Rests.{error_in};
+ghost use Rattle.fjall_own.specs.Owns.{Own};
+ghost use Rattle.fjall_reader.specs.Shown.{IsRefusedFor, read_due};
 ghost use Rattle.fjall_transactions.specs.Transactions.{having_read};
 ghost use Rattle.fjall_tx_reader.specs.Seeing.{IsMarkedOrShort, ReadsWithin, Sees, whole_of};
 ghost use Rattle.fjall_tx_reader.specs.Going.{within_none, within_on, within_short};
@@ -53,8 +55,8 @@ fn guarded(found: Result<Option<KvPair>>) -> Option<Guard>
 /// nothing.
 #[derive(Drop)]
 pub struct TransactionReader<'a, D: Disk> {
-    reader: Reader<'a, D>,
-    transaction: &'a mut Transaction,
+    pub(crate) reader: Reader<'a, D>,
+    pub(crate) transaction: &'a mut Transaction,
     // A mark found no memory when an iterator was made, which the next page answers.
     short: bool,
 }
@@ -97,13 +99,18 @@ impl<'a, D: Disk> TransactionReader<'a, D> {
     }
 
     // The value of a key of a keyspace, which it marks.
-    fn read_key(&mut self, id: u64, key: &[u8]) -> Result<Option<UserValue>>
+    pub(crate) fn read_key(&mut self, id: u64, key: &[u8]) -> Result<Option<UserValue>>
         ensures ok { (map : Pairs) → Sees D.honest self.old.reader.core.now self.old.reader.view self.old.transaction.now.own id map → IfOk result (λ found. found ≡ lookup map key.now) }
         ensures same { (i : ℕ) (map : Pairs) → Sees D.honest self.old.reader.core.now self.old.reader.view self.old.transaction.now.own i map
             → Sees D.honest self.new.reader.core.now self.new.reader.view self.new.transaction.now.own i map }
         ensures reads { ReadsWithin self.old.reader.core self.old.reader.view self.old.transaction (result_err result) self.new.reader.core self.new.reader.view self.new.transaction }
         ensures marked { OnOk result (self.new.transaction.now ≡ having_read self.old.transaction.now (OfKey id key.now)) }
         ensures unmarked { OnErr result (self.new.transaction.now ≡ self.old.transaction.now) }
+        ensures due { OnOk result (read_due self.old.reader.core.now self.old.reader.view id ≡ None) }
+        ensures cause { IfErr result (IsRefusedFor self.old.reader.core.now self.old.reader.view id self.new.reader.core.now) }
+        // What was seen with whichever own writes is seen with them still.
+        ensures shown { (own : Own) (i : ℕ) (map : Pairs) → Sees D.honest self.old.reader.core.now self.old.reader.view own i map
+            → Sees D.honest self.new.reader.core.now self.new.reader.view own i map }
     {
         let found = self.reader.get(&id, key)?;
         let name = Slice::new(self.reader.alloc(), key)?;
@@ -306,7 +313,8 @@ impl<'a, D: Disk> Readable for TransactionReader<'a, D> {
     }
 
     fn iter<K: Identified>(&mut self, keyspace: &K) -> ReadIter<'_, Self>
-        ensures left { (map : Pairs) → Sees D.honest self.old.reader.core.now self.old.reader.view self.old.transaction.now.own (K.identity keyspace.now) map → (Sees D.honest result.reader.now.reader.core.now result.reader.now.reader.view result.reader.now.transaction.now.own result.cursor.id map) × (left_of map result ≡ all_of map) }
+        ensures left { (map : Pairs) → Sees D.honest self.old.reader.core.now self.old.reader.view self.old.transaction.now.own (K.identity keyspace.now) map
+            → (Sees D.honest result.reader.now.reader.core.now result.reader.now.reader.view result.reader.now.transaction.now.own result.cursor.id map) × (left_of map result ≡ all_of map) }
         ensures whole { result.short ≡ false }
         ensures same { (i : ℕ) (map : Pairs) → Sees D.honest self.old.reader.core.now self.old.reader.view self.old.transaction.now.own i map
             → Sees D.honest result.reader.now.reader.core.now result.reader.now.reader.view result.reader.now.transaction.now.own i map }

@@ -1,10 +1,11 @@
-use Rattle.std.proofs.Common.{◌∙◌, arith}
+use Rattle.std.proofs.Common.{arith, refl}
 use Rattle.fjall_script.specs.Requests.{place_of, requests_of}
 use Rattle.fjall_script.proofs.Calling.{all_made, more_made}
 use Rattle.fjall_script.proofs.calls.calls_of.Goals as goal
 
 pub loop-found-preserved : goal.loop-found-preserved
-loop-found-preserved c = more_made _ _ _ _ _ _ _ c.loop-found-test.true c.found-item.is (c.deref.ensures.value ∙ c.in_ok-places.ensures) c.in_ok-add_calls.ensures.ok c.loop-found.invariant
+loop-found-preserved c =
+    more_made _ _ _ _ (record { places = c.in_ok-places.places; earlier = c.args.earlier }) _ _ c.loop-found-test.true c.found-item.is c.in_ok-places.ensures refl c.in_ok-add_calls.ensures.ok c.loop-found.invariant
 
 pub returns-clause-ok : goal.returns-clause-ok
 returns-clause-ok c =

@@ -1,10 +1,11 @@
-use Rattle.std.proofs.Common.{◌≡◌, ◌∙◌, ap, refl, sym}
+use Rattle.std.proofs.Common.{rules, ◌≡◌, ◌∙◌, ap, refl, sym}
 use Rattle.fjall_base.specs.Pairs.{Pairs}
 use Rattle.fjall_own.specs.Owns.{Own}
 use Rattle.fjall_reading.specs.Readers.{count_of}
 use Rattle.fjall_transactions.specs.Transactions.{Tx}
 use Rattle.fjall_tx_reader.specs.Laid.{laid}
-use Rattle.fjall_tx_reader.proofs.Laying.{sees_on}
+use Rattle.fjall_tx_reader.specs.Seeing.{whole_of}
+use Rattle.fjall_tx_reader.proofs.Laying.{read_marked, sees_on}
 use Rattle.fjall_tx_reader.proofs.reader.TransactionReader.read_count.Goals as goal
 
 pub returns-in_err-found-clause-same : goal.returns-in_err-found-clause-same
@@ -30,3 +31,9 @@ returns-clause-same g c =
     let self = c.args.self.now in
     sees_on g.D.Disk.honest self.reader.core.now c.laid_count.new.pages.core.now self.reader.view c.laid_count.new.pages.view self.transaction.now.own c.mark_range.new.self.own c.laid_count.ensures.same
     (ap (λ (tx : Tx). tx.own) c.in_ok-mark_range.ensures.ok)
+
+pub returns-clause-reads : goal.returns-clause-reads
+returns-clause-reads g c =
+    let self = c.args.self.now in
+    let grown = read_marked self.transaction.now c.mark_range.new.self (whole_of c.args.id) c.in_ok-mark_range.ensures.ok in
+    record { reads = search rules; grown = grown; lent = search rules }

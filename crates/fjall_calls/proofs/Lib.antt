@@ -1,0 +1,11 @@
+pub mod Same
+pub mod Chains
+pub mod Jobs
+pub mod Runs
+pub mod SoFar
+pub mod Worlds
+pub mod Names
+pub mod Acting
+pub mod Looking
+pub mod Beginning
+pub mod Ending

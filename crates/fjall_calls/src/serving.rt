@@ -1,0 +1,68 @@
+//! Lists of calls, which are served in order.
+
+ghost use Rattle.std.specs.Prelude.{◌≡◌, ◌+◌, ◌++◌, ◌∷◌, ◌<◌, ◌≤◌, [], IfOk, IsOkUnless, OnErr, vec_capacity, vec_len};
+ghost use Rattle.fjall_core.specs.Jobs.{KeepsJobs};
+ghost use Rattle.fjall_calls.specs.Serving.{RunsTx, ServesTx};
+
+use crate::ends::{begin, commit, roll_back, within};
+use fjall_base::{Disk, Error, Result};
+use fjall_core::{Core, FlushJob, Reply};
+use fjall_lists::{Named, TxCall};
+use fjall_transactions::Transactions;
+use std::alloc::Global;
+
+// Serves one call of a list, where the calls before it got these replies. The transactions and the jobs that are out are kept in
+// lists, each of which has room for one more.
+fn serve<D: Disk>(
+    core: &mut Core<D>,
+    transactions: &mut Transactions,
+    call: TxCall,
+    replies: &[Reply],
+    listed: &mut Vec<Named>,
+    jobs: &mut Vec<FlushJob>,
+) -> Reply
+    requires listed_room { vec_len listed.old < vec_capacity listed.old }
+    requires room { vec_len jobs.old < vec_capacity jobs.old }
+    requires keeps { KeepsJobs core.old.memory jobs.old.items replies.now }
+    ensures serves { ServesTx D.honest core.old transactions.old listed.old.items replies.now call result core.new transactions.new listed.new.items }
+    ensures keeps { KeepsJobs core.new.memory jobs.new.items (replies.now ++ result ∷ []) }
+    ensures listed_room { vec_capacity listed.old ≤ vec_capacity listed.new }
+    ensures listed_len { vec_len listed.new ≤ vec_len listed.old + 1 }
+    ensures room { vec_capacity jobs.old ≤ vec_capacity jobs.new }
+    ensures len { vec_len jobs.new ≤ vec_len jobs.old + 1 }
+{
+    match call {
+        TxCall::Core(call) => core.serve(call, replies, jobs),
+        TxCall::Begin(kind) => begin(core, transactions, kind, replies.len() as u64, listed),
+        TxCall::Within(name, call) => within(core, name, call, listed),
+        TxCall::Commit(kind, name) => commit(core, transactions, kind, name, listed),
+        TxCall::Rollback(name) => roll_back(core, transactions, name, listed),
+    }
+}
+
+/// Serves calls in order, on a core and within its transactions, and answers a reply for each: to the beginning of a transaction
+/// `Done`, to a commit whether it took place, so `Flag(false)` where it conflicts, and to a call of the core and one within a
+/// transaction as these answer.
+///
+/// A call names a ticket, a job and a transaction by the place in the list of the call that opened or began it; a place whose
+/// call began none that is open and of its kind is refused with `SnapshotClosed`. What is open at the list's end stays open, and
+/// no later list can name it. Only where the lists that it keeps find no memory is the whole list refused, before its first call.
+pub fn run<D: Disk>(
+    alloc: Global,
+    core: &mut Core<D>,
+    transactions: &mut Transactions,
+    calls: Vec<TxCall>,
+) -> Result<Vec<Reply>>
+    ensures runs { IfOk result (λ replies. RunsTx D.honest core.old transactions.old calls.items replies.items core.new transactions.new) }
+    ensures err { OnErr result ((core.new ≡ core.old) × (transactions.new ≡ transactions.old)) }
+    ensures only { IsOkUnless result Error.OutOfMemory }
+{
+    let mut replies = Vec::with_capacity(alloc, calls.len())?;
+    let mut listed = Vec::with_capacity(alloc, calls.len())?;
+    let mut jobs = Vec::with_capacity(alloc, calls.len())?;
+    for call in calls {
+        let reply = serve(core, transactions, call, &replies, &mut listed, &mut jobs);
+        replies.push(reply).unwrap();
+    }
+    Ok(replies)
+}
