@@ -6,7 +6,7 @@ pub mod Changes
 pub mod Shapes
 pub mod Meanings
 pub mod Pairs
-pub mod Keys
+pub mod Written
 pub mod Preparing
 pub mod Lasts
 pub mod Readings

@@ -1,16 +1,12 @@
 -- Pairs of the meta keyspace as entries of a table.
-use Rattle.std.proofs.Common.{◌≡◌, ℕ, zero, suc, ◌<◌, List, [], ◌∷◌, length, map, take, get_or, Some, refl, sym, ◌∙◌, ap, subst, arith, length-append}
+use Rattle.std.proofs.Common.{◌≡◌, ℕ, zero, suc, ◌<◌, List, [], ◌∷◌, length, map, get_or, sym, ◌∙◌, ap, subst, arith, length-append}
 use Rattle.std.specs.List.{AllByRecursion}
 use Rattle.std.proofs.lemmas.List.Concat.{flat_map-cons}
-use Rattle.std.specs.declared.cmp.Ordering.TheVariants.{Less}
-use Rattle.fjall_base.specs.Pairs.{byte_order}
 use Rattle.fjall_table.specs.declared.table_entry.TableEntry.{TableEntry}
 use Rattle.fjall_table.specs.Blocks as blocks
 use Rattle.fjall_table.specs.Blocks.{seen}
-use Rattle.fjall_base.specs.Lists.{last_of}
 use Rattle.fjall_table.specs.Tables as tables
 use Rattle.fjall_table.specs.Tables.{IsTable}
-use Rattle.fjall_table.specs.Writing.{Follows}
 use Rattle.fjall_table.specs.declared.level.Level.TheVariants.{L1}
 use Rattle.fjall_table.specs.declared.table_info.TableInfo.{TableInfo}
 use Rattle.fjall_table.specs.TableReading.{HasNoIndex, IsNoTable}
@@ -18,26 +14,7 @@ use Rattle.fjall_table.proofs.TableBlocks.{one_index}
 use Rattle.fjall_table.proofs.TableLaws.{one_list_of_entries, tables_have_an_index}
 use Rattle.std.proofs.lemmas.List.{length-map}
 use Rattle.fjall_meta.specs.declared.entry.MetaEntry.{MetaEntry}
-use Rattle.fjall_meta.specs.Entries.{IsAscending}
 use Rattle.fjall_catalog.specs.Catalog.{IsTableOf, table_entry}
-
--- ---- written
-
-last_taken : (xs : List MetaEntry) (i : ℕ) (d : MetaEntry) → i < length xs → last_of (map table_entry (take (suc i) xs)) ≡ Some (table_entry (get_or xs i d))
-last_taken [] i d lt = absurd (omega (arith, lt))
-last_taken (x ∷ xs) zero d lt = refl
-last_taken (x ∷ []) (suc i) d lt = absurd (omega (arith, lt))
-last_taken (x ∷ y ∷ xs) (suc i) d lt = last_taken (y ∷ xs) i d (omega (arith, lt))
-
-before : (a b : MetaEntry) → byte_order a.key b.key ≡ Less → blocks.IsBefore (table_entry a) (table_entry b)
-before a b less = rw less tt
-
--- each stands behind those before it
-pub follows_at : (xs : List MetaEntry) (i : ℕ) (e : MetaEntry) → IsAscending xs → i < length xs → e ≡ get_or xs i e → Follows (map table_entry (take i xs)) (table_entry e)
-follows_at xs zero e ascending lt at = tt
-follows_at xs (suc i) e ascending lt at =
-    let less : byte_order (get_or xs i e).key e.key ≡ Less = ap (λ (b : MetaEntry). byte_order (get_or xs i e).key b.key) at ∙ ascending i (suc i) e (omega arith) lt in
-    rw (last_taken xs i e (omega (arith, lt))) (before (get_or xs i e) e less)
 
 -- ---- read
 

@@ -41,10 +41,6 @@ pub record IsUpdate (old : Catalog) (s : Keyspaces) (number : ℕ) (u : Update) 
   pub table : IsNewTable old.next_table_id u.catalog.next_table_id (entries_of s.living) u.catalog.table u.table
   pub old_table : option_map string_bytes u.old_table ≡ option_map (λ t. table_name 0 t.id) old.table
 
--- a key of a pair has 1 to 65,535 bytes
-abbrev pub HasKey : MetaEntry → Type 0
-HasKey e = (0 < length e.key) × (length e.key < 2 ^ 16)
-
 -- a value that has no room in a table
 abbrev pub IsTooLong : MetaEntry → Type 0
 IsTooLong e = 2 ^ 32 ≤ length e.value

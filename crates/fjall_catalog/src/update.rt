@@ -1,18 +1,18 @@
 //! What a change of the keyspaces writes to the catalog, all of it in memory before the disk is changed.
 
-ghost use Rattle.std.specs.Prelude.{◌≡◌, ◌<◌, ◌+◌, [], IfOk, IfErr, IsOkUnless, MatchOption, All, string_bytes};
+ghost use Rattle.std.specs.Prelude.{◌≡◌, ◌++◌, [], IfOk, IfErr, IsOkUnless, MatchOption, string_bytes};
 ghost use Rattle.std.specs.Option.{option_map};
 ghost use Rattle.fjall_files.specs.Names.{table_name};
-ghost use Rattle.fjall_meta.specs.Keyspaces.{Keyspaces, without_keyspace};
+ghost use Rattle.fjall_meta.specs.Keyspaces.{without_keyspace};
 ghost use Rattle.fjall_meta.specs.Entries.{IsAscending, entries_of};
-ghost use Rattle.fjall_catalog.specs.Updates.{HasKey, IsTableWritten, IsTableRefusal, IsUpdate, IsPreparingRefusal};
+ghost use Rattle.fjall_catalog.specs.Updates.{IsTableWritten, IsTableRefusal, IsUpdate, IsPreparingRefusal};
 
 use crate::catalog::Catalog;
-use crate::table::encode_entries;
+use crate::table::write_keyspaces;
 use fjall_base::{Error, Result};
 use fjall_files::table_name;
 use fjall_home::TableFile;
-use fjall_meta::{MetaEntry, MetaKeyspace};
+use fjall_meta::{LivingKeyspace, MetaKeyspace};
 use fjall_table::{Level, TableInfo};
 use std::alloc::Global;
 
@@ -32,18 +32,21 @@ pub struct Update {
     pub old_table: Option<String>,
 }
 
-/// A table of these pairs under this id, at level 1; none where there are no pairs.
+/// A table of the pairs of the keyspaces in front and of those behind them, under this id, at level 1; none where there
+/// are no pairs.
 fn new_table(
     alloc: Global,
     id: u64,
-    entries: &[MetaEntry],
+    front: &[LivingKeyspace],
+    behind: &[LivingKeyspace],
 ) -> Result<Option<(TableInfo, TableFile)>>
-    requires keys { All HasKey entries.now }
-    requires ascending { IsAscending entries.now }
-    ensures ok { IfOk result (λ table. MatchOption table (entries.now ≡ []) (λ t. IsTableWritten id entries.now t.0 t.1)) }
-    ensures cause { IfErr result (IsTableRefusal id entries.now) }
+    requires { IsAscending (entries_of (front.now ++ behind.now)) }
+    ensures ok { let entries = entries_of (front.now ++ behind.now) in IfOk result (λ table. MatchOption table (entries ≡ []) (λ t. IsTableWritten id entries t.0 t.1)) }
+    ensures cause { IfErr result (IsTableRefusal id (entries_of (front.now ++ behind.now))) }
 {
-    let Some(bytes) = encode_entries(alloc, entries)? else {
+    let writer = write_keyspaces(alloc, front, behind)?;
+    let entry_count = writer.entry_count();
+    let Some(bytes) = writer.finish()? else {
         return Ok(None);
     };
     if id == u64::MAX {
@@ -53,7 +56,7 @@ fn new_table(
         id,
         level: Level::L1,
         file_len: bytes.len() as u64,
-        entry_count: entries.len() as u64,
+        entry_count,
     };
     let name = table_name(alloc, 0, id)?;
     Ok(Some((info, TableFile { name, bytes })))
@@ -70,18 +73,18 @@ fn name_of_table(alloc: Global, catalog: &Catalog) -> Result<Option<String>>
     Ok(Some(table_name(alloc, 0, table.id)?))
 }
 
-/// The change of this number from a catalog to one of keyspaces that have these pairs and this next id.
-fn prepare_entries(
+/// The change of this number from a catalog to one of the keyspaces in front and of those behind them, and this next id.
+fn prepare_keyspaces(
     alloc: Global,
     catalog: &Catalog,
-    entries: &[MetaEntry],
+    front: &[LivingKeyspace],
+    behind: &[LivingKeyspace],
     next_id: u64,
     number: u64,
 ) -> Result<Update>
-    requires keys { All HasKey entries.now }
-    requires ascending { IsAscending entries.now }
-    ensures ok { (s : Keyspaces) → entries.now ≡ entries_of s.living → next_id ≡ s.next → IfOk result (IsUpdate catalog.now s number) }
-    ensures cause { (s : Keyspaces) → entries.now ≡ entries_of s.living → IfErr result (IsPreparingRefusal catalog.now s number) }
+    requires { IsAscending (entries_of (front.now ++ behind.now)) }
+    ensures ok { IfOk result (IsUpdate catalog.now (record { living = front.now ++ behind.now; next = next_id }) number) }
+    ensures cause { IfErr result (IsPreparingRefusal catalog.now (record { living = front.now ++ behind.now; next = next_id }) number) }
 {
     if number >= NUMBER_LIMIT {
         return Err(Error::NumbersUsedUp);
@@ -95,7 +98,7 @@ fn prepare_entries(
         table: None,
     };
     let mut table = None;
-    if let Some((info, file)) = new_table(alloc, catalog.next_table_id, entries)? {
+    if let Some((info, file)) = new_table(alloc, catalog.next_table_id, front, behind)? {
         next.next_table_id = info.id + 1;
         next.table = Some(info);
         table = Some(file);
@@ -123,8 +126,14 @@ pub fn prepare(
     ensures ok { IfOk result (IsUpdate catalog.now keyspaces.now number) }
     ensures cause { IfErr result (IsPreparingRefusal catalog.now keyspaces.now number) }
 {
-    let entries = keyspaces.entries(alloc)?;
-    prepare_entries(alloc, catalog, &entries, keyspaces.next_id(), number)
+    prepare_keyspaces(
+        alloc,
+        catalog,
+        keyspaces.living(),
+        &[],
+        keyspaces.next_id(),
+        number,
+    )
 }
 
 /// Prepares the change of this number from a catalog to one of these keyspaces without that of this id, as [`prepare`]
@@ -139,6 +148,6 @@ pub fn prepare_deletion(
     ensures ok { IfOk result (IsUpdate catalog.now (without_keyspace id keyspaces.now) number) }
     ensures cause { IfErr result (IsPreparingRefusal catalog.now (without_keyspace id keyspaces.now) number) }
 {
-    let entries = keyspaces.entries_without(alloc, id)?;
-    prepare_entries(alloc, catalog, &entries, keyspaces.next_id(), number)
+    let (front, behind) = keyspaces.living_without(id);
+    prepare_keyspaces(alloc, catalog, front, behind, keyspaces.next_id(), number)
 }

@@ -15,6 +15,7 @@ use Rattle.fjall_options.specs.declared.options.stored_option.StoredOption.{Stor
 use Rattle.fjall_options.specs.Options.{options_by_name, name_key, config_key, option_name}
 use Rattle.fjall_meta.specs.declared.living.LivingKeyspace.{LivingKeyspace}
 use Rattle.fjall_meta.specs.declared.entry.MetaEntry.{MetaEntry}
+use Rattle.fjall_meta.specs.Keyspaces.{AreKeyspaces, Keyspaces}
 use Rattle.fjall_meta.specs.Entries.{option_entry, option_entries, name_entry, entries_of, IsAscending}
 use Rattle.fjall_meta.proofs.Rising.{Rises, pairs_from, from_pairs, joined, mapped, weaker}
 
@@ -176,3 +177,9 @@ entries_ascend living ascending bound =
     let options = all_options (λ j. Unit {0}) living (λ i d within. tt) in
     let cross = All-weaker (IsOptionOf (λ j. Unit {0})) (λ a. All (λ b. Before a b) (map name_entry living)) (λ a ha. All-map (λ b. Before a b) name_entry living (λ i d within. option_before_name a (get_or living i d) ha)) (flat_map option_entries living) options in
     pairs_from Before (entries_of living) (joined Before (flat_map option_entries living) (map name_entry living) (all_options_rise living rise bound) (all_names_rise living rise bound) cross)
+
+-- so are those of lawful keyspaces
+pub lawful_ascend : (s : Keyspaces) → AreKeyspaces s → IsAscending (entries_of s.living)
+lawful_ascend s all =
+    let fits = all.fits in
+    entries_ascend s.living all.ascending (All-weaker (λ k. k.id < s.next) (λ k. k.id < 2 ^ 64) (λ k h. omega arith) s.living all.given)

@@ -1,12 +1,9 @@
 -- Where a keyspace stands among those that live, and what is left without it.
-use Rattle.std.proofs.Common.{◌≡◌, ℕ, suc, ◌+◌, ◌-◌, ◌<◌, ◌==◌, not, nat_lt, Bool, true, false, cond, List, [], ◌∷◌, ◌++◌, length, take, drop, map, filter, All, AllPairs, Option, None, Some, IfSome, IfNone, refl, sym, ap, ◌∙◌, subst, arith}
+use Rattle.std.proofs.Common.{◌≡◌, ℕ, suc, ◌+◌, ◌<◌, ◌==◌, not, nat_lt, Bool, true, false, cond, List, [], ◌∷◌, ◌++◌, length, take, drop, filter, All, AllPairs, Option, None, Some, IfSome, IfNone, refl, sym, ap, ◌∙◌, subst, arith}
 use Rattle.std.specs.Prelude.{position}
-use Rattle.std.specs.List.{position_or_len, flat_map}
+use Rattle.std.specs.List.{position_or_len}
 use Rattle.std.proofs.lemmas.Bool.Decides.{nat_tests}
-use Rattle.std.proofs.lemmas.List.{take_all, append-nil, append_assoc, drop_all, length-drop, map-append}
-use Rattle.std.proofs.lemmas.Grind.{flat_map-append}
-use Rattle.fjall_meta.specs.declared.entry.MetaEntry.{MetaEntry}
-use Rattle.fjall_meta.specs.Entries.{entries_of, name_entry, option_entries}
+use Rattle.std.proofs.lemmas.List.{take_all, append-nil, drop_all}
 use Rattle.std.proofs.lemmas.List.Elements.{All-head, All-tail}
 use Rattle.fjall_meta.specs.declared.living.LivingKeyspace.{LivingKeyspace}
 use Rattle.fjall_meta.proofs.Rising.{Rises, from_pairs}
@@ -67,19 +64,3 @@ module _ (living : List LivingKeyspace) (id : ℕ) (rise : AllPairs (λ j k. j.i
 
   pub left_whole : (found : Option ℕ) → found ≡ position (λ k. k.id == id) living → IfNone found (left ≡ living)
   left_whole found is = subst (λ o. IfNone o (left ≡ living)) (sym is) (all_left (nat_lt place (length living)) refl)
-
--- the pairs of those in front and of those behind, options first, are those of all that are left
-pub texts_of_parts : (front behind all : List LivingKeyspace) (e f g h i : List MetaEntry) → e ≡ [] → all ≡ front ++ behind → f ≡ e ++ flat_map option_entries front → g ≡ f ++ flat_map option_entries behind
-    → h ≡ g ++ map name_entry front → i ≡ h ++ map name_entry behind → i ≡ entries_of all
-texts_of_parts front behind all e f g h i none parts first second third fourth =
-    let options : g ≡ flat_map option_entries (front ++ behind) =
-    second ∙ ap (λ l. l ++ flat_map option_entries behind) (first ∙ ap (λ l. l ++ flat_map option_entries front) none) ∙ sym (flat_map-append option_entries front behind) in
-    fourth ∙ ap (λ l. l ++ map name_entry behind) third ∙ append_assoc g (map name_entry front) (map name_entry behind)
-    ∙ ap (λ l. g ++ l) (sym (map-append name_entry front behind)) ∙ ap (λ l. l ++ map name_entry (front ++ behind)) options ∙ ap entries_of (sym parts)
-
--- a slice to the end
-abbrev pub to_end : List LivingKeyspace → ℕ → List LivingKeyspace
-to_end living n = take (length living - n) (drop n living)
-
-pub to_end_is : (living : List LivingKeyspace) (n : ℕ) → to_end living n ≡ drop n living
-to_end_is living n = take_all (length living - n) (drop n living) (omega (arith, length-drop n living))

@@ -7,7 +7,7 @@ ghost use Rattle.fjall_options.specs.Options.{place, value_at};
 ghost use Rattle.fjall_meta.specs.Entries.{option_entries, name_entry};
 
 use crate::living::LivingKeyspace;
-use fjall_base::{KvPair, Result, UserKey, UserValue};
+use fjall_base::{KvPair, Result, Slice, UserKey, UserValue};
 use fjall_options::{OPTIONS_BY_NAME, StoredOption, encode_name_key};
 use std::alloc::Global;
 
@@ -39,8 +39,7 @@ pub(crate) fn value_of(
     ensures ok { IfOk result (λ value. value ≡ value_at option keyspace.now.options) }
     ensures only { IfErr result (λ e. e ≡ OutOfMemory) }
 {
-    let pairs = keyspace.options.encode_kvs(alloc, keyspace.id)?;
-    Ok(pair_of(&pairs, option).1.clone()?)
+    Ok(Slice::new(alloc, keyspace.options.value(option))?)
 }
 
 /// Puts the pairs of the keyspace's options behind the entries.

@@ -257,24 +257,16 @@ impl MetaKeyspace {
         Ok(entries)
     }
 
-    /// The pairs of the meta keyspace without those of the keyspace of this id, by key ascending. It
-    /// allocates, and fails where memory is used up.
-    pub fn entries_without(&self, alloc: Global, id: u64) -> Result<Vec<MetaEntry>>
-        ensures ok { IfOk result (λ entries. entries.items ≡ entries_of (without_keyspace id self.now).living) }
-        ensures ascending { IfOk result (λ entries. IsAscending entries.items) }
-        ensures lawful { OnOk result (AreKeyspaces (without_keyspace id self.now)) }
-        ensures only { IfErr result (λ e. e ≡ OutOfMemory) }
+    /// The keyspaces that live but for that of this id: those before its place and those behind it, by id ascending.
+    /// Where it doesn't live, all of them stand before it.
+    pub fn living_without(&self, id: u64) -> (&[LivingKeyspace], &[LivingKeyspace])
+        ensures left { result.0.now ++ result.1.now ≡ (without_keyspace id self.now).living }
+        ensures lawful { AreKeyspaces (without_keyspace id self.now) }
     {
-        let Some(place) = self.place(id) else {
-            return self.entries(alloc);
-        };
-        let (front, behind) = (&self.living[..place], &self.living[place + 1..]);
-        let mut entries = Vec::with_capacity(alloc, self.len())?;
-        put_all_options(alloc, front, &mut entries)?;
-        put_all_options(alloc, behind, &mut entries)?;
-        put_all_names(alloc, front, &mut entries)?;
-        put_all_names(alloc, behind, &mut entries)?;
-        Ok(entries)
+        match self.place(id) {
+            Some(place) => (&self.living[..place], &self.living[place + 1..]),
+            None => (&self.living, &[]),
+        }
     }
 
     /// The place of the keyspace of this id, where it lives.

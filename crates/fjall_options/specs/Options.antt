@@ -151,11 +151,11 @@ default_options = map default_value stored_options
 unfoldable pub with_value : StoredOption → List ℕ → List (List ℕ) → List (List ℕ)
 with_value option value values = set values (place option) value
 
--- a value as it is kept: bytes, a byte or a flag, or a number of eight bytes
+-- a value as it is kept: bytes, a byte or a flag, or the eight bytes of a number
 abbrev pub kept_bytes : OptionValue → List ℕ
 kept_bytes (values.Stored bytes) = bytes
 kept_bytes (values.Byte byte) = byte ∷ []
-kept_bytes (values.Number number) = little_bytes 8 number
+kept_bytes (values.Number bytes) = bytes
 
 -- how tables are merged: from how many tables at level 0 on, how large tables are made, and how much larger each level is than the one above, in millionths
 pub record Strategy : Type 0 where

@@ -8,4 +8,5 @@ pub use options::{
     EncodeConfig, FilterPolicy, FilterPolicyEntry, HashRatioPolicy, KeyspaceCreateOptions, Leveled,
     Levelled, OPTIONS_BY_NAME, PartitioningPolicy, PinningPolicy, Policy, PolicyEntry,
     RestartIntervalPolicy, STORED_OPTIONS, StoredOption, encode_config_key, encode_name_key,
+    name_key_bytes, put_config_key,
 };

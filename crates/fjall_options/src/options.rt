@@ -12,7 +12,7 @@ mod policy;
 mod stored_option;
 
 pub use config::{DecodeConfig, EncodeConfig};
-pub use config_key::{encode_config_key, encode_name_key};
+pub use config_key::{encode_config_key, encode_name_key, name_key_bytes, put_config_key};
 pub use create_options::KeyspaceCreateOptions;
 pub use effective::EffectiveSettings;
 pub use entry::PolicyEntry;

@@ -1,7 +1,7 @@
 //! Worked rows of the meta keyspace, and calls of each public function.
 
 use fjall_base::{Error, Result, Slice, StorageError};
-use fjall_meta::{MetaEntry, MetaKeyspace, is_valid_keyspace_name};
+use fjall_meta::{LivingKeyspace, MetaEntry, MetaKeyspace, is_valid_keyspace_name};
 use fjall_options::{KeyspaceCreateOptions, StoredOption, encode_config_key, encode_name_key};
 use std::alloc::Global;
 use std::test::Fail;
@@ -144,17 +144,30 @@ enum Step {
     Create(&'static [u8], u64),
     Remove(u64),
     TakeBack,
-    /// The pairs of the others are listed, and then the keyspace is removed: they are the same as those that are left.
+    /// The others are listed, and then the keyspace is removed: they are the same as those that are left.
     ListOthersAndRemove(u64),
 }
 
 use Step::*;
 
-/// Whether the pairs of the others are the same before and behind the removal of a keyspace.
+/// Puts the ids of these keyspaces behind the others.
+fn put_ids(living: &[LivingKeyspace], ids: &mut Vec<u64>) -> Result<()> {
+    for keyspace in living {
+        ids.push(keyspace.id)?;
+    }
+    Ok(())
+}
+
+/// Whether the others that are listed before the removal of a keyspace are those that live behind it.
 fn others_stay(alloc: Global, keyspaces: &mut MetaKeyspace, id: u64) -> Result<bool> {
-    let others = keyspaces.entries_without(alloc, id)?;
+    let mut others = Vec::new(alloc);
+    let (front, behind) = keyspaces.living_without(id);
+    put_ids(front, &mut others)?;
+    put_ids(behind, &mut others)?;
     keyspaces.remove_keyspace(id);
-    Ok(others == keyspaces.entries(alloc)?)
+    let mut left = Vec::new(alloc);
+    put_ids(keyspaces.living(), &mut left)?;
+    Ok(others == left)
 }
 
 /// Takes a step, and answers the id that a creation answers, else whether what it says holds.
@@ -202,7 +215,7 @@ const ROWS: &[(Step, Result<u64>, u64, &[Named])] = &[
     (Two, Ok(0), 3, &[B, A]),
     (TakeBack, Ok(0), 2, &[B]),
     (Create(b"c", 5), Ok(2), 3, &[B, (2, 5, b"c")]),
-    // The pairs of the others.
+    // The others.
     (Two, Ok(0), 3, &[B, A]),
     (Create(b"c", 6), Ok(3), 4, &[B, A, (3, 6, b"c")]),
     (ListOthersAndRemove(4), Ok(1), 4, &[B, A, (3, 6, b"c")]),

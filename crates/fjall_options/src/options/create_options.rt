@@ -4,7 +4,7 @@ ghost use Rattle.std.specs.Prelude.{◌≡◌, ◌<◌, true, None, Some, Ok, If
 ghost use Rattle.byteorder.specs.Endian.{little_bytes};
 ghost use Rattle.fjall_base.specs.declared.error.Error.TheVariants.{OutOfMemory};
 ghost use Rattle.fjall_options.specs.Policies.{policy_bytes, number_bytes, interval_bytes, flag_bytes, compression_bytes, filter_bytes};
-ghost use Rattle.fjall_options.specs.Options.{stored_options, default_options, is_value, value_at, with_value, kept_bytes, with_strategy, effective_settings, config_pairs, stored_value, stored_values, value_of, Reads};
+ghost use Rattle.fjall_options.specs.Options.{stored_options, default_options, is_value, value_at, with_value, kept_bytes, is_set, with_strategy, effective_settings, config_pairs, stored_value, stored_values, value_of, Reads};
 
 use crate::options::config_key::encode_config_key;
 use crate::options::effective::EffectiveSettings;
@@ -15,6 +15,7 @@ use crate::options::policy::{
     PinningPolicy, RestartIntervalPolicy,
 };
 use crate::options::stored_option::{STORED_OPTIONS, StoredOption};
+use byteorder::{ByteOrder, LittleEndian};
 use fjall_base::{Error, KvPair, Result, Slice, StorageError};
 use std::alloc::Global;
 use std::marker::Model;
@@ -60,12 +61,12 @@ impl KeyspaceCreateOptions {
         self
     }
 
-    /// The value of an option.
-    fn value(&self, option: StoredOption) -> &OptionValue
-        ensures value { kept_bytes result.now ≡ value_at option self.now }
-        ensures valid { is_value option (kept_bytes result.now) ≡ true }
+    /// The bytes that an option is stored as. It takes no memory.
+    pub fn value(&self, option: StoredOption) -> &[u8]
+        ensures value { result.now ≡ value_at option self.now }
+        ensures valid { is_value option result.now ≡ true }
     {
-        &self.values[option.place()]
+        self.values[option.place()].as_bytes()
     }
 
     /// How data blocks are compressed.
@@ -202,7 +203,10 @@ impl KeyspaceCreateOptions {
     pub fn max_memtable_size(self, bytes: u64) -> KeyspaceCreateOptions
         ensures { result ≡ with_value StoredOption.MaxMemtableSize (little_bytes 8 bytes) self }
     {
-        self.with(StoredOption::MaxMemtableSize, OptionValue::Number(bytes))
+        self.with(
+            StoredOption::MaxMemtableSize,
+            OptionValue::Number(bytes.to_le_bytes()),
+        )
     }
 
     /// How tables are merged.
@@ -211,7 +215,7 @@ impl KeyspaceCreateOptions {
         ensures { result ≡ with_strategy strategy self }
     {
         let threshold = OptionValue::Byte(strategy.l0_threshold);
-        let target_size = OptionValue::Number(strategy.target_size);
+        let target_size = OptionValue::Number(strategy.target_size.to_le_bytes());
         let level_ratios = OptionValue::Stored(strategy.level_ratios.into_bytes());
         self.with(StoredOption::LeveledL0Threshold, threshold)
             .with(StoredOption::LeveledTargetSize, target_size)
@@ -226,10 +230,10 @@ impl KeyspaceCreateOptions {
         ensures target_size { 0 < result.target_size }
     {
         EffectiveSettings {
-            manual_journal_persist: self.value(StoredOption::ManualJournalPersist).flag(),
-            max_memtable_size: self.value(StoredOption::MaxMemtableSize).number(),
-            l0_threshold: self.value(StoredOption::LeveledL0Threshold).byte(),
-            target_size: self.value(StoredOption::LeveledTargetSize).number(),
+            manual_journal_persist: is_set(self.value(StoredOption::ManualJournalPersist)),
+            max_memtable_size: LittleEndian::read_u64(self.value(StoredOption::MaxMemtableSize)),
+            l0_threshold: self.value(StoredOption::LeveledL0Threshold)[0],
+            target_size: LittleEndian::read_u64(self.value(StoredOption::LeveledTargetSize)),
         }
     }
 
@@ -245,7 +249,8 @@ impl KeyspaceCreateOptions {
         let mut pairs = Vec::with_capacity(alloc, self.values.len())?;
         for option in &STORED_OPTIONS {
             let key = encode_config_key(alloc, keyspace_id, option.name())?;
-            pairs.push((key, self.value(*option).encode(alloc)?))?;
+            let value = Slice::new(alloc, self.value(*option))?;
+            pairs.push((key, value))?;
         }
         Ok(pairs)
     }
@@ -268,6 +273,13 @@ impl KeyspaceCreateOptions {
         }
         Ok(KeyspaceCreateOptions { values })
     }
+}
+
+/// Whether a flag is set: its value is the one byte 1.
+fn is_set(value: &[u8]) -> bool
+    ensures { result ≡ is_set value.now }
+{
+    value == [1].as_slice()
 }
 
 /// The value that the pairs give to an option.

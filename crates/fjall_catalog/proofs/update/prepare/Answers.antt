@@ -1,5 +1,6 @@
-use Rattle.fjall_catalog.proofs.Keys.{have_keys}
+use Rattle.std.proofs.lemmas.List.{append-nil}
+use Rattle.fjall_meta.proofs.Orders.{lawful_ascend}
 use Rattle.fjall_catalog.proofs.update.prepare.Goals as goal
 
-pub prepare_entries-requires-clause-keys : goal.prepare_entries-requires-clause-keys
-prepare_entries-requires-clause-keys c = rw (c.deref.ensures.value, c.in_ok-entries.ensures.ok) (have_keys c.args.keyspaces.now.living)
+pub prepare_keyspaces-requires : goal.prepare_keyspaces-requires
+prepare_keyspaces-requires c = rw (append-nil, c.living.ensures) (lawful_ascend c.args.keyspaces.now c.next_id.ensures.lawful)
