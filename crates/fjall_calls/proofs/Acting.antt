@@ -53,24 +53,24 @@ module _ (honest : Bool) (core left : Held) (tx : Tx) (call : Within) (id : ℕ)
         (t, stay, on, record { asks = AsksFor id (Get key) is look.reply t step; answers = answers s found });
   }
 
-  failed_by : (s : State) (reply : Reply) (error : Error) → MayRunOut call → Found s tx id key reply (Err error) → Answers s tx call (reply ∷ []) (Refused error) tx
+  failed_by : (s : State) (reply : Reply) (error : Error) → MayRunOut call (reply ∷ []) → Found s tx id key reply (Err error) → Answers s tx call (reply ∷ []) (Refused error) tx
   failed_by s _ _ may (serving.IsRefused error) = IsUnread call error
   failed_by s _ _ may (serving.RunsOut reply fine) = RunsOut call (reply ∷ []) fine may
 
   -- it was refused
-  pub look_failed : (error : Error) → MayRunOut call → Looks honest core tx id key (Err error) left → ActsOn honest core tx call (Refused error) left tx
-  look_failed error may look = acted (Refused error) tx (Err error) look tt (λ s found. failed_by s look.reply error may found)
+  pub look_failed : (error : Error) → ((r : Reply) → MayRunOut call (r ∷ [])) → Looks honest core tx id key (Err error) left → ActsOn honest core tx call (Refused error) left tx
+  look_failed error may look = acted (Refused error) tx (Err error) look tt (λ s found. failed_by s look.reply error (may look.reply) found)
 
-  out_by : (s : State) (reply : Reply) (value : Option Bytes) → MayRunOut call → Found s tx id key reply (Ok value) → Answers s tx call (reply ∷ []) (Refused OutOfMemory) tx
+  out_by : (s : State) (reply : Reply) (value : Option Bytes) → MayRunOut call (reply ∷ []) → Found s tx id key reply (Ok value) → Answers s tx call (reply ∷ []) (Refused OutOfMemory) tx
   out_by s _ _ may (serving.IsSeen reply fine found sees) = RunsOut call (reply ∷ []) fine may
 
   -- memory ran out behind it
-  pub look_ran_out : (value : Option Bytes) → MayRunOut call → Looks honest core tx id key (Ok value) left → ActsOn honest core tx call (Refused OutOfMemory) left tx
-  look_ran_out value may look = acted (Refused OutOfMemory) tx (Ok value) look tt (λ s found. out_by s look.reply value may found)
+  pub look_ran_out : (value : Option Bytes) → ((r : Reply) → MayRunOut call (r ∷ [])) → Looks honest core tx id key (Ok value) left → ActsOn honest core tx call (Refused OutOfMemory) left tx
+  look_ran_out value may look = acted (Refused OutOfMemory) tx (Ok value) look tt (λ s found. out_by s look.reply value (may look.reply) found)
 
   updated_by : (s : State) (reply : Reply) (value new : Option Bytes) → update_of call ≡ Some (id, key, new) → replace_refusal key value new ≡ None → Found s tx id key reply (Ok value)
       → Answers s tx call (reply ∷ []) (update_reply call value) (replacing (having_read tx (OfKey id key)) id key value new)
-  updated_by s _ _ new updates fits (serving.IsSeen reply fine found sees) = Updates call id key new found updates reply sees fits
+  updated_by s _ _ new updates fits (serving.IsSeen reply fine found sees) = Updates call id key new found updates reply fine sees fits
 
   -- the key was updated
   pub look_updated : (value new : Option Bytes) → update_of call ≡ Some (id, key, new) → replace_refusal key value new ≡ None → IsReplyIn call (update_reply call value)
@@ -80,7 +80,7 @@ module _ (honest : Bool) (core left : Held) (tx : Tx) (call : Within) (id : ℕ)
 
   not_updated_by : (s : State) (reply : Reply) (value new : Option Bytes) (error : Error) → update_of call ≡ Some (id, key, new) → replace_refusal key value new ≡ Some error → Found s tx id key reply (Ok value)
       → Answers s tx call (reply ∷ []) (Refused error) tx
-  not_updated_by s _ _ new error updates due (serving.IsSeen reply fine found sees) = IsNotUpdated call id key new found updates reply sees error due
+  not_updated_by s _ _ new error updates due (serving.IsSeen reply fine found sees) = IsNotUpdated call id key new found updates reply fine sees error due
 
   -- what it was to become is refused
   pub look_not_updated : (value new : Option Bytes) (error : Error) → update_of call ≡ Some (id, key, new) → replace_refusal key value new ≡ Some error
@@ -90,7 +90,7 @@ module _ (honest : Bool) (core left : Held) (tx : Tx) (call : Within) (id : ℕ)
 -- a value was read
 got_by : (s : State) (tx : Tx) (id : ℕ) (key : Bytes) (reply : Reply) (value : Option Bytes) → Found s tx id key reply (Ok value)
     → Answers s tx (within.Get id key) (reply ∷ []) (Value value) (having_read tx (OfKey id key))
-got_by s tx id key _ _ (serving.IsSeen reply fine found sees) = Gets id key reply (Value found) (ap (λ (v : Option Bytes). Value v) sees)
+got_by s tx id key _ _ (serving.IsSeen reply fine found sees) = Gets id key reply (Value found) fine (ap (λ (v : Option Bytes). Value v) sees)
 
 pub look_got : (honest : Bool) (core left : Held) (tx : Tx) (id : ℕ) (key : Bytes) (value : Option Bytes) → Looks honest core tx id key (Ok value) left
     → ActsOn honest core tx (within.Get id key) (Value value) left (having_read tx (OfKey id key))
@@ -168,7 +168,7 @@ update_acts honest core left tx after id key new found (Ok answer) look same ok 
 update_acts honest core left tx after id key new found (Err error) look same ok unchanged fits (inl out) =
     subst (λ (t : Tx). ActsOn honest core tx (within.UpdateFetch id key new) (Refused error) left t) (sym unchanged)
     (subst (λ (e : Error). ActsOn honest core tx (within.UpdateFetch id key new) (Refused e) left tx) (sym out)
-    (look_ran_out honest core left tx (within.UpdateFetch id key new) id key refl found refl look))
+    (look_ran_out honest core left tx (within.UpdateFetch id key new) id key refl found (λ r. tt) look))
 update_acts honest core left tx after id key new found (Err error) look same ok unchanged fits (inr due) =
     subst (λ (t : Tx). ActsOn honest core tx (within.UpdateFetch id key new) (Refused error) left t) (sym unchanged)
     (look_not_updated honest core left tx (within.UpdateFetch id key new) id key refl found new error refl due look)

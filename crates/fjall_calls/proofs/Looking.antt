@@ -98,7 +98,7 @@ module _ (honest : Bool) (core left : Held) (tx : Tx) (id : ℕ) (range : KeyRan
   -- memory ran out behind it
   pub page_short : (found : Vec (Bytes × Bytes) Global) → (IsTrue honest → Serves core (OfRead (At tx.ticket) id (Page range back (wanted tx.own id range max))) (pairs_reply (Ok found)) left)
       → Owes core (OfRead (At tx.ticket) id (Page range back (wanted tx.own id range max))) (pairs_reply (Ok found)) left → ActsOn honest core tx (within.Page id range back max) (Refused OutOfMemory) left tx
-  page_short found serves owes = page_by (Pairs found) (Refused OutOfMemory) tx serves owes tt (λ s t step. RunsOut (within.Page id range back max) (Pairs found ∷ []) tt refl)
+  page_short found serves owes = page_by (Pairs found) (Refused OutOfMemory) tx serves owes tt (λ s t step. RunsOut (within.Page id range back max) (Pairs found ∷ []) tt tt)
 
   -- own writes were laid over it
   pub page_seen : (found seen : Vec (Bytes × Bytes) Global) → (IsTrue honest → Serves core (OfRead (At tx.ticket) id (Page range back (wanted tx.own id range max))) (pairs_reply (Ok found)) left)
@@ -110,7 +110,7 @@ module _ (honest : Bool) (core left : Held) (tx : Tx) (id : ℕ) (range : KeyRan
       (λ s t step.
       let told = step.1.0 in
       let same : found.items ≡ page back (wanted tx.own id range max) (pairs_between range (map_at (maps_in s (At tx.ticket)) id)) = ap (λ (v : Vec (Bytes × Bytes) Global). v.items) (pairs_are found told.0 told.1) ∙ told.2 in
-      Pages id range back max (Pairs found) (Pairs seen) (seen, refl, ok (maps_in s (At tx.ticket)) same))
+      Pages id range back max (Pairs found) (Pairs seen) tt (seen, refl, ok (maps_in s (At tx.ticket)) same))
 
   -- own writes were laid over it, or memory ran out
   pub page_acts : (after : Tx) (found : Vec (Bytes × Bytes) Global) (result : Result (Vec (Bytes × Bytes) Global) Error) → (IsTrue honest → Serves core (OfRead (At tx.ticket) id (Page range back (wanted tx.own id range max))) (pairs_reply (Ok found)) left)
@@ -132,5 +132,5 @@ page_unasked honest core tx id range back max = record {
   makes = none_made honest core;
   keeps = kept_still core core refl;
   fits = tt;
-  acts = λ h s stands reads. (s, stands, reads, record { asks = AsksNothing; answers = RunsOut (within.Page id range back max) [] tt refl });
+  acts = λ h s stands reads. (s, stands, reads, record { asks = AsksNothing; answers = RunsOut (within.Page id range back max) [] tt tt });
 }

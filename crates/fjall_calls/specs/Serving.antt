@@ -80,7 +80,7 @@ pub record Fetches (call : Within) (id : ℕ) (key : Bytes) (new : Option Bytes)
   pub updates : update_of call ≡ Some (id, key, new)
   pub answers : (found : Option Bytes) → update_reply call found ≡ Value found
   pub fits : (found : Option Bytes) → IsReplyIn call (Value found)
-  pub may : MayRunOut call
+  pub may : (reply : Reply) → MayRunOut call (reply ∷ [])
 
 -- A call within a transaction: the calls of the core that it comes to, and, whichever state the core stood for, what comes of it.
 pub record ActsOn (honest : Bool) (core : Held) (tx : Tx) (call : Within) (reply : Reply) (left : Held) (after : Tx) : Type 0 where

@@ -121,10 +121,10 @@ module _ (h : History) (s : State) (tx : Tx) (shows : (view h tx.ticket.instant)
   pub heard_of_view : (after : Tx) (call : Within) (told : List Reply) (reply : Reply) → Answers s tx call told reply after → All (IsOfView h after) (heard_by call tx.own reply)
   heard_of_view after call told reply (IsUnread c error) = none_heard (IsOfView h tx) c tx.own error
   heard_of_view after call told reply (RunsOut c t fine may) = none_heard (IsOfView h tx) c tx.own OutOfMemory
-  heard_of_view after call told reply (Gets id key below r tells) = got id key r tells
-  heard_of_view after call told reply (Pages id range back max below r tells) = paged id range back max r tells
+  heard_of_view after call told reply (Gets id key below r fine tells) = got id key r tells
+  heard_of_view after call told reply (Pages id range back max below r fine tells) = paged id range back max r tells
   heard_of_view after call told reply (Writes id key op fits) = All-nil (IsOfView h (with_own tx id key op))
   heard_of_view after call told reply (IsUnwritable id key op error due) = All-nil (IsOfView h tx)
-  heard_of_view after call told reply (Updates c id key new found is below finds fits) = updated c id key new found is finds
-  heard_of_view after call told reply (IsNotUpdated c id key new found is below finds error due) = none_heard (IsOfView h tx) c tx.own error
+  heard_of_view after call told reply (Updates c id key new found is below fine finds fits) = updated c id key new found is finds
+  heard_of_view after call told reply (IsNotUpdated c id key new found is below fine finds error due) = none_heard (IsOfView h tx) c tx.own error
   heard_of_view after call told reply (Persists mode) = All-nil (IsOfView h (record tx { mode = mode }))

@@ -65,11 +65,11 @@ keeps_replacing tx id key old new = either (is_same_value old new)
 pub keeps_answered : (s : State) (tx after : Tx) (call : Within) (told : List Reply) (reply : Reply) → Answers s tx call told reply after → Keeps tx after
 keeps_answered s tx after call told reply (IsUnread c error) = keeps_itself tx
 keeps_answered s tx after call told reply (RunsOut c t fine may) = keeps_itself tx
-keeps_answered s tx after call told reply (Gets id key below r tells) = keeps_read tx (OfKey id key)
-keeps_answered s tx after call told reply (Pages id range back max below r tells) = keeps_read tx (OfRange id range.0 range.1)
+keeps_answered s tx after call told reply (Gets id key below r fine tells) = keeps_read tx (OfKey id key)
+keeps_answered s tx after call told reply (Pages id range back max below r fine tells) = keeps_read tx (OfRange id range.0 range.1)
 keeps_answered s tx after call told reply (Writes id key op fits) = keeps_own tx id key op
 keeps_answered s tx after call told reply (IsUnwritable id key op error due) = keeps_itself tx
-keeps_answered s tx after call told reply (Updates c id key new found is below finds fits) =
+keeps_answered s tx after call told reply (Updates c id key new found is below fine finds fits) =
     keeps_on tx (having_read tx (OfKey id key)) (replacing (having_read tx (OfKey id key)) id key found new) (keeps_read tx (OfKey id key)) (keeps_replacing (having_read tx (OfKey id key)) id key found new)
-keeps_answered s tx after call told reply (IsNotUpdated c id key new found is below finds error due) = keeps_itself tx
+keeps_answered s tx after call told reply (IsNotUpdated c id key new found is below fine finds error due) = keeps_itself tx
 keeps_answered s tx after call told reply (Persists mode) = record { ticket = refl; marked = λ heard marked. marked; kind = refl }

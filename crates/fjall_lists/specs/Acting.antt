@@ -65,32 +65,31 @@ AreFine [] = Unit {0}
 AreFine (Refused error ∷ told) = ⊥
 AreFine (reply ∷ told) = AreFine told
 
--- the refusal that is due for an own write alone
-abbrev pub own_refusal : Within → Option Error
-own_refusal (within.Write id key op) = item_refusal key (bytes_in op)
-own_refusal other = None
-
--- the call may run out of memory: all but `durability`, where no refusal of its own is due
-abbrev pub MayRunOut : Within → Type 0
-MayRunOut (within.Durability mode) = ⊥
-MayRunOut call = own_refusal call ≡ None
+-- Where the core replied so, the call may run out of memory: an own write where no refusal is due for it; a page before the core is asked too,
+-- and other reads and updates once it was.
+abbrev pub MayRunOut : Within → List Reply → Type 0
+MayRunOut (within.Write id key op) told = item_refusal key (bytes_in op) ≡ None
+MayRunOut (within.Durability mode) told = ⊥
+MayRunOut (within.Page id range back max) told = Unit {0}
+MayRunOut call [] = ⊥
+MayRunOut call (reply ∷ told) = Unit {0}
 
 -- What a call within a transaction is answered, where the core replied so, and the transaction afterwards: after a refusal it is as before.
--- A read marks what its answer rests on, an own write is seen by later reads, and an update marks its key as read, and writes it where
+-- A read that the core doesn't refuse marks what its answer rests on, an own write is seen by later reads, and an update marks its key as read, and writes it where
 -- its value changes.
 pub data Answers (s : State) (tx : Tx) : Within → List Reply → Reply → Tx → Type 0 where
   IsUnread : (call : Within) (error : Error) → Answers s tx call (Refused error ∷ []) (Refused error) tx
-  RunsOut : (call : Within) (told : List Reply) (fine : AreFine told) (may : MayRunOut call) → Answers s tx call told (Refused OutOfMemory) tx
-  Gets : (id : ℕ) (key : Bytes) (below reply : Reply) (tells : Tells (Get key) (seen_by s tx id) reply)
+  RunsOut : (call : Within) (told : List Reply) (fine : AreFine told) (may : MayRunOut call told) → Answers s tx call told (Refused OutOfMemory) tx
+  Gets : (id : ℕ) (key : Bytes) (below reply : Reply) (fine : AreFine (below ∷ [])) (tells : Tells (Get key) (seen_by s tx id) reply)
       → Answers s tx (within.Get id key) (below ∷ []) reply (having_read tx (OfKey id key))
-  Pages : (id : ℕ) (range : KeyRange) (back : Bool) (max : ℕ) (below reply : Reply) (tells : Tells (Page range back max) (seen_by s tx id) reply)
+  Pages : (id : ℕ) (range : KeyRange) (back : Bool) (max : ℕ) (below reply : Reply) (fine : AreFine (below ∷ [])) (tells : Tells (Page range back max) (seen_by s tx id) reply)
       → Answers s tx (within.Page id range back max) (below ∷ []) reply (having_read tx (OfRange id range.0 range.1))
   Writes : (id : ℕ) (key : Bytes) (op : Op) (fits : item_refusal key (bytes_in op) ≡ None) → Answers s tx (within.Write id key op) [] Done (with_own tx id key op)
   IsUnwritable : (id : ℕ) (key : Bytes) (op : Op) (error : Error) (due : item_refusal key (bytes_in op) ≡ Some error) → Answers s tx (within.Write id key op) [] (Refused error) tx
-  Updates : (call : Within) (id : ℕ) (key : Bytes) (new found : Option Bytes) (is : update_of call ≡ Some (id, key, new)) (below : Reply)
+  Updates : (call : Within) (id : ℕ) (key : Bytes) (new found : Option Bytes) (is : update_of call ≡ Some (id, key, new)) (below : Reply) (fine : AreFine (below ∷ []))
       (finds : found ≡ lookup (seen_by s tx id) key) (fits : replace_refusal key found new ≡ None)
       → Answers s tx call (below ∷ []) (update_reply call found) (replacing (having_read tx (OfKey id key)) id key found new)
-  IsNotUpdated : (call : Within) (id : ℕ) (key : Bytes) (new found : Option Bytes) (is : update_of call ≡ Some (id, key, new)) (below : Reply)
+  IsNotUpdated : (call : Within) (id : ℕ) (key : Bytes) (new found : Option Bytes) (is : update_of call ≡ Some (id, key, new)) (below : Reply) (fine : AreFine (below ∷ []))
       (finds : found ≡ lookup (seen_by s tx id) key) (error : Error) (due : replace_refusal key found new ≡ Some error)
       → Answers s tx call (below ∷ []) (Refused error) tx
   Persists : (mode : Option PersistMode) → Answers s tx (within.Durability mode) [] Done (record tx { mode = mode })

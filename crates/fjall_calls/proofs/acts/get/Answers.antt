@@ -28,12 +28,12 @@ returns-in-Ok g c =
     let out = subst (λ (r : Result Unit Error). IsOkUnless r OutOfMemory) c.in-Err-mark_read.is c.mark_read.ensures.only in
     subst (λ (t : Tx). ActsOn g.D.Disk.honest a.core.now tx (within.Get a.id a.key) (Refused c.in-Err-mark_read.error) c.look.new.core t) (sym same)
     (subst (λ (e : Error). ActsOn g.D.Disk.honest a.core.now tx (within.Get a.id a.key) (Refused e) c.look.new.core tx) (sym out)
-    (look_ran_out g.D.Disk.honest a.core.now c.look.new.core tx (within.Get a.id a.key) a.id a.key refl c.in-Ok.found refl
+    (look_ran_out g.D.Disk.honest a.core.now c.look.new.core tx (within.Get a.id a.key) a.id a.key refl c.in-Ok.found (λ r. tt)
     (subst (λ (r : Result (Option Bytes) Error). Looks g.D.Disk.honest a.core.now tx a.id a.key r c.look.new.core) c.in-Ok.is c.look.ensures)))
 
 pub returns : goal.returns
 returns g c =
     let a = c.args in
     let tx = a.transaction.now in
-    look_failed g.D.Disk.honest a.core.now c.look.new.core tx (within.Get a.id a.key) a.id a.key refl c.in-Err.error refl
+    look_failed g.D.Disk.honest a.core.now c.look.new.core tx (within.Get a.id a.key) a.id a.key refl c.in-Err.error (λ r. tt)
     (subst (λ (r : Result (Option Bytes) Error). Looks g.D.Disk.honest a.core.now tx a.id a.key r c.look.new.core) c.in-Err.is c.look.ensures)

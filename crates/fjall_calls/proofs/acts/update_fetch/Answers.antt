@@ -19,5 +19,5 @@ pub returns-in-Err : goal.returns-in-Err
 returns-in-Err g c =
     let a = c.args in
     let tx = a.transaction.now in
-    look_failed g.D.Disk.honest a.core.now c.look.new.core tx (within.UpdateFetch a.id a.key a.new) a.id a.key refl c.in-Err.error refl
+    look_failed g.D.Disk.honest a.core.now c.look.new.core tx (within.UpdateFetch a.id a.key a.new) a.id a.key refl c.in-Err.error (λ r. tt)
     (subst (λ (r : Result (Option Bytes) Error). Looks g.D.Disk.honest a.core.now tx a.id a.key r c.look.new.core) c.in-Err.is c.look.ensures)
