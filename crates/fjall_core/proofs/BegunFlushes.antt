@@ -54,7 +54,7 @@ begun_shows : (job watermark : ℕ) (entries : List (List Entry)) (clears : List
 begun_shows job watermark entries clears versions shape is = record { below = is.below; shows = is.shows }
 
 begun_goes_on : (job watermark : ℕ) (last : Fields) (shape : Shape) → GoesOnFrom last shape → GoesOnFrom last (flush_begun job watermark shape)
-begun_goes_on job watermark last shape on = record { clears = on.clears; beyond = on.beyond; some = on.some }
+begun_goes_on job watermark last shape on = record { tables = on.tables; clears = on.clears; beyond = on.beyond; some = on.some }
 
 -- ---- all trees
 

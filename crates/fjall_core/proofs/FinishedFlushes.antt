@@ -142,7 +142,7 @@ gone_shows : (entries : List (List Entry)) (clears : List ℕ) (versions : List 
 gone_shows entries clears versions shape is = record { below = is.below; shows = is.shows }
 
 gone_goes_on : (last : Fields) (shape : Tree) → GoesOnFrom last shape → GoesOnFrom last (flush_dropped shape)
-gone_goes_on last shape on = record { clears = on.clears; beyond = on.beyond; some = on.some }
+gone_goes_on last shape on = record { tables = on.tables; clears = on.clears; beyond = on.beyond; some = on.some }
 
 gone_knows : (entries : ℕ → List (List Entry)) (core : Held) (id : ℕ) (j : Journaling) (t : DiskTree) → Knows core entries j t → Knows (gone_from core id) entries j t
 gone_knows entries core id j t knows =

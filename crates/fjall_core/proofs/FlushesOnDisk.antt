@@ -9,7 +9,7 @@ use Rattle.fjall_commit.specs.Journaling.{IsWriting}
 use Rattle.fjall_files.specs.Names.{Table, table_name}
 use Rattle.fjall_files.specs.Tidy.{IsTidy}
 use Rattle.fjall_flush.specs.Finishing.{CanFinish}
-use Rattle.fjall_flush.specs.Flushes.{Flush, Follows, HasAt, record_after, tree_after}
+use Rattle.fjall_flush.specs.Flushes.{Flush, Follows, HasAt, infos_from, record_after, tree_after}
 use Rattle.fjall_flush.specs.Covering.{MayCount}
 use Rattle.fjall_flush.proofs.Composed.{is_home}
 use Rattle.fjall_flush.proofs.Finishing.{above, are_after, end_inside, end_is_small, follows_last, may_count}
@@ -235,7 +235,8 @@ module _ (old : Held) (made : FlushMade) (may : MayPut old made) where
       pub put_knows : Knows new (entries_after entries) put_lies.journals put_lies.tree
       unfolding can put_lies
       put_knows =
-          let after = are_after j t m.trees entries m.records living_there task can h known.home tables clears_there flushed_there fin.readers in
+          let infos = fin.are.infos ∙ ap (λ (l : Fields). infos_from l.next_table_id tables) known.last in
+          let after = are_after j t m.trees entries m.records living_there task can h known.home tables clears_there flushed_there fin.readers infos in
           let trees = altered_at id (flush_finished fin.readers out) m.trees in
           knows_memory (entries_after entries) old new (with_flush id out fin.readers (record_after f last) m) j next fin.is (record {
             shown = after.replayed;

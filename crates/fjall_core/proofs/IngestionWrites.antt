@@ -11,7 +11,7 @@ use Rattle.fjall_contents.specs.Contents.{is_beyond, journal_beyond}
 use Rattle.fjall_files.specs.Names.{Table, keyspace_folder, table_name}
 use Rattle.fjall_files.specs.Regions.{Within}
 use Rattle.fjall_files.specs.Tidy.{IsTidy}
-use Rattle.fjall_flush.specs.Flushes.{Flush, Follows, HasAt}
+use Rattle.fjall_flush.specs.Flushes.{Flush, Follows, HasAt, infos_from}
 use Rattle.fjall_home.specs.Homes.{Home}
 use Rattle.fjall_home.proofs.Outside.{within_keyspaces}
 use Rattle.fjall_ingest.specs.declared.whole.PlannedIngestion.{PlannedIngestion}
@@ -223,7 +223,8 @@ module _ (core : Held) (k : LivingKeyspace) (items : List KeyOp) (p : PlannedIng
       write_knows : Knows (taken_on disk) (entries_more entries) write_lies.journals write_lies.tree
       unfolding write_lies
       write_knows =
-          let after = whole_known j t m.trees entries m.records k n can m.tickets.watermark items flushes made may.planned.makes.flushed may.planned.makes.are h known.home readers in
+          let infos = may.planned.makes.infos ∙ ap (λ (l : Fields). infos_from l.next_table_id (flushes ++ made)) same_last in
+          let after = whole_known j t m.trees entries m.records k n can m.tickets.watermark items flushes made may.planned.makes.flushed may.planned.makes.are h known.home readers infos in
           let trees = altered_at k.id (ingested n readers) m.trees in
           let same : last_ingested n shape flushes made h.last ≡ view p.own.writes.record = ap (last_ingested n shape flushes made) (sym same_last) ∙ sym record_planned in
           record {

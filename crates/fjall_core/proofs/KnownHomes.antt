@@ -1,13 +1,15 @@
 -- What is known of the homes of keyspaces stays while trees change in memory, keyspaces come and go, and their folders stay in sight.
-use Rattle.std.proofs.Common.{◌≡◌, ◌≢◌, ℕ, ◌<◌, ◌≤◌, ◌==◌, not, Bool, true, false, cond, unwrap_or, List, [], get_or, All, Option, None, Some, refl, sym, ◌∙◌, ap, subst, arith}
+use Rattle.std.proofs.Common.{◌≡◌, ◌≢◌, ℕ, ◌<◌, ◌≤◌, ◌==◌, not, Bool, true, false, cond, unwrap_or, List, [], get_or, map, All, Option, None, Some, refl, sym, ◌∙◌, ap, subst, arith}
 use Rattle.std.specs.FinMap.{get, insert, remove}
 use Rattle.std.specs.Option.{option_map, option_or}
 use Rattle.std.proofs.lemmas.Bool.{cond-true, eq-eqb, eqb-false, eqb-true}
 use Rattle.std.proofs.lemmas.Bool.Decides.{nat_tests}
 use Rattle.std.proofs.lemmas.List.Elements.{All-filter, All-nil, All-push, filter_passes}
 use Rattle.fjall_base.specs.Pairs.{Bytes}
+use Rattle.fjall_blocks.specs.Readers.{Reader}
 use Rattle.fjall_catalog.specs.Catalog.{fields, first_of}
 use Rattle.fjall_commit.specs.Changes.{first_home}
+use Rattle.fjall_home.specs.Reading.{AreRight}
 use Rattle.fjall_journal.specs.Ops.{BatchItem}
 use Rattle.fjall_loading.specs.Known.{GoesOnFrom, IsKnown, LastFields}
 use Rattle.fjall_lsm.specs.Puts.{bare_tree, put_all}
@@ -15,7 +17,7 @@ use Rattle.fjall_lsm.specs.Trees.{IsSameShape, Shape, emptied, first_from, floor
 use Rattle.fjall_lsm.proofs.Changes.{first_same, first_sealed}
 use Rattle.fjall_maps.proofs.Changed.{tree_with}
 use Rattle.fjall_maps.proofs.Planted.{no_tree}
-use Rattle.fjall_maps.proofs.Pushed.{put_all_clears, put_all_from, put_all_sealed, pushed_at}
+use Rattle.fjall_maps.proofs.Pushed.{put_all_clears, put_all_from, put_all_sealed, put_all_tables, pushed_at}
 use Rattle.fjall_meta.specs.declared.living.LivingKeyspace.{LivingKeyspace}
 use Rattle.fjall_meta.specs.Keyspaces.{AreKeyspaces, Keyspaces, with_keyspace, without_keyspace}
 use Rattle.fjall_parts.specs.Parts.{Held, Memory, empty_from, holds_nothing, with_clear}
@@ -24,6 +26,7 @@ use Rattle.fjall_recovery.proofs.Storing.{get_removed}
 use Rattle.fjall_replay.specs.Replayed.{past}
 use Rattle.fjall_replay.proofs.Staying.{same_at}
 use Rattle.fjall_sorted.specs.Sorted.{flat}
+use Rattle.fjall_state.proofs.SameTrees.{infos_same}
 use Rattle.fjall_table.specs.Blocks.{Entry}
 use Rattle.fjall_tree.specs.Records.{Fields}
 use Rattle.fjall_trees.specs.Forests.{Forest, altered_at, tree_at, without}
@@ -44,6 +47,7 @@ put_goes_on vs shape last on =
     ap (λ (parts : List Held). first_from parts (put_all vs shape).memory.active) (put_all_sealed vs shape)
     ∙ first_same shape.memory.sealed shape.memory.active (put_all vs shape).memory.active (put_all_from vs shape) in
     record {
+      tables = ap (map (λ (r : Reader). r.info)) (put_all_tables vs shape) ∙ on.tables;
       clears = put_all_clears vs shape ∙ on.clears;
       beyond = subst (λ (n : ℕ). past last.persisted ≤ n) (sym floor) on.beyond;
       some = subst (λ (parts : List Held). All (λ h. holds_nothing h ≡ false) parts) (sym (put_all_sealed vs shape)) on.some;
@@ -51,6 +55,7 @@ put_goes_on vs shape last on =
 
 emptied_goes_on : (n : ℕ) (shape : Shape) → GoesOnToo shape (emptied n shape)
 emptied_goes_on n shape last on = record {
+  tables = on.tables;
   clears = on.clears;
   beyond = subst (λ (m : ℕ). past last.persisted ≤ m) (sym (first_same shape.memory.sealed shape.memory.active (with_clear n shape.memory.active) refl)) on.beyond;
   some = on.some;
@@ -59,6 +64,7 @@ emptied_goes_on n shape last on = record {
 -- a sealed memtable holds something
 sealed_goes_on : (shape : Shape) → holds_nothing shape.memory.active ≡ false → GoesOnToo shape (sealed_off shape)
 sealed_goes_on shape holds last on = record {
+  tables = on.tables;
   clears = on.clears;
   beyond = subst (λ (n : ℕ). past last.persisted ≤ n) (sym (first_sealed shape.memory.sealed shape.memory.active (empty_from shape.memory.active.until))) on.beyond;
   some = All-push (λ (h : Held). holds_nothing h ≡ false) shape.memory.sealed shape.memory.active on.some holds;
@@ -66,6 +72,7 @@ sealed_goes_on shape holds last on = record {
 
 same_goes_on : (old new : Shape) → IsSameShape old new → GoesOnToo old new
 same_goes_on old new same last on = record {
+  tables = infos_same old.tables new.tables same.tables ∙ on.tables;
   clears = same.clears ∙ on.clears;
   beyond = subst (λ (m : Memory). past last.persisted ≤ floor_of m) (sym same.memory) on.beyond;
   some = subst (λ (m : Memory). All (λ h. holds_nothing h ≡ false) m.sealed) (sym same.memory) on.some;
@@ -134,6 +141,7 @@ stays_known old new trees others entries homes versions homes_then versions_then
     record {
       h = is.h;
       home = stays.home ∙ is.home;
+      right = is.right;
       stored = stays.stored ∙ is.stored;
       last = ap (λ (o : Option Fields). unwrap_or o (fields (first_of k.number))) stays.record_is ∙ is.last;
       shape = there.0;
@@ -203,6 +211,7 @@ module _ (name : Bytes) (options : List Bytes) (number : ℕ) (s : Keyspaces) (a
   new_known given none = record {
     h = first_home number;
     home = get_put homes s.next (first_home number) s.next ∙ ap (λ b. cond b (Some (first_home number)) (get homes s.next)) itself;
+    right = subst (λ (es : List (List Entry)). AreRight [] [] es) (sym none) tt;
     stored = get_put versions s.next [] s.next ∙ ap (λ b. cond b (Some []) (get versions s.next)) itself ∙ ap (λ (es : List (List Entry)). Some (flat es)) (sym none);
     last = ap (λ (o : Option Fields). unwrap_or o (fields (first_of number)))
         (get_put records s.next (fields (first_of number)) s.next ∙ ap (λ b. cond b (Some (fields (first_of number))) (get records s.next)) itself);
@@ -210,7 +219,7 @@ module _ (name : Bytes) (options : List Bytes) (number : ℕ) (s : Keyspaces) (a
     tree = tree_with s.next trees (record { id = s.next; shape = bare_tree number })
         ∙ ap (λ (o : Option Shape). option_or o (cond (s.next == s.next) (Some (bare_tree number)) None)) (no_tree s.next trees given)
         ∙ cond-true (s.next == s.next) (Some (bare_tree number)) None itself;
-    goes_on = record { clears = refl; beyond = omega arith; some = All-nil (λ (h : Held). holds_nothing h ≡ false) };
+    goes_on = record { tables = refl; clears = refl; beyond = omega arith; some = All-nil (λ (h : Held). holds_nothing h ≡ false) };
   }
 
   pub known_created : All (λ k. k.id < s.next) trees → entries s.next ≡ [] → AreAllKnown records trees entries homes versions s.living

@@ -74,7 +74,7 @@ next_home state id f h safe =
 
 -- ---- what they hold
 
-both_right : (tables infos : List TableInfo) (texts more : List (List ℕ)) (entries lists : List (List Entry)) → AreRight tables texts entries → AreRight infos more lists
+pub both_right : (tables infos : List TableInfo) (texts more : List (List ℕ)) (entries lists : List (List Entry)) → AreRight tables texts entries → AreRight infos more lists
     → AreRight (tables ++ infos) (texts ++ more) (entries ++ lists)
 both_right [] infos [] more [] lists one two = two
 both_right [] infos [] more (e ∷ entries) lists one two = absurd one
@@ -83,7 +83,7 @@ both_right (t ∷ tables) infos [] more entries lists one two = absurd one
 both_right (t ∷ tables) infos (text ∷ texts) more [] lists one two = absurd one
 both_right (t ∷ tables) infos (text ∷ texts) more (e ∷ entries) lists one two = (one.0, both_right tables infos texts more entries lists one.1 two)
 
-new_right : (next : ℕ) (tables : List MadeTable) (lists : List (List Entry)) → AreMadeTables tables lists → AreRight (infos_from next tables) (texts_of tables) lists
+pub new_right : (next : ℕ) (tables : List MadeTable) (lists : List (List Entry)) → AreMadeTables tables lists → AreRight (infos_from next tables) (texts_of tables) lists
 new_right next [] [] made = tt
 new_right next [] (l ∷ lists) made = absurd made
 new_right next (t ∷ tables) [] made = absurd made

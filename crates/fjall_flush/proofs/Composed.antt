@@ -51,7 +51,7 @@ put_again {X} m id x at = same_maps (insert m id x) m (λ q. get_put m id x q �
     by q true is = subst (λ i. Some x ≡ get m i) (sym (same_id q id is)) (sym at)
     by q false is = refl
 
-same_tree : (t : Tree) (id : ℕ) (h : Home) (versions : List Entry) → HasAt t id h versions → with_home_at id h versions t ≡ t
+pub same_tree : (t : Tree) (id : ℕ) (h : Home) (versions : List Entry) → HasAt t id h versions → with_home_at id h versions t ≡ t
 same_tree t id h versions at = λ i. record { last = t.last; keyspaces = t.keyspaces; homes = put_again t.homes id h at.home i; versions = put_again t.versions id versions at.stored i }
 
 -- it is a living keyspace's, and safe
@@ -68,7 +68,7 @@ is_home state records t id h versions lies at =
     home_of state t id h (keyspace_at id t.keyspaces.living) refl (subst (λ (o : Option Home). HasSafeHomeAt state id (keyspace_at id t.keyspaces.living) o) at.home (lies.rests.homes id))
 
 -- no keyspace that lives is tree 0
-not_zero : (s : Keyspaces) (id : ℕ) → AreKeyspaces s → is_some (keyspace_at id s.living) ≡ true → 0 ≢ id
+pub not_zero : (s : Keyspaces) (id : ℕ) → AreKeyspaces s → is_some (keyspace_at id s.living) ≡ true → 0 ≢ id
 not_zero s id are lives = of (keyspace_at id s.living) refl lives
   where
     of : (k : Option LivingKeyspace) → keyspace_at id s.living ≡ k → is_some k ≡ true → 0 ≢ id

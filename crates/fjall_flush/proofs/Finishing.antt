@@ -4,12 +4,14 @@ use Rattle.std.specs.FinMap.{get, insert}
 use Rattle.std.specs.Option.{option_map}
 use Rattle.std.proofs.lemmas.Bool.{cond-false, cond-true, eq-eqb, lt-ltb, true≢false}
 use Rattle.std.proofs.lemmas.Grind.{flat_map-append}
+use Rattle.std.proofs.lemmas.List.{map-append}
 use Rattle.std.proofs.lemmas.List.Elements.{All-append, All-cons, All-drop, All-head, All-nil, All-tail, All-weaker}
 use Rattle.fjall_base.proofs.Codecs.{some_is}
 use Rattle.fjall_blocks.specs.Readers.{Reader}
 use Rattle.fjall_catalog.specs.Catalog.{fields, first_of}
 use Rattle.fjall_contents.specs.Contents.{Stored, clears_held, is_beyond, versions_held}
 use Rattle.fjall_home.specs.Homes.{Home}
+use Rattle.fjall_home.specs.Reading.{AreRight}
 use Rattle.fjall_jobs.specs.declared.made_table.MadeTable.{MadeTable}
 use Rattle.fjall_jobs.specs.Tasks.{IsFlushed, Task}
 use Rattle.fjall_journal.specs.Batches.{Shown, Written, shown}
@@ -39,8 +41,8 @@ use Rattle.fjall_versions.proofs.Slots.{get_put, same_id}
 use Rattle.fjall_views.specs.Views.{value_at}
 use Rattle.fjall_flush.specs.Covering.{MayCount, ShowsBatches, Takes}
 use Rattle.fjall_flush.specs.Finishing.{AreKnown, CanFinish, flush_out}
-use Rattle.fjall_flush.specs.Flushes.{Flush, Follows, HasAt, home_after, record_after, tree_after}
-use Rattle.fjall_flush.proofs.AfterHomes.{versions_at}
+use Rattle.fjall_flush.specs.Flushes.{Flush, Follows, HasAt, home_after, infos_from, record_after, texts_of, tree_after}
+use Rattle.fjall_flush.proofs.AfterHomes.{both_right, new_right, versions_at}
 use Rattle.fjall_flush.proofs.AfterRecords.{raised_is}
 use Rattle.fjall_flush.proofs.SameStore.{first_all, same_memory}
 use Rattle.fjall_flush.proofs.Taken.{apart_behind, counts, follows_from, from_on, last_all, own_clears, parts_parted, takes}
@@ -206,6 +208,9 @@ module _ (j : Journaling) (t : Tree) (trees : Forest) (entries : ℕ → List (L
     goes_on : GoesOnFrom h.last shape
     goes_on = subst (λ (o : Home). GoesOnFrom o.last shape) same goes
 
+    right : AreRight h.last.tables h.texts (entries k.id)
+    right = subst (λ (o : Home). AreRight o.last.tables o.texts (entries k.id)) same here.right
+
     at : HasAt t k.id h (flat (entries k.id))
     at = record { home = home; stored = here.stored }
 
@@ -254,7 +259,12 @@ module _ (j : Journaling) (t : Tree) (trees : Forest) (entries : ℕ → List (L
       all_entries : flat (entries k.id ++ made.lists) ≡ flat (entries k.id) ++ flat made.lists
       all_entries = flat_map-append (λ (l : List Entry). l) (entries k.id) made.lists
 
-      module _ (readers : List Reader) where
+      -- these are what its tables hold then
+      right_after : AreRight (h.last.tables ++ infos_from h.last.next_table_id tables) (h.texts ++ texts_of tables) (entries k.id ++ made.lists)
+      right_after =
+          both_right h.last.tables (infos_from h.last.next_table_id tables) h.texts (texts_of tables) (entries k.id) made.lists right (new_right h.last.next_table_id tables made.lists made.made)
+
+      module _ (readers : List Reader) (infos : map (λ (r : Reader). r.info) readers ≡ infos_from h.last.next_table_id tables) where
         abbrev after : Forest
         after = altered_at k.id (flush_finished readers out) trees
 
@@ -321,6 +331,7 @@ module _ (j : Journaling) (t : Tree) (trees : Forest) (entries : ℕ → List (L
         -- its tree goes on from the record after the flush
         goes_after : GoesOnFrom (record_after f h.last) shape_after
         goes_after = record {
+          tables = map-append (λ (r : Reader). r.info) shape.tables readers ∙ (λ i. goes_on.tables i ++ infos i);
           clears = λ i. goes_on.clears i ++ sym own i;
           beyond = let e = raised_is h.last.persisted number beyond in omega (arith, e, end_is, above);
           some = All-drop (λ (p : Held). holds_nothing p ≡ false) out.count sealed goes_on.some;
@@ -335,6 +346,7 @@ module _ (j : Journaling) (t : Tree) (trees : Forest) (entries : ℕ → List (L
             by i known true same = record {
               h = home_after f h;
               home = get_put t.homes k.id (home_after f h) i.id ∙ cond-true (i.id == k.id) (Some (home_after f h)) (get t.homes i.id) same;
+              right = subst (λ (l : List (List Entry)). AreRight (home_after f h).last.tables (home_after f h).texts l) (sym (cond-true (i.id == k.id) (entries k.id ++ made.lists) (entries i.id) same)) right_after;
               stored = get_put t.versions k.id (flat (entries k.id) ++ flat made.lists) i.id
                   ∙ cond-true (i.id == k.id) (Some (flat (entries k.id) ++ flat made.lists)) (get t.versions i.id) same
                   ∙ ap (λ (l : List Entry). Some l) (sym all_entries ∙ ap flat (sym (cond-true (i.id == k.id) (entries k.id ++ made.lists) (entries i.id) same)));
@@ -347,6 +359,7 @@ module _ (j : Journaling) (t : Tree) (trees : Forest) (entries : ℕ → List (L
             by i known false differ = record {
               h = known.h;
               home = get_put t.homes k.id (home_after f h) i.id ∙ cond-false (i.id == k.id) (Some (home_after f h)) (get t.homes i.id) differ ∙ known.home;
+              right = subst (λ (l : List (List Entry)). AreRight known.h.last.tables known.h.texts l) (sym (cond-false (i.id == k.id) (entries k.id ++ made.lists) (entries i.id) differ)) known.right;
               stored = get_put t.versions k.id (flat (entries k.id) ++ flat made.lists) i.id
                   ∙ cond-false (i.id == k.id) (Some (flat (entries k.id) ++ flat made.lists)) (get t.versions i.id) differ
                   ∙ known.stored

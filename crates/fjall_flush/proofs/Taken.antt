@@ -85,7 +85,7 @@ versions_beyond p (h ∷ parts) held beyond =
 
 -- ---- clears that ascend
 
-rises : (ns : List ℕ) → Ascends ns → IsStrictlyIncreasing ns
+pub rises : (ns : List ℕ) → Ascends ns → IsStrictlyIncreasing ns
 rises [] up k within = absurd (omega (arith, within))
 rises (n ∷ ns) up zero within = up.0 zero 0 (omega (arith, within))
 rises (n ∷ ns) up (suc k) within =

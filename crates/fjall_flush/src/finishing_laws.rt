@@ -1,6 +1,6 @@
 //! What holds of a flush that is out of a tree, once it is finished.
 
-ghost use Rattle.std.specs.Prelude.{◌≡◌, ◌≢◌, ◌++◌, ◌<◌, ◌≤◌, ◌^◌, [], ℕ, List, Some};
+ghost use Rattle.std.specs.Prelude.{◌≡◌, ◌≢◌, ◌++◌, ◌<◌, ◌≤◌, ◌^◌, [], ℕ, List, Some, map};
 ghost use Rattle.std.specs.FinMap.{get, insert};
 ghost use Rattle.fjall_blocks.specs.Readers.{Reader};
 ghost use Rattle.fjall_home.specs.Homes.{Home};
@@ -18,7 +18,7 @@ ghost use Rattle.fjall_trees.specs.Forests.{Forest, IsForest, altered_at};
 ghost use Rattle.fjall_trees.specs.Tables.{entries_with, shape_in};
 ghost use Rattle.fjall_flush.specs.Covering.{MayCount};
 ghost use Rattle.fjall_flush.specs.Finishing.{AreKnown, CanFinish, flush_out};
-ghost use Rattle.fjall_flush.specs.Flushes.{Follows, record_after, tree_after};
+ghost use Rattle.fjall_flush.specs.Flushes.{Follows, infos_from, record_after, tree_after};
 
 /// A flush that is out of a keyspace of which all is known may count, whatever it made of its task: it covers all that it takes,
 /// which is synced, and follows the home's last record. A flush that was begun with sealed memtables was begun with some, and all that
@@ -39,11 +39,11 @@ pub fn a_flush_that_is_out_may_count()
 {}
 
 /// After a flush that was out all keyspaces are known again, with the tables that it made behind the others of its keyspace and with
-/// the record after it, whatever readers stand for the tables.
+/// the record after it, whatever readers stand for the tables, where they know of them what that record says.
 pub fn a_finished_flush_is_known()
     ensures { (j : Journaling) (t : Tree) (trees : Forest) (entries : ℕ → List (List Entry)) (records : LastFields) (k : LivingKeyspace) (task : Task)
         → (can : CanFinish j t trees entries records k task) → (tables : List MadeTable) (clears : List ℕ) (made : IsFlushed task tables clears)
-        → (h : Home) → get t.homes k.id ≡ Some h → (readers : List Reader)
+        → (h : Home) → get t.homes k.id ≡ Some h → (readers : List Reader) → map (λ t. t.info) readers ≡ infos_from h.last.next_table_id tables
         → let f = flush_out k.id trees tables clears in AreKnown j (tree_after k.id f made.lists h (flat (entries k.id)) t) (altered_at k.id (flush_finished readers can.flushing.out) trees)
         (entries_with k.id (entries k.id ++ made.lists) entries) (insert records k.id (record_after f h.last)) }
 {}

@@ -15,4 +15,4 @@ pub use laws::{
 };
 pub use plan::{FlushPlan, plan_flush, plan_tables};
 pub use readers::table_readers;
-pub use writing::{write_flush, write_tables};
+pub use writing::{put_record, write_flush, write_tables};

@@ -1,6 +1,6 @@
 //! A flush on the disk: its table, and the record that makes it count.
 
-ghost use Rattle.std.specs.Prelude.{◌≡◌, ◌⊎◌, ◌++◌, ◌∷◌, [], ℕ, List, IsTrue, OnOk, string_bytes};
+ghost use Rattle.std.specs.Prelude.{◌≡◌, ◌⊎◌, ◌++◌, ◌∷◌, [], ℕ, List, IsTrue, OnOk};
 ghost use Rattle.fjall_base.specs.Disk.{IsNoFolder, LeavesOnly, LeavesOnlyBy, OnlyFaults, state_in};
 ghost use Rattle.fjall_files.specs.Calls.{AllServed};
 ghost use Rattle.fjall_files.specs.Names.{IsNameOf, current_name, keyspace_folder, table_name};
@@ -47,27 +47,28 @@ fn put_table<D: Disk>(disk: &mut D, plan: &FlushPlan, tables: &[MadeTable]) -> R
     disk.sync_folder(plan.folder.as_str())
 }
 
-/// Appends the record of a home whose tables are put there, and syncs it: from then on that home counts.
-fn put_record<D: Disk>(disk: &mut D, plan: &FlushPlan) -> Result<()>
-    ensures within { IsTrue D.honest → (id : ℕ) → IsNameOf current_name (string_bytes plan.now.current) id
+/// Appends the record of a home whose tables are put there to the file of its records, and syncs it: from then on that home counts.
+/// Nothing is asked of what else stands in its folder.
+pub fn put_record<D: Disk>(disk: &mut D, file: &str, text: &[u8]) -> Result<()>
+    ensures within { IsTrue D.honest → (id : ℕ) → IsNameOf current_name file.now id
         → Within (keyspace_folder id) (D.meaning disk.old) (D.meaning disk.new) }
     // A crash at any moment of the call leaves the home as it was or the next one.
-    ensures any_moment { IsTrue D.honest → (id : ℕ) (records : List Fields) (h next : Home) → IsNameOf current_name (string_bytes plan.now.current) id
-        → IsRecord next.last → plan.now.record_text.items ≡ record_text next.last → IsPut (state_in (D.meaning disk.old)) id records h next
+    ensures any_moment { IsTrue D.honest → (id : ℕ) (records : List Fields) (h next : Home) → IsNameOf current_name file.now id
+        → IsRecord next.last → text.now ≡ record_text next.last → IsPut (state_in (D.meaning disk.old)) id records h next
         → LeavesOnly (D.meaning disk.old) (D.meaning disk.new) (HasEither id records h next) }
-    ensures ok { IsTrue D.honest → (id : ℕ) (records : List Fields) (h next : Home) → IsNameOf current_name (string_bytes plan.now.current) id
-        → IsRecord next.last → plan.now.record_text.items ≡ record_text next.last → IsPut (state_in (D.meaning disk.old)) id records h next
+    ensures ok { IsTrue D.honest → (id : ℕ) (records : List Fields) (h next : Home) → IsNameOf current_name file.now id
+        → IsRecord next.last → text.now ≡ record_text next.last → IsPut (state_in (D.meaning disk.old)) id records h next
         → OnOk result (Rests (state_in (D.meaning disk.new)) id (records ++ next.last ∷ []) next) }
-    ensures served { IsTrue D.honest → (id : ℕ) (records : List Fields) (h : Home) → IsNameOf current_name (string_bytes plan.now.current) id
+    ensures served { IsTrue D.honest → (id : ℕ) (records : List Fields) (h : Home) → IsNameOf current_name file.now id
         → Rests (state_in (D.meaning disk.old)) id records h → AllServed (D.meaning disk.old) (D.meaning disk.new) }
     ensures cause { OnlyFaults (D.meaning disk.old) (D.meaning disk.new) result }
     ensures kinds { IsTrue D.honest → StaysTidy (D.meaning disk.old) (D.meaning disk.new) }
     // Nothing beside the file of records changes, whatever lies on the disk.
-    ensures beside { IsTrue D.honest → (id : ℕ) → IsNameOf current_name (string_bytes plan.now.current) id
+    ensures beside { IsTrue D.honest → (id : ℕ) → IsNameOf current_name file.now id
         → Within (current_name id) (D.meaning disk.old) (D.meaning disk.new) }
 {
-    disk.append(plan.current.as_str(), &plan.record_text)?;
-    disk.sync(plan.current.as_str())
+    disk.append(file, text)?;
+    disk.sync(file)
 }
 
 /// Writes a table that was made, or none, as it was planned: the table, which is synced with its name, and then the record, which
@@ -95,7 +96,7 @@ pub fn write_tables<D: Disk>(disk: &mut D, plan: &FlushPlan, tables: &[MadeTable
     ensures files { IsTrue D.honest → ForPlannedOf plan.now tables.now (λ id next. OnOk result (HaveFiles (D.meaning disk.new) id next tables.now)) }
 {
     put_table(disk, plan, tables)?;
-    put_record(disk, plan)
+    put_record(disk, plan.current.as_str(), &plan.record_text)
 }
 
 /// Writes a flush as it was planned: its table, which is synced with its name, and then the record, which is appended and

@@ -1,5 +1,5 @@
 -- What a file's bytes tell of it.
-use Rattle.std.proofs.Common.{◌≡◌, ℕ, [], ◌∷◌, List, Some, None, sym, ◌∙◌, ap}
+use Rattle.std.proofs.Common.{◌≡◌, ℕ, [], List, Some, None, sym, ◌∙◌, ap}
 use Rattle.fjall_base.specs.Disk.{Entry, Missing, File, Folder, IsFile}
 use Rattle.fjall_base.specs.Lists.{last_of}
 use Rattle.fjall_files.specs.Texts.{text_in}

@@ -15,7 +15,7 @@ use Rattle.fjall_files.proofs.Made.{removing_within}
 use Rattle.fjall_files.proofs.Under.{under_self}
 use Rattle.fjall_table.specs.declared.table_info.TableInfo.{TableInfo}
 use Rattle.fjall_tree.specs.Records.{Fields}
-use Rattle.fjall_home.specs.Homes.{Home, IsReady}
+use Rattle.fjall_home.specs.Homes.{Home, IsReady, Rests}
 use Rattle.fjall_home.specs.Changes.{AreGone, AreUnnamed}
 use Rattle.fjall_home.proofs.Naming.{named, other_table, table_under}
 use Rattle.fjall_home.proofs.Resting.{IsGiven, all_given, last_record}
@@ -56,6 +56,13 @@ other_stays : (name q : Name) (old new : Meaning) (there : Entry) → bytes_eq q
 other_stays name q old new Missing not took = ap (λ (s : State). s q) took.state
 other_stays name q old new (File synced unsynced) not took = ap (λ (s : State). s q) took.state ∙ put-other (state_in old) name Missing q not
 other_stays name q old new Folder not took = ap (λ (s : State). s q) took.state ∙ put-other (state_in old) name Missing q not
+
+-- beside the name that is removed all stays
+pub beside_removed : (name q : Name) (old new : Meaning) → q ≢ name → Took old new (removing name (state_in old name).now) → (state_in new q).now ≡ (state_in old q).now
+beside_removed name q old new differ took = elim (bool_cases (bytes_eq q name)) [
+  | inl is ↦ absurd (differ (same is))
+  | inr not ↦ ap (λ (place : Place). place.now) (other_stays name q old new _ not took)
+]
 
 -- what holds of a name, and of one where nothing stands, holds on
 pub removing_keeps : (P : Entry → Type 0) → P Missing → (name q : Name) (old new : Meaning) → Took old new (removing name (state_in old name).now) → P (state_in old q).now → P (state_in new q).now
@@ -102,24 +109,39 @@ module _ (id : ℕ) (small : id < 2 ^ 64) (records : List Fields) (h : Home) whe
   pub ready_start : (old : Meaning) → IsReady (state_in old) id records h → StillReady old old id records h
   ready_start old ready = record { still = start id small records h old ready.rests; ready = ready }
 
-  pub one_removed : (ids : List ℕ) (i : ℕ) (name : Name) (old mid new : Meaning) → name ≡ table_name id (get_or ids i 0) → i < length ids → AreUnnamed h ids → StillReady old mid id records h
-      → Took mid new (removing name (state_in mid name).now) → StillReady old new id records h
-  one_removed ids i name old mid new at lt unnamed so_far took =
-      let n = get_or ids i 0 in
-      let is = last_record (state_in mid) id records h so_far.ready.rests in
-      let below : n < h.last.next_table_id = unnamed.given i 0 lt in
-      let fits : n < 2 ^ 64 = (let room = is.fits.room.next_table_id in omega (arith, below, room)) in
-      let run : Within (table_name id n) mid new = subst (λ (q : Name). Within q mid new) at (removing_within name name mid new (under_self name) took) in
-      let still = then_beside id small records h n old mid new fits (unnamed_others h.last.tables h.last.next_table_id n (all_given h.last is) (unnamed.unnamed i 0 lt)) so_far.still run in
-      record {
-        still = still;
-        ready = record {
-          rests = still.rests;
-          free = λ table above low.
-              ap (λ (p : Place). p.now) (within_state (table_name id n) (named id n fits) mid new run (table_name id table) (other_table id n table fits low (λ e. omega (arith, e, above, below))))
-              ∙ so_far.ready.free table above low;
-        };
-      }
+  module _ (ids : List ℕ) (i : ℕ) (name : Name) (mid new : Meaning) (at : name ≡ table_name id (get_or ids i 0)) (lt : i < length ids) (unnamed : AreUnnamed h ids)
+      (took : Took mid new (removing name (state_in mid name).now)) where
+    abbrev n : ℕ
+    n = get_or ids i 0
+
+    below : n < h.last.next_table_id
+    below = unnamed.given i 0 lt
+
+    fits : Rests (state_in mid) id records h → n < 2 ^ 64
+    fits rests = let room = (last_record (state_in mid) id records h rests).fits.room.next_table_id in let less = below in omega (arith, less, room)
+
+    run : Within (table_name id n) mid new
+    run = subst (λ (q : Name). Within q mid new) at (removing_within name name mid new (under_self name) took)
+
+    pub still_removed : (old : Meaning) → Still old mid id records h → Still old new id records h
+    still_removed old so_far =
+        then_beside id small records h n old mid new (fits so_far.rests)
+        (unnamed_others h.last.tables h.last.next_table_id n (all_given h.last (last_record (state_in mid) id records h so_far.rests)) (unnamed.unnamed i 0 lt)) so_far run
+
+    pub one_removed : (old : Meaning) → StillReady old mid id records h → StillReady old new id records h
+    one_removed old so_far =
+        let still = still_removed old so_far.still in
+        record {
+          still = still;
+          ready = record {
+            rests = still.rests;
+            free = λ table above low.
+                let own = fits so_far.ready.rests in
+                let less = below in
+                ap (λ (p : Place). p.now) (within_state (table_name id n) (named id n own) mid new run (table_name id table) (other_table id n table own low (λ e. omega (arith, e, above, less))))
+                ∙ so_far.ready.free table above low;
+          };
+        }
 
   pub as_it_was : (old mid new : Meaning) → StillReady old mid id records h → Took mid new [] → StillReady old new id records h
   as_it_was old mid new so_far took = record {

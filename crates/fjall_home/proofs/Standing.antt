@@ -9,7 +9,7 @@ use Rattle.fjall_files.specs.Texts.{text_in}
 use Rattle.fjall_table.specs.declared.table_info.TableInfo.{TableInfo}
 use Rattle.fjall_tree.specs.Records.{Fields, IsRecords, record_text}
 use Rattle.fjall_tree.proofs.Currents.{texts_are_records}
-use Rattle.fjall_home.specs.Homes.{AreSafe, HasHome, HoldTables, HoldsText, Home, Rests, records_text}
+use Rattle.fjall_home.specs.Homes.{AreSafe, HasHome, HoldTables, HoldsText, Home, Rests}
 
 module _ (state : State) (id : ℕ) where
   text_stands : (q : Name) (bytes : List ℕ) → IsSafe state q bytes → HoldsText (standing state) q bytes

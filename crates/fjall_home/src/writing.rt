@@ -1,6 +1,6 @@
 //! A change of a home on the disk: new tables, the record that makes them count, and the removal of tables that none names.
 
-ghost use Rattle.std.specs.Prelude.{◌≡◌, ◌<◌, ◌^◌, ◌++◌, ◌∷◌, [], ℕ, All, List, OnOk, IsTrue, map, string_bytes, true};
+ghost use Rattle.std.specs.Prelude.{◌≡◌, ◌≢◌, ◌<◌, ◌^◌, ◌++◌, ◌∷◌, [], ℕ, All, List, OnOk, IsTrue, map, string_bytes, true};
 ghost use Rattle.fjall_base.specs.Disk.{Append, File, IsNoFolder, LeavesOnly, LeavesOnlyBy, Name, OnlyFaults, Sync, Took, state_in};
 ghost use Rattle.fjall_files.specs.Calls.{AllServed};
 ghost use Rattle.fjall_files.specs.Names.{IsNameOf, current_name, keyspace_folder, table_name};
@@ -83,9 +83,15 @@ pub fn remove_tables<D: Disk>(disk: &mut D, names: &[String]) -> Result<()>
     ensures ready { IsTrue D.honest → (id : ℕ) (records : List Fields) (h : Home) (ids : List ℕ) → id < 2 ^ 64
         → map string_bytes names.now ≡ map (table_name id) ids → AreUnnamed h ids → IsReady (state_in (D.meaning disk.old)) id records h
         → IsReady (state_in (D.meaning disk.new)) id records h }
+    // Where a table of a later id may stand, it is there at each moment all the same, and rests on.
+    ensures rests { IsTrue D.honest → (id : ℕ) (records : List Fields) (h : Home) (ids : List ℕ) → id < 2 ^ 64
+        → map string_bytes names.now ≡ map (table_name id) ids → AreUnnamed h ids → Rests (state_in (D.meaning disk.old)) id records h
+        → LeavesOnlyBy SyncedStays (D.meaning disk.old) (D.meaning disk.new) (λ image. HasHome image id records h) × Rests (state_in (D.meaning disk.new)) id records h }
     ensures served { IsTrue D.honest → (id : ℕ) (ids : List ℕ) → map string_bytes names.now ≡ map (table_name id) ids
         → All (λ table. IsNoFolder (state_in (D.meaning disk.old) (table_name id table)).now) ids → AllServed (D.meaning disk.old) (D.meaning disk.new) }
     ensures cause { OnlyFaults (D.meaning disk.old) (D.meaning disk.new) result }
+    // In sight nothing changes but these names.
+    ensures beside { IsTrue D.honest → (q : Name) → All (λ name. q ≢ string_bytes name) names.now → (state_in (D.meaning disk.new) q).now ≡ (state_in (D.meaning disk.old) q).now }
     ensures gone { IsTrue D.honest → (id : ℕ) (ids : List ℕ) → map string_bytes names.now ≡ map (table_name id) ids
         → OnOk result (AreGone (state_in (D.meaning disk.new)) id ids) }
     ensures kinds { IsTrue D.honest → StaysTidy (D.meaning disk.old) (D.meaning disk.new) }

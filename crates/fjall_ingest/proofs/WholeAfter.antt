@@ -10,10 +10,11 @@ use Rattle.fjall_catalog.specs.Catalog.{fields, first_of}
 use Rattle.fjall_contents.specs.Contents.{Stored, clears_held, is_beyond, versions_held}
 use Rattle.fjall_contents.proofs.Beyond.{beyond_is_later}
 use Rattle.fjall_flush.specs.Finishing.{AreKnown}
-use Rattle.fjall_flush.specs.Flushes.{record_after}
-use Rattle.fjall_flush.proofs.AfterHomes.{versions_at}
+use Rattle.fjall_flush.specs.Flushes.{infos_from, record_after, texts_of}
+use Rattle.fjall_flush.proofs.AfterHomes.{both_right, new_right, versions_at}
 use Rattle.fjall_flush.proofs.AfterRecords.{raised_is}
 use Rattle.fjall_home.specs.Homes.{Home}
+use Rattle.fjall_home.specs.Reading.{AreRight}
 use Rattle.fjall_jobs.specs.declared.made_table.MadeTable.{MadeTable}
 use Rattle.fjall_journal.specs.Batches.{Shown, shown}
 use Rattle.fjall_loading.specs.Known.{GoesOnFrom, IsKnown, LastFields}
@@ -49,7 +50,8 @@ use Rattle.fjall_ingest.proofs.WholeBetween.{IsBetween}
 module _ (j : Journaling) (t : Tree) (trees : Forest) (entries : ℕ → List (List Entry)) (records : LastFields) (are : AreKnown j t trees entries records) (id n : ℕ) (shape : Shape)
     (has : tree_at id trees ≡ Some shape) (last : Fields) (lists : List (List Entry)) (m : Tree) (h : Home) (versions : List Entry)
     (between : IsBetween j t id n last (clears_of shape) (flat (entries id) ++ flat lists) m h versions) (items : List KeyOp) (made : List MadeTable) (tables : AreOf n items made)
-    (readers : List Reader) where
+    (readers : List Reader) (right : AreRight h.last.tables h.texts (entries id ++ lists))
+    (infos : map (λ (r : Reader). r.info) (shape.tables ++ readers) ≡ h.last.tables ++ infos_from h.last.next_table_id made) where
   abbrev batches : List Shown
   batches = map shown (batches_in (journals_with j j.later))
 
@@ -127,9 +129,17 @@ module _ (j : Journaling) (t : Tree) (trees : Forest) (entries : ℕ → List (L
       (subst (λ (l : List (List Entry)). ShowsWith l (clears_held m.keyspaces (stored_of home stored) id batches) (versions_held m.keyspaces (stored_of home stored) id batches) shape_after)
       (sym (entries_here id more entries)) shows_after)
 
+  -- these are what its tables hold
+  right_after : AreRight home.last.tables home.texts more
+  right_after =
+      let own = infos_from h.last.next_table_id made in
+      subst (λ (l : List (List Entry)). AreRight (h.last.tables ++ own) (h.texts ++ texts_of made) l) (append_assoc (entries id) lists tables.0)
+      (both_right h.last.tables own h.texts (texts_of made) (entries id ++ lists) tables.0 right (new_right h.last.next_table_id made tables.0 tables.1))
+
   -- its tree goes on from the record behind the ingestion
   goes_after : GoesOnFrom (record_after (as_flush n made) h.last) shape_after
   goes_after = record {
+    tables = infos;
     clears = all_clears;
     beyond = let e = raised_is h.last.persisted n later in omega (arith, e);
     some = All-nil (λ (p : Held). holds_nothing p ≡ false);
@@ -179,6 +189,7 @@ module _ (j : Journaling) (t : Tree) (trees : Forest) (entries : ℕ → List (L
       by i known true same = record {
         h = home;
         home = get_put m.homes id home i.id ∙ cond-true (i.id == id) (Some home) (get m.homes i.id) same;
+        right = subst (λ (l : List (List Entry)). AreRight home.last.tables home.texts l) (sym (cond-true (i.id == id) more (entries i.id) same)) right_after;
         stored = get_put m.versions id stored i.id
             ∙ cond-true (i.id == id) (Some stored) (get m.versions i.id) same
             ∙ ap (λ (l : List Entry). Some l) (sym all_entries ∙ ap flat (sym (cond-true (i.id == id) more (entries i.id) same)));
@@ -192,6 +203,7 @@ module _ (j : Journaling) (t : Tree) (trees : Forest) (entries : ℕ → List (L
       by i known false differ = record {
         h = known.h;
         home = get_put m.homes id home i.id ∙ cond-false (i.id == id) (Some home) (get m.homes i.id) differ ∙ between.homes i.id differ ∙ known.home;
+        right = subst (λ (l : List (List Entry)). AreRight known.h.last.tables known.h.texts l) (sym (cond-false (i.id == id) more (entries i.id) differ)) known.right;
         stored = get_put m.versions id stored i.id
             ∙ cond-false (i.id == id) (Some stored) (get m.versions i.id) differ
             ∙ between.others i.id differ

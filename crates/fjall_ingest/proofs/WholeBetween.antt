@@ -1,21 +1,24 @@
 -- The tree between the flush of memory and an ingestion: memory has nothing left to show.
-use Rattle.std.proofs.Common.{◌≡◌, ℕ, ◌-◌, ◌<◌, ◌≤◌, ◌^◌, ◌==◌, Bool, true, false, if◌then◌else◌, List, [], ◌++◌, All, map, Option, Some, unwrap_or, refl, sym, ◌∙◌, ap, subst, arith}
+use Rattle.std.proofs.Common.{◌≡◌, ℕ, ◌+◌, ◌-◌, ◌<◌, ◌≤◌, ◌^◌, ◌==◌, Bool, true, false, if◌then◌else◌, List, [], ◌++◌, All, map, Option, Some, unwrap_or, refl, sym, ◌∙◌, ap, subst, arith, append_assoc, length}
 use Rattle.std.specs.FinMap.{get}
 use Rattle.std.specs.Option.{option_map}
 use Rattle.std.specs.Prelude.{nat_lt}
 use Rattle.std.proofs.lemmas.Bool.{cond-false, lt-ltb}
-use Rattle.std.proofs.lemmas.List.{append-nil}
+use Rattle.std.proofs.lemmas.List.{append-nil, map-append}
 use Rattle.std.proofs.lemmas.List.Elements.{All-nil, All-weaker}
 use Rattle.fjall_base.proofs.Codecs.{some_is}
+use Rattle.fjall_blocks.specs.Readers.{Reader}
 use Rattle.fjall_contents.specs.Contents.{clears_held, is_beyond, versions_held}
 use Rattle.fjall_flush.specs.Covering.{IsSyncedTo, MayCount, ShowsBatches, Takes}
-use Rattle.fjall_flush.specs.Flushes.{Flush, Follows, HasAt, home_after, raised, record_after, tree_after}
-use Rattle.fjall_flush.proofs.AfterHomes.{versions_at}
+use Rattle.fjall_flush.specs.Flushes.{Flush, Follows, HasAt, home_after, infos_from, raised, record_after, texts_of, tree_after}
+use Rattle.fjall_flush.proofs.AfterHomes.{both_right, new_right, versions_at}
 use Rattle.fjall_flush.proofs.AfterRecords.{raised_is}
 use Rattle.fjall_flush.proofs.Finishing.{begin_behind, past_is_beyond}
+use Rattle.fjall_flush.proofs.Reading.{infos_both}
 use Rattle.fjall_flush.proofs.SameStore.{same_store}
 use Rattle.fjall_flush.proofs.Taken.{counts, follows_from}
 use Rattle.fjall_home.specs.Homes.{Home}
+use Rattle.fjall_home.specs.Reading.{AreRight}
 use Rattle.fjall_jobs.specs.declared.made_table.MadeTable.{MadeTable}
 use Rattle.fjall_jobs.specs.Tasks.{IsFlushed, Task}
 use Rattle.fjall_jobs.proofs.Flushing.{flat_runs}
@@ -33,6 +36,7 @@ use Rattle.fjall_recovery.specs.Journals.{batches_in}
 use Rattle.fjall_recovery.specs.Places.{Journaling, contents_with, journals_with}
 use Rattle.fjall_replay.specs.Beside.{ShowsWith}
 use Rattle.fjall_sorted.specs.Sorted.{flat}
+use Rattle.fjall_table.specs.declared.table_info.TableInfo.{TableInfo}
 use Rattle.fjall_table.specs.Blocks.{Entry}
 use Rattle.fjall_tree.specs.Records.{Fields}
 use Rattle.fjall_trees.specs.Forests.{Forest, IsTree, tree_at}
@@ -46,7 +50,7 @@ use Rattle.fjall_ingest.specs.Commands.{MayCome, MayIngestSynced}
 use Rattle.fjall_ingest.specs.Whole.{CanIngest, home_flushed, last_flushed, memory_flush, tree_flushed, versions_flushed}
 use Rattle.fjall_ingest.proofs.Following.{may_follow}
 use Rattle.fjall_ingest.proofs.Numbers.{is_later}
-use Rattle.fjall_ingest.proofs.WholeMemory.{begins_before, nothing_held, nothing_made, takes_all}
+use Rattle.fjall_ingest.proofs.WholeMemory.{begins_before, none_listed, none_made, nothing_held, nothing_made, takes_all}
 
 -- Between the two the tree has this home of the keyspace, with these versions in its tables, and an ingestion may come. All else is as it
 -- was: the store, and what other keyspaces have. The home's record is that one, it has these clears, and the versions are those.
@@ -115,6 +119,9 @@ module _ (j : Journaling) (t : Tree) (trees : Forest) (entries : ℕ → List (L
 
     goes_on : GoesOnFrom h.last shape
     goes_on = subst (λ (o : Home). GoesOnFrom o.last shape) same goes
+
+    right : AreRight h.last.tables h.texts (entries k.id)
+    right = subst (λ (o : Home). AreRight o.last.tables o.texts (entries k.id)) same here.right
 
     at : HasAt t k.id h stored
     at = record { home = home; stored = here.stored }
@@ -199,6 +206,17 @@ module _ (j : Journaling) (t : Tree) (trees : Forest) (entries : ℕ → List (L
       same_clears : clears_of shape ≡ h.last.clears
       same_clears = (λ i. goes_on.clears i ++ nothing.0 i) ∙ append-nil h.last.clears
 
+      -- a flush of it makes no version, and so no table
+      no_versions : (watermark : ℕ) (tables : List MadeTable) (made : IsFlushed (memory_task k.id watermark memory) tables (clears_in parts)) → flat made.lists ≡ []
+      no_versions watermark tables made =
+          nothing_made watermark (clears_in parts) (flat (memory_task k.id watermark memory).runs) (flat made.lists) made.kept (flat_runs parts ∙ nothing.1)
+
+      no_lists : (watermark : ℕ) (tables : List MadeTable) (made : IsFlushed (memory_task k.id watermark memory) tables (clears_in parts)) → made.lists ≡ []
+      no_lists watermark tables made = none_listed made.lists made.parted (no_versions watermark tables made)
+
+      no_tables : (watermark : ℕ) (tables : List MadeTable) (made : IsFlushed (memory_task k.id watermark memory) tables (clears_in parts)) → tables ≡ []
+      no_tables watermark tables made = none_made tables made.lists made.made (no_lists watermark tables made)
+
       as_is : (watermark : ℕ) (tables : List MadeTable) (made : IsFlushed (memory_task k.id watermark memory) tables (clears_in parts))
           → IsBetween j t k.id n h.last (clears_of shape) (stored ++ flat made.lists) t h stored
       as_is watermark tables made = record {
@@ -212,9 +230,7 @@ module _ (j : Journaling) (t : Tree) (trees : Forest) (entries : ℕ → List (L
         others = λ other differ. refl;
         last_is = refl;
         clears_are = same_clears;
-        stored_are =
-            let input = flat_runs parts ∙ nothing.1 in
-            ap (λ (l : List Entry). stored ++ l) (nothing_made watermark (clears_in parts) (flat (memory_task k.id watermark memory).runs) (flat made.lists) made.kept input) ∙ append-nil stored;
+        stored_are = ap (λ (l : List Entry). stored ++ l) (no_versions watermark tables made) ∙ append-nil stored;
         store = refl;
       }
 
@@ -233,6 +249,45 @@ module _ (j : Journaling) (t : Tree) (trees : Forest) (entries : ℕ → List (L
         IsBetween j t k.id n (last_flushed shape tables h.last) (clears_of shape) (stored ++ flat made.lists) (tree_flushed some k.id f made.lists h stored t) (home_flushed some f h) (versions_flushed
         some made.lists stored)
     between watermark tables made = between_where watermark tables made (has_memory memory) refl
+
+    -- ---- its tables
+
+    -- these are what they hold once memory is flushed
+    right_where : (watermark : ℕ) (tables : List MadeTable) (made : IsFlushed (memory_task k.id watermark memory) tables (clears_in parts)) (b : Bool) → has_memory memory ≡ b
+        → let after = home_flushed b (memory_flush shape tables) h in
+        AreRight after.last.tables after.texts (entries k.id ++ made.lists)
+    right_where watermark tables made true some =
+        both_right h.last.tables (infos_from h.last.next_table_id tables) h.texts (texts_of tables) (entries k.id) made.lists right (new_right h.last.next_table_id tables made.lists made.made)
+    right_where watermark tables made false none =
+        let same = ap (λ (l : List (List Entry)). entries k.id ++ l) (no_lists none watermark tables made) ∙ append-nil (entries k.id) in
+        subst (λ (l : List (List Entry)). AreRight h.last.tables h.texts l) (sym same) right
+
+    pub right_between : (watermark : ℕ) (tables : List MadeTable) (made : IsFlushed (memory_task k.id watermark memory) tables (clears_in parts))
+        → let after = home_flushed (has_memory memory) (memory_flush shape tables) h in
+        AreRight after.last.tables after.texts (entries k.id ++ made.lists)
+    right_between watermark tables made = right_where watermark tables made (has_memory memory) refl
+
+    -- where the readers of all tables that are made know of them what the record says, the tree has the record's tables with them
+    infos_where : (watermark : ℕ) (tables own : List MadeTable) (made : IsFlushed (memory_task k.id watermark memory) tables (clears_in parts)) (readers : List Reader)
+        → map (λ (r : Reader). r.info) readers ≡ infos_from h.last.next_table_id (tables ++ own) → (b : Bool) → has_memory memory ≡ b
+        → let last = (home_flushed b (memory_flush shape tables) h).last in
+        map (λ (r : Reader). r.info) (shape.tables ++ readers) ≡ last.tables ++ infos_from last.next_table_id own
+    infos_where watermark tables own made readers infos true some =
+        let next = h.last.next_table_id in
+        map-append (λ (r : Reader). r.info) shape.tables readers
+        ∙ (λ i. goes_on.tables i ++ infos i)
+        ∙ ap (λ (l : List TableInfo). h.last.tables ++ l) (infos_both next tables own)
+        ∙ sym (append_assoc h.last.tables (infos_from next tables) (infos_from (next + length tables) own))
+    infos_where watermark tables own made readers infos false none =
+        map-append (λ (r : Reader). r.info) shape.tables readers
+        ∙ (λ i. goes_on.tables i ++ infos i)
+        ∙ ap (λ (l : List MadeTable). h.last.tables ++ infos_from h.last.next_table_id (l ++ own)) (no_tables none watermark tables made)
+
+    pub infos_between : (watermark : ℕ) (tables own : List MadeTable) (made : IsFlushed (memory_task k.id watermark memory) tables (clears_in parts)) (readers : List Reader)
+        → map (λ (r : Reader). r.info) readers ≡ infos_from h.last.next_table_id (tables ++ own)
+        → let last = (home_flushed (has_memory memory) (memory_flush shape tables) h).last in
+        map (λ (r : Reader). r.info) (shape.tables ++ readers) ≡ last.tables ++ infos_from last.next_table_id own
+    infos_between watermark tables own made readers infos = infos_where watermark tables own made readers infos (has_memory memory) refl
 
     -- what is persisted once memory is flushed is below the ingestion's number
     persisted_where : (tables : List MadeTable) (b : Bool) → has_memory memory ≡ b → is_beyond (if b then record_after (memory_flush shape tables) h.last else h.last).persisted n ≡ true

@@ -1,5 +1,5 @@
 -- What holds of a whole ingestion.
-use Rattle.std.proofs.Common.{◌≡◌, ◌⊎◌, inl, inr, ℕ, ◌+◌, List, [], ◌∷◌, ◌++◌, Some, true, refl, sym, ◌∙◌, subst, codes}
+use Rattle.std.proofs.Common.{◌≡◌, ◌⊎◌, inl, inr, ℕ, ◌+◌, List, [], ◌∷◌, ◌++◌, map, Some, true, refl, sym, ◌∙◌, subst, codes}
 use Rattle.std.specs.FinMap.{get, insert}
 use Rattle.std.proofs.lemmas.List.{append-nil}
 use Rattle.fjall_base.specs.Disk.{Image, LeavesOnly, Meaning, state_in}
@@ -9,7 +9,7 @@ use Rattle.fjall_contents.specs.Contents.{is_beyond}
 use Rattle.fjall_files.specs.Names.{keyspace_folder}
 use Rattle.fjall_files.specs.Regions.{Within}
 use Rattle.fjall_flush.specs.Finishing.{AreKnown}
-use Rattle.fjall_flush.specs.Flushes.{Follows}
+use Rattle.fjall_flush.specs.Flushes.{Follows, infos_from}
 use Rattle.fjall_flush.proofs.Composed.{seen}
 use Rattle.fjall_flush.proofs.SameNumber.{apart}
 use Rattle.fjall_home.specs.Homes.{Home}
@@ -130,11 +130,13 @@ module _ (j : Journaling) (t : Tree) (trees : Forest) (entries : ℕ → List (L
   number : number_of (contents_with j behind j.later) ≡ n + 1
   number = own_number j mid k.id n items tables mid_home mid_versions is_between.may.come j.later [] (append-nil j.later)
 
-  known : (readers : List Reader) → AreKnown j behind (altered_at k.id (ingested n readers) trees) (entries_with k.id (entries k.id ++ (flushed.lists ++ are.0)) entries)
+  known : (readers : List Reader) → map (λ (r : Reader). r.info) readers ≡ infos_from h.last.next_table_id (flushes ++ tables)
+      → AreKnown j behind (altered_at k.id (ingested n readers) trees) (entries_with k.id (entries k.id ++ (flushed.lists ++ are.0)) entries)
       (insert records k.id (last_ingested n tree flushes tables h.last))
-  known readers =
+  known readers infos =
       are_known j t trees entries records can.are k.id n tree (Between.has j t trees entries records k n can) (last_flushed tree flushes h.last) flushed.lists mid mid_home mid_versions is_between items
-      tables are readers
+      tables are readers (Between.right_between j t trees entries records k n can h home watermark flushes flushed)
+      (Between.infos_between j t trees entries records k n can h home watermark flushes tables flushed readers infos)
 
 -- a crash leaves the base without or with the one command
 pub whole_run : (j : Journaling) (t : Tree) (trees : Forest) (entries : ℕ → List (List Entry)) (records : LastFields) (k : LivingKeyspace) (n : ℕ) → CanIngest j t trees entries records k n
@@ -169,9 +171,9 @@ whole_number j t trees entries records k n can watermark items flushes made flus
 pub whole_known : (j : Journaling) (t : Tree) (trees : Forest) (entries : ℕ → List (List Entry)) (records : LastFields) (k : LivingKeyspace) (n : ℕ) → CanIngest j t trees entries records k n
     → (watermark : ℕ) (items : List KeyOp) (flushes made : List MadeTable)
     (flushed : IsFlushed (memory_task k.id watermark (shape_in k.id trees).memory) flushes (clears_in (parts_of (shape_in k.id trees).memory))) → (are : AreOf n items made) → (h : Home)
-    → get t.homes k.id ≡ Some h → (readers : List Reader)
+    → get t.homes k.id ≡ Some h → (readers : List Reader) → map (λ (r : Reader). r.info) readers ≡ infos_from h.last.next_table_id (flushes ++ made)
     → let tree = shape_in k.id trees in
     AreKnown j (tree_behind k.id n items tree flushes made flushed.lists h (flat (entries k.id)) t) (altered_at k.id (ingested n readers) trees)
     (entries_with k.id (entries k.id ++ (flushed.lists ++ are.0)) entries) (insert records k.id (last_ingested n tree flushes made h.last))
-whole_known j t trees entries records k n can watermark items flushes made flushed are h home readers =
-    known j t trees entries records k n can watermark items flushes made flushed are h home readers
+whole_known j t trees entries records k n can watermark items flushes made flushed are h home readers infos =
+    known j t trees entries records k n can watermark items flushes made flushed are h home readers infos

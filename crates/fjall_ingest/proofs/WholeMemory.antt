@@ -1,5 +1,5 @@
 -- All that is in memory: where it begins and ends, and what a flush of all of it takes.
-use Rattle.std.proofs.Common.{◌≡◌, ℕ, ◌+◌, ◌-◌, ◌<◌, ◌≤◌, ◌==◌, ◌&&◌, ◌||◌, Bool, true, false, not, List, [], ◌∷◌, ◌++◌, All, length, refl, sym, ◌∙◌, ap, subst, arith}
+use Rattle.std.proofs.Common.{◌≡◌, ℕ, ◌+◌, ◌-◌, ◌<◌, ◌≤◌, ◌==◌, ◌&&◌, ◌||◌, Bool, true, false, not, List, [], ◌∷◌, ◌++◌, All, None, length, refl, sym, ◌∙◌, ap, subst, arith}
 use Rattle.std.proofs.lemmas.Bool.{lt-ltb, true≢false}
 use Rattle.std.proofs.lemmas.Bool.Decides.{nat_tests}
 use Rattle.std.proofs.lemmas.List.{append-nil}
@@ -7,9 +7,12 @@ use Rattle.std.proofs.lemmas.List.Elements.{All-cons, All-head, All-nil, All-tai
 use Rattle.fjall_flush.specs.Covering.{Takes}
 use Rattle.fjall_flush.proofs.Covered.{made_of}
 use Rattle.fjall_flush.proofs.Finishing.{some_between}
+use Rattle.fjall_jobs.specs.declared.made_table.MadeTable.{MadeTable}
+use Rattle.fjall_jobs.specs.Sequences.{AreMadeTables, AreParted}
 use Rattle.fjall_lsm.specs.Ingestions.{has_memory, memory_task}
 use Rattle.fjall_lsm.specs.Trees.{first_from}
 use Rattle.fjall_parts.specs.Parts.{AreApart, Held, IsHeld, Memory, clears_in, holds_nothing, parts_of, versions_in}
+use Rattle.fjall_sorted.specs.Sorted.{flat}
 use Rattle.fjall_table.specs.Blocks.{Entry}
 use Rattle.fjall_views.specs.Jobs.{Same, flushed}
 
@@ -66,6 +69,17 @@ nothing_made watermark clears input made same none =
     by : (made : List Entry) → All (λ v. ⊥) made → made ≡ []
     by [] never = refl
     by (v ∷ made) never = absurd (All-head (λ (v : Entry). ⊥) v made never)
+
+-- and so no table
+pub none_listed : (lists : List (List Entry)) → AreParted None lists → flat lists ≡ [] → lists ≡ []
+none_listed [] parted none = refl
+none_listed (l ∷ []) parted none = absurd (parted (sym (append-nil l) ∙ none))
+none_listed (l ∷ k ∷ lists) parted none = absurd parted
+
+pub none_made : (tables : List MadeTable) (lists : List (List Entry)) → AreMadeTables tables lists → lists ≡ [] → tables ≡ []
+none_made [] lists made none = refl
+none_made (t ∷ tables) [] made none = absurd made
+none_made (t ∷ tables) (l ∷ lists) made none = let bad : ⊥ = cc in absurd bad
 
 -- ---- a flush of all of memory
 

@@ -1,6 +1,6 @@
 //! What holds of a whole ingestion: with the flush of memory before it, it is one command.
 
-ghost use Rattle.std.specs.Prelude.{◌≡◌, ◌⊎◌, ◌++◌, ◌∷◌, ◌+◌, [], ℕ, List, true};
+ghost use Rattle.std.specs.Prelude.{◌≡◌, ◌⊎◌, ◌++◌, ◌∷◌, ◌+◌, [], ℕ, List, map, true};
 ghost use Rattle.std.specs.FinMap.{get, insert};
 ghost use Rattle.fjall_base.specs.Disk.{LeavesOnly, Meaning, state_in};
 ghost use Rattle.fjall_base.specs.Store.{Store, apply, kept};
@@ -9,7 +9,7 @@ ghost use Rattle.fjall_contents.specs.Contents.{is_beyond};
 ghost use Rattle.fjall_files.specs.Names.{keyspace_folder};
 ghost use Rattle.fjall_files.specs.Regions.{Within};
 ghost use Rattle.fjall_flush.specs.Finishing.{AreKnown};
-ghost use Rattle.fjall_flush.specs.Flushes.{Follows};
+ghost use Rattle.fjall_flush.specs.Flushes.{Follows, infos_from};
 ghost use Rattle.fjall_home.specs.Homes.{Home};
 ghost use Rattle.fjall_jobs.specs.declared.made_table.MadeTable.{MadeTable};
 ghost use Rattle.fjall_jobs.specs.Tasks.{IsFlushed};
@@ -45,7 +45,7 @@ pub fn memory_is_flushed_before_an_ingestion()
 /// A whole ingestion is one command. A crash while it is written, and nothing waits in the journals, leaves the base without or with that
 /// one command; behind it the base with the command keeps the store of the folder, whose greatest number is the ingestion's; and all
 /// keyspaces are known again, with all that was made in the tables of its keyspace and with the record after it, whatever readers stand
-/// for the tables.
+/// for the tables, where they know of them what that record says.
 pub fn a_whole_ingestion_is_one_command()
     ensures run { (j : Journaling) (t : Tree) (trees : Forest) (entries : ℕ → List (List Entry)) (records : LastFields) (k : LivingKeyspace) (n : ℕ) → CanIngest j t trees entries records k n
         → (watermark : ℕ) (items : List KeyOp) (flushes made : List MadeTable) (flushed : IsFlushed (memory_task k.id watermark (shape_in k.id trees).memory) flushes (clears_in (parts_of (shape_in k.id trees).memory)))
@@ -67,7 +67,7 @@ pub fn a_whole_ingestion_is_one_command()
         → number_of (contents_with j (tree_behind k.id n items (shape_in k.id trees) flushes made flushed.lists h (flat (entries k.id)) t) j.later) ≡ n + 1 }
     ensures known { (j : Journaling) (t : Tree) (trees : Forest) (entries : ℕ → List (List Entry)) (records : LastFields) (k : LivingKeyspace) (n : ℕ) → CanIngest j t trees entries records k n
         → (watermark : ℕ) (items : List KeyOp) (flushes made : List MadeTable) (flushed : IsFlushed (memory_task k.id watermark (shape_in k.id trees).memory) flushes (clears_in (parts_of (shape_in k.id trees).memory)))
-        → (are : AreOf n items made) → (h : Home) → get t.homes k.id ≡ Some h → (readers : List Reader)
+        → (are : AreOf n items made) → (h : Home) → get t.homes k.id ≡ Some h → (readers : List Reader) → map (λ t. t.info) readers ≡ infos_from h.last.next_table_id (flushes ++ made)
         → let tree = shape_in k.id trees in
         AreKnown j (tree_behind k.id n items tree flushes made flushed.lists h (flat (entries k.id)) t) (altered_at k.id (ingested n readers) trees)
         (entries_with k.id (entries k.id ++ (flushed.lists ++ are.0)) entries) (insert records k.id (last_ingested n tree flushes made h.last)) }

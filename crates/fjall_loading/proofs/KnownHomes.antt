@@ -1,7 +1,8 @@
 -- Homes that are known stay so while journals are replayed, which changes memory alone, where no memtable is sealed that holds nothing.
-use Rattle.std.proofs.Common.{◌≡◌, ◌==◌, ℕ, Bool, true, false, cond, List, [], ◌∷◌, All, Option, None, Some, refl, sym, ◌∙◌, ap, subst, arith}
+use Rattle.std.proofs.Common.{◌≡◌, ◌==◌, ℕ, Bool, true, false, cond, List, [], ◌∷◌, map, All, Option, None, Some, refl, sym, ◌∙◌, ap, subst, arith}
 use Rattle.std.specs.Option.{option_map}
 use Rattle.fjall_base.proofs.Codecs.{some_is}
+use Rattle.fjall_blocks.specs.Readers.{Reader}
 use Rattle.fjall_lsm.specs.Trees.{Shape, floor_of}
 use Rattle.fjall_meta.specs.declared.living.LivingKeyspace.{LivingKeyspace}
 use Rattle.fjall_parts.specs.Parts.{holds_nothing}
@@ -20,6 +21,7 @@ goes_on_still : (last : Fields) (old new : Shape) → unwritten new ≡ unwritte
 goes_on_still last old new same some goes =
     let floor : floor_of new.memory ≡ floor_of old.memory = ap (λ (s : Shape). floor_of s.memory) same in
     record {
+      tables = ap (λ (s : Shape). map (λ (r : Reader). r.info) s.tables) same ∙ goes.tables;
       clears = ap (λ (s : Shape). s.clears) same ∙ goes.clears;
       beyond = let low = goes.beyond in omega (arith, floor, low);
       some = some;
@@ -58,6 +60,7 @@ known_still records old new entries homes versions k same some is =
     record {
       h = is.h;
       home = is.home;
+      right = is.right;
       stored = is.stored;
       last = is.last;
       shape = alike.other;

@@ -36,7 +36,7 @@ use Rattle.fjall_views.specs.Views.{value_at}
 use Rattle.fjall_loading.specs.Known.{GoesOnFrom, IsKnown, LastFields}
 use Rattle.fjall_loading.specs.Opening.{AreReadersOf, AreTablesOf, HaveEntries, IsOpenedOn, KnowsStored, ShowsEntries, ShowsStored, opened, record_read, stored_entries, stored_with, tree_of}
 use Rattle.fjall_loading.proofs.Turns.{home_at, same_bytes}
-use Rattle.fjall_loading.proofs.Opening.{AreRecordsOf, below_past, its_readers, other_id, read_first, read_tree, readers_read, right_but}
+use Rattle.fjall_loading.proofs.Opening.{AreRecordsOf, below_past, its_readers, other_id, read_first, read_tree, readers_infos, readers_read, right_but}
 
 -- ---- each home that was read
 
@@ -166,8 +166,9 @@ entries_show s id (Some g) entries h is low readers = record {
 -- ---- what is known of a home that was read
 
 -- its tree goes on from the record that it tells
-goes_on : (home : LoadedHome) (h : Home) → view home.record ≡ h.last → GoesOnFrom h.last (opened home).shape
-goes_on home h is = record {
+goes_on : (home : LoadedHome) (h : Home) → map (λ (r : Reader). r.info) (opened home).shape.tables ≡ h.last.tables → view home.record ≡ h.last → GoesOnFrom h.last (opened home).shape
+goes_on home h tables is = record {
+  tables = tables;
   clears = ap (λ (f : Fields). f.clears) is;
   beyond = let same = ap (λ (f : Fields). past f.persisted) is in omega (arith, same);
   some = All-nil (λ (held : Held). holds_nothing held ≡ false);
@@ -277,14 +278,16 @@ module _ (disk : Meaning) (c : Contents) (openable : IsOpenable (seen disk) c) (
         let h = one.read.loaded.h in
         let is : view one.home.record ≡ h.last = one.read.loaded.record_is in
         let at = home_at (seen disk) c.keyspaces.living c.homes openable.homes k (each_lives c.keyspaces.living i d lt) one.home one.read in
+        let tables = readers_infos (seen disk) k.id h.last.tables (opened one.home).shape.tables (its_readers (seen disk) k.id one.home one.read) in
         record {
           h = h;
           home = at;
+          right = (lists_are (get c.homes k.id) (get versions k.id) (have k.id) h at).right;
           stored = lists_versions (get c.homes k.id) (get versions k.id) (have k.id) h at;
           last = ap (λ (o : Option Fields). unwrap_or o (fields (first_of k.number))) (are k.id ∙ one.told) ∙ is;
           shape = (opened one.home).shape;
           tree = one.at;
-          goes_on = goes_on one.home h is;
+          goes_on = goes_on one.home h tables is;
         }
 
     pub knows_stored : (records : LastFields) → AreRecordsOf homes records → AllPairs (λ j k. j.id < k.id) c.keyspaces.living → KnowsStored disk c versions records (map opened homes)

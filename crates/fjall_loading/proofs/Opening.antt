@@ -64,6 +64,13 @@ readers_are image id (t ∷ tables) (b ∷ texts) (hs ∷ indexes) (f ∷ files)
       readers_are image id tables texts indexes files opened.1 hold.1 indexed.1,
     )
 
+-- readers know of the tables what their record says
+pub readers_infos : (image : Image) (id : ℕ) (tables : List TableInfo) (readers : List Reader) → AreReadersOf image id tables readers → map (λ (r : Reader). r.info) readers ≡ tables
+readers_infos image id [] [] of = refl
+readers_infos image id [] (r ∷ readers) of = absurd of
+readers_infos image id (t ∷ tables) [] of = absurd of
+readers_infos image id (t ∷ tables) (r ∷ readers) of = λ i. (of.0.is i).info ∷ readers_infos image id tables readers of.1 i
+
 -- none of its blocks is kept
 none_got : (hs : List Handle) (at : ℕ) (vs : List Entry) → slice_get (none_kept hs) at ≡ Some (Some vs) → ⊥
 none_got [] at vs e = absurd cc

@@ -1,5 +1,5 @@
 -- What an engine knows of the homes of its keyspaces: the last record of each, and a tree that goes on from it.
-use Rattle.std.specs.Prelude.{◌≡◌, ℕ, ◌<◌, ◌≤◌, ◌^◌, false, List, All, Some, unwrap_or}
+use Rattle.std.specs.Prelude.{◌≡◌, ℕ, ◌<◌, ◌≤◌, ◌^◌, false, List, All, Some, map, unwrap_or}
 use Rattle.std.specs.Coded.{Coded, codes, coded_ℕ}
 use Rattle.std.specs.Ordering.{nat_cmp}
 use Rattle.std.specs.FinMap.{FinMap, code, get}
@@ -7,6 +7,7 @@ use Rattle.fjall_catalog.specs.Catalog.{fields, first_of}
 use Rattle.fjall_blocks.specs.Readers.{Reader}
 use Rattle.fjall_files.specs.Names.{table_name}
 use Rattle.fjall_home.specs.Homes.{Home}
+use Rattle.fjall_home.specs.Reading.{AreRight}
 use Rattle.fjall_lsm.specs.Trees.{Shape, floor_of}
 use Rattle.fjall_meta.specs.declared.living.LivingKeyspace.{LivingKeyspace}
 use Rattle.fjall_parts.specs.Parts.{holds_nothing}
@@ -33,18 +34,20 @@ IsGiven id next reader = (n : ℕ) × (n < next) × (n < 2 ^ 64) × (reader.name
 abbrev pub AreAtHome : LastFields → Forest → Type 0
 AreAtHome records trees = All (λ k. All (IsGiven k.id (unwrap_or (get records k.id) no_fields).next_table_id) k.shape.tables) trees
 
--- A tree goes on where a record ends: it has the record's clears, what it has in memory is numbered beyond the persisted number,
--- and each sealed memtable holds something.
+-- A tree goes on where a record ends: its tables are those of the record, in the same order, it has the record's clears, what it has in
+-- memory is numbered beyond the persisted number, and each sealed memtable holds something.
 pub record GoesOnFrom (last : Fields) (shape : Shape) : Type 0 where
+  pub tables : map (λ t. t.info) shape.tables ≡ last.tables
   pub clears : shape.clears ≡ last.clears
   pub beyond : past last.persisted ≤ floor_of shape.memory
   pub some : All (λ h. holds_nothing h ≡ false) shape.memory.sealed
 
--- A keyspace's home is known where its tables have these entries: these are the versions in its tables, its last record is the one
--- that is kept, and its tree goes on from that.
+-- A keyspace's home is known where its tables have these entries: these are what its tables hold, one after another, and with them the
+-- versions in its tables; its last record is the one that is kept, and its tree goes on from that.
 pub record IsKnown (records : LastFields) (trees : Forest) (entries : ℕ → List (List Entry)) (homes : Homes) (versions : Versions) (k : LivingKeyspace) : Type 0 where
   pub h : Home
   pub home : get homes k.id ≡ Some h
+  pub right : AreRight h.last.tables h.texts (entries k.id)
   pub stored : get versions k.id ≡ Some (flat (entries k.id))
   pub last : last_known records k ≡ h.last
   pub shape : Shape

@@ -1,7 +1,7 @@
 -- A tree that took an ingestion.
-use Rattle.std.proofs.Common.{◌≡◌, ℕ, ◌+◌, ◌<◌, ◌≤◌, ◌^◌, List, [], ◌∷◌, ◌++◌, length, sym, ap, subst, ◌∙◌, append_assoc, arith}
+use Rattle.std.proofs.Common.{◌≡◌, ℕ, ◌+◌, ◌<◌, ◌≤◌, ◌^◌, List, [], ◌∷◌, ◌++◌, drop, length, sym, ap, subst, ◌∙◌, append_assoc, arith}
 use Rattle.std.specs.List.{All}
-use Rattle.std.proofs.lemmas.List.{append-nil, drop_all, take_all}
+use Rattle.std.proofs.lemmas.List.{append-nil, drop-append-le, drop_all, length-append, take-append-le, take_all}
 use Rattle.std.proofs.lemmas.List.Elements.{All-append, All-filter, All-head, All-nil, All-push, All-tail, All-weaker}
 use Rattle.fjall_base.specs.Disk.{Meaning}
 use Rattle.fjall_base.specs.Pairs.{Bytes}
@@ -19,6 +19,7 @@ use Rattle.fjall_jobs.proofs.Flushing.{flat_runs}
 use Rattle.fjall_jobs.specs.declared.made_table.MadeTable.{MadeTable}
 use Rattle.fjall_jobs.specs.Tasks.{IsFlushed, Task}
 use Rattle.fjall_lsm.specs.Ingestions.{ingested, memory_task}
+use Rattle.fjall_lsm.specs.Jobs.{IsMerging}
 use Rattle.fjall_lsm.specs.Trees.{IsShape, ReadsAll, Shape, clears_of, first_from, floor_of, versions_of}
 use Rattle.fjall_lsm.proofs.Changes.{first_sealed}
 use Rattle.fjall_lsm.proofs.Flushed.{from_floor, shape_flushed}
@@ -141,6 +142,38 @@ module _ (shape : Shape) (held : All IsHeld (parts_of shape.memory)) (apart : Ar
       pub ingested_read : (disk : Meaning) (readers : List Reader) → AreRead disk shape.tables entries → AreRead disk readers (made.lists ++ lists) → ReadsAll disk (ingested n readers shape) all_lists
       ingested_read disk readers old read =
           record { tables = read_both disk shape.tables readers entries (made.lists ++ lists) old read; below = ingested_below; once = ingested_once }
+
+  -- a merge that is out stays so: what was ingested came since it began
+  pub merge_ingested : (n : ℕ) → n ≤ 2 ^ 63 → shape.memory.active.until ≤ n → (entries lists : List (List Entry)) → All (λ v. v.number ≡ n) (flat lists) → (readers : List Reader) (other : Task)
+      → IsMerging shape entries other → IsMerging (ingested n readers shape) (entries ++ (made.lists ++ lists)) other
+  merge_ingested n small until entries lists at readers other m =
+      let new = made.lists ++ lists in
+      let bound = m.out.bound in
+      let floor = m.floor in
+      let end = floor_until n small until in
+      let flushes = All-weaker (λ (v : Entry). floor_of shape.memory ≤ v.number) (λ (v : Entry). bound ≤ v.number) (λ v from. omega (arith, from, floor)) (flat made.lists) made_from in
+      let own = All-weaker (λ (v : Entry). v.number ≡ n) (λ (v : Entry). bound ≤ v.number) (λ v same. omega (arith, same, floor, end)) (flat lists) at in
+      let came = subst (AreFrom bound) (sym (flat_both made.lists lists)) (All-append (λ (v : Entry). bound ≤ v.number) (flat made.lists) (flat lists) flushes own) in
+      let tables = length-append entries new in
+      let clears = length-append shape.clears (clears_in parts) in
+      let within = m.within in
+      let within_clears = m.within_clears in
+      record {
+        out = m.out;
+        is = m.is;
+        id = m.id;
+        watermark = m.watermark;
+        within = omega (arith, within, tables);
+        within_clears = omega (arith, within_clears, clears);
+        runs = m.runs ∙ sym (take-append-le m.out.tables entries new within);
+        clears = m.clears ∙ sym (take-append-le m.out.clears shape.clears (clears_in parts) within_clears);
+        below = m.below;
+        clears_below = m.clears_below;
+        from = subst (λ (rs : List (List Entry)). AreFrom bound (flat rs)) (sym (drop-append-le m.out.tables entries new within))
+            (subst (AreFrom bound) (sym (flat_both (drop m.out.tables entries) new))
+            (All-append (λ (v : Entry). bound ≤ v.number) (flat (drop m.out.tables entries)) (flat new) m.from came));
+        floor = omega (arith, floor, end);
+      }
 
   -- to each view above the watermark the ingestion's versions are versions more, behind all others
   pub ingested_view : (n : ℕ) (readers : List Reader) (entries lists : List (List Entry)) (key : Bytes) (instant : ℕ) → IsAbove watermark instant

@@ -42,6 +42,14 @@ flush_end shape = first_from (drop (count_out shape.flush) shape.memory.sealed) 
 abbrev pub flush_dropped : Shape → Shape
 flush_dropped shape = record shape { flush = None }
 
+-- how many of the oldest tables, and of the record's first clears, a merge that is out was begun with
+abbrev pub input_of : Merging → ℕ × ℕ
+input_of out = (out.tables, out.clears)
+
+-- the tree with no merge out
+abbrev pub merge_dropped : Shape → Shape
+merge_dropped shape = record shape { merge = None }
+
 -- nothing is there to be merged, or too little, or a merge is out
 abbrev pub MergesNothing : ℕ → Shape → Type 0
 MergesNothing least shape = (shape.tables ≡ []) ⊎ ((count_by (λ t. is_l0 t.info.level) shape.tables < least) ⊎ (shape.merge ≢ None))

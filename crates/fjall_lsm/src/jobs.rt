@@ -10,7 +10,8 @@ ghost use Rattle.fjall_parts.specs.Parts.{Ascends, clears_in};
 ghost use Rattle.fjall_jobs.specs.Flushes.{flush_task};
 ghost use Rattle.fjall_jobs.specs.Merges.{merge_task};
 ghost use Rattle.fjall_lsm.specs.Trees.{IsSameShape, ReadsAll, floor_of};
-ghost use Rattle.fjall_lsm.specs.Jobs.{HasRoom, count_out, IsFlushing, IsMerging, MergesNothing, flush_begun, flush_dropped, flush_end, flush_finished, flush_of, is_flush_out, is_merge_out, merge_begun, merge_finished, merge_of};
+ghost use Rattle.std.specs.Option.{option_map};
+ghost use Rattle.fjall_lsm.specs.Jobs.{HasRoom, count_out, input_of, IsFlushing, IsMerging, MergesNothing, flush_begun, flush_dropped, flush_end, flush_finished, flush_of, is_flush_out, is_merge_out, merge_begun, merge_dropped, merge_finished, merge_of};
 
 use crate::input::all_blocks;
 use crate::out::{FlushOut, MergeOut};
@@ -55,6 +56,35 @@ impl Tree {
         ensures { IsTrue result ↔ ((shape_of self.now).merge ≢ None) }
     {
         self.merge.is_some()
+    }
+
+    /// Whether the merge of this number is out.
+    pub fn is_merge_out(&self, id: u64) -> bool
+        ensures { result ≡ is_merge_out id (shape_of self.now).merge }
+    {
+        match &self.merge {
+            Some(out) => id == out.id,
+            None => false,
+        }
+    }
+
+    /// How many of the oldest tables, and of the record's first clears, the merge that is out was begun with; none where none is
+    /// out. All of these are there still.
+    pub fn merge_input(&self) -> Option<(usize, usize)>
+        ensures input { result ≡ option_map input_of (shape_of self.now).merge }
+        ensures within { IfSome result (λ input. (input.0 ≤ length (shape_of self.now).tables) × (input.1 ≤ length (shape_of self.now).clears)) }
+    {
+        match &self.merge {
+            Some(out) => Some((out.tables, out.clears)),
+            None => None,
+        }
+    }
+
+    /// Forgets the merge that is out, where one is: what it was begun with stays, and its finish is stale. It takes no memory.
+    pub fn drop_merge(&mut self)
+        ensures { shape_of self.new ≡ merge_dropped (shape_of self.old) }
+    {
+        self.merge = None;
     }
 
     /// Begins a flush of all sealed memtables under a number that no other job has. None where there is none, or where a

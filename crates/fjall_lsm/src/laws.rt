@@ -1,6 +1,6 @@
 //! What writes, clears and rotations make of a tree.
 
-ghost use Rattle.std.specs.Prelude.{◌≡◌, ◌≢◌, ◌⊎◌, ◌<◌, ◌≤◌, ◌++◌, ◌∷◌, [], ℕ, List, drop};
+ghost use Rattle.std.specs.Prelude.{◌≡◌, ◌≢◌, ◌⊎◌, ◌<◌, ◌≤◌, ◌^◌, ◌++◌, ◌∷◌, [], ℕ, List, drop};
 ghost use Rattle.std.specs.List.{All};
 ghost use Rattle.fjall_base.specs.Disk.{Meaning};
 ghost use Rattle.fjall_base.specs.Pairs.{Bytes};
@@ -15,6 +15,7 @@ ghost use Rattle.fjall_jobs.specs.declared.made_table.MadeTable.{MadeTable};
 ghost use Rattle.fjall_jobs.specs.Keeping.{AreSorted};
 ghost use Rattle.fjall_jobs.specs.Merges.{IsMerged};
 ghost use Rattle.fjall_jobs.specs.Tasks.{IsFlushed, Task};
+ghost use Rattle.fjall_lsm.specs.Ingestions.{ingested, memory_task};
 ghost use Rattle.fjall_lsm.specs.Jobs.{IsFlushing, IsMerging, flush_finished, merge_finished};
 ghost use Rattle.fjall_lsm.specs.Trees.{Merging, ReadsAll, Shape, clears_of, emptied, sealed_off, versions_of, written};
 
@@ -75,7 +76,7 @@ pub fn a_merged_tree_keeps_views()
     ensures flush { (readers : List Reader) (out : Merging) (shape : Shape) (task : Task) → IsFlushing shape task → IsFlushing (merge_finished readers out shape) task }
 {}
 
-/// A job that is out stays so under writes, clears and rotations.
+/// A job that is out stays so under writes, clears and rotations; a merge under an ingestion too.
 pub fn jobs_stay_out()
     ensures written { (shape : Shape) (v : Entry) (task : Task) → IsFlushing shape task → IsFlushing (written v shape) task }
     ensures emptied { (shape : Shape) (n : ℕ) (task : Task) → IsFlushing shape task → IsFlushing (emptied n shape) task }
@@ -83,6 +84,10 @@ pub fn jobs_stay_out()
     ensures merge_written { (shape : Shape) (entries : List (List Entry)) (v : Entry) (task : Task) → IsMerging shape entries task → IsMerging (written v shape) entries task }
     ensures merge_emptied { (shape : Shape) (entries : List (List Entry)) (n : ℕ) (task : Task) → IsMerging shape entries task → IsMerging (emptied n shape) entries task }
     ensures merge_rotated { (shape : Shape) (entries : List (List Entry)) (task : Task) → IsMerging shape entries task → IsMerging (sealed_off shape) entries task }
+    ensures merge_ingested { (shape : Shape) (entries : List (List Entry)) (task : Task) → IsMerging shape entries task → All IsHeld (parts_of shape.memory) → AreApart (parts_of shape.memory)
+        → (keyspace watermark : ℕ) (tables : List MadeTable) (clears : List ℕ) (made : IsFlushed (memory_task keyspace watermark shape.memory) tables clears)
+        → (n : ℕ) → n ≤ 2 ^ 63 → shape.memory.active.until ≤ n → (lists : List (List Entry)) → All (λ v. v.number ≡ n) (flat lists) → (readers : List Reader)
+        → IsMerging (ingested n readers shape) (entries ++ (made.lists ++ lists)) task }
 {}
 
 /// What a merge reads on a disk whose tables are read can be gone through: it is in order, and no key has two versions of one

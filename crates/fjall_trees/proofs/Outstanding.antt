@@ -1,16 +1,19 @@
 -- Jobs that are out stay so, whatever becomes of other trees and of what is written.
-use Rattle.std.proofs.Common.{◌≡◌, ◌≢◌, ℕ, ◌==◌, Bool, true, false, cond, List, [], ◌∷◌, ◌++◌, take, length, unwrap_or, Option, Some, None, refl, sym, ap, subst, ◌∙◌, arith}
+use Rattle.std.proofs.Common.{◌≡◌, ◌≢◌, ℕ, ◌≤◌, ◌^◌, ◌==◌, Bool, true, false, cond, List, [], ◌∷◌, ◌++◌, take, length, unwrap_or, Option, Some, None, refl, sym, ap, subst, ◌∙◌, All, arith}
 use Rattle.std.specs.Option.{option_map}
 use Rattle.fjall_journal.specs.Ops.{BatchItem}
+use Rattle.fjall_sorted.specs.Sorted.{flat}
 use Rattle.fjall_table.specs.Blocks.{Entry}
 use Rattle.fjall_blocks.specs.Readers.{Reader}
 use Rattle.fjall_jobs.specs.declared.made_table.MadeTable.{MadeTable}
 use Rattle.fjall_jobs.specs.Tasks.{IsFlushed, Task}
 use Rattle.fjall_parts.specs.Parts.{Memory}
-use Rattle.fjall_lsm.specs.Jobs.{IsFlushing, IsMerging, flush_begun, flush_dropped, flush_finished, merge_begun, merge_finished}
+use Rattle.fjall_lsm.specs.Ingestions.{ingested, memory_task}
+use Rattle.fjall_lsm.specs.Jobs.{IsFlushing, IsMerging, flush_begun, flush_dropped, flush_finished, merge_begun, merge_dropped, merge_finished}
 use Rattle.fjall_lsm.specs.Puts.{bare_tree, put_all}
 use Rattle.fjall_lsm.specs.Trees.{Flushing, IsSameShape, Merging, Shape, emptied, floor_of, sealed_off}
 use Rattle.fjall_lsm.proofs.Flushed.{flushed_merging}
+use Rattle.fjall_lsm.proofs.Ingested.{merge_ingested}
 use Rattle.fjall_lsm.proofs.Merged.{merged_flushing}
 use Rattle.fjall_lsm.proofs.Staying.{flush_emptied, flush_rotated, flush_written, merge_emptied, merge_rotated, merge_written}
 use Rattle.fjall_trees.specs.Forests.{Forest, IsForest, IsTree, altered_at, tree_at, without}
@@ -98,6 +101,11 @@ pub flushing_merged : (id : ℕ) (trees : Forest) (task : Task) → IsFlushing (
     → IsFlushing (shape_in id (altered_at other (merge_finished readers out) trees)) task
 flushing_merged id trees task is other readers out = in_altered (λ s. IsFlushing s task) (merge_finished readers out) id other trees (λ shape. merged_flushing readers out shape task) is
 
+pub flushing_merge_dropped : (id : ℕ) (trees : Forest) (task : Task) → IsFlushing (shape_in id trees) task → (other : ℕ) → IsFlushing (shape_in id (altered_at other merge_dropped trees)) task
+flushing_merge_dropped id trees task is other =
+    in_altered (λ s. IsFlushing s task) merge_dropped id other trees
+    (λ shape here. record { out = here.out; is = here.is; id = here.id; watermark = here.watermark; within = here.within; runs = here.runs; clears = here.clears }) is
+
 pub flushing_planted : (id : ℕ) (trees : Forest) (task : Task) → IsFlushing (shape_in id trees) task → (other from : ℕ) → IsFlushing (shape_in id (with_tree other from trees)) task
 flushing_planted id trees task is other from = in_more (λ s. IsFlushing s task) id trees (record { id = other; shape = bare_tree from } ∷ []) (flushing_tree id trees task is) is
 
@@ -170,6 +178,25 @@ merging_flushed id trees entries task m forest flush is tables clears made reade
     let tree = tree_has IsTree trees id shape forest.each has in
     let new = ap (λ o. unwrap_or o (bare_tree 0)) (altered_here id (flush_finished readers is.out) trees ∙ ap (option_map (flush_finished readers is.out)) has) in
     subst (λ (s : Shape). IsMerging s (entries ++ made.lists) task) (sym new) (flushed_merging shape entries flush task is tree.held tree.apart tables clears made readers m)
+
+-- and so did what was ingested
+pub merging_ingested : (id : ℕ) (trees : Forest) (entries : List (List Entry)) (task : Task) → IsMerging (shape_in id trees) entries task → IsForest trees
+    → (keyspace watermark : ℕ) (tables : List MadeTable) (clears : List ℕ) (made : IsFlushed (memory_task keyspace watermark (shape_in id trees).memory) tables clears)
+    → (n : ℕ) → n ≤ 2 ^ 63 → (shape_in id trees).memory.active.until ≤ n → (lists : List (List Entry)) → All (λ v. v.number ≡ n) (flat lists) → (readers : List Reader)
+    → IsMerging (shape_in id (altered_at id (ingested n readers) trees)) (entries ++ (made.lists ++ lists)) task
+merging_ingested id trees entries task m forest keyspace watermark tables clears made n small until lists at readers =
+    let shape = shape_in id trees in
+    let has = merging_tree id trees entries task m in
+    let tree = tree_has IsTree trees id shape forest.each has in
+    let new = ap (λ o. unwrap_or o (bare_tree 0)) (altered_here id (ingested n readers) trees ∙ ap (option_map (ingested n readers)) has) in
+    subst (λ (s : Shape). IsMerging s (entries ++ (made.lists ++ lists)) task) (sym new)
+    (merge_ingested shape tree.held tree.apart keyspace watermark tables clears made n small until entries lists at readers task m)
+
+-- what becomes of another keyspace's tree leaves it
+pub merging_elsewhere : (id other : ℕ) (change : Shape → Shape) (trees : Forest) (entries : List (List Entry)) (task : Task) → other ≢ id → IsMerging (shape_in id trees) entries task
+    → IsMerging (shape_in id (altered_at other change trees)) entries task
+merging_elsewhere id other change trees entries task differ is =
+    subst (λ (s : Shape). IsMerging s entries task) (sym (other_shape other id change trees (λ same. differ (sym same)))) is
 
 -- ---- the same trees
 

@@ -13,7 +13,7 @@ use Rattle.fjall_jobs.specs.declared.made_table.MadeTable.{MadeTable}
 use Rattle.fjall_jobs.specs.Merges.{IsMerged}
 use Rattle.fjall_jobs.specs.Tasks.{IsFlushed, Task}
 use Rattle.fjall_lsm.specs.declared.tree.Tree.{Tree}
-use Rattle.fjall_lsm.specs.Jobs.{IsFlushing, IsMerging, flush_begun, flush_dropped, flush_finished, merge_begun, merge_finished}
+use Rattle.fjall_lsm.specs.Jobs.{IsFlushing, IsMerging, flush_begun, flush_dropped, flush_finished, merge_begun, merge_dropped, merge_finished}
 use Rattle.fjall_lsm.specs.Puts.{bare_tree}
 use Rattle.fjall_lsm.specs.Shapes.{shape_of}
 use Rattle.fjall_lsm.specs.Trees.{ReadsAll, Shape, emptied, sealed_off}
@@ -106,6 +106,10 @@ merging_read_on disk trees entries r id job watermark =
 pub flush_dropped_read : (disk : Meaning) (trees : Forest) (entries : ℕ → List (List Entry)) → AreReadOn disk trees entries → (id : ℕ) → AreReadOn disk (altered_at id flush_dropped trees) entries
 flush_dropped_read disk trees entries r id =
     one_keeps (ReadsAll disk) trees entries r flush_dropped (λ shape es here. record { tables = here.tables; below = here.below; once = here.once }) id
+
+pub merge_dropped_read : (disk : Meaning) (trees : Forest) (entries : ℕ → List (List Entry)) → AreReadOn disk trees entries → (id : ℕ) → AreReadOn disk (altered_at id merge_dropped trees) entries
+merge_dropped_read disk trees entries r id =
+    one_keeps (ReadsAll disk) trees entries r merge_dropped (λ shape es here. record { tables = here.tables; below = here.below; once = here.once }) id
 
 pub added_read : (disk : Meaning) (trees : Forest) (entries : ℕ → List (List Entry)) → AreReadOn disk trees entries → (id : ℕ) (shape : Shape) → ReadsAll disk shape (entries id)
     → AreReadOn disk (trees ++ record { id = id; shape = shape } ∷ []) entries

@@ -1,12 +1,13 @@
 //! Jobs of the trees: flushes and merges of one keyspace each, begun, and finished by the readers of what they made.
 
 ghost use Rattle.std.specs.Prelude.{◌≡◌, ◌≢◌, ◌+◌, ◌-◌, ◌<◌, ◌≤◌, ◌^◌, ◌⊎◌, ◌↔◌, [], ℕ, List, length, ⊤, IsTrue, IfOk, IfErr, IfSome, IsOkUnless, OnOk, OnErr, IsOk, nat_lt, vec_len, vec_capacity, Ok, Some, None, true, false};
+ghost use Rattle.std.specs.Option.{option_map};
 ghost use Rattle.fjall_table.specs.Blocks.{Entry};
 ghost use Rattle.fjall_table.specs.Files.{IsRefused};
 ghost use Rattle.fjall_blocks.specs.Readers.{LooksOn, SomeTableIsWrong};
 ghost use Rattle.fjall_jobs.specs.Flushes.{flush_task};
 ghost use Rattle.fjall_jobs.specs.Merges.{merge_task};
-ghost use Rattle.fjall_lsm.specs.Jobs.{IsFlushing, IsMerging, MergesNothing, count_out, flush_begun, flush_dropped, flush_end, flush_finished, flush_of, is_flush_out, is_merge_out, merge_begun, merge_finished, merge_of};
+ghost use Rattle.fjall_lsm.specs.Jobs.{IsFlushing, IsMerging, MergesNothing, count_out, flush_begun, flush_dropped, flush_end, flush_finished, flush_of, input_of, is_flush_out, is_merge_out, merge_begun, merge_dropped, merge_finished, merge_of};
 ghost use Rattle.fjall_trees.specs.Forests.{altered_at};
 ghost use Rattle.fjall_trees.specs.Tables.{AreReadOn, AreSameTrees, HasRoomAt, shape_in};
 
@@ -55,6 +56,38 @@ impl Trees {
         match self.tree(id) {
             Some(tree) => tree.is_merging(),
             None => false,
+        }
+    }
+
+    /// Whether the merge of this number is out of a keyspace.
+    pub fn is_merge_out(&self, id: u64, job: u64) -> bool
+        ensures { result ≡ is_merge_out job (shape_in id (forest_of self.now)).merge }
+    {
+        match self.tree(id) {
+            Some(tree) => tree.is_merge_out(job),
+            None => false,
+        }
+    }
+
+    /// How many of its oldest tables, and of its record's first clears, the merge of a keyspace that is out was begun with; none
+    /// where none is out. All of these are there still.
+    pub fn merge_input(&self, id: u64) -> Option<(usize, usize)>
+        ensures input { result ≡ option_map input_of (shape_in id (forest_of self.now)).merge }
+        ensures within { IfSome result (λ input. (input.0 ≤ length (shape_in id (forest_of self.now)).tables) × (input.1 ≤ length (shape_in id (forest_of self.now)).clears)) }
+    {
+        match self.tree(id) {
+            Some(tree) => tree.merge_input(),
+            None => None,
+        }
+    }
+
+    /// Forgets the merge of a keyspace that is out, where one is: what it was begun with stays, and its finish is stale. It takes no
+    /// memory.
+    pub fn drop_merge(&mut self, id: u64)
+        ensures { forest_of self.new ≡ altered_at id merge_dropped (forest_of self.old) }
+    {
+        if let Some(place) = place_of(self.trees.as_slice(), id) {
+            self.trees[place].tree.drop_merge();
         }
     }
 

@@ -13,7 +13,7 @@ ghost use Rattle.fjall_jobs.specs.declared.made_table.MadeTable.{MadeTable};
 ghost use Rattle.fjall_jobs.specs.Merges.{IsMerged};
 ghost use Rattle.fjall_jobs.specs.Tasks.{IsFlushed, Task};
 ghost use Rattle.fjall_lsm.specs.Ingestions.{ingested, memory_task};
-ghost use Rattle.fjall_lsm.specs.Jobs.{IsFlushing, IsMerging, flush_begun, flush_dropped, flush_finished, merge_begun, merge_finished};
+ghost use Rattle.fjall_lsm.specs.Jobs.{IsFlushing, IsMerging, flush_begun, flush_dropped, flush_finished, merge_begun, merge_dropped, merge_finished};
 ghost use Rattle.fjall_lsm.specs.Trees.{Merging, ReadsAll, Shape, emptied, sealed_off};
 ghost use Rattle.fjall_trees.specs.Forests.{Forest, IsForest, altered_at, tree_at, without};
 ghost use Rattle.fjall_trees.specs.Tables.{AreReadOn, AreSameTrees, entries_with, shape_in};
@@ -28,7 +28,7 @@ pub fn other_trees_stay()
 {}
 
 /// What the tables hold on a disk stays under writes, clears and rotations, where a tree comes and where one goes, where a job
-/// is begun, where a flush is dropped, and on each disk that has the tables' files as they were.
+/// is begun, where one is dropped, and on each disk that has the tables' files as they were.
 pub fn the_tables_stay_read()
     ensures pushed { (disk : Meaning) (trees : Forest) (entries : ℕ → List (List Entry)) → AreReadOn disk trees entries → (n : ℕ) (items : List BatchItem) → AreReadOn disk (pushed n items trees) entries }
     ensures emptied { (disk : Meaning) (trees : Forest) (entries : ℕ → List (List Entry)) → AreReadOn disk trees entries → (id n : ℕ) → AreReadOn disk (altered_at id (emptied n) trees) entries }
@@ -42,6 +42,7 @@ pub fn the_tables_stay_read()
     ensures merge { (disk : Meaning) (trees : Forest) (entries : ℕ → List (List Entry)) → AreReadOn disk trees entries → (id job watermark : ℕ)
         → AreReadOn disk (altered_at id (merge_begun job watermark) trees) entries }
     ensures dropped_flush { (disk : Meaning) (trees : Forest) (entries : ℕ → List (List Entry)) → AreReadOn disk trees entries → (id : ℕ) → AreReadOn disk (altered_at id flush_dropped trees) entries }
+    ensures dropped_merge { (disk : Meaning) (trees : Forest) (entries : ℕ → List (List Entry)) → AreReadOn disk trees entries → (id : ℕ) → AreReadOn disk (altered_at id merge_dropped trees) entries }
     ensures later { (old new : Meaning) (trees : Forest) (entries : ℕ → List (List Entry)) → AreReadOn old trees entries
         → All (λ k. All (λ t. entry_at new t.name ≡ entry_at old t.name) k.shape.tables) trees → AreReadOn new trees entries }
 {}
@@ -70,8 +71,8 @@ pub fn an_ingestion_changes_one_keyspace()
         → AreReadOn disk (altered_at id (ingested n readers) trees) (entries_with id (entries id ++ (made.lists ++ lists)) entries) }
 {}
 
-/// A flush that is out stays so under writes, clears and rotations of whatever keyspace, where a merge is begun and where one
-/// is finished, and where a keyspace comes; the same trees have the same one. What changes or drops other trees leaves the
+/// A flush that is out stays so under writes, clears and rotations of whatever keyspace, where a merge is begun, where one is
+/// finished and where one is dropped, and where a keyspace comes; the same trees have the same one. What changes or drops other trees leaves the
 /// tree that it was begun with: so a flush stays out where another keyspace's is begun, finished or dropped.
 pub fn flushes_of_trees_stay_out()
     ensures pushed { (id : ℕ) (trees : Forest) (task : Task) → IsFlushing (shape_in id trees) task → (n : ℕ) (items : List BatchItem) → IsFlushing (shape_in id (pushed n items trees)) task }
@@ -81,6 +82,7 @@ pub fn flushes_of_trees_stay_out()
         → IsFlushing (shape_in id (altered_at other (merge_begun job watermark) trees)) task }
     ensures merged { (id : ℕ) (trees : Forest) (task : Task) → IsFlushing (shape_in id trees) task → (other : ℕ) (readers : List Reader) (out : Merging)
         → IsFlushing (shape_in id (altered_at other (merge_finished readers out) trees)) task }
+    ensures dropped_merge { (id : ℕ) (trees : Forest) (task : Task) → IsFlushing (shape_in id trees) task → (other : ℕ) → IsFlushing (shape_in id (altered_at other merge_dropped trees)) task }
     ensures planted { (id : ℕ) (trees : Forest) (task : Task) → IsFlushing (shape_in id trees) task → (other from : ℕ) → IsFlushing (shape_in id (with_tree other from trees)) task }
     ensures same { (id : ℕ) (old new : Forest) → AreSameTrees old new → (task : Task) → IsFlushing (shape_in id old) task → IsFlushing (shape_in id new) task }
     ensures others { (id other : ℕ) (change : Shape → Shape) (trees : Forest) → other ≢ id → shape_in other (altered_at id change trees) ≡ shape_in other trees }
@@ -90,7 +92,8 @@ pub fn flushes_of_trees_stay_out()
 {}
 
 /// A merge that is out stays so under writes, clears and rotations of whatever keyspace, where a flush is begun, where one is
-/// finished and where one is dropped, and where a keyspace comes; the same trees have the same one.
+/// finished and where one is dropped, where items are ingested into its keyspace, and where a keyspace comes; the same trees have
+/// the same one, and so have trees of which another keyspace's is changed.
 pub fn merges_of_trees_stay_out()
     ensures pushed { (id : ℕ) (trees : Forest) (entries : List (List Entry)) (task : Task) → IsMerging (shape_in id trees) entries task → (n : ℕ) (items : List BatchItem)
         → IsMerging (shape_in id (pushed n items trees)) entries task }
@@ -105,6 +108,12 @@ pub fn merges_of_trees_stay_out()
     ensures flushed { (id : ℕ) (trees : Forest) (entries : List (List Entry)) (task : Task) → IsMerging (shape_in id trees) entries task → IsForest trees
         → (flush : Task) (is : IsFlushing (shape_in id trees) flush) (tables : List MadeTable) (clears : List ℕ) (made : IsFlushed flush tables clears) (readers : List Reader)
         → IsMerging (shape_in id (altered_at id (flush_finished readers is.out) trees)) (entries ++ made.lists) task }
+    ensures ingested { (id : ℕ) (trees : Forest) (entries : List (List Entry)) (task : Task) → IsMerging (shape_in id trees) entries task → IsForest trees
+        → (keyspace watermark : ℕ) (tables : List MadeTable) (clears : List ℕ) (made : IsFlushed (memory_task keyspace watermark (shape_in id trees).memory) tables clears)
+        → (n : ℕ) → n ≤ 2 ^ 63 → (shape_in id trees).memory.active.until ≤ n → (lists : List (List Entry)) → All (λ v. v.number ≡ n) (flat lists) → (readers : List Reader)
+        → IsMerging (shape_in id (altered_at id (ingested n readers) trees)) (entries ++ (made.lists ++ lists)) task }
+    ensures elsewhere { (id other : ℕ) (change : Shape → Shape) (trees : Forest) (entries : List (List Entry)) (task : Task) → other ≢ id → IsMerging (shape_in id trees) entries task
+        → IsMerging (shape_in id (altered_at other change trees)) entries task }
     ensures planted { (id : ℕ) (trees : Forest) (entries : List (List Entry)) (task : Task) → IsMerging (shape_in id trees) entries task → (other from : ℕ)
         → IsMerging (shape_in id (with_tree other from trees)) entries task }
     ensures same { (id : ℕ) (old new : Forest) → AreSameTrees old new → (entries : List (List Entry)) (task : Task) → IsMerging (shape_in id old) entries task → IsMerging (shape_in id new) entries task }

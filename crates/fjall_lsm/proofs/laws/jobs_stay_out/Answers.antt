@@ -1,3 +1,4 @@
+use Rattle.fjall_lsm.proofs.Ingested as Ingested
 use Rattle.fjall_lsm.proofs.Staying as Staying
 use Rattle.fjall_lsm.proofs.laws.jobs_stay_out.Goals as goal
 
@@ -18,3 +19,7 @@ returns-clause-merge_emptied c = Staying.merge_emptied
 
 pub returns-clause-merge_rotated : goal.returns-clause-merge_rotated
 returns-clause-merge_rotated c = Staying.merge_rotated
+
+pub returns-clause-merge_ingested : goal.returns-clause-merge_ingested
+returns-clause-merge_ingested c shape entries task is held apart keyspace watermark tables clears made n small until lists at readers =
+    Ingested.merge_ingested shape held apart keyspace watermark tables clears made n small until entries lists at readers task is

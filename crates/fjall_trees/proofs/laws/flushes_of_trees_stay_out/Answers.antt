@@ -30,3 +30,6 @@ returns-clause-dropped c = Outstanding.shape_left
 
 pub returns-clause-dropped_flush : goal.returns-clause-dropped_flush
 returns-clause-dropped_flush c = Outstanding.flushing_elsewhere
+
+pub returns-clause-dropped_merge : goal.returns-clause-dropped_merge
+returns-clause-dropped_merge c = Outstanding.flushing_merge_dropped

@@ -24,3 +24,9 @@ returns-clause-same c = Outstanding.merging_same
 
 pub returns-clause-dropped_flush : goal.returns-clause-dropped_flush
 returns-clause-dropped_flush c = Outstanding.merging_dropped
+
+pub returns-clause-ingested : goal.returns-clause-ingested
+returns-clause-ingested c = Outstanding.merging_ingested
+
+pub returns-clause-elsewhere : goal.returns-clause-elsewhere
+returns-clause-elsewhere c = Outstanding.merging_elsewhere

@@ -30,3 +30,6 @@ returns-clause-later c = Reading.all_files_read
 
 pub returns-clause-dropped_flush : goal.returns-clause-dropped_flush
 returns-clause-dropped_flush c = Reading.flush_dropped_read
+
+pub returns-clause-dropped_merge : goal.returns-clause-dropped_merge
+returns-clause-dropped_merge c = Reading.merge_dropped_read

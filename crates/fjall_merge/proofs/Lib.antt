@@ -1,0 +1,11 @@
+pub mod Shows
+pub mod AfterRecords
+pub mod AfterHomes
+pub mod SameStore
+pub mod Naming
+pub mod Reading
+pub mod Sight
+pub mod Writings
+pub mod Written
+pub mod Taking
+pub mod Finishing
